@@ -1,0 +1,4 @@
+pub mod Codec
+pub mod Stream
+pub mod Waiting
+pub mod History

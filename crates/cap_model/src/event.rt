@@ -1,0 +1,13 @@
+use crate::reply::Reply;
+use crate::request::Request;
+
+/// One step of the cluster.
+#[derive(Debug, Drop)]
+pub enum Event<const K: usize> {
+    /// A call and its reply; `by` is the connection that made it.
+    Call {
+        by: u32,
+        request: Request<K>,
+        reply: Reply<K>,
+    },
+}

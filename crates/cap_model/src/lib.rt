@@ -1,0 +1,23 @@
+//! The vocabulary of the allocation engine and what it means: the plain data that travels between the crates, and in
+//! `specs/` the flat cluster, the reply to each request, and runs. There is no engine code here.
+#![tactic(auto)]
+
+mod event;
+mod refusal;
+mod reply;
+mod request;
+#[cfg(test)]
+mod tests;
+mod text;
+
+pub use event::Event;
+pub use refusal::Refusal;
+pub use reply::Reply;
+pub use request::Request;
+pub use text::{PathText, ShortText, Text};
+
+/// Node, application and container numbers begin at 1 and stay below this.
+pub const NUMBER_END: u64 = 1 << 62;
+
+/// The greatest number of nodes that are present at once.
+pub const NODES_MAX: usize = 4096;

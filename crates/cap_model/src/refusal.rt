@@ -1,0 +1,30 @@
+/// Why a call is refused. Where several hold, the one of the smallest number is answered. A refused call leaves the
+/// cluster as it was.
+#[derive(Clone, Copy, Debug, PartialEq, Eq)]
+pub enum Refusal {
+    /// A present node has this host.
+    HostTaken = 12,
+    /// The sum of all nodes' totals would pass 2^40 in some resource.
+    TotalTooLarge = 13,
+    /// 4,096 nodes are present.
+    TooManyNodes = 14,
+    /// A node's total is 0 in every resource.
+    ZeroResource = 15,
+    /// The next application or node number would be 2^62.
+    NumbersSpent = 16,
+    /// No memory was found for the call.
+    NoMemory = 20,
+}
+
+impl Refusal {
+    ghost use Rattle.std.specs.Prelude.{◌≡◌, ◌<◌};
+    ghost use Rattle.cap_model.specs.Refusals.{status_of};
+
+    /// The number of the refusal, which is the status of its reply.
+    pub fn status(self) -> u8
+        ensures value { result ≡ status_of self }
+        ensures refused { 0 < result }
+    {
+        self as u8
+    }
+}

@@ -1,0 +1,56 @@
+-- The amounts of a sum and of a difference, for lists of any lengths.
+use Rattle.std.proofs.Common.{inl, inr, ◌≡◌, ℕ, zero, suc, ◌+◌, ◌-◌, ◌≤◌, ◌<◌, List, [], ◌∷◌, length, get_or, refl, sym, ◌∙◌, arith}
+use Rattle.std.proofs.lemmas.List.{ext_get_or, get_or_past}
+use Rattle.std.proofs.lemmas.Bool.{cases_lt}
+use Rattle.cap_vector.specs.Vector.{plus, less, Fits, IsWithin, IsVector}
+
+pub amount-plus : (a b : List ℕ) (k : ℕ) → get_or (plus a b) k 0 ≡ get_or a k 0 + get_or b k 0
+unfolding plus
+amount-plus [] b k = omega arith
+amount-plus (x ∷ a) [] k = omega arith
+amount-plus (x ∷ a) (y ∷ b) zero = refl
+amount-plus (x ∷ a) (y ∷ b) (suc k) = amount-plus a b k
+
+pub amount-less : (a b : List ℕ) (k : ℕ) → get_or (less a b) k 0 ≡ get_or a k 0 - get_or b k 0
+unfolding less
+amount-less [] b k = omega arith
+amount-less (x ∷ a) [] k = omega arith
+amount-less (x ∷ a) (y ∷ b) zero = refl
+amount-less (x ∷ a) (y ∷ b) (suc k) = amount-less a b k
+
+pub length-plus : (a b : List ℕ) → length a ≡ length b → length (plus a b) ≡ length a
+unfolding plus
+length-plus [] b h = sym h
+length-plus (x ∷ a) [] h = refl
+length-plus (x ∷ a) (y ∷ b) h = let r : length (plus a b) ≡ length a = length-plus a b (omega arith) in omega arith
+
+pub length-less : (a b : List ℕ) → length (less a b) ≡ length a
+unfolding less
+length-less [] b = refl
+length-less (x ∷ a) [] = refl
+length-less (x ∷ a) (y ∷ b) = let r : length (less a b) ≡ length a = length-less a b in omega arith
+
+-- a list of the amounts of the sum is the sum
+pub is_plus : (a b r : List ℕ) (n : ℕ) → length a ≡ n → length b ≡ n → length r ≡ n →
+    ((k : ℕ) → k < n → get_or r k 0 ≡ get_or a k 0 + get_or b k 0) → r ≡ plus a b
+is_plus a b r n ha hb hr each =
+    let hp = length-plus a b (omega arith) in
+    ext_get_or 0 r (plus a b) (omega arith) (λ k h. each k (omega arith) ∙ sym (amount-plus a b k))
+
+-- a list of the amounts of the difference is the difference
+pub is_less : (a b r : List ℕ) (n : ℕ) → length a ≡ n → length r ≡ n →
+    ((k : ℕ) → k < n → get_or r k 0 ≡ get_or a k 0 - get_or b k 0) → r ≡ less a b
+is_less a b r n ha hr each =
+    let hl = length-less a b in
+    ext_get_or 0 r (less a b) (omega arith) (λ k h. each k (omega arith) ∙ sym (amount-less a b k))
+
+-- only the amounts that a list has count for its bound
+pub within_below : (bound : ℕ) (v : List ℕ) → ((k : ℕ) → k < length v → get_or v k 0 ≤ bound) → IsWithin bound v
+within_below bound v each k =
+    elim (cases_lt k (length v)) [
+      | inl h ↦ each k h
+      | inr h ↦ omega (arith, get_or_past v k 0 h)
+    ]
+
+pub within_less : (bound : ℕ) (a b : List ℕ) → IsWithin bound a → IsWithin bound (less a b)
+within_less bound a b h k = omega (arith, amount-less a b k, h k)

@@ -1,0 +1,10 @@
+//! Vectors of resource amounts (memory in MiB, vcores, ..), and how they add, subtract and fit.
+#![tactic(auto)]
+
+mod arithmetic;
+#[cfg(test)]
+mod tests;
+mod vector;
+
+pub use arithmetic::{checked_add, fits, minus};
+pub use vector::{AMOUNT_MAX, Amounts, Resource, SUM_MAX, Sum};
