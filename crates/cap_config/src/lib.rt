@@ -1,1 +1,22 @@
+//! The operator's settings: property lines of the Capacity Scheduler, read whole or refused at the first fault.
 #![tactic(auto)]
+
+mod config;
+mod entry;
+mod fault;
+mod first_pass;
+mod key;
+mod lines;
+mod number;
+mod queues;
+mod reading;
+mod second_pass;
+mod table;
+#[cfg(test)]
+mod tests;
+mod trim;
+mod value;
+
+pub use config::{Config, QueueRow};
+pub use fault::{ConfigFault, ConfigFaultKind};
+pub use reading::read_config;
