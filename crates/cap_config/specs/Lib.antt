@@ -1,1 +1,5 @@
 pub mod Fault
+pub mod Pieces
+pub mod Numbers
+pub mod Keys
+pub mod Values

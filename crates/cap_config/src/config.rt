@@ -1,9 +1,9 @@
 use crate::fault::{ConfigFault, ConfigFaultKind};
-use crate::key::{ROOT, Setting};
-use crate::queues::{LEVELS_MAX, guaranteed, listed, maximum};
-use crate::second_pass::number_or;
-use crate::table::Table;
-use crate::trim::trimmed;
+use crate::index::{Index, child_bytes};
+use crate::key::ROOT;
+use crate::queues::{LEVELS_MAX, guaranteed, maximum};
+use crate::second_pass::{cluster_entry, number_or};
+use crate::setting::Setting;
 use crate::value::Value;
 use cap_model::PathText;
 use cap_vector::Resource;
@@ -48,7 +48,7 @@ impl<const K: usize> QueueRow<K> {
 }
 
 /// The settings of a cluster.
-#[derive(Debug, Drop)]
+#[derive(Drop)]
 pub struct Config<const K: usize> {
     queues: Vec<QueueRow<K>>,
     minimum_allocation: Resource<K>,
@@ -78,54 +78,37 @@ impl<const K: usize> Config<K> {
     }
 }
 
-/// The path of the queue with this name below another. None where it would be too long.
-pub fn child_path(parent: &[u8], name: &[u8]) -> Option<PathText> {
-    let mut bytes = [0; 255];
-    let mut len = 0;
-    for byte in parent {
-        *bytes.get_mut(len)? = *byte;
-        len += 1;
-    }
-    *bytes.get_mut(len)? = b'.';
-    len += 1;
-    for byte in name {
-        *bytes.get_mut(len)? = *byte;
-        len += 1;
-    }
-    PathText::new(&bytes[..len])
-}
-
-/// The settings that the lines of a table make.
-pub fn config_of(alloc: Global, table: &Table) -> Result<Config<2>, ConfigFault> {
+/// The settings that the lines make.
+pub fn config_of(alloc: Global, index: &Index) -> Result<Config<2>, ConfigFault> {
     let mut queues = Vec::new(alloc);
     let Some(root) = PathText::new(ROOT) else {
         return Err(ConfigFault::new(0, ConfigFaultKind::NoChild));
     };
-    add_queues(table, root, LEVELS_MAX, &mut queues)?;
-    let limit = |setting, default| number_or(table.get(b"", setting), default);
-    let (Some(minimum_allocation), Some(maximum_allocation)) = (
-        Resource::new([
-            limit(Setting::MinimumMemory, 1024),
-            limit(Setting::MinimumVcores, 1),
-        ]),
-        Resource::new([
-            limit(Setting::MaximumMemory, 8192),
-            limit(Setting::MaximumVcores, 4),
-        ]),
-    ) else {
+    add_queues(alloc, index, root, LEVELS_MAX, &mut queues)?;
+    let entries = index.entries;
+    let least = Resource::new([
+        number_or(cluster_entry(entries, Setting::MinimumMemory), 1024),
+        number_or(cluster_entry(entries, Setting::MinimumVcores), 1),
+    ]);
+    let most = Resource::new([
+        number_or(cluster_entry(entries, Setting::MaximumMemory), 8192),
+        number_or(cluster_entry(entries, Setting::MaximumVcores), 4),
+    ]);
+    let (Some(minimum_allocation), Some(maximum_allocation)) = (least, most) else {
         return Err(ConfigFault::new(0, ConfigFaultKind::BadValue));
     };
     Ok(Config {
         queues,
         minimum_allocation,
         maximum_allocation,
-        application_limit: limit(Setting::MaximumApplications, 10_000),
+        application_limit: number_or(cluster_entry(entries, Setting::MaximumApplications), 10_000),
     })
 }
 
 /// Adds a queue and those under it, on at most so many levels.
 fn add_queues(
-    table: &Table,
+    alloc: Global,
+    index: &Index,
     path: PathText,
     levels: usize,
     queues: &mut Vec<QueueRow<2>>,
@@ -133,30 +116,40 @@ fn add_queues(
     if levels == 0 {
         return Ok(());
     }
-    queues.push(row_of(table, path))?;
-    let names = listed(table, path.as_bytes());
-    if names.is_empty() {
+    queues.push(row_of(index, path))?;
+    let Some(entry) = index.queues.get(index.entries, path.as_bytes()) else {
         return Ok(());
-    }
-    for part in names.split(|byte| *byte == b',') {
-        let Some(child) = child_path(path.as_bytes(), trimmed(part)) else {
-            return Err(ConfigFault::new(0, ConfigFaultKind::BadValue));
+    };
+    let Value::Names(names) = &entry.value else {
+        return Ok(());
+    };
+    for name in names.names() {
+        let child = child_bytes(alloc, path.as_bytes(), name.as_bytes())?;
+        let Some(child) = PathText::new(&child) else {
+            return Err(ConfigFault::new(entry.line, ConfigFaultKind::BadValue));
         };
-        add_queues(table, child, levels - 1, queues)?;
+        add_queues(alloc, index, child, levels - 1, queues)?;
     }
     Ok(())
 }
 
-fn row_of(table: &Table, path: PathText) -> QueueRow<2> {
-    let running = match table.get(path.as_bytes(), Setting::State) {
-        Some(entry) => !matches!(entry.value, Value::Running(false)),
-        None => true,
-    };
+fn row_of(index: &Index, path: PathText) -> QueueRow<2> {
     QueueRow {
         path,
-        guaranteed: guaranteed(table, path.as_bytes()),
-        maximum: maximum(table, path.as_bytes()),
-        factor: number_or(table.get(path.as_bytes(), Setting::UserLimitFactor), 1),
-        running,
+        guaranteed: guaranteed(index, path.as_bytes()),
+        maximum: maximum(index, path.as_bytes()),
+        factor: number_or(
+            index.user_limit_factor.get(index.entries, path.as_bytes()),
+            1,
+        ),
+        running: is_running(index, path.as_bytes()),
+    }
+}
+
+/// Whether a queue's own state is RUNNING, which it is where no line sets it.
+fn is_running(index: &Index, path: &[u8]) -> bool {
+    match index.state.get(index.entries, path) {
+        Some(entry) => !matches!(entry.value, Value::Running(false)),
+        None => true,
     }
 }

@@ -1,11 +1,14 @@
-use crate::key::Key;
+use crate::setting::Setting;
 use crate::value::Value;
+use cap_model::PathText;
 
 /// A line that sets a property.
-#[derive(Clone, Copy, Debug)]
-pub struct Entry<'a> {
+#[derive(Debug, Drop)]
+pub struct Entry {
     /// The line, counted from 1.
     pub line: usize,
-    pub key: Key<'a>,
-    pub value: Value<'a>,
+    /// The queue that it is about, if it is about one.
+    pub queue: Option<PathText>,
+    pub setting: Setting,
+    pub value: Value,
 }

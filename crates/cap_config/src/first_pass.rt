@@ -1,27 +1,28 @@
 use crate::entry::Entry;
 use crate::fault::{ConfigFault, ConfigFaultKind};
-use crate::key::{Key, key_of};
+use crate::key::key_of;
 use crate::lines::{split_line, split_once};
-use crate::table::{Child, Table};
 use crate::trim::trimmed;
-use crate::value::{Value, value_of};
-use std::alloc::{AllocError, Global};
+use crate::value::value_of;
+use std::alloc::Global;
+use std::collections::BTreeMap;
 
-/// Reads the lines one by one. The first line with a fault is the error.
-pub fn read_lines<'a>(alloc: Global, text: &'a [u8]) -> Result<Table<'a>, ConfigFault> {
-    let mut table = Table::new(alloc);
-    let mut rest = Some(text);
+/// The lines that set a property, in order. The first line with a fault of its own is the error.
+pub fn read_lines(alloc: Global, text: &[u8]) -> Result<Vec<Entry>, ConfigFault> {
+    let mut entries = Vec::new(alloc);
+    let mut keys = BTreeMap::new(alloc);
+    let mut rest = text;
     let mut line = 0;
-    while let Some(bytes) = rest {
-        let (bytes, after) = split_line(bytes);
+    while !rest.is_empty() {
+        let (bytes, after) = split_line(rest);
         line += 1;
         if !is_passed_over(bytes) {
-            let entry = entry_of(&mut table, line, bytes)?;
-            table.add(entry)?;
+            let entry = entry_of(alloc, &mut keys, line, bytes)?;
+            entries.push(entry)?;
         }
         rest = after;
     }
-    Ok(table)
+    Ok(entries)
 }
 
 /// Whether the line says nothing: it is empty, or a comment.
@@ -29,59 +30,44 @@ fn is_passed_over(bytes: &[u8]) -> bool {
     matches!(bytes, [] | [b'#', ..])
 }
 
-/// What a line sets, where it has no fault of its own.
+/// What a line sets, where it has no fault of its own. The keys are those of the lines before, and then this one's too.
 fn entry_of<'a>(
-    table: &mut Table<'a>,
+    alloc: Global,
+    keys: &mut BTreeMap<&'a [u8], ()>,
     line: usize,
     bytes: &'a [u8],
-) -> Result<Entry<'a>, ConfigFault> {
-    let Some((key, value)) = parts_of(bytes) else {
+) -> Result<Entry, ConfigFault> {
+    let Some((key_bytes, value_bytes)) = parts_of(bytes) else {
         return Err(ConfigFault::new(line, ConfigFaultKind::BadLine));
     };
-    let Some(key) = key_of(key) else {
+    let Some(key) = key_of(key_bytes) else {
         return Err(ConfigFault::new(line, ConfigFaultKind::UnknownKey));
     };
-    if table.get(key.path, key.setting).is_some() {
+    if keys.insert(key_bytes, ())?.is_some() {
         return Err(ConfigFault::new(line, ConfigFaultKind::Repeated));
     }
-    let Some(value) = value_of(key, value) else {
+    let Some(value) = value_of(alloc, &key, value_bytes)? else {
         return Err(ConfigFault::new(line, ConfigFaultKind::BadValue));
     };
-    if !add_names(table, key, value)? {
-        return Err(ConfigFault::new(line, ConfigFaultKind::BadValue));
-    }
-    Ok(Entry { line, key, value })
+    Ok(Entry {
+        line,
+        queue: key.queue,
+        setting: key.setting,
+        value,
+    })
 }
 
 /// The key and the value of a line of printable bytes that is cut at its first `=`.
 fn parts_of(bytes: &[u8]) -> Option<(&[u8], &[u8])> {
-    if !bytes.iter().all(|byte| 0x20 <= *byte && *byte <= 0x7e) {
+    if !all_printable(bytes) {
         return None;
     }
-    let (key, value) = split_once(bytes, b'=')?;
-    Some((trimmed(key), trimmed(value)))
+    match split_once(bytes, b'=') {
+        Some((key, value)) => Some((trimmed(key), trimmed(value))),
+        None => None,
+    }
 }
 
-/// Notes the queues that a line lists. False where it has a name twice.
-fn add_names<'a>(
-    table: &mut Table<'a>,
-    key: Key<'a>,
-    value: Value<'a>,
-) -> Result<bool, AllocError> {
-    let Value::Names(names) = value else {
-        return Ok(true);
-    };
-    if names.is_empty() {
-        return Ok(true);
-    }
-    for part in names.split(|byte| *byte == b',') {
-        let child = Child {
-            parent: key.path,
-            name: trimmed(part),
-        };
-        if table.children.insert(child, ())?.is_some() {
-            return Ok(false);
-        }
-    }
-    Ok(true)
+fn all_printable(bytes: &[u8]) -> bool {
+    bytes.iter().all(|byte| 0x20 <= *byte && *byte <= 0x7e)
 }

@@ -1,32 +1,17 @@
-/// A property: of one queue, or of the whole cluster.
-#[derive(Clone, Copy, Debug, PartialEq, Eq, PartialOrd, Ord)]
-pub enum Setting {
-    /// `yarn.scheduler.capacity.<queue-path>.queues`
-    Queues,
-    /// `yarn.scheduler.capacity.<queue-path>.capacity`
-    Capacity,
-    /// `yarn.scheduler.capacity.<queue-path>.maximum-capacity`
-    MaximumCapacity,
-    /// `yarn.scheduler.capacity.<queue-path>.user-limit-factor`
-    UserLimitFactor,
-    /// `yarn.scheduler.capacity.<queue-path>.state`
-    State,
-    /// `yarn.scheduler.capacity.maximum-applications`
-    MaximumApplications,
-    /// `yarn.scheduler.minimum-allocation-mb`
-    MinimumMemory,
-    /// `yarn.scheduler.minimum-allocation-vcores`
-    MinimumVcores,
-    /// `yarn.scheduler.maximum-allocation-mb`
-    MaximumMemory,
-    /// `yarn.scheduler.maximum-allocation-vcores`
-    MaximumVcores,
-}
+ghost use Rattle.std.specs.Prelude.{◌≡◌, ◌++◌, ◌∷◌, [], ◌||◌, nat_eq};
+ghost use Rattle.std.specs.List.{list_all, starts_with};
+ghost use Rattle.std.specs.Option.{option_map};
+ghost use Rattle.std.specs.Str.{bytes_eq};
+ghost use Rattle.cap_config.specs.Keys.{key_of, queue_key, key_at, setting_named, takes, parts_at_last_dot, path_of, root, is_name, is_name_byte, names_in};
 
-/// A key: the path of its queue, empty for a property of the whole cluster, and the property.
-#[derive(Clone, Copy, Debug, PartialEq, Eq, PartialOrd, Ord)]
-pub struct Key<'a> {
-    pub path: &'a [u8],
+use crate::lines::split_once;
+use crate::setting::{CLUSTER_SETTINGS, QUEUE_SETTINGS, Setting};
+use cap_model::PathText;
+
+/// A key: the queue that it is of, if it is of one, and the property.
+#[derive(Clone, Copy, Debug)]
+pub struct Key {
+    pub queue: Option<PathText>,
     pub setting: Setting,
 }
 
@@ -39,93 +24,130 @@ pub const ROOT: &[u8] = b"root";
 /// The greatest length of a queue's name, in bytes.
 const NAME_MAX: usize = 64;
 
-/// The greatest length of a queue's path, in bytes.
-pub const PATH_MAX: usize = 255;
-
 /// The key that these bytes spell. None where they spell none.
-pub fn key_of(bytes: &[u8]) -> Option<Key<'_>> {
-    match cluster_setting(bytes) {
-        Some(setting) => Some(Key { path: b"", setting }),
+#[tactic(auto, unfolding(crate::specs::Keys::key_of))]
+pub fn key_of(bytes: &[u8]) -> Option<Key>
+    ensures { result ≡ key_of bytes.now }
+{
+    match setting_named(&CLUSTER_SETTINGS, bytes) {
+        Some(setting) => Some(Key {
+            queue: None,
+            setting,
+        }),
         None => queue_key(bytes),
     }
 }
 
-fn cluster_setting(bytes: &[u8]) -> Option<Setting> {
-    if bytes == b"yarn.scheduler.capacity.maximum-applications".as_slice() {
-        Some(Setting::MaximumApplications)
-    } else if bytes == b"yarn.scheduler.minimum-allocation-mb".as_slice() {
-        Some(Setting::MinimumMemory)
-    } else if bytes == b"yarn.scheduler.minimum-allocation-vcores".as_slice() {
-        Some(Setting::MinimumVcores)
-    } else if bytes == b"yarn.scheduler.maximum-allocation-mb".as_slice() {
-        Some(Setting::MaximumMemory)
-    } else if bytes == b"yarn.scheduler.maximum-allocation-vcores".as_slice() {
-        Some(Setting::MaximumVcores)
-    } else {
-        None
-    }
+/// The property among these that the bytes spell.
+#[tactic(auto, unfolding(crate::specs::Keys::setting_named))]
+fn setting_named(settings: &[Setting], bytes: &[u8]) -> Option<Setting>
+    ensures { result ≡ setting_named settings.now bytes.now }
+{
+    settings
+        .iter()
+        .copied()
+        .find(|setting| bytes == setting.spelling())
 }
 
 /// The key of a queue, taken apart at its last dot.
-fn queue_key(bytes: &[u8]) -> Option<Key<'_>> {
+#[tactic(auto, unfolding(crate::specs::Keys::queue_key, crate::specs::Keys::prefix))]
+fn queue_key(bytes: &[u8]) -> Option<Key>
+    ensures { result ≡ queue_key bytes.now }
+{
     if !bytes.starts_with(PREFIX) {
         return None;
     }
-    let (path, name) = split_last_dot(&bytes[PREFIX.len()..])?;
-    let setting = queue_setting(name)?;
-    if is_path(path) && takes(path, setting) {
-        Some(Key { path, setting })
-    } else {
-        None
+    match split_last_dot(&bytes[PREFIX.len()..]) {
+        Some((path, name)) => key_at(path, setting_named(&QUEUE_SETTINGS, name)),
+        None => None,
     }
 }
 
-fn queue_setting(name: &[u8]) -> Option<Setting> {
-    if name == b"queues".as_slice() {
-        Some(Setting::Queues)
-    } else if name == b"capacity".as_slice() {
-        Some(Setting::Capacity)
-    } else if name == b"maximum-capacity".as_slice() {
-        Some(Setting::MaximumCapacity)
-    } else if name == b"user-limit-factor".as_slice() {
-        Some(Setting::UserLimitFactor)
-    } else if name == b"state".as_slice() {
-        Some(Setting::State)
-    } else {
-        None
+/// The key of the queue with this path for a property. None where there is no such path, property or key.
+#[tactic(auto, unfolding(crate::specs::Keys::key_at))]
+fn key_at(path: &[u8], setting: Option<Setting>) -> Option<Key>
+    ensures { result ≡ key_at path.now setting }
+{
+    match (setting, path_of(path)) {
+        (Some(setting), Some(queue)) if takes(path, setting) => Some(Key {
+            queue: Some(queue),
+            setting,
+        }),
+        _ => None,
     }
 }
 
 /// Whether the queue has this property: `root` has its queues and its state alone.
-fn takes(path: &[u8], setting: Setting) -> bool {
-    path != ROOT || setting == Setting::Queues || setting == Setting::State
+#[tactic(auto, unfolding(crate::specs::Keys::root))]
+fn takes(path: &[u8], setting: Setting) -> bool
+    ensures { result ≡ takes path.now setting }
+{
+    path != ROOT || setting.is_of_root()
+}
+
+/// The path that these bytes are. None where they are none.
+#[tactic(auto, unfolding(crate::specs::Keys::path_of))]
+fn path_of(bytes: &[u8]) -> Option<PathText>
+    ensures { result ≡ path_of bytes.now }
+{
+    match PathText::new(bytes) {
+        Some(path) if begins_with_root(bytes) && all_names(bytes) => Some(path),
+        _ => None,
+    }
 }
 
 /// What stands before the last dot and what after it. None where there is no dot.
-pub fn split_last_dot(bytes: &[u8]) -> Option<(&[u8], &[u8])> {
-    let at = bytes.iter().rposition(|byte| *byte == b'.')?;
-    Some((&bytes[..at], &bytes[at + 1..]))
+#[tactic(auto, unfolding(crate::specs::Keys::parts_at_last_dot))]
+pub fn split_last_dot(bytes: &[u8]) -> Option<(&[u8], &[u8])>
+    ensures { option_map (λ parts. (parts.0.now, parts.1.now)) result ≡ parts_at_last_dot bytes.now }
+{
+    let mut end = bytes.len();
+    while end > 0 {
+        end -= 1;
+        if bytes[end] == b'.' {
+            return Some((&bytes[..end], &bytes[end + 1..]));
+        }
+    }
+    None
 }
 
-/// Whether these are names joined by dots, the first of them `root`, of at most 255 bytes.
-fn is_path(bytes: &[u8]) -> bool {
-    bytes.len() <= PATH_MAX && begins_with_root(bytes) && all_names(bytes)
-}
-
-fn begins_with_root(bytes: &[u8]) -> bool {
+#[tactic(auto, unfolding(crate::specs::Keys::root))]
+fn begins_with_root(bytes: &[u8]) -> bool
+    ensures { result ≡ (bytes_eq bytes.now root || starts_with nat_eq bytes.now (root ++ 46 ∷ [])) }
+{
     bytes == ROOT || bytes.starts_with(b"root.")
 }
 
 /// Whether the parts between the dots are names.
-fn all_names(bytes: &[u8]) -> bool {
-    bytes.split(|byte| *byte == b'.').all(|name| is_name(name))
+fn all_names(bytes: &[u8]) -> bool
+    ensures { result ≡ list_all is_name (names_in bytes.now) }
+{
+    let mut rest = bytes;
+    while let Some((name, after)) = split_once(rest, b'.') {
+        if !is_name(name) {
+            return false;
+        }
+        rest = after;
+    }
+    is_name(rest)
 }
 
 /// Whether this is the name of a queue: 1 to 64 letters, digits, `_` or `-` of ASCII.
-pub fn is_name(bytes: &[u8]) -> bool {
-    !bytes.is_empty() && bytes.len() <= NAME_MAX && bytes.iter().all(|byte| is_name_byte(*byte))
+#[tactic(auto, unfolding(crate::specs::Keys::is_name))]
+pub fn is_name(bytes: &[u8]) -> bool
+    ensures { result ≡ is_name bytes.now }
+{
+    !bytes.is_empty() && bytes.len() <= NAME_MAX && all_name_bytes(bytes)
 }
 
-fn is_name_byte(byte: u8) -> bool {
-    byte.is_ascii_alphanumeric() || byte == b'_' || byte == b'-'
+fn all_name_bytes(bytes: &[u8]) -> bool
+    ensures { result ≡ list_all is_name_byte bytes.now }
+{
+    bytes.iter().all(|byte| is_name_byte(*byte))
+}
+
+fn is_name_byte(byte: u8) -> bool
+    ensures { result ≡ is_name_byte byte }
+{
+    matches!(byte, b'a'..=b'z' | b'A'..=b'Z' | b'0'..=b'9' | b'_' | b'-')
 }

@@ -5,13 +5,15 @@ mod config;
 mod entry;
 mod fault;
 mod first_pass;
+mod index;
 mod key;
 mod lines;
+mod names;
 mod number;
 mod queues;
 mod reading;
 mod second_pass;
-mod table;
+mod setting;
 #[cfg(test)]
 mod tests;
 mod trim;

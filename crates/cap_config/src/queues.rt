@@ -1,5 +1,5 @@
-use crate::key::{ROOT, Setting, split_last_dot};
-use crate::table::Table;
+use crate::index::Index;
+use crate::key::{ROOT, split_last_dot};
 use crate::value::Value;
 use cap_vector::Resource;
 
@@ -7,10 +7,10 @@ use cap_vector::Resource;
 pub const LEVELS_MAX: usize = 16;
 
 /// Whether this path is `root`, or each of its names is listed by the queue above it.
-pub fn is_queue(table: &Table, path: &[u8]) -> bool {
+pub fn is_queue(index: &Index, path: &[u8]) -> bool {
     let mut rest = path;
-    while let Some((parent, name)) = split_last_dot(rest) {
-        if !table.is_child(parent, name) {
+    while let Some((parent, _)) = split_last_dot(rest) {
+        if !index.is_listed(rest) {
             return false;
         }
         rest = parent;
@@ -24,8 +24,8 @@ pub fn level(path: &[u8]) -> usize {
 }
 
 /// What a queue is guaranteed: its `capacity`, or nothing.
-pub fn guaranteed(table: &Table, path: &[u8]) -> Resource<2> {
-    match table.get(path, Setting::Capacity) {
+pub fn guaranteed(index: &Index, path: &[u8]) -> Resource<2> {
+    match index.capacity.get(index.entries, path) {
         Some(entry) => match entry.value {
             Value::Amounts(amounts) => amounts,
             _ => Resource::zero(),
@@ -35,23 +35,17 @@ pub fn guaranteed(table: &Table, path: &[u8]) -> Resource<2> {
 }
 
 /// How far a queue may grow: by its own `maximum-capacity`, or else that of the nearest queue above that has one.
-pub fn maximum(table: &Table, path: &[u8]) -> Option<Resource<2>> {
-    if let Some(entry) = table.get(path, Setting::MaximumCapacity) {
-        if let Value::Amounts(amounts) = entry.value {
-            return Some(amounts);
+pub fn maximum(index: &Index, path: &[u8]) -> Option<Resource<2>> {
+    let mut rest = path;
+    loop {
+        if let Some(entry) = index.maximum_capacity.get(index.entries, rest) {
+            if let Value::Amounts(amounts) = entry.value {
+                return Some(amounts);
+            }
         }
-    }
-    let (parent, _) = split_last_dot(path)?;
-    maximum(table, parent)
-}
-
-/// The names that a queue's line lists, as the line has them. Nothing where it has no such line.
-pub fn listed<'a>(table: &Table<'a>, path: &[u8]) -> &'a [u8] {
-    match table.get(path, Setting::Queues) {
-        Some(entry) => match entry.value {
-            Value::Names(names) => names,
-            _ => b"",
-        },
-        None => b"",
+        match split_last_dot(rest) {
+            Some((parent, _)) => rest = parent,
+            None => return None,
+        }
     }
 }

@@ -1,28 +1,29 @@
-use crate::config::child_path;
 use crate::entry::Entry;
 use crate::fault::{ConfigFault, ConfigFaultKind};
-use crate::key::{ROOT, Setting, split_last_dot};
+use crate::index::{Index, child_bytes};
+use crate::key::{ROOT, split_last_dot};
 use crate::queues::{LEVELS_MAX, guaranteed, is_queue, level, maximum};
-use crate::table::Table;
-use crate::trim::trimmed;
+use crate::setting::Setting;
 use crate::value::Value;
-use cap_vector::{fits, minus};
+use cap_model::ShortText;
+use cap_vector::{Resource, fits, minus};
+use std::alloc::{AllocError, Global};
 
 /// The greatest number of queues, root among them.
 const QUEUES_MAX: usize = 1024;
 
 /// The first test over the whole text that fails, at its least line.
-pub fn check(table: &Table) -> Result<(), ConfigFault> {
-    refuse(allocation_line(table), ConfigFaultKind::BadValue)?;
-    refuse(no_child_line(table), ConfigFaultKind::NoChild)?;
-    refuse(no_such_queue_line(table), ConfigFaultKind::NoSuchQueue)?;
-    refuse(too_deep_line(table), ConfigFaultKind::TooDeep)?;
-    refuse(too_many_line(table), ConfigFaultKind::TooManyQueues)?;
+pub fn check(alloc: Global, index: &Index) -> Result<(), ConfigFault> {
+    refuse(allocation_line(index.entries), ConfigFaultKind::BadValue)?;
+    refuse(no_child_line(index), ConfigFaultKind::NoChild)?;
+    refuse(no_such_queue_line(index), ConfigFaultKind::NoSuchQueue)?;
+    refuse(too_deep_line(index.entries), ConfigFaultKind::TooDeep)?;
+    refuse(too_many_line(index.entries), ConfigFaultKind::TooManyQueues)?;
     refuse(
-        over_maximum_line(table),
+        over_maximum_line(index),
         ConfigFaultKind::GuaranteeOverMaximum,
     )?;
-    refuse(over_parent_line(table), ConfigFaultKind::OverParent)
+    refuse(over_parent_line(alloc, index)?, ConfigFaultKind::OverParent)
 }
 
 fn refuse(line: Option<usize>, kind: ConfigFaultKind) -> Result<(), ConfigFault> {
@@ -32,18 +33,18 @@ fn refuse(line: Option<usize>, kind: ConfigFaultKind) -> Result<(), ConfigFault>
     }
 }
 
-/// The line at which a maximum allocation is less than the minimum.
-fn allocation_line(table: &Table) -> Option<usize> {
+/// The least line at which a maximum allocation is less than the minimum: the later of the two lines.
+fn allocation_line(entries: &[Entry]) -> Option<usize> {
     let memory = pair_line(
-        table.get(b"", Setting::MinimumMemory),
+        cluster_entry(entries, Setting::MinimumMemory),
         1024,
-        table.get(b"", Setting::MaximumMemory),
+        cluster_entry(entries, Setting::MaximumMemory),
         8192,
     );
     let vcores = pair_line(
-        table.get(b"", Setting::MinimumVcores),
+        cluster_entry(entries, Setting::MinimumVcores),
         1,
-        table.get(b"", Setting::MaximumVcores),
+        cluster_entry(entries, Setting::MaximumVcores),
         4,
     );
     match (memory, vcores) {
@@ -53,11 +54,16 @@ fn allocation_line(table: &Table) -> Option<usize> {
     }
 }
 
+/// The entry of a property of the whole cluster.
+pub fn cluster_entry(entries: &[Entry], setting: Setting) -> Option<&Entry> {
+    entries.iter().find(|entry| entry.setting == setting)
+}
+
 /// The later of the two lines, where the maximum is less than the minimum.
 fn pair_line(
-    least: Option<Entry>,
+    least: Option<&Entry>,
     least_default: u64,
-    most: Option<Entry>,
+    most: Option<&Entry>,
     most_default: u64,
 ) -> Option<usize> {
     if number_or(most, most_default) < number_or(least, least_default) {
@@ -68,7 +74,7 @@ fn pair_line(
 }
 
 /// The number that a line sets, or the one that stands where there is no line.
-pub fn number_or(entry: Option<Entry>, default: u64) -> u64 {
+pub fn number_or(entry: Option<&Entry>, default: u64) -> u64 {
     match entry {
         Some(entry) => match entry.value {
             Value::Number(number) => number,
@@ -78,7 +84,7 @@ pub fn number_or(entry: Option<Entry>, default: u64) -> u64 {
     }
 }
 
-fn line_or_zero(entry: Option<Entry>) -> usize {
+fn line_or_zero(entry: Option<&Entry>) -> usize {
     match entry {
         Some(entry) => entry.line,
         None => 0,
@@ -86,41 +92,48 @@ fn line_or_zero(entry: Option<Entry>) -> usize {
 }
 
 /// 0 where `root` lists no queues, or else the first line that lists none.
-fn no_child_line(table: &Table) -> Option<usize> {
-    if table.get(ROOT, Setting::Queues).is_none() {
+fn no_child_line(index: &Index) -> Option<usize> {
+    if index.queues.get(index.entries, ROOT).is_none() {
         return Some(0);
     }
-    table
-        .entries
-        .iter()
-        .find(|entry| matches!(entry.value, Value::Names(b"")))
-        .map(|entry| entry.line)
+    for entry in index.entries {
+        if let Value::Names(names) = &entry.value {
+            if names.names().is_empty() {
+                return Some(entry.line);
+            }
+        }
+    }
+    None
 }
 
-fn no_such_queue_line(table: &Table) -> Option<usize> {
-    table
-        .entries
-        .iter()
-        .find(|entry| !entry.key.path.is_empty() && !is_queue(table, entry.key.path))
-        .map(|entry| entry.line)
+fn no_such_queue_line(index: &Index) -> Option<usize> {
+    for entry in index.entries {
+        if let Some(path) = &entry.queue {
+            if !is_queue(index, path.as_bytes()) {
+                return Some(entry.line);
+            }
+        }
+    }
+    None
 }
 
-fn too_deep_line(table: &Table) -> Option<usize> {
-    table
-        .entries
-        .iter()
-        .find(|entry| {
-            entry.key.setting == Setting::Queues && level(entry.key.path) == LEVELS_MAX
-        })
-        .map(|entry| entry.line)
+fn too_deep_line(entries: &[Entry]) -> Option<usize> {
+    for entry in entries {
+        if let (Value::Names(_), Some(path)) = (&entry.value, &entry.queue) {
+            if level(path.as_bytes()) == LEVELS_MAX {
+                return Some(entry.line);
+            }
+        }
+    }
+    None
 }
 
 /// The line up to which more than 1,024 queues are listed.
-fn too_many_line(table: &Table) -> Option<usize> {
+fn too_many_line(entries: &[Entry]) -> Option<usize> {
     let mut count: usize = 1;
-    for entry in &table.entries {
-        if let Value::Names(names) = entry.value {
-            count = count.saturating_add(names.split(|byte| *byte == b',').count());
+    for entry in entries {
+        if let Value::Names(names) = &entry.value {
+            count = count.saturating_add(names.names().len());
             if count > QUEUES_MAX {
                 return Some(entry.line);
             }
@@ -129,72 +142,83 @@ fn too_many_line(table: &Table) -> Option<usize> {
     None
 }
 
-fn over_maximum_line(table: &Table) -> Option<usize> {
-    table
-        .entries
-        .iter()
-        .find(|entry| is_over_maximum(table, entry))
-        .map(|entry| entry.line)
+fn over_maximum_line(index: &Index) -> Option<usize> {
+    for entry in index.entries {
+        if is_over_maximum(index, entry) {
+            return Some(entry.line);
+        }
+    }
+    None
 }
 
 /// Whether this line guarantees a queue more than its maximum.
-fn is_over_maximum(table: &Table, entry: &Entry) -> bool {
-    if entry.key.setting != Setting::Capacity {
+fn is_over_maximum(index: &Index, entry: &Entry) -> bool {
+    if entry.setting != Setting::Capacity {
         return false;
     }
-    let Value::Amounts(amounts) = entry.value else {
+    let (Value::Amounts(amounts), Some(path)) = (&entry.value, &entry.queue) else {
         return false;
     };
-    match maximum(table, entry.key.path) {
-        Some(most) => !fits(&amounts, &most),
+    match maximum(index, path.as_bytes()) {
+        Some(most) => !fits(amounts, &most),
         None => false,
     }
 }
 
-fn over_parent_line(table: &Table) -> Option<usize> {
-    table
-        .entries
-        .iter()
-        .find(|entry| is_over_parent(table, entry))
-        .map(|entry| entry.line)
+fn over_parent_line(alloc: Global, index: &Index) -> Result<Option<usize>, AllocError> {
+    for entry in index.entries {
+        if is_over_parent(alloc, index, entry)? {
+            return Ok(Some(entry.line));
+        }
+    }
+    Ok(None)
 }
 
 /// Whether this line sets a maximum above the parent's, or lists queues that are guaranteed more than their parent.
-fn is_over_parent(table: &Table, entry: &Entry) -> bool {
-    match entry.value {
-        Value::Amounts(amounts) => {
-            entry.key.setting == Setting::MaximumCapacity
-                && is_above_parent(table, entry.key.path, amounts)
-        }
+fn is_over_parent(alloc: Global, index: &Index, entry: &Entry) -> Result<bool, AllocError> {
+    let Some(path) = &entry.queue else {
+        return Ok(false);
+    };
+    match &entry.value {
+        Value::Amounts(amounts) => Ok(
+            entry.setting == Setting::MaximumCapacity
+                && is_above_parent(index, path.as_bytes(), amounts),
+        ),
         Value::Names(names) => {
-            entry.key.path != ROOT && guarantees_exceed(table, entry.key.path, names)
+            if path.as_bytes() == ROOT {
+                return Ok(false);
+            }
+            guarantees_exceed(alloc, index, path.as_bytes(), names.names())
         }
-        _ => false,
+        _ => Ok(false),
     }
 }
 
-fn is_above_parent(table: &Table, path: &[u8], amounts: cap_vector::Resource<2>) -> bool {
+fn is_above_parent(index: &Index, path: &[u8], amounts: &Resource<2>) -> bool {
     let Some((parent, _)) = split_last_dot(path) else {
         return false;
     };
-    match maximum(table, parent) {
-        Some(most) => !fits(&amounts, &most),
+    match maximum(index, parent) {
+        Some(most) => !fits(amounts, &most),
         None => false,
     }
 }
 
 /// Whether the guarantees of the queues below add up to more than the queue's own in an amount.
-fn guarantees_exceed(table: &Table, path: &[u8], names: &[u8]) -> bool {
-    let mut left = guaranteed(table, path);
-    for part in names.split(|byte| *byte == b',') {
-        let Some(child) = child_path(path, trimmed(part)) else {
-            return true;
-        };
-        let guarantee = guaranteed(table, child.as_bytes());
+fn guarantees_exceed(
+    alloc: Global,
+    index: &Index,
+    path: &[u8],
+    names: &[ShortText],
+) -> Result<bool, AllocError> {
+    let mut left = guaranteed(index, path);
+    for name in names {
+        let child = child_bytes(alloc, path, name.as_bytes())?;
+        let guarantee = guaranteed(index, &child);
         if !fits(&guarantee, &left) {
-            return true;
+            return Ok(true);
         }
         left = minus(&left, &guarantee);
     }
-    false
+    Ok(false)
 }

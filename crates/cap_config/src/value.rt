@@ -1,14 +1,21 @@
-use crate::key::{Key, PATH_MAX, Setting, is_name};
+ghost use Rattle.std.specs.Prelude.{◌≡◌};
+ghost use Rattle.cap_config.specs.Values.{number_within, state_of, amounts_of, amounts_in, in_brackets, number_after, resource};
+ghost use Rattle.std.specs.Option.{option_map};
+
+use crate::key::Key;
 use crate::lines::split_once;
+use crate::names::{Names, list_of};
 use crate::number::number_of;
+use crate::setting::Setting;
 use crate::trim::trimmed;
 use cap_vector::{AMOUNT_MAX, Resource};
+use std::alloc::{AllocError, Global};
 
 /// What a line sets its property to.
-#[derive(Clone, Copy, Debug)]
-pub enum Value<'a> {
-    /// The names of the queues below, as the line lists them.
-    Names(&'a [u8]),
+#[derive(Debug, Drop)]
+pub enum Value {
+    /// The names of the queues below.
+    Names(Names),
     /// Memory in MiB, and vcores.
     Amounts(Resource<2>),
     Number(u64),
@@ -16,29 +23,36 @@ pub enum Value<'a> {
     Running(bool),
 }
 
-/// The value that these bytes give a key. None where they have another form or range. Whether a list has a name twice
-/// is not looked at here.
-pub fn value_of<'a>(key: Key, bytes: &'a [u8]) -> Option<Value<'a>> {
-    match key.setting {
-        Setting::Queues => names_of(key.path, bytes),
-        Setting::Capacity | Setting::MaximumCapacity => Some(Value::Amounts(amounts_of(bytes)?)),
+/// The value that these bytes give a key. None where they have another form or range.
+pub fn value_of(alloc: Global, key: &Key, bytes: &[u8]) -> Result<Option<Value>, AllocError> {
+    Ok(match key.setting {
+        Setting::Queues => match key.queue {
+            Some(path) => list_of(alloc, path.as_bytes(), bytes)?.map(Value::Names),
+            None => None,
+        },
+        Setting::Capacity | Setting::MaximumCapacity => amounts_of(bytes).map(Value::Amounts),
         Setting::UserLimitFactor => number_within(bytes, 1000),
         Setting::State => state_of(bytes),
         Setting::MaximumApplications => number_within(bytes, 1_000_000),
         _ => number_within(bytes, AMOUNT_MAX),
-    }
+    })
 }
 
 /// A number from 1 to `most`.
-fn number_within(bytes: &[u8], most: u64) -> Option<Value<'_>> {
-    let number = number_of(bytes)?;
-    if number < 1 || most < number {
-        return None;
+#[tactic(auto, unfolding(crate::specs::Values::number_within))]
+fn number_within(bytes: &[u8], most: u64) -> Option<Value>
+    ensures { result ≡ number_within most bytes.now }
+{
+    match number_of(bytes) {
+        Some(number) if 1 <= number && number <= most => Some(Value::Number(number)),
+        _ => None,
     }
-    Some(Value::Number(number))
 }
 
-fn state_of(bytes: &[u8]) -> Option<Value<'_>> {
+#[tactic(auto, unfolding(crate::specs::Values::state_of))]
+fn state_of(bytes: &[u8]) -> Option<Value>
+    ensures { result ≡ state_of bytes.now }
+{
     if bytes == b"RUNNING".as_slice() {
         Some(Value::Running(true))
     } else if bytes == b"STOPPED".as_slice() {
@@ -49,40 +63,66 @@ fn state_of(bytes: &[u8]) -> Option<Value<'_>> {
 }
 
 /// `[memory=N,vcores=N]`, the two in either order, with spaces allowed round each.
-pub fn amounts_of(bytes: &[u8]) -> Option<Resource<2>> {
-    let (first, second) = split_once(in_brackets(bytes)?, b',')?;
-    let (first, second) = (trimmed(first), trimmed(second));
-    match named(first, b"memory=") {
-        Some(memory) => Resource::new([memory, named(second, b"vcores=")?]),
-        None => Resource::new([named(second, b"memory=")?, named(first, b"vcores=")?]),
+#[tactic(auto, unfolding(crate::specs::Values::amounts_of))]
+fn amounts_of(bytes: &[u8]) -> Option<Resource<2>>
+    ensures { result ≡ amounts_of bytes.now }
+{
+    match in_brackets(bytes) {
+        Some(inner) => match split_once(inner, b',') {
+            Some((first, second)) => amounts_in(trimmed(first), trimmed(second)),
+            None => None,
+        },
+        None => None,
     }
 }
 
-fn in_brackets(bytes: &[u8]) -> Option<&[u8]> {
+/// Memory and vcores, in either order.
+#[tactic(auto, unfolding(crate::specs::Values::amounts_in))]
+fn amounts_in(first: &[u8], second: &[u8]) -> Option<Resource<2>>
+    ensures { result ≡ amounts_in first.now second.now }
+{
+    if first.starts_with(b"memory=") {
+        resource(
+            number_after(b"memory=", first),
+            number_after(b"vcores=", second),
+        )
+    } else {
+        resource(
+            number_after(b"memory=", second),
+            number_after(b"vcores=", first),
+        )
+    }
+}
+
+/// A resource of these amounts, each at most the greatest.
+#[tactic(auto, unfolding(crate::specs::Values::resource))]
+fn resource(memory: Option<u64>, vcores: Option<u64>) -> Option<Resource<2>>
+    ensures { result ≡ resource memory vcores }
+{
+    match (memory, vcores) {
+        (Some(memory), Some(vcores)) => Resource::new([memory, vcores]),
+        _ => None,
+    }
+}
+
+/// The bytes between brackets.
+#[tactic(auto, unfolding(crate::specs::Values::in_brackets))]
+fn in_brackets(bytes: &[u8]) -> Option<&[u8]>
+    ensures { option_map (λ inner. inner.now) result ≡ in_brackets bytes.now }
+{
     match bytes {
         [b'[', inner @ .., b']'] => Some(inner),
         _ => None,
     }
 }
 
-/// The number after this name.
-fn named(part: &[u8], name: &[u8]) -> Option<u64> {
+/// The number after a name.
+#[tactic(auto, unfolding(crate::specs::Values::number_after))]
+fn number_after(name: &[u8], part: &[u8]) -> Option<u64>
+    ensures { result ≡ number_after name.now part.now }
+{
     if !part.starts_with(name) {
         return None;
     }
     number_of(&part[name.len()..])
-}
-
-/// A list of names that the paths of the queues below have room for, or nothing at all.
-fn names_of<'a>(path: &[u8], bytes: &'a [u8]) -> Option<Value<'a>> {
-    if bytes.is_empty() || all_fit(path, bytes) {
-        Some(Value::Names(bytes))
-    } else {
-        None
-    }
-}
-
-fn all_fit(path: &[u8], bytes: &[u8]) -> bool {
-    bytes.split(|byte| *byte == b',').all(|part| is_name(trimmed(part))
-        && path.len() + 1 + trimmed(part).len() <= PATH_MAX)
 }

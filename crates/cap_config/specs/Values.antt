@@ -1,0 +1,87 @@
+-- The values of property lines.
+use Rattle.std.specs.Prelude.{ℕ, ◌+◌, ◌-◌, List, [], ◌∷◌, length, take, drop, map, Option, Some, None, Bool, true, false, not, unwrap_or, ◌&&◌, ◌||◌, ◌==◌, nat_lt, nat_le, nat_eq, if◌then◌else◌, codes, option_and_then, slice_index}
+use Rattle.std.specs.List.{list_all, list_any, slice_split, starts_with}
+use Rattle.std.specs.Option.{option_map}
+use Rattle.std.specs.Str.{bytes_eq}
+use Rattle.cap_model.specs.Texts.{is_text}
+use Rattle.cap_vector.specs.Vector.{amount_max, is_within}
+use Rattle.cap_config.specs.declared.value.Value.{Value}
+use Rattle.cap_config.specs.declared.value.Value.TheVariants.{Names, Amounts, Number, Running}
+use Rattle.cap_config.specs.declared.key.Key.{Key}
+use Rattle.cap_config.specs.declared.setting.Setting.{Setting}
+use Rattle.cap_config.specs.declared.setting.Setting.TheVariants.{Queues, Capacity, MaximumCapacity, UserLimitFactor, State, MaximumApplications, MinimumMemory, MinimumVcores, MaximumMemory, MaximumVcores}
+use Rattle.cap_config.specs.Pieces.{parts_at, trimmed}
+use Rattle.cap_config.specs.Numbers.{number_of}
+use Rattle.cap_config.specs.Keys.{is_name}
+
+-- the names of a list; an empty one has none
+unfoldable pub names_of : List ℕ → List (List ℕ)
+names_of [] = []
+names_of (b ∷ bytes) = map trimmed (slice_split (λ c. c == 44) (b ∷ bytes))
+
+-- a number from 1 on
+unfoldable pub number_within : ℕ → List ℕ → Option Value
+number_within most bytes = option_and_then (λ n. if nat_le 1 n && nat_le n most then Some (Number n) else None) (number_of bytes)
+
+unfoldable pub state_of : List ℕ → Option Value
+state_of bytes =
+    if bytes_eq bytes (codes "RUNNING") then Some (Running true) else
+    if bytes_eq bytes (codes "STOPPED") then Some (Running false) else None
+
+-- the number after a name
+unfoldable pub number_after : List ℕ → List ℕ → Option ℕ
+number_after name part = if starts_with nat_eq part name then number_of (drop (length name) part) else None
+
+-- what stands between brackets
+unfoldable pub in_brackets : List ℕ → Option (List ℕ)
+in_brackets bytes =
+    if (nat_le 2 (length bytes) && (slice_index bytes 0 == 91)) && (slice_index bytes (length bytes - 1) == 93)
+    then Some (take (length bytes - 2) (drop 1 bytes))
+    else None
+
+-- a resource of two amounts, each at most the greatest
+unfoldable pub resource : Option ℕ → Option ℕ → Option (List ℕ)
+resource (Some memory) (Some vcores) = if nat_le memory amount_max && nat_le vcores amount_max then Some (memory ∷ vcores ∷ []) else None
+resource (Some memory) None = None
+resource None vcores = None
+
+-- memory and vcores, in either order
+unfoldable pub amounts_in : List ℕ → List ℕ → Option (List ℕ)
+amounts_in first second =
+    if starts_with nat_eq first (codes "memory=")
+    then resource (number_after (codes "memory=") first) (number_after (codes "vcores=") second)
+    else resource (number_after (codes "memory=") second) (number_after (codes "vcores=") first)
+
+unfoldable pub amounts_of : List ℕ → Option (List ℕ)
+amounts_of bytes =
+    option_and_then (λ inner. option_and_then (λ parts. amounts_in (trimmed parts.0) (trimmed parts.1)) (parts_at 44 inner)) (in_brackets bytes)
+
+-- a name for a queue below this path: with the path and a dot before it there are at most 255 bytes
+abbrev pub is_name_under : List ℕ → List ℕ → Bool
+is_name_under path name = (is_text 64 name && is_name name) && nat_le (length path + 1 + length name) 255
+
+-- whether no name stands twice
+abbrev pub is_distinct : List (List ℕ) → Bool
+is_distinct [] = true
+is_distinct (name ∷ names) = not (list_any (bytes_eq name) names) && is_distinct names
+
+-- a list for the queue of this path
+unfoldable pub list_of : List ℕ → List ℕ → Option Value
+list_of path bytes =
+    if list_all (is_name_under path) (names_of bytes) && is_distinct (names_of bytes) then Some (Names (names_of bytes)) else None
+
+-- the value that bytes give a property
+unfoldable pub value_at : Option (List ℕ) → Setting → List ℕ → Option Value
+value_at queue Queues bytes = list_of (unwrap_or queue []) bytes
+value_at queue Capacity bytes = option_map Amounts (amounts_of bytes)
+value_at queue MaximumCapacity bytes = option_map Amounts (amounts_of bytes)
+value_at queue UserLimitFactor bytes = number_within 1000 bytes
+value_at queue State bytes = state_of bytes
+value_at queue MaximumApplications bytes = number_within 1000000 bytes
+value_at queue MinimumMemory bytes = number_within amount_max bytes
+value_at queue MinimumVcores bytes = number_within amount_max bytes
+value_at queue MaximumMemory bytes = number_within amount_max bytes
+value_at queue MaximumVcores bytes = number_within amount_max bytes
+
+abbrev pub value_of : Key → List ℕ → Option Value
+value_of key bytes = value_at key.queue key.setting bytes
