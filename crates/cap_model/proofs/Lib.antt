@@ -1,1 +1,2 @@
+pub mod NodeTotals
 pub mod Padding

@@ -1,8 +1,9 @@
 -- The amounts of a sum and of a difference, for lists of any lengths.
-use Rattle.std.proofs.Common.{inl, inr, ◌≡◌, ℕ, zero, suc, ◌+◌, ◌-◌, ◌≤◌, ◌<◌, List, [], ◌∷◌, length, get_or, refl, sym, ◌∙◌, arith}
+use Rattle.std.proofs.Common.{inl, inr, ◌≡◌, ℕ, zero, suc, ◌+◌, ◌-◌, ◌≤◌, ◌<◌, List, [], ◌∷◌, length, get_or, refl, sym, ◌∙◌, arith, true}
+use Rattle.std.specs.Prelude.{nat_le}
 use Rattle.std.proofs.lemmas.List.{ext_get_or, get_or_past}
-use Rattle.std.proofs.lemmas.Bool.{cases_lt}
-use Rattle.cap_vector.specs.Vector.{plus, less, Fits, IsWithin, IsVector}
+use Rattle.std.proofs.lemmas.Bool.{cases_lt, and_parts, leb-true, le-leb}
+use Rattle.cap_vector.specs.Vector.{plus, less, Fits, IsWithin, is_within}
 
 pub amount-plus : (a b : List ℕ) (k : ℕ) → get_or (plus a b) k 0 ≡ get_or a k 0 + get_or b k 0
 unfolding plus
@@ -54,3 +55,18 @@ within_below bound v each k =
 
 pub within_less : (bound : ℕ) (a b : List ℕ) → IsWithin bound a → IsWithin bound (less a b)
 within_less bound a b h k = omega (arith, amount-less a b k, h k)
+
+-- the test of a bound, and what it says
+pub within_from_test : (bound : ℕ) (v : List ℕ) → is_within bound v ≡ true → IsWithin bound v
+within_from_test bound [] h k = omega arith
+within_from_test bound (x ∷ v) h zero =
+    let both = and_parts (nat_le x bound) (is_within bound v) h in
+    leb-true x bound both.0
+within_from_test bound (x ∷ v) h (suc k) =
+    let both = and_parts (nat_le x bound) (is_within bound v) h in
+    within_from_test bound v both.1 k
+
+pub test_from_within : (bound : ℕ) (v : List ℕ) → IsWithin bound v → is_within bound v ≡ true
+test_from_within bound [] h = refl
+test_from_within bound (x ∷ v) h =
+    rw (le-leb x bound (h 0), test_from_within bound v (λ k. h (suc k))) refl

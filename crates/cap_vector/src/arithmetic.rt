@@ -1,4 +1,4 @@
-ghost use Rattle.std.specs.Prelude.{◌≡◌, ℕ, ◌+◌, ◌-◌, ◌↔◌, ◌≤◌, IfSome, IsSome, IsTrue};
+ghost use Rattle.std.specs.Prelude.{◌≡◌, ℕ, ◌+◌, ◌-◌, ◌↔◌, ◌≤◌, IfSome, IsSome, IsTrue, length};
 ghost use Rattle.cap_vector.specs.Vector.{Fits, IsVector, plus, less};
 
 use crate::vector::Amounts;
@@ -25,6 +25,7 @@ pub fn checked_add<const K: usize, const A: u64, const B: u64>(
 ) -> Option<Amounts<K, A>>
     ensures some { IfSome result (λ v. v ≡ plus a.now b.now) }
     ensures variant { IsSome result ↔ IsVector K A (plus a.now b.now) }
+    ensures count { length (plus a.now b.now) ≡ K }
 {
     let mut amounts = [0; K];
     for k in 0..K {

@@ -1,6 +1,6 @@
-use Rattle.std.proofs.Common.{◌≡◌, ◌<◌, ◌≤◌, length, refl, arith, subst, sym, ◌+◌}
+use Rattle.std.proofs.Common.{◌≡◌, ◌<◌, ◌≤◌, length, refl, arith, subst, sym, ◌+◌, ◌∙◌}
 use Rattle.cap_vector.specs.Vector.{IsVector, plus}
-use Rattle.cap_vector.proofs.AmountLemmas.{is_plus, amount-plus, within_below}
+use Rattle.cap_vector.proofs.AmountLemmas.{is_plus, amount-plus, length-plus, within_below}
 use Rattle.cap_vector.proofs.arithmetic.checked_add.Goals as goal
 
 pub returns-clause-some : goal.returns-clause-some
@@ -35,3 +35,12 @@ returns-in_default-clause-variant g c = (
       let small = rw (← c.a.view_is, ← c.b.view_is, amount-plus c.a.inside.amounts c.b.inside.amounts k) at (is.within k) in
       absurd (c.in_default.ensures (omega (arith, small, g.A.fits))),
 )
+
+pub returns-clause-count : goal.returns-clause-count
+returns-clause-count g c = rw (← c.a.view_is, ← c.b.view_is) (length-plus c.a.inside.amounts c.b.inside.amounts (c.a.invariant.count ∙ sym c.b.invariant.count) ∙ c.a.invariant.count)
+
+pub returns-then-amount-clause-count : goal.returns-then-amount-clause-count
+returns-then-amount-clause-count g c = rw (← c.a.view_is, ← c.b.view_is) (length-plus c.a.inside.amounts c.b.inside.amounts (c.a.invariant.count ∙ sym c.b.invariant.count) ∙ c.a.invariant.count)
+
+pub returns-in_default-clause-count : goal.returns-in_default-clause-count
+returns-in_default-clause-count g c = rw (← c.a.view_is, ← c.b.view_is) (length-plus c.a.inside.amounts c.b.inside.amounts (c.a.invariant.count ∙ sym c.b.invariant.count) ∙ c.a.invariant.count)
