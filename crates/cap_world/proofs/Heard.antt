@@ -1,0 +1,228 @@
+-- What each connection heard of the steps that were made, and what it was answered for it.
+use Rattle.std.proofs.Common.{◌≡◌, ◌≢◌, ℕ, ◌+◌, ◌<◌, Bool, true, false, List, [], ◌∷◌, ◌++◌, length, get_or, take, drop, Option, Some, None, slice_get, Result, Ok, Err, IsSome, refl, sym, ap, subst, ◌∙◌, append_assoc, inl, inr, ◌⊎◌}
+use Rattle.std.specs.Prelude.{◌==◌, if◌then◌else◌, MatchBool}
+use Rattle.std.proofs.lemmas.Bool.{cases_Bool, eqb-true}
+use Rattle.std.proofs.lemmas.List.{take_more}
+use Rattle.std.proofs.lemmas.List.Elements.{All-drop}
+use Rattle.std.proofs.Common.{drop_at}
+use Rattle.cap_model.specs.declared.event.Event.{Event}
+use Rattle.cap_model.specs.Cluster.{Cluster}
+use Rattle.cap_frames.specs.Stream.{Tail, rest, fault, IsStream, IsBytes}
+use Rattle.cap_frames.proofs.Streams.{stream_goes_on}
+use Rattle.cap_world.specs.declared.session.Standing.{Standing}
+use Rattle.cap_world.specs.declared.session.Standing.TheVariants as standings
+use Rattle.cap_world.specs.declared.step.Step.{Step}
+use Rattle.cap_world.specs.declared.step.Step.TheVariants as steps
+use Rattle.cap_world.specs.declared.step.Did.{Did}
+use Rattle.cap_world.specs.declared.step.Did.TheVariants as dids
+use Rattle.cap_world.specs.declared.step.NoMemory.{NoMemory}
+use Rattle.cap_world.specs.Answers.{Call}
+use Rattle.cap_world.specs.Connection.{Connection, fresh, is_open_standing, AnswersAs, AnswersSome, HasAnswers}
+use Rattle.cap_world.specs.Serving.{Feeds, StandsAfter}
+use Rattle.cap_world.specs.World.{Sight, connection_at, is_open, is_open_connection, output_of, output_from, Changes, HasAnswersAt}
+use Rattle.cap_world.specs.Steps.{Outcome, Starves}
+use Rattle.cap_world.specs.Hearing.{Hearing, unopened, live, over, opened, ended, HearsPiece, HearsStep, Hears, IsHeard, IsCutShort, IsHeardBefore}
+
+abbrev IsOver : Standing → Type 0
+IsOver standings.Open = ⊥
+IsOver standings.Ended = Unit {0}
+IsOver standings.Faulted = Unit {0}
+IsOver standings.Starved = ⊥
+
+-- a connection is what was heard of it
+abbrev pub Agrees : Hearing → Option Connection → Type 0
+Agrees unopened None = Unit {0}
+Agrees unopened (Some is) = ⊥
+Agrees (live taken) None = ⊥
+Agrees (live taken) (Some is) = (is.standing ≡ standings.Open) × (is.taken ≡ taken)
+Agrees (over taken) None = ⊥
+Agrees (over taken) (Some is) = IsOver is.standing × (is.taken ≡ taken)
+
+-- what a connection hears next
+abbrev Next : (Hearing → Type 0) → Option Connection → Type 0
+Next Heard new = (next : Hearing) × Heard next × Agrees next new
+
+-- ---- one step
+
+-- nothing changed, and the step was not for it or has no effect
+no_open : (heard : Hearing) (o : Option Connection) → IsSome o → Agrees heard o → opened heard ≡ heard
+no_open unopened None some a = absurd cc
+no_open unopened (Some is) some a = absurd a
+no_open (live taken) o some a = refl
+no_open (over taken) o some a = refl
+
+no_end : (heard : Hearing) (o : Option Connection) → is_open_connection o ≡ false → Agrees heard o → ended heard ≡ heard
+no_end unopened o closed a = refl
+no_end (live taken) None closed a = absurd a
+no_end (live taken) (Some is) closed a = let lives : true ≡ false = rw a.0 at closed in absurd (cc lives)
+no_end (over taken) o closed a = refl
+
+no_piece : (piece : List ℕ) (heard : Hearing) (o : Option Connection) → is_open_connection o ≡ false → Agrees heard o → HearsPiece piece heard heard
+no_piece piece unopened o closed a = refl
+no_piece piece (live taken) None closed a = absurd a
+no_piece piece (live taken) (Some is) closed a = let lives : true ≡ false = rw a.0 at closed in absurd (cc lives)
+no_piece piece (over taken) o closed a = refl
+
+-- a connection opens
+opens : (heard : Hearing) (o : Option Connection) → o ≡ None → Agrees heard o → Next (λ next. next ≡ opened heard) (Some fresh)
+opens unopened o e a = (live [], refl, (refl, refl))
+opens (live taken) o e a = absurd (rw e at a)
+opens (over taken) o e a = absurd (rw e at a)
+
+-- an open connection ends
+ends : (heard : Hearing) (was : Connection) → was.standing ≡ standings.Open → Agrees heard (Some was) → Next (λ next. next ≡ ended heard) (Some (record was { standing = standings.Ended }))
+ends unopened was lives a = absurd a
+ends (live taken) was lives a = (over taken, refl, (tt, a.1))
+ends (over taken) was lives a = absurd (subst IsOver lives a.0)
+
+abbrev Takes : List ℕ → List ℕ → List ℕ → Standing → List (List ℕ) → Type 0
+Takes before piece after standing payloads = (after ≡ before ++ piece) ⊎ ((after ≡ before) × (standing ≡ standings.Starved) × (payloads ≡ []))
+
+-- an open connection hears a piece
+hears : (standing : Standing) (before piece after output more : List ℕ) (earlier payloads : List (List ℕ)) → standing ≢ standings.Starved → StandsAfter standing (before ++ piece) earlier more → Takes before piece after standing payloads
+    → Next (HearsPiece piece (live before)) (Some (record { standing = standing; taken = after; output = output }))
+hears standings.Open before piece after output more earlier payloads fine stands (inl is) = (live (before ++ piece), inl ((earlier, stands.0, stands.1), refl), (refl, is))
+hears standings.Faulted before piece after output more earlier payloads fine stands (inl is) = (over (before ++ piece), inr ((earlier, stands.0, stands.1), refl), (tt, is))
+hears standings.Ended before piece after output more earlier payloads fine stands taken = absurd stands
+hears standings.Starved before piece after output more earlier payloads fine stands taken = absurd (fine refl)
+hears standings.Open before piece after output more earlier payloads fine stands (inr stuck) = absurd (fine stuck.1)
+hears standings.Faulted before piece after output more earlier payloads fine stands (inr stuck) = absurd (fine stuck.1)
+
+hears_piece : (by : ℕ) (piece : List ℕ) (from to : Cluster) (before after : List (Event 2)) (heard : Hearing) (was is : Connection) → was.standing ≡ standings.Open → Agrees heard (Some was) → is.standing ≢ standings.Starved → Feeds by piece from to before after was is → Next (HearsPiece piece heard) (Some is)
+hears_piece by piece from to before after unopened was is lives a fine f = absurd a
+hears_piece by piece from to before after (over taken) was is lives a fine f = absurd (subst IsOver lives a.0)
+hears_piece by piece from to before after (live taken) was is lives a fine f =
+    subst (λ (x : List ℕ). Next (HearsPiece piece (live x)) (Some is)) a.1
+    (hears is.standing was.taken piece is.taken is.output f.more (f.earlier ++ f.payloads) f.payloads fine f.stands f.taken)
+
+-- its own step or another's
+own_or_other : (c d : ℕ) (is : Connection) (old new : List (ℕ × Connection)) (heard : Hearing) (Own : Hearing → Type 0) → Changes d is old new → Agrees heard (connection_at c old) → (c ≡ d → Next Own (Some is)) → Next (λ next. MatchBool (d == c) (Own next) (next ≡ heard)) (connection_at c new)
+own_or_other c d is old new heard Own change a own =
+    elim (cases_Bool (d == c)) [
+      | inl t ↦
+          let next = own (sym (eqb-true d c t)) in
+          (next.0, rw t next.1, rw (change c, t) next.2)
+      | inr f ↦ (heard, rw f refl, rw (change c, f) a)
+    ]
+
+-- the same for a step whose effect is a function
+as_choice : (b : Bool) (next own heard : Hearing) → MatchBool b (next ≡ own) (next ≡ heard) → next ≡ (if b then own else heard)
+as_choice true next own heard h = h
+as_choice false next own heard h = h
+
+chosen : {o : Option Connection} (b : Bool) (own heard : Hearing) → Next (λ next. MatchBool b (next ≡ own) (next ≡ heard)) o → Next (λ next. next ≡ (if b then own else heard)) o
+chosen b own heard n = (n.0, as_choice b n.0 own heard n.1, n.2)
+
+same_choice : (b : Bool) (own heard : Hearing) → (b ≡ true → own ≡ heard) → heard ≡ (if b then own else heard)
+same_choice true own heard e = sym (e refl)
+same_choice false own heard e = refl
+
+same_match : (b : Bool) (P Q : Type 0) → (b ≡ true → P) → Q → MatchBool b P Q
+same_match true P Q p q = p refl
+same_match false P Q p q = q
+
+pub hears_done : (c : ℕ) (step : Step) (did : Did) (old new : Sight) (before after : List (Event 2)) (heard : Hearing) → Outcome step (Ok did) old new before after → Agrees heard (connection_at c old.connections) → Next (HearsStep c step heard) (connection_at c new.connections)
+hears_done c (steps.Open d) dids.Done old new before after heard o a =
+    chosen (d == c) (opened heard) heard (own_or_other c d fresh old.connections new.connections heard (λ next. next ≡ opened heard) o.1 a
+    (λ same. opens heard (connection_at c old.connections) (rw same o.0) a))
+hears_done c (steps.End d) dids.Done old new before after heard o a =
+    let e = o.0 in
+    chosen (d == c) (ended heard) heard (own_or_other c d (record e.0 { standing = standings.Ended }) old.connections new.connections heard (λ next. next ≡ ended heard) e.3 a
+    (λ same. ends heard e.0 e.2 (subst (λ (x : Option Connection). Agrees heard x) (rw same e.1) a)))
+hears_done c (steps.Bytes d piece) dids.Done old new before after heard o a =
+    let f = o.2 in
+    own_or_other c d f.1 old.connections new.connections heard (HearsPiece piece.now heard) f.4 a
+    (λ same. hears_piece d piece.now old.cluster new.cluster before after heard f.0 f.1 f.3 (subst (λ (x : Option Connection). Agrees heard x) (rw same f.2) a) (λ starved. o.1 (sym f.6 ∙ starved)) f.5)
+hears_done c (steps.Open d) dids.Idle old new before after heard o a =
+    (heard, same_choice (d == c) (opened heard) heard (λ t. no_open heard (connection_at c old.connections) (subst (λ (x : ℕ). IsSome (connection_at x old.connections)) (eqb-true d c t) o.0) a),
+      subst (λ (x : Sight). Agrees heard (connection_at c x.connections)) (sym o.1) a)
+hears_done c (steps.End d) dids.Idle old new before after heard o a =
+    (heard, same_choice (d == c) (ended heard) heard (λ t. no_end heard (connection_at c old.connections) (subst (λ (x : ℕ). is_open x old ≡ false) (eqb-true d c t) o.0) a),
+      subst (λ (x : Sight). Agrees heard (connection_at c x.connections)) (sym o.1) a)
+hears_done c (steps.Bytes d piece) dids.Idle old new before after heard o a =
+    (heard, same_match (d == c) (HearsPiece piece.now heard heard) (heard ≡ heard) (λ t. no_piece piece.now heard (connection_at c old.connections) (subst (λ (x : ℕ). is_open x old ≡ false) (eqb-true d c t) o.0) a) refl,
+      subst (λ (x : Sight). Agrees heard (connection_at c x.connections)) (sym o.1) a)
+
+-- ---- what was answered for what was heard
+
+pub is_heard : (heard : Hearing) (calls : List Call) (o : Option Connection) → Agrees heard o → HasAnswersAt calls o → IsHeard heard calls (output_from o) (is_open_connection o)
+is_heard unopened calls None a has = (has, refl, refl)
+is_heard unopened calls (Some is) a has = absurd a
+is_heard (live taken) calls None a has = absurd a
+is_heard (live taken) calls (Some is) a has =
+    let all : AnswersAs standings.Open taken calls is.output = subst (λ (x : List ℕ). AnswersAs standings.Open x calls is.output) a.1 (subst (λ (s : Standing). AnswersAs s is.taken calls is.output) a.0 has) in
+    (rest all.0, all.1, ap is_open_standing a.0)
+is_heard (over taken) calls None a has = absurd a
+is_heard (over taken) calls (Some is) a has =
+    subst (λ (x : List ℕ). IsHeard (over x) calls is.output (is_open_standing is.standing)) a.1 (over_heard is.standing is.taken calls is.output a.0 has)
+  where
+    over_heard : (standing : Standing) (taken : List ℕ) (calls : List Call) (output : List ℕ) → IsOver standing → AnswersAs standing taken calls output → IsHeard (over taken) calls output (is_open_standing standing)
+    over_heard standings.Open taken calls output is has = absurd is
+    over_heard standings.Ended taken calls output is has = (rest has.0, has.1, refl)
+    over_heard standings.Faulted taken calls output is has = (fault has.0, has.1, refl)
+    over_heard standings.Starved taken calls output is has = absurd is
+
+piece_fits : (before piece : List ℕ) → IsBytes (before ++ piece) → IsBytes piece
+piece_fits before piece fits = subst IsBytes (drop_at before piece (length before) refl) (All-drop (λ b. b < 256) (length before) (before ++ piece) fits)
+
+-- a beginning of the payloads is one also with more bytes
+some_more : (taken piece : List ℕ) (calls : List Call) (output : List ℕ) → IsBytes piece → AnswersSome taken calls output → AnswersSome (taken ++ piece) calls output
+some_more taken piece calls output fits has =
+    let on = stream_goes_on taken piece (has.0 ++ has.1) has.2 has.3 fits in
+    (has.0, has.1 ++ on.0, on.1, subst (λ (x : List (List ℕ)). IsStream (taken ++ piece) x on.1) (append_assoc has.0 has.1 on.0) on.2, has.4)
+
+starved_fits : (by : ℕ) (piece : List ℕ) (from to : Cluster) (before after : List (Event 2)) (was is : Connection) → is.standing ≡ standings.Starved → Feeds by piece from to before after was is → IsBytes piece
+starved_fits by piece from to before after was is starved f =
+    let stands = subst (λ (s : Standing). StandsAfter s (was.taken ++ piece) (f.earlier ++ f.payloads) f.more) starved f.stands in
+    piece_fits was.taken piece stands.2.fits
+
+cut_short : (by : ℕ) (piece : List ℕ) (from to : Cluster) (before after : List (Event 2)) (heard : Hearing) (calls : List Call) (was is : Connection) → was.standing ≡ standings.Open → Agrees heard (Some was) → is.standing ≡ standings.Starved → Feeds by piece from to before after was is → HasAnswers calls is
+    → IsCutShort piece heard calls is.output (is_open_standing is.standing)
+cut_short by piece from to before after unopened calls was is lives a starved f has = absurd a
+cut_short by piece from to before after (over taken) calls was is lives a starved f has = absurd (subst IsOver lives a.0)
+cut_short by piece from to before after (live taken) calls was is lives a starved f has =
+    let some : AnswersSome is.taken calls is.output = subst (λ (s : Standing). AnswersAs s is.taken calls is.output) starved has in
+    let fits = starved_fits by piece from to before after was is starved f in
+    let all : AnswersSome (was.taken ++ piece) calls is.output =
+    elim f.taken [
+      | inl whole ↦ subst (λ (x : List ℕ). AnswersSome x calls is.output) whole some
+      | inr stuck ↦ some_more was.taken piece calls is.output fits (subst (λ (x : List ℕ). AnswersSome x calls is.output) stuck.0 some)
+    ] in
+    (subst (λ (x : List ℕ). AnswersSome (x ++ piece) calls is.output) a.1 all, ap is_open_standing starved)
+
+pub heard_starved : (c : ℕ) (step : Step) (old new : Sight) (before after : List (Event 2)) (heard : Hearing) (calls : List Call) → Starves step old new before after → Agrees heard (connection_at c old.connections) → HasAnswersAt calls (connection_at c new.connections)
+    → IsHeardBefore (Some step) c heard calls (output_of c new) (is_open c new)
+heard_starved c (steps.Open d) old new before after heard calls s a has =
+    is_heard heard calls (connection_at c new.connections) (subst (λ (x : Sight). Agrees heard (connection_at c x.connections)) (sym s.0) a) has
+heard_starved c (steps.End d) old new before after heard calls s a has = absurd s
+heard_starved c (steps.Bytes d piece) old new before after heard calls s a has =
+    elim (cases_Bool (d == c)) [
+      | inl t ↦
+          let same : c ≡ d = sym (eqb-true d c t) in
+          let at : connection_at c new.connections ≡ Some s.1 = rw (s.4 c, t) refl in
+          rw (t, at)
+          (cut_short d piece.now old.cluster new.cluster before after heard calls s.0 s.1 s.3 (subst (λ (x : Option Connection). Agrees heard x) (rw same s.2) a) s.6 s.5 (subst (λ (x : Option Connection). HasAnswersAt calls x) at has))
+      | inr f ↦
+          let at : connection_at c new.connections ≡ connection_at c old.connections = rw (s.4 c, f) refl in
+          rw (f, at) (is_heard heard calls (connection_at c old.connections) a (subst (λ (x : Option Connection). HasAnswersAt calls x) at has))
+    ]
+
+-- ---- many steps
+
+hears_more : (c : ℕ) (made : List Step) (step : Step) (first second third : Hearing) → Hears c made first second → HearsStep c step second third → Hears c (made ++ step ∷ []) first third
+hears_more c [] step first second third e h = (third, subst (λ (x : Hearing). HearsStep c step x third) (sym e) h, refl)
+hears_more c (s ∷ made) step first second third e h = (e.0, e.1, hears_more c made step e.0 second third e.2 h)
+
+abbrev pub HeardSoFar : List Step → Sight → Type 0
+HeardSoFar made sight = (c : ℕ) → (heard : Hearing) × Hears c made unopened heard × Agrees heard (connection_at c sight.connections)
+
+pub heard_none : (cluster : Cluster) → HeardSoFar [] (record { cluster = cluster; connections = [] })
+
+heard_none cluster c = (unopened, refl, tt)
+
+pub heard_next : (all : List Step) (i : ℕ) (d : Step) (did : Did) (old new : Sight) (before after : List (Event 2)) → i < length all → HeardSoFar (take i all) old → Outcome (get_or all i d) (Ok did) old new before after → HeardSoFar (take (i + 1) all) new
+
+heard_next all i d did old new before after below so_far o c =
+    let was = so_far c in
+    let next = hears_done c (get_or all i d) did old new before after was.0 o was.2 in
+    (next.0, rw (take_more all i d below) (hears_more c (take i all) (get_or all i d) unopened was.0 next.0 was.1 next.1), next.2)

@@ -1,0 +1,7 @@
+pub mod Registering
+pub mod Served
+pub mod Feeding
+pub mod Lawful
+pub mod Keeping
+pub mod Heard
+pub mod Running

@@ -1,0 +1,13 @@
+use Rattle.std.proofs.Common.{◌≡◌, take}
+use Rattle.cap_world.specs.World.{IsWorld}
+use Rattle.cap_world.proofs.Heard.{HeardSoFar}
+use Rattle.cap_world.proofs.world.World.run.Given as goal
+
+-- the steps so far were made and heard
+abbrev pub invariant-loop-i : goal.invariant-loop-i
+invariant-loop-i l = record {
+  opening : l.world.opening ≡ l.fn.opening;
+  events : l.world.events ≡ l.events.items;
+  lawful : IsWorld l.world;
+  heard : HeardSoFar (take l.i l.steps) l.world.sight;
+}

@@ -1,0 +1,6 @@
+pub mod Answers
+pub mod Connection
+pub mod Serving
+pub mod World
+pub mod Steps
+pub mod Hearing

@@ -1,0 +1,77 @@
+-- A world of connections over one cluster, and what has happened in it.
+use Rattle.std.specs.Prelude.{◌≡◌, ℕ, List, [], ◌∷◌, ◌++◌, Option, Some, None, Bool, false, ◌==◌, if◌then◌else◌, nat_eq, drop}
+use Rattle.std.specs.List.{flat_map}
+use Rattle.std.specs.Map.{lookup}
+use Rattle.std.specs.Global.{Vec}
+use Rattle.cap_model.specs.declared.event.Event.{Event}
+use Rattle.cap_model.specs.Cluster.{Cluster, empty}
+use Rattle.cap_model.specs.Runs.{Run}
+use Rattle.cap_world.specs.Answers.{Call, calls_by}
+use Rattle.cap_world.specs.Connection.{Connection, HasAnswers, is_open_standing}
+
+-- what is seen of a world: the cluster, and the connections that were ever opened, by number
+pub record Sight : Type 0 where
+  pub cluster : Cluster
+  pub connections : List (ℕ × Connection)
+
+-- the connection of a number, if it was ever opened
+abbrev pub connection_at : ℕ → List (ℕ × Connection) → Option Connection
+connection_at c connections = lookup (nat_eq c) connections
+
+abbrev pub is_open_connection : Option Connection → Bool
+is_open_connection None = false
+is_open_connection (Some connection) = is_open_standing connection.standing
+
+abbrev pub is_open : ℕ → Sight → Bool
+is_open c sight = is_open_connection (connection_at c sight.connections)
+
+abbrev pub output_from : Option Connection → List ℕ
+output_from None = []
+output_from (Some connection) = connection.output
+
+-- all bytes that the connection was ever answered
+abbrev pub output_of : ℕ → Sight → List ℕ
+output_of c sight = output_from (connection_at c sight.connections)
+
+-- one connection is this now, and each other is what it was
+abbrev pub Changes : ℕ → Connection → List (ℕ × Connection) → List (ℕ × Connection) → Type 0
+Changes c connection old new = (d : ℕ) → connection_at d new ≡ (if c == d then Some connection else connection_at d old)
+
+-- what the calls of a connection answered it, if it was ever opened; else it has none
+abbrev pub HasAnswersAt : List Call → Option Connection → Type 0
+HasAnswersAt calls None = calls ≡ []
+HasAnswersAt calls (Some connection) = HasAnswers calls connection
+
+-- The events are a run of the flat cluster from the opening to the cluster, and each connection was answered for the bytes that it took
+-- by its calls among them.
+pub record IsLawful (opening : Cluster) (events : List (Event 2)) (sight : Sight) : Type 0 where
+  pub run : Run opening events sight.cluster
+  pub each : (c : ℕ) → HasAnswersAt (calls_by c events) (connection_at c sight.connections)
+
+-- a world, with what it keeps for contracts alone: its opening cluster and its events
+pub record Known : Type 0 where
+  pub opening : Cluster
+  pub events : List (Event 2)
+  pub sight : Sight
+
+abbrev pub IsWorld : Known → Type 0
+IsWorld world = IsLawful world.opening world.events world.sight
+
+abbrev pub start : Cluster → Known
+start opening = record { opening = opening; events = []; sight = record { cluster = opening; connections = [] } }
+
+-- The opening stays, and the same events are added to the world's and to the list that was lent.
+pub record Adds (old new : Known) (before after : List (Event 2)) : Type 0 where
+  pub opening : new.opening ≡ old.opening
+  pub more : List (Event 2)
+  pub lent : after ≡ before ++ more
+  pub kept : new.events ≡ old.events ++ more
+
+-- each entry is the list of events after a step, and how long it was before
+abbrev pub events_of : List (Vec (Event 2) × ℕ) → List (Event 2)
+events_of entries = flat_map (λ e. drop e.1 e.0.items) entries
+
+-- the first entry is the opening
+abbrev pub opening_of : List (Cluster × ℕ) → Cluster
+opening_of [] = empty
+opening_of (x ∷ xs) = x.0

@@ -1,0 +1,44 @@
+ghost use Rattle.std.specs.Prelude.{◌≡◌, ◌≤◌, length};
+ghost use Rattle.cap_world.specs.Hearing.{IsHeadline};
+
+use crate::cluster::Cluster;
+use crate::step::{NoMemory, Step};
+use crate::world::World;
+use cap_model::Event;
+use std::alloc::Global;
+
+/// What a run leaves: the world, the events, and the number of steps before the first that was refused memory.
+#[derive(Drop)]
+pub struct Outcome {
+    pub world: World,
+    pub events: Vec<Event<2>>,
+    pub done: usize,
+}
+
+impl World {
+    /// Makes the steps in order, up to the first that is refused memory.
+    pub fn run(alloc: Global, opening: Cluster, steps: &[Step]) -> Outcome
+        ensures done { result.done ≤ length steps.now }
+        ensures headline { IsHeadline opening steps.now result.done result.events.items result.world.sight }
+    {
+        let mut world = World::open(alloc, opening);
+        let mut events = Vec::new(alloc);
+        for (i, step) in steps.iter().enumerate() {
+            match world.step(*step, &mut events) {
+                Ok(_) => {}
+                Err(NoMemory) => {
+                    return Outcome {
+                        world,
+                        events,
+                        done: i,
+                    };
+                }
+            }
+        }
+        Outcome {
+            world,
+            events,
+            done: steps.len(),
+        }
+    }
+}

@@ -1,0 +1,25 @@
+use thiserror::Error;
+
+/// A step of the world.
+#[derive(Clone, Copy, Debug)]
+pub enum Step<'a> {
+    /// The connection of this number opens. A number is opened once.
+    Open(u32),
+    /// A piece of bytes comes on the connection.
+    Bytes(u32, &'a [u8]),
+    /// The connection ends.
+    End(u32),
+}
+
+/// What became of a step.
+#[derive(Clone, Copy, Debug, PartialEq, Eq)]
+pub enum Did {
+    Done,
+    /// The step did not apply, and nothing changed.
+    Idle,
+}
+
+/// No memory was found.
+#[derive(Clone, Copy, Debug, PartialEq, Eq, Error)]
+#[error("out of memory")]
+pub struct NoMemory;
