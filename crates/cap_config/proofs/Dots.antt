@@ -1,13 +1,22 @@
 -- The last dot.
-use Rattle.std.proofs.Common.{◌≡◌, ℕ, zero, suc, ◌+◌, ◌-◌, ◌<◌, ◌≤◌, List, [], ◌∷◌, length, get_or, take, drop, Bool, true, false, cond, eqb, ltb, Option, Some, None, refl, sym, ap, ◌∙◌, arith, inl, inr}
-use Rattle.cap_config.specs.Keys.{last_dot, dot_or, is_dot}
+use Rattle.std.proofs.Common.{◌≡◌, ℕ, zero, suc, ◌+◌, ◌-◌, ◌<◌, ◌≤◌, List, [], ◌∷◌, length, get_or, take, drop, Bool, true, false, cond, eqb, ltb, Option, Some, None, refl, sym, ap, ◌∙◌, arith, add-one, inl, inr}
+use Rattle.cap_config.proofs.Cuts.{rest_all}
+use Rattle.cap_config.specs.Keys.{last_dot, dot_or, is_dot, parts_at_last_dot, parts_round}
 
 pub last_dot_here : (bytes : List ℕ) (i : ℕ) → i < length bytes → last_dot (drop (suc i) bytes) ≡ None → is_dot (get_or bytes i 0) ≡ true → last_dot bytes ≡ Some i
 last_dot_here [] i h none dot = absurd (omega arith)
-last_dot_here (b ∷ bytes) zero h none dot = ?
-last_dot_here (b ∷ bytes) (suc i) h none dot = ?
+last_dot_here (b ∷ bytes) zero h none dot = rw (none, dot) refl
+last_dot_here (b ∷ bytes) (suc i) h none dot = rw (last_dot_here bytes i (omega arith) none dot, add-one) refl
 
 pub last_dot_not_here : (bytes : List ℕ) (i : ℕ) → i < length bytes → last_dot (drop (suc i) bytes) ≡ None → is_dot (get_or bytes i 0) ≡ false → last_dot (drop i bytes) ≡ None
 last_dot_not_here [] i h none dot = absurd (omega arith)
-last_dot_not_here (b ∷ bytes) zero h none dot = ?
-last_dot_not_here (b ∷ bytes) (suc i) h none dot = ?
+last_dot_not_here (b ∷ bytes) zero h none dot = rw (none, dot) refl
+last_dot_not_here (b ∷ bytes) (suc i) h none dot = last_dot_not_here bytes i (omega arith) none dot
+
+pub dot_found : (bytes : List ℕ) (end i : ℕ) → end ≡ suc i → end ≤ length bytes → last_dot (drop end bytes) ≡ None → is_dot (get_or bytes i 0) ≡ true →
+    parts_at_last_dot bytes ≡ Some (take i bytes, take (length bytes - (i + 1)) (drop (i + 1) bytes))
+unfolding parts_at_last_dot
+dot_found bytes end i e h none dot = rw (last_dot_here bytes i (omega arith) (rw e at none) dot, rest_all bytes (i + 1)) refl
+
+pub dot_passed : (bytes : List ℕ) (end i : ℕ) → end ≡ suc i → end ≤ length bytes → last_dot (drop end bytes) ≡ None → is_dot (get_or bytes i 0) ≡ false → last_dot (drop i bytes) ≡ None
+dot_passed bytes end i e h none dot = last_dot_not_here bytes i (omega arith) (rw e at none) dot

@@ -1,3 +1,5 @@
 pub mod Cuts
+pub mod Trims
 pub mod Dots
 pub mod Digits
+pub mod QueueKeys

@@ -1,7 +1,6 @@
 -- The keys of property lines.
-use Rattle.std.specs.Prelude.{ℕ, zero, suc, ◌+◌, List, [], ◌∷◌, ◌++◌, length, take, drop, find, Option, Some, None, Bool, true, false, not, ◌&&◌, ◌||◌, ◌==◌, nat_lt, nat_le, nat_eq, if◌then◌else◌, codes, option_and_then}
+use Rattle.std.specs.Prelude.{ℕ, zero, suc, ◌+◌, List, [], ◌∷◌, ◌++◌, length, take, drop, find, Option, Some, None, Bool, true, false, not, ◌&&◌, ◌||◌, ◌==◌, nat_lt, nat_le, nat_eq, if◌then◌else◌, codes}
 use Rattle.std.specs.List.{list_all, slice_split, starts_with}
-use Rattle.std.specs.Option.{option_map}
 use Rattle.std.specs.Str.{bytes_eq}
 use Rattle.cap_model.specs.Texts.{is_text}
 use Rattle.cap_config.specs.declared.key.Key.{Key}
@@ -79,9 +78,14 @@ abbrev pub last_dot : List ℕ → Option ℕ
 last_dot [] = None
 last_dot (b ∷ bytes) = dot_or (is_dot b) (last_dot bytes)
 
+-- what stands before a place, and what after it
+abbrev pub parts_round : Option ℕ → List ℕ → Option (List ℕ × List ℕ)
+parts_round (Some i) bytes = Some (take i bytes, drop (i + 1) bytes)
+parts_round None bytes = None
+
 -- what stands before the last dot, and what after it
 unfoldable pub parts_at_last_dot : List ℕ → Option (List ℕ × List ℕ)
-parts_at_last_dot bytes = option_map (λ i. (take i bytes, drop (i + 1) bytes)) (last_dot bytes)
+parts_at_last_dot bytes = parts_round (last_dot bytes) bytes
 
 -- the key of a path and the property that the end of a key spells
 abbrev pub key_on : List ℕ → Option Setting → Option (List ℕ) → Option Key
@@ -92,12 +96,13 @@ key_on bytes None path = None
 unfoldable pub key_at : List ℕ → Option Setting → Option Key
 key_at bytes setting = key_on bytes setting (path_of bytes)
 
+abbrev pub key_of_parts : Option (List ℕ × List ℕ) → Option Key
+key_of_parts (Some parts) = key_at parts.0 (setting_named queue_settings parts.1)
+key_of_parts None = None
+
 -- the key of a queue, taken apart at its last dot
 unfoldable pub queue_key : List ℕ → Option Key
-queue_key bytes =
-    if starts_with nat_eq bytes prefix
-    then option_and_then (λ parts. key_at parts.0 (setting_named queue_settings parts.1)) (parts_at_last_dot (drop (length prefix) bytes))
-    else None
+queue_key bytes = if starts_with nat_eq bytes prefix then key_of_parts (parts_at_last_dot (drop (length prefix) bytes)) else None
 
 abbrev pub key_or : List ℕ → Option Setting → Option Key
 key_or bytes (Some setting) = Some (record { queue = None; setting = setting })
