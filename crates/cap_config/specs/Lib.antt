@@ -2,4 +2,5 @@ pub mod Fault
 pub mod Pieces
 pub mod Numbers
 pub mod Keys
+pub mod Seen
 pub mod Values

@@ -1,7 +1,6 @@
 -- The values of property lines.
-use Rattle.std.specs.Prelude.{ℕ, ◌+◌, ◌-◌, List, [], ◌∷◌, length, take, drop, map, Option, Some, None, Bool, true, false, not, unwrap_or, ◌&&◌, ◌||◌, ◌==◌, nat_lt, nat_le, nat_eq, if◌then◌else◌, codes, option_and_then, slice_index}
-use Rattle.std.specs.List.{list_all, list_any, slice_split, starts_with}
-use Rattle.std.specs.Option.{option_map}
+use Rattle.std.specs.Prelude.{ℕ, ◌+◌, ◌-◌, List, [], ◌∷◌, ◌++◌, length, take, drop, map, Option, Some, None, Bool, true, false, not, ◌&&◌, ◌||◌, ◌==◌, nat_lt, nat_le, nat_eq, if◌then◌else◌, codes, option_and_then, slice_index}
+use Rattle.std.specs.List.{list_all, slice_split, starts_with}
 use Rattle.std.specs.Str.{bytes_eq}
 use Rattle.cap_model.specs.Texts.{is_text}
 use Rattle.cap_vector.specs.Vector.{amount_max, is_within}
@@ -13,6 +12,7 @@ use Rattle.cap_config.specs.declared.setting.Setting.TheVariants.{Queues, Capaci
 use Rattle.cap_config.specs.Pieces.{parts_at, trimmed}
 use Rattle.cap_config.specs.Numbers.{number_of}
 use Rattle.cap_config.specs.Keys.{is_name}
+use Rattle.cap_config.specs.Seen.{is_among}
 
 -- the names of a list; an empty one has none
 unfoldable pub names_of : List ℕ → List (List ℕ)
@@ -60,21 +60,40 @@ amounts_of bytes =
 abbrev pub is_name_under : List ℕ → List ℕ → Bool
 is_name_under path name = (is_text 64 name && is_name name) && nat_le (length path + 1 + length name) 255
 
--- whether no name stands twice
-abbrev pub is_distinct : List (List ℕ) → Bool
-is_distinct [] = true
-is_distinct (name ∷ names) = not (list_any (bytes_eq name) names) && is_distinct names
+-- the name of a queue below this path
+unfoldable pub name_under : List ℕ → List ℕ → Option (List ℕ)
+name_under path name = if is_name_under path name then Some name else None
 
--- a list for the queue of this path
-unfoldable pub list_of : List ℕ → List ℕ → Option Value
-list_of path bytes =
-    if list_all (is_name_under path) (names_of bytes) && is_distinct (names_of bytes) then Some (Names (names_of bytes)) else None
+-- whether a list may go on with this name
+abbrev pub is_next : List ℕ → List (List ℕ) → List ℕ → Bool
+is_next path before name = is_name_under path name && not (is_among before name)
+
+-- whether no name stands a second time, or among those before
+abbrev pub are_new : List (List ℕ) → List (List ℕ) → Bool
+are_new before [] = true
+are_new before (name ∷ names) = not (is_among before name) && are_new (before ++ name ∷ []) names
+
+-- the names of a list for the queue of this path
+unfoldable pub names_for : List ℕ → List ℕ → Option (List (List ℕ))
+names_for path bytes = if list_all (is_name_under path) (names_of bytes) && are_new [] (names_of bytes) then Some (names_of bytes) else None
+
+abbrev pub as_names : Option (List (List ℕ)) → Option Value
+as_names (Some names) = Some (Names names)
+as_names None = None
+
+abbrev pub as_amounts : Option (List ℕ) → Option Value
+as_amounts (Some amounts) = Some (Amounts amounts)
+as_amounts None = None
+
+abbrev pub listed : Option (List ℕ) → List ℕ → Option Value
+listed (Some path) bytes = as_names (names_for path bytes)
+listed None bytes = None
 
 -- the value that bytes give a property
 unfoldable pub value_at : Option (List ℕ) → Setting → List ℕ → Option Value
-value_at queue Queues bytes = list_of (unwrap_or queue []) bytes
-value_at queue Capacity bytes = option_map Amounts (amounts_of bytes)
-value_at queue MaximumCapacity bytes = option_map Amounts (amounts_of bytes)
+value_at queue Queues bytes = listed queue bytes
+value_at queue Capacity bytes = as_amounts (amounts_of bytes)
+value_at queue MaximumCapacity bytes = as_amounts (amounts_of bytes)
 value_at queue UserLimitFactor bytes = number_within 1000 bytes
 value_at queue State bytes = state_of bytes
 value_at queue MaximumApplications bytes = number_within 1000000 bytes

@@ -13,6 +13,7 @@ mod number;
 mod queues;
 mod reading;
 mod second_pass;
+mod seen;
 mod setting;
 #[cfg(test)]
 mod tests;

@@ -1,7 +1,10 @@
-ghost use Rattle.std.specs.Prelude.{◌≡◌};
+ghost use Rattle.std.specs.Prelude.{◌≡◌, ◌++◌, ◌∷◌, [], IfOk, true};
+ghost use Rattle.cap_config.specs.Seen.{HasAll};
+ghost use Rattle.cap_config.specs.Values.{names_for, is_next, name_under};
 
 use crate::key::is_name;
 use crate::lines::split_once;
+use crate::seen::add_new;
 use crate::trim::trimmed;
 use cap_model::{PathText, ShortText};
 use std::alloc::{AllocError, Global};
@@ -36,7 +39,10 @@ impl Names {
 
 /// The names that a list for the queue at `path` has. None where a part is no name, a path would pass 255 bytes, or a
 /// name stands twice. An empty list has none.
-pub fn list_of(alloc: Global, path: &[u8], bytes: &[u8]) -> Result<Option<Names>, AllocError> {
+#[tactic(auto, unfolding(crate::specs::Values::names_for, crate::specs::Values::names_of))]
+pub fn names_for(alloc: Global, path: &[u8], bytes: &[u8]) -> Result<Option<Names>, AllocError>
+    ensures { IfOk result (λ names. names ≡ names_for path.now bytes.now) }
+{
     let mut names = Vec::new(alloc);
     if bytes.is_empty() {
         return Ok(Some(Names { names }));
@@ -44,12 +50,12 @@ pub fn list_of(alloc: Global, path: &[u8], bytes: &[u8]) -> Result<Option<Names>
     let mut seen = BTreeMap::new(alloc);
     let mut rest = bytes;
     while let Some((part, after)) = split_once(rest, b',') {
-        if !add_name(path, part, &mut names, &mut seen)? {
+        if !add_name(path, trimmed(part), &mut names, &mut seen)? {
             return Ok(None);
         }
         rest = after;
     }
-    if !add_name(path, rest, &mut names, &mut seen)? {
+    if !add_name(path, trimmed(rest), &mut names, &mut seen)? {
         return Ok(None);
     }
     Ok(Some(Names { names }))
@@ -58,15 +64,19 @@ pub fn list_of(alloc: Global, path: &[u8], bytes: &[u8]) -> Result<Option<Names>
 /// Adds a name of a list. False where it is no name or was seen before.
 fn add_name<'a>(
     path: &[u8],
-    part: &'a [u8],
+    bytes: &'a [u8],
     names: &mut Vec<ShortText>,
     seen: &mut BTreeMap<&'a [u8], ()>,
-) -> Result<bool, AllocError> {
-    let part = trimmed(part);
-    let Some(name) = name_under(path, part) else {
+) -> Result<bool, AllocError>
+    requires { HasAll seen.old names.old.items }
+    ensures taken { IfOk result (λ taken. taken ≡ is_next path.now names.old.items bytes.now) }
+    ensures names { IfOk result (λ taken. taken ≡ true → names.new.items ≡ names.old.items ++ bytes.now ∷ []) }
+    ensures seen { IfOk result (λ taken. taken ≡ true → HasAll seen.new names.new.items) }
+{
+    let Some(name) = name_under(path, bytes) else {
         return Ok(false);
     };
-    if seen.insert(part, ())?.is_some() {
+    if !add_new(seen, bytes)? {
         return Ok(false);
     }
     names.push(name)?;
@@ -74,9 +84,15 @@ fn add_name<'a>(
 }
 
 /// The name of a queue below `path`. None where it is no name, or the queue's path would pass 255 bytes.
-fn name_under(path: &[u8], bytes: &[u8]) -> Option<ShortText> {
-    if path.len() > PATH_MAX || path.len() + 1 + bytes.len() > PATH_MAX || !is_name(bytes) {
+#[tactic(auto, unfolding(crate::specs::Values::name_under))]
+fn name_under(path: &[u8], bytes: &[u8]) -> Option<ShortText>
+    ensures { result ≡ name_under path.now bytes.now }
+{
+    if path.len() > PATH_MAX || path.len() + 1 + bytes.len() > PATH_MAX {
         return None;
     }
-    ShortText::new(bytes)
+    match ShortText::new(bytes) {
+        Some(name) if is_name(bytes) => Some(name),
+        _ => None,
+    }
 }

@@ -1,15 +1,22 @@
-ghost use Rattle.std.specs.Prelude.{◌≡◌};
-ghost use Rattle.cap_config.specs.Values.{number_within, state_of, amounts_of, amounts_in, in_brackets, number_after, resource};
+ghost use Rattle.std.specs.Prelude.{◌≡◌, IfOk};
 ghost use Rattle.std.specs.Option.{option_map};
+ghost use Rattle.cap_config.specs.Values.{value_of, listed, as_amounts, number_within, state_of, amounts_of, amounts_in, in_brackets, number_after, resource};
 
 use crate::key::Key;
 use crate::lines::split_once;
-use crate::names::{Names, list_of};
+use crate::names::{Names, names_for};
 use crate::number::number_of;
 use crate::setting::Setting;
 use crate::trim::trimmed;
+use cap_model::PathText;
 use cap_vector::{AMOUNT_MAX, Resource};
 use std::alloc::{AllocError, Global};
+
+/// The greatest user limit factor.
+const FACTOR_MAX: u64 = 1000;
+
+/// The greatest number of active applications that may be set.
+const APPLICATIONS_MAX: u64 = 1_000_000;
 
 /// What a line sets its property to.
 #[derive(Debug, Drop)]
@@ -24,18 +31,47 @@ pub enum Value {
 }
 
 /// The value that these bytes give a key. None where they have another form or range.
-pub fn value_of(alloc: Global, key: &Key, bytes: &[u8]) -> Result<Option<Value>, AllocError> {
-    Ok(match key.setting {
-        Setting::Queues => match key.queue {
-            Some(path) => list_of(alloc, path.as_bytes(), bytes)?.map(Value::Names),
-            None => None,
-        },
-        Setting::Capacity | Setting::MaximumCapacity => amounts_of(bytes).map(Value::Amounts),
-        Setting::UserLimitFactor => number_within(bytes, 1000),
-        Setting::State => state_of(bytes),
-        Setting::MaximumApplications => number_within(bytes, 1_000_000),
-        _ => number_within(bytes, AMOUNT_MAX),
-    })
+#[tactic(auto, unfolding(crate::specs::Values::value_at))]
+pub fn value_of(alloc: Global, key: &Key, bytes: &[u8]) -> Result<Option<Value>, AllocError>
+    ensures { IfOk result (λ value. value ≡ value_of key.now bytes.now) }
+{
+    match key.setting {
+        Setting::Queues => listed(alloc, &key.queue, bytes),
+        Setting::Capacity | Setting::MaximumCapacity => Ok(as_amounts(amounts_of(bytes))),
+        Setting::UserLimitFactor => Ok(number_within(bytes, FACTOR_MAX)),
+        Setting::State => Ok(state_of(bytes)),
+        Setting::MaximumApplications => Ok(number_within(bytes, APPLICATIONS_MAX)),
+        Setting::MinimumMemory
+        | Setting::MinimumVcores
+        | Setting::MaximumMemory
+        | Setting::MaximumVcores => Ok(number_within(bytes, AMOUNT_MAX)),
+    }
+}
+
+/// The names that a queue's list has.
+fn listed(
+    alloc: Global,
+    queue: &Option<PathText>,
+    bytes: &[u8],
+) -> Result<Option<Value>, AllocError>
+    ensures { IfOk result (λ value. value ≡ listed queue.now bytes.now) }
+{
+    let Some(path) = queue else {
+        return Ok(None);
+    };
+    match names_for(alloc, path.as_bytes(), bytes)? {
+        Some(names) => Ok(Some(Value::Names(names))),
+        None => Ok(None),
+    }
+}
+
+fn as_amounts(amounts: Option<Resource<2>>) -> Option<Value>
+    ensures { result ≡ as_amounts amounts }
+{
+    match amounts {
+        Some(amounts) => Some(Value::Amounts(amounts)),
+        None => None,
+    }
 }
 
 /// A number from 1 to `most`.

@@ -6,7 +6,7 @@ use Rattle.cap_config.proofs.key.split_last_dot.Given as goal
 abbrev pub invariant-loop-end : goal.invariant-loop-end
 invariant-loop-end l = record {
   within : l.end ≤ length l.bytes;
-  none : last_dot (drop l.end l.bytes) ≡ None
+  none : last_dot (drop l.end l.bytes) ≡ None;
 }
 
 abbrev pub decreases-loop-end : goal.decreases-loop-end

@@ -5,7 +5,7 @@ use Rattle.cap_config.proofs.lines.split_line.Goals as goal
 pub returns-in-Some-clause-lines : goal.returns-in-Some-clause-lines
 returns-in-Some-clause-lines c =
     rw c.without_return.ensures (first_line c.args.text.now c.in-Some.line.now c.in-Some.after.now
-      (cut_some 10 c.args.text.now c.in-Some.line.now c.in-Some.after.now (sym (c.in-Some.ensures))))
+    (cut_some 10 c.args.text.now c.in-Some.line.now c.in-Some.after.now (sym (c.in-Some.ensures))))
 
 pub returns-in-Some-clause-shorter : goal.returns-in-Some-clause-shorter
 returns-in-Some-clause-shorter c =

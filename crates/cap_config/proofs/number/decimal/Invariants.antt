@@ -6,5 +6,5 @@ use Rattle.cap_config.proofs.number.decimal.Given as goal
 abbrev pub invariant-loop-digit : goal.invariant-loop-digit
 invariant-loop-digit l = record {
   is : l.number ≡ decimal (take l.digit-index l.digits);
-  small : l.number < 10 ^ l.digit-index
+  small : l.number < 10 ^ l.digit-index;
 }

@@ -6,7 +6,7 @@ use Rattle.cap_config.proofs.trim.from_first_word.Given as goal
 abbrev pub invariant-loop-start : goal.invariant-loop-start
 invariant-loop-start l = record {
   within : l.start ≤ length l.bytes;
-  spaces : (k : ℕ) → k < l.start → is_space (get_or l.bytes k 0) ≡ true
+  spaces : (k : ℕ) → k < l.start → is_space (get_or l.bytes k 0) ≡ true;
 }
 
 abbrev pub decreases-loop-start : goal.decreases-loop-start

@@ -6,7 +6,7 @@ use Rattle.cap_config.proofs.trim.to_last_word.Given as goal
 abbrev pub invariant-loop-end : goal.invariant-loop-end
 invariant-loop-end l = record {
   within : l.end ≤ length l.bytes;
-  spaces : (k : ℕ) → l.end ≤ k → k < length l.bytes → is_space (get_or l.bytes k 0) ≡ true
+  spaces : (k : ℕ) → l.end ≤ k → k < length l.bytes → is_space (get_or l.bytes k 0) ≡ true;
 }
 
 abbrev pub decreases-loop-end : goal.decreases-loop-end

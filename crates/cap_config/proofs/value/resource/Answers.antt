@@ -1,5 +1,9 @@
+use Rattle.std.proofs.Common.{sym, ◌∙◌, ap, ◌≡◌, Some, refl}
 use Rattle.cap_config.specs.Values.{resource}
+use Rattle.cap_config.proofs.Resources.{resource_is}
 use Rattle.cap_config.proofs.value.resource.Goals as goal
 
 pub returns-in-Some-Some : goal.returns-in-Some-Some
-returns-in-Some-Some c = ?
+returns-in-Some-Some c =
+    resource_is c.in-Some-Some.memory c.in-Some-Some.vcores c.new.result c.new.ensures.some c.new.ensures.variant
+    ∙ rw (c.in-Some-Some.is-0, c.in-Some-Some.is-1) refl

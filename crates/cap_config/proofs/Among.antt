@@ -1,0 +1,20 @@
+-- Byte strings in a list.
+use Rattle.std.proofs.Common.{◌≡◌, ℕ, List, [], ◌∷◌, ◌++◌, Bool, true, false, cond, Option, Some, None, refl, sym, ap, ◌∙◌}
+use Rattle.std.specs.Prelude.{◌||◌, is_some}
+use Rattle.std.specs.Str.{bytes_eq}
+use Rattle.std.proofs.lemmas.List.Folds.{list_any-append}
+use Rattle.cap_config.specs.Seen.{is_among}
+
+or-false : (b : Bool) → (b || false) ≡ b
+or-false true = refl
+or-false false = refl
+
+pub among_push : (keys : List (List ℕ)) (key q : List ℕ) → is_among (keys ++ key ∷ []) q ≡ (is_among keys q || bytes_eq key q)
+among_push keys key q = list_any-append _ keys (key ∷ []) ∙ ap (λ b. is_among keys q || b) (or-false (bytes_eq key q))
+
+-- what is there after a key was set
+pub there_after : {X : Type 0} (here : Bool) (o w r : Option X) → is_some w ≡ true → r ≡ cond here w o → is_some r ≡ (is_some o || here)
+there_after true (Some y) w r full e = ap is_some e ∙ full
+there_after true None w r full e = ap is_some e ∙ full
+there_after false (Some y) w r full e = ap is_some e
+there_after false None w r full e = ap is_some e

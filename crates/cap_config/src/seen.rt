@@ -1,0 +1,15 @@
+ghost use Rattle.std.specs.Prelude.{◌≡◌, ℕ, List, IfOk, OnOk, not, ◌||◌};
+ghost use Rattle.std.specs.Str.{bytes_eq};
+ghost use Rattle.cap_config.specs.Seen.{has};
+
+use std::alloc::AllocError;
+use std::collections::BTreeMap;
+
+/// Adds bytes to those that were seen. False where they were seen before.
+pub fn add_new<'a>(seen: &mut BTreeMap<&'a [u8], ()>, bytes: &'a [u8]) -> Result<bool, AllocError>
+    ensures new { IfOk result (λ new. new ≡ not (has seen.old bytes.now)) }
+    ensures after { OnOk result ((q : List ℕ) → has seen.new q ≡ (has seen.old q || bytes_eq bytes.now q)) }
+{
+    let old = seen.insert(bytes, ())?;
+    Ok(old.is_none())
+}
