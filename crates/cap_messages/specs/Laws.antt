@@ -1,0 +1,36 @@
+-- Each request and each reply has exactly one spelling.
+use Rattle.std.specs.Prelude.{◌≡◌, ℕ, ◌<◌, ◌^◌, ◌⊎◌, List, All}
+use Rattle.cap_model.specs.declared.request.Request.{Request}
+use Rattle.cap_model.specs.declared.reply.Reply.{Reply}
+use Rattle.cap_messages.specs.Spelling.{FitsRequest, IsRequest, IsOfKind, FitsReply, IsReply, fault_reply}
+
+abbrev pub IsBytes : List ℕ → Type 0
+IsBytes bytes = All (λ b. b < 256) bytes
+
+-- every request within its bounds is spelled by some bytes, under every call id
+abbrev pub RequestsHaveASpelling : Type 0
+RequestsHaveASpelling = (id : ℕ) (request : Request 2) → id < 2 ^ 32 → FitsRequest request → (bytes : List ℕ) × IsBytes bytes × IsRequest bytes id request
+
+abbrev pub RequestsHaveNoOther : Type 0
+RequestsHaveNoOther = (bytes others : List ℕ) (id : ℕ) (request : Request 2) → IsRequest bytes id request → IsRequest others id request → bytes ≡ others
+
+abbrev pub NoTwoRequestsShareOne : Type 0
+NoTwoRequestsShareOne =
+    (bytes : List ℕ) (id id' : ℕ) (request request' : Request 2) → IsRequest bytes id request → IsRequest bytes id' request' → (id ≡ id') × (request ≡ request')
+
+-- every reply within its bounds is spelled by some bytes, under every call id and kind that it may have
+abbrev pub RepliesHaveASpelling : Type 0
+RepliesHaveASpelling =
+    (id kind : ℕ) (reply : Reply 2) → id < 2 ^ 32 → kind < 256 → IsOfKind kind reply → FitsReply reply → (bytes : List ℕ) × IsBytes bytes × IsReply bytes id kind reply
+
+abbrev pub RepliesHaveNoOther : Type 0
+RepliesHaveNoOther = (bytes others : List ℕ) (id kind : ℕ) (reply : Reply 2) → IsReply bytes id kind reply → IsReply others id kind reply → bytes ≡ others
+
+abbrev pub NoTwoRepliesShareOne : Type 0
+NoTwoRepliesShareOne =
+    (bytes : List ℕ) (id id' kind kind' : ℕ) (reply reply' : Reply 2) → IsReply bytes id kind reply → IsReply bytes id' kind' reply' → (id ≡ id') × (kind ≡ kind') × (reply ≡ reply')
+
+-- a reply to a request is none to a fault
+abbrev pub NoReplyIsAFault : Type 0
+NoReplyIsAFault =
+    (status id kind : ℕ) (reply : Reply 2) → (status ≡ 40) ⊎ (status ≡ 41) → IsReply (fault_reply status) id kind reply → ⊥

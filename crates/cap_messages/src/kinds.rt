@@ -1,0 +1,18 @@
+ghost use Rattle.std.specs.Prelude.{◌≡◌};
+ghost use Rattle.cap_messages.specs.Spelling.{kind_of};
+
+use cap_model::Request;
+
+pub(crate) const REGISTER_NODE: u8 = 5;
+
+pub(crate) const CLUSTER_INFO: u8 = 10;
+
+/// The number of the request's kind, which its reply repeats: 5 for RegisterNode, 10 for ClusterInfo.
+pub fn kind(request: &Request<2>) -> u8
+    ensures { result ≡ kind_of request.now }
+{
+    match request {
+        Request::RegisterNode { .. } => REGISTER_NODE,
+        Request::ClusterInfo => CLUSTER_INFO,
+    }
+}

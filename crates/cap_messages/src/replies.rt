@@ -1,0 +1,64 @@
+ghost use Rattle.std.specs.Prelude.{◌≡◌, ◌≤◌, ◌<◌, ◌+◌, ◌++◌, length};
+ghost use Rattle.cap_messages.specs.Spelling.{IsOfKind, FitsReply, IsReply, reply_bytes, reply_body, fault_reply};
+
+use crate::cluster_info::put_counts;
+use crate::output::{Out, REPLY_ROOM, put_amounts};
+use cap_model::Reply;
+
+// The status and what follows it, after the 10 bytes of a frame's length and a reply's head.
+fn put_reply_body(reply: &Reply<2>, out: &mut Out)
+    requires { REPLY_ROOM ≤ out.old.spare + 10 }
+    ensures appends { out.new.items ≡ out.old.items ++ reply_body reply.now }
+    ensures spare { out.new.spare + length (reply_body reply.now) ≡ out.old.spare }
+    ensures room { 10 + length (reply_body reply.now) ≤ REPLY_ROOM }
+    ensures fits { FitsReply reply.now }
+{
+    match reply {
+        Reply::Refused(refusal) => out.extend_reserved(&[refusal.status()]),
+        Reply::RegisterNode { node } => {
+            out.extend_reserved(&[0]);
+            out.extend_reserved(&node.to_be_bytes());
+        }
+        Reply::ClusterInfo {
+            nodes,
+            applications,
+            containers,
+            totals,
+            used,
+        } => {
+            out.extend_reserved(&[0]);
+            put_counts(*nodes, *applications, *containers, out);
+            put_amounts(totals, out);
+            put_amounts(used, out);
+        }
+    }
+}
+
+/// Appends the one spelling of a reply to a request of this call id and kind: the reply is a refusal or one of the
+/// kind, and `REPLY_ROOM` bytes of `out` are free. It takes no memory and cannot fail; what `out` held stays.
+pub fn write_reply(call_id: u32, kind: u8, reply: &Reply<2>, out: &mut Out)
+    requires kind { IsOfKind kind reply.now }
+    requires room { REPLY_ROOM ≤ out.old.spare }
+    ensures appends { out.new.items ≡ out.old.items ++ reply_bytes call_id kind reply.now }
+    ensures spare { out.new.spare + length (reply_bytes call_id kind reply.now) ≡ out.old.spare }
+    ensures spells { IsReply (reply_bytes call_id kind reply.now) call_id kind reply.now }
+    ensures some { 0 < length (reply_bytes call_id kind reply.now) }
+    ensures room { 4 + length (reply_bytes call_id kind reply.now) ≤ REPLY_ROOM }
+{
+    out.extend_reserved(&[1, kind]);
+    out.extend_reserved(&call_id.to_be_bytes());
+    put_reply_body(reply, out);
+}
+
+/// Appends the reply to a payload that is no request, or to a frame that is none, whose call id is not known: `status`
+/// with kind 0 and call id 0. `REPLY_ROOM` bytes of `out` are free. It takes no memory and cannot fail; what `out` held
+/// stays.
+pub fn write_fault(status: u8, out: &mut Out)
+    requires { REPLY_ROOM ≤ out.old.spare }
+    ensures appends { out.new.items ≡ out.old.items ++ fault_reply status }
+    ensures spare { out.new.spare + length (fault_reply status) ≡ out.old.spare }
+    ensures some { 0 < length (fault_reply status) }
+    ensures room { 4 + length (fault_reply status) ≤ REPLY_ROOM }
+{
+    out.extend_reserved(&[1, 0, 0, 0, 0, 0, status]);
+}

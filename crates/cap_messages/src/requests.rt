@@ -1,0 +1,65 @@
+ghost use Rattle.std.specs.Prelude.{◌≡◌, ℕ, IfOk, IsErrOf};
+ghost use Rattle.cap_model.specs.declared.request.Request.{Request};
+ghost use Rattle.cap_messages.specs.Spelling.{IsRequest, IsNoRequest, CarriesList, IsListKind};
+ghost use Rattle.cap_messages.specs.Fields.{Gives};
+ghost use Rattle.cap_messages.specs.Reading.{GivesInMemory, head_at, body_at, request_at};
+
+use crate::cluster_info::cluster_info_of;
+use crate::fault::MessageFault;
+use crate::fields::{byte_of, u32_of};
+use crate::kinds::{CLUSTER_INFO, REGISTER_NODE};
+use crate::register_node::register_node_of;
+use cap_model::Request;
+use std::alloc::Global;
+
+// Version, kind and call id.
+#[tactic(auto, unfolding(crate::specs::Reading::head_at))]
+fn head_of(bytes: &[u8]) -> Result<((u8, u8, u32), &[u8]), MessageFault>
+    ensures { Gives (λ x. ((x.0.0, (x.0.1, x.0.2)), x.1.now)) result (head_at bytes.now) }
+{
+    let (version, rest) = byte_of(bytes)?;
+    let (kind, rest) = byte_of(rest)?;
+    let (call_id, rest) = u32_of(rest)?;
+    Ok(((version, kind, call_id), rest))
+}
+
+#[tactic(auto, unfolding(crate::specs::Reading::body_at))]
+fn body_of(_alloc: Global, kind: u8, bytes: &[u8]) -> Result<Request<2>, MessageFault>
+    ensures gives { GivesInMemory (λ x. x) result (body_at kind bytes.now) }
+    ensures memory { IsErrOf result MessageFault.NoMemory → IsListKind kind }
+{
+    match kind {
+        REGISTER_NODE => register_node_of(bytes),
+        CLUSTER_INFO => cluster_info_of(bytes),
+        _ => Err(MessageFault::Bad),
+    }
+}
+
+#[tactic(auto, unfolding(crate::specs::Reading::request_at))]
+fn request_of(alloc: Global, bytes: &[u8]) -> Result<(u32, Request<2>), MessageFault>
+    ensures gives { GivesInMemory (λ x. (x.0, x.1)) result (request_at bytes.now) }
+    ensures memory { IsErrOf result MessageFault.NoMemory → CarriesList bytes.now }
+{
+    let ((version, kind, call_id), rest) = head_of(bytes)?;
+    if version != 1 {
+        return Err(MessageFault::Bad);
+    }
+    let request = body_of(alloc, kind, rest)?;
+    Ok((call_id, request))
+}
+
+/// The call id and the request that a payload spells, with all of its bytes. `Bad` exactly where it spells none: a
+/// version other than 1, another kind, a text or an amount over its bound, a text with length 0 or another byte, a host
+/// that is `*` or begins with `/`, a rack that does not, bytes missing or left over. `NoMemory` where an allocation was
+/// refused, which only a kind that carries a list can meet. Amounts are in MiB of memory and in vcores.
+pub fn read_request(alloc: Global, bytes: &[u8]) -> Result<(u32, Request<2>), MessageFault>
+    // What is read is spelled so.
+    ensures found { IfOk result (λ x. IsRequest bytes.now x.0 x.1) }
+    // What is spelled so is read, and nothing else.
+    ensures only { (id : ℕ) (request : Request 2) → IsRequest bytes.now id request
+        → IfOk result (λ x. (x.0 ≡ id) × (x.1 ≡ request)) }
+    ensures bad { IsErrOf result MessageFault.Bad → IsNoRequest bytes.now }
+    ensures memory { IsErrOf result MessageFault.NoMemory → CarriesList bytes.now }
+{
+    request_of(alloc, bytes)
+}

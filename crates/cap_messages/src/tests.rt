@@ -1,0 +1,159 @@
+ghost use Rattle.std.specs.Prelude.{◌≤◌, length};
+
+use super::*;
+use bytes::BytesMut;
+use cap_model::Refusal;
+use cap_vector::{Resource, Sum};
+use std::alloc::{AllocError, Global};
+use std::test::Fail;
+
+const CLUSTER_INFO: &[u8] = &[1, 10, 0, 0, 0, 1];
+
+// Call id 2, host n1, rack /r1, 8192 MiB and 8 vcores.
+const REGISTER_NODE: &[u8] = &[
+    1, 5, 0, 0, 0, 2, 2, 0x6e, 0x31, 3, 0x2f, 0x72, 0x31, 0, 0, 0, 0, 0, 0, 0x20, 0, 0, 0, 0, 0, 0,
+    0, 0, 8,
+];
+
+const CLUSTER_INFO_REPLY: &[u8] = &[
+    1, 0x0a, 0, 0, 0, 3, 0, 0, 0, 0, 1, 0, 0, 0, 0, 0, 0, 0, 0, 0, 0, 0, 0, 0, 0, 0x20, 0, 0, 0, 0,
+    0, 0, 0, 0, 8, 0, 0, 0, 0, 0, 0, 0, 0, 0, 0, 0, 0, 0, 0, 0, 0,
+];
+
+const AMOUNT_MAX: u64 = 1 << 40;
+
+// A RegisterNode with call id 1 and these texts, whatever they are, as many MiB and 1 vcore.
+fn registration(alloc: Global, host: &[u8], rack: &[u8], memory: u64) -> Result<Vec<u8>, AllocError>
+    requires { (length host.now ≤ 255) × (length rack.now ≤ 255) }
+{
+    let mut bytes = Vec::from_slice(alloc, &[1, 5, 0, 0, 0, 1])?;
+    bytes.push(host.len() as u8)?;
+    bytes.extend_from_slice(host)?;
+    bytes.push(rack.len() as u8)?;
+    bytes.extend_from_slice(rack)?;
+    bytes.extend_from_slice(&memory.to_be_bytes())?;
+    bytes.extend_from_slice(&[0, 0, 0, 0, 0, 0, 0, 1])?;
+    Ok(bytes)
+}
+
+fn is_bad(alloc: Global, bytes: &[u8]) -> bool {
+    matches!(read_request(alloc, bytes), Err(MessageFault::Bad))
+}
+
+#[test]
+fn requests_are_read(rt: HostRuntime) -> Result<(), Fail> {
+    let (call_id, request) = read_request(rt.alloc(), CLUSTER_INFO)?;
+    assert_eq!(rt; call_id, 1);
+    assert_eq!(rt; kind(&request), 10);
+    assert!(rt; matches!(&request, Request::ClusterInfo));
+    let (call_id, request) = read_request(rt.alloc(), REGISTER_NODE)?;
+    assert_eq!(rt; call_id, 2);
+    assert_eq!(rt; kind(&request), 5);
+    let Request::RegisterNode { host, rack, total } = request else {
+        return Err("another kind".into());
+    };
+    assert_eq!(rt; host.as_bytes(), b"n1".as_slice());
+    assert_eq!(rt; rack.as_bytes(), b"/r1".as_slice());
+    assert_eq!(rt; total.amounts(), [8192, 8]);
+    Ok(())
+}
+
+#[test]
+fn other_payloads_are_bad(rt: HostRuntime) -> Result<(), Fail> {
+    let payloads: [&[u8]; 8] = [
+        &[],
+        &[1],
+        &[1, 10, 0, 0, 0],
+        &[1, 10, 0, 0, 0, 1, 0],
+        &[2, 10, 0, 0, 0, 1],
+        &[0, 10, 0, 0, 0, 1],
+        &[1, 4, 0, 0, 0, 1],
+        &[1, 11, 0, 0, 0, 1],
+    ];
+    for (i, payload) in payloads.iter().enumerate() {
+        assert!(rt; is_bad(rt.alloc(), payload), "payload {i}");
+    }
+    let (_, missing) = REGISTER_NODE.split_last().ok_or("no bytes")?;
+    assert!(rt; is_bad(rt.alloc(), missing));
+    let mut left_over = Vec::from_slice(rt.alloc(), REGISTER_NODE)?;
+    left_over.push(0)?;
+    assert!(rt; is_bad(rt.alloc(), &left_over));
+    Ok(())
+}
+
+#[test]
+fn texts_and_amounts_have_bounds(rt: HostRuntime) -> Result<(), Fail> {
+    let rows: [(&[u8], &[u8], u64, bool); 15] = [
+        (b"n1", b"/r1", AMOUNT_MAX, true),
+        (b"n1", b"/r1", AMOUNT_MAX + 1, false),
+        (b"n1", b"/r1", u64::MAX, false),
+        (&[b'h'; 64], b"/", 0, true),
+        (&[b'h'; 65], b"/", 0, false),
+        (b"n1", &[b'/'; 64], 0, true),
+        (b"n1", &[b'/'; 65], 0, false),
+        (b"", b"/r1", 0, false),
+        (b"n1", b"", 0, false),
+        (b"*", b"/r1", 0, false),
+        (b"**", b"/r1", 0, true),
+        (b"/x", b"/r1", 0, false),
+        (b"n1", b"r", 0, false),
+        (b"n 1", b"/r1", 0, false),
+        (b"n1", b"/r\x7f", 0, false),
+    ];
+    for (i, (host, rack, memory, is_good)) in rows.iter().enumerate() {
+        prove!(host.len() <= 255 && rack.len() <= 255);
+        let bytes = registration(rt.alloc(), host, rack, *memory)?;
+        assert_eq!(rt;
+            read_request(rt.alloc(), &bytes).is_ok(),
+            *is_good,
+            "row {i}"
+        );
+    }
+    Ok(())
+}
+
+#[test]
+fn replies_are_written(rt: HostRuntime) -> Result<(), Fail> {
+    let mut out: Out = BytesMut::with_capacity(rt.alloc(), REPLY_ROOM)?;
+    write_reply(2, 5, &Reply::RegisterNode { node: 1 }, &mut out);
+    assert_eq!(rt;
+        out.as_slice(),
+        [1, 5, 0, 0, 0, 2, 0, 0, 0, 0, 0, 0, 0, 0, 1].as_slice()
+    );
+
+    let mut out: Out = BytesMut::with_capacity(rt.alloc(), REPLY_ROOM)?;
+    write_reply(4, 5, &Reply::Refused(Refusal::HostTaken), &mut out);
+    assert_eq!(rt; out.as_slice(), [1, 5, 0, 0, 0, 4, 0x0c].as_slice());
+
+    let mut out: Out = BytesMut::with_capacity(rt.alloc(), REPLY_ROOM)?;
+    let reply = Reply::ClusterInfo {
+        nodes: 1,
+        applications: 0,
+        containers: 0,
+        totals: Resource::new([8192, 8]).ok_or("a resource")?,
+        used: Sum::zero(),
+    };
+    write_reply(3, 10, &reply, &mut out);
+    assert_eq!(rt; out.as_slice(), CLUSTER_INFO_REPLY);
+    Ok(())
+}
+
+#[test]
+fn faults_are_written(rt: HostRuntime) -> Result<(), Fail> {
+    let mut out: Out = BytesMut::with_capacity(rt.alloc(), REPLY_ROOM)?;
+    write_fault(40, &mut out);
+    assert_eq!(rt; out.as_slice(), [1, 0, 0, 0, 0, 0, 0x28].as_slice());
+
+    let mut out: Out = BytesMut::with_capacity(rt.alloc(), REPLY_ROOM)?;
+    write_fault(41, &mut out);
+    assert_eq!(rt; out.as_slice(), [1, 0, 0, 0, 0, 0, 0x29].as_slice());
+    Ok(())
+}
+
+#[test]
+fn the_laws_are_called(rt: HostRuntime) {
+    requests_have_one_spelling();
+    replies_have_one_spelling();
+    let said = format!(in rt.alloc(); "{}", MessageFault::Bad);
+    assert!(rt; said.is_ok());
+}

@@ -1,0 +1,31 @@
+ghost use Rattle.cap_messages.specs.Texts.{is_host, is_rack};
+ghost use Rattle.cap_messages.specs.Fields.{Gives, passing};
+
+use crate::fault::MessageFault;
+use cap_model::ShortText;
+
+// A host: a text that is neither `*` nor begins with `/`, since those name any place and a rack.
+pub(crate) fn host_from(bytes: &[u8]) -> Result<ShortText, MessageFault>
+    ensures { Gives (λ host. host) result (passing is_host bytes.now) }
+{
+    let Some(host) = ShortText::new(bytes) else {
+        return Err(MessageFault::Bad);
+    };
+    if bytes[0] == b'/' || (bytes.len() == 1 && bytes[0] == b'*') {
+        return Err(MessageFault::Bad);
+    }
+    Ok(host)
+}
+
+// A rack: a text that begins with `/`.
+pub(crate) fn rack_from(bytes: &[u8]) -> Result<ShortText, MessageFault>
+    ensures { Gives (λ rack. rack) result (passing is_rack bytes.now) }
+{
+    let Some(rack) = ShortText::new(bytes) else {
+        return Err(MessageFault::Bad);
+    };
+    if bytes[0] != b'/' {
+        return Err(MessageFault::Bad);
+    }
+    Ok(rack)
+}
