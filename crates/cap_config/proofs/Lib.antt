@@ -6,3 +6,4 @@ pub mod QueueKeys
 pub mod Resources
 pub mod Among
 pub mod NameLists
+pub mod Steps

@@ -27,9 +27,9 @@ pub names_from_is : (path : List ℕ) (before parts : List (List ℕ)) →
 names_from_is path before [] = ap Some (sym (append-nil before))
 names_from_is path before (part ∷ parts) =
     both_pass (is_name_under path (trimmed part)) (is_among before (trimmed part)) (list_all (is_name_under path) (map trimmed parts))
-      (are_new (before ++ trimmed part ∷ []) (map trimmed parts)) ((before ++ trimmed part ∷ []) ++ map trimmed parts) (before ++ trimmed part ∷ map trimmed parts) _
-      (names_from_is path (before ++ trimmed part ∷ []) parts)
-      (append_assoc before (trimmed part ∷ []) (map trimmed parts))
+    (are_new (before ++ trimmed part ∷ []) (map trimmed parts)) ((before ++ trimmed part ∷ []) ++ map trimmed parts) (before ++ trimmed part ∷ map trimmed parts) _
+    (names_from_is path (before ++ trimmed part ∷ []) parts)
+    (append_assoc before (trimmed part ∷ []) (map trimmed parts))
 
 pub names_for_is : (path bytes : List ℕ) → 0 < length bytes → names_from path [] (slice_split (λ b. eqb b 44) bytes) ≡ names_for path bytes
 unfolding names_for names_of

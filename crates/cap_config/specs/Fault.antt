@@ -1,5 +1,5 @@
 -- The answers that a text of settings may get in place of settings.
-use Rattle.std.specs.Prelude.{ℕ}
+use Rattle.std.specs.Prelude.{◌≡◌, ℕ, Result, Ok, Err}
 use Rattle.cap_config.specs.declared.fault.ConfigFault.{ConfigFault}
 use Rattle.cap_config.specs.declared.fault.ConfigFaultKind.{ConfigFaultKind}
 use Rattle.cap_config.specs.declared.fault.ConfigFaultKind.TheVariants.{NoMemory}
@@ -10,3 +10,13 @@ fault_at line kind = record { line = line; kind = kind }
 -- want of memory
 abbrev pub no_memory : ConfigFault
 no_memory = fault_at 0 NoMemory
+
+-- a fault that came in place of an answer: want of memory, or the answer itself
+abbrev pub FailsBy : ConfigFaultKind → ConfigFault → {Y : Type 0} → Result Y ConfigFault → Type 0
+FailsBy NoMemory fault answer = fault.line ≡ 0
+FailsBy _ fault answer = answer ≡ Err fault
+
+-- what was answered, seen by view, is the answer, unless memory ran out
+abbrev pub Gives : {X Y : Type 0} → (X → Y) → Result X ConfigFault → Result Y ConfigFault → Type 0
+Gives view (Ok x) answer = answer ≡ Ok (view x)
+Gives view (Err fault) answer = FailsBy fault.kind fault answer

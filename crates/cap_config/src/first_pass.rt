@@ -1,14 +1,25 @@
+ghost use Rattle.std.specs.Prelude.{◌≡◌, ◌++◌, ◌∷◌, [], List, ℕ, OnOk};
+ghost use Rattle.std.specs.List.{list_all};
+ghost use Rattle.std.specs.Option.{option_map};
+ghost use Rattle.std.specs.Str.Lines.{lines};
+ghost use Rattle.cap_config.specs.Fault.{Gives};
+ghost use Rattle.cap_config.specs.Seen.{HasAll};
+ghost use Rattle.cap_config.specs.Entries.{is_passed_over, is_printable, line_parts, key_text, entry_of, read_lines};
+
 use crate::entry::Entry;
 use crate::fault::{ConfigFault, ConfigFaultKind};
 use crate::key::key_of;
 use crate::lines::{split_line, split_once};
+use crate::seen::add_new;
 use crate::trim::trimmed;
 use crate::value::value_of;
 use std::alloc::Global;
 use std::collections::BTreeMap;
 
 /// The lines that set a property, in order. The first line with a fault of its own is the error.
-pub fn read_lines(alloc: Global, text: &[u8]) -> Result<Vec<Entry>, ConfigFault> {
+pub fn read_lines(alloc: Global, text: &[u8]) -> Result<Vec<Entry>, ConfigFault>
+    ensures { Gives (λ entries. entries.items) result (read_lines (lines text.now)) }
+{
     let mut entries = Vec::new(alloc);
     let mut keys = BTreeMap::new(alloc);
     let mut rest = text;
@@ -26,8 +37,13 @@ pub fn read_lines(alloc: Global, text: &[u8]) -> Result<Vec<Entry>, ConfigFault>
 }
 
 /// Whether the line says nothing: it is empty, or a comment.
-fn is_passed_over(bytes: &[u8]) -> bool {
-    matches!(bytes, [] | [b'#', ..])
+fn is_passed_over(bytes: &[u8]) -> bool
+    ensures { result ≡ is_passed_over bytes.now }
+{
+    match bytes {
+        [] => true,
+        [first, ..] => *first == b'#',
+    }
 }
 
 /// What a line sets, where it has no fault of its own. The keys are those of the lines before, and then this one's too.
@@ -36,18 +52,33 @@ fn entry_of<'a>(
     keys: &mut BTreeMap<&'a [u8], ()>,
     line: usize,
     bytes: &'a [u8],
-) -> Result<Entry, ConfigFault> {
+) -> Result<Entry, ConfigFault>
+    ensures entry { (before : List (List ℕ)) → HasAll keys.old before → Gives (λ entry. entry) result (entry_of before line bytes.now) }
+    ensures keys { (before : List (List ℕ)) → HasAll keys.old before → OnOk result (HasAll keys.new (before ++ key_text bytes.now ∷ [])) }
+{
     let Some((key_bytes, value_bytes)) = parts_of(bytes) else {
-        return Err(ConfigFault::new(line, ConfigFaultKind::BadLine));
+        return Err(ConfigFault {
+            line,
+            kind: ConfigFaultKind::BadLine,
+        });
     };
     let Some(key) = key_of(key_bytes) else {
-        return Err(ConfigFault::new(line, ConfigFaultKind::UnknownKey));
+        return Err(ConfigFault {
+            line,
+            kind: ConfigFaultKind::UnknownKey,
+        });
     };
-    if keys.insert(key_bytes, ())?.is_some() {
-        return Err(ConfigFault::new(line, ConfigFaultKind::Repeated));
+    if !add_new(keys, key_bytes)? {
+        return Err(ConfigFault {
+            line,
+            kind: ConfigFaultKind::Repeated,
+        });
     }
     let Some(value) = value_of(alloc, &key, value_bytes)? else {
-        return Err(ConfigFault::new(line, ConfigFaultKind::BadValue));
+        return Err(ConfigFault {
+            line,
+            kind: ConfigFaultKind::BadValue,
+        });
     };
     Ok(Entry {
         line,
@@ -58,7 +89,10 @@ fn entry_of<'a>(
 }
 
 /// The key and the value of a line of printable bytes that is cut at its first `=`.
-fn parts_of(bytes: &[u8]) -> Option<(&[u8], &[u8])> {
+#[tactic(auto, unfolding(crate::specs::Entries::line_parts))]
+fn parts_of(bytes: &[u8]) -> Option<(&[u8], &[u8])>
+    ensures { option_map (λ parts. (parts.0.now, parts.1.now)) result ≡ line_parts bytes.now }
+{
     if !all_printable(bytes) {
         return None;
     }
@@ -68,6 +102,8 @@ fn parts_of(bytes: &[u8]) -> Option<(&[u8], &[u8])> {
     }
 }
 
-fn all_printable(bytes: &[u8]) -> bool {
+fn all_printable(bytes: &[u8]) -> bool
+    ensures { result ≡ list_all is_printable bytes.now }
+{
     bytes.iter().all(|byte| 0x20 <= *byte && *byte <= 0x7e)
 }

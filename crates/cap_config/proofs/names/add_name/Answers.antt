@@ -16,7 +16,7 @@ pub returns-clause-taken : goal.returns-clause-taken
 returns-clause-taken c =
     let yes = name_under_some c.args.path.now c.args.bytes.now c.in-Some.name (sym c.name_under.ensures ∙ c.in-Some.is) in
     let new : not (is_among c.args.names.now.items c.args.bytes.now) ≡ true =
-        ap not (sym (c.requires c.args.bytes.now)) ∙ sym c.in_ok-add_new.ensures.new ∙ c.if-not-branch.false in
+    ap not (sym (c.requires c.args.bytes.now)) ∙ sym c.in_ok-add_new.ensures.new ∙ c.if-not-branch.false in
     rw (yes.0, new) refl
 
 pub returns-clause-names : goal.returns-clause-names

@@ -14,15 +14,15 @@ pub loop-part-preserved : goal.loop-part-preserved
 loop-part-preserved c =
     let cut = cut_some 44 c.loop-part.rest.now c.in-Some.part.now c.in-Some.after.now (sym c.in-Some.ensures) in
     let next : is_next c.args.path.now c.loop-part.names.items (trimmed c.in-Some.part.now) ≡ true =
-        ap (is_next c.args.path.now c.loop-part.names.items) (sym c.trimmed.ensures) ∙ sym c.in_ok-add_name.ensures.taken ∙ c.if-not-branch.false in
+    ap (is_next c.args.path.now c.loop-part.names.items) (sym c.trimmed.ensures) ∙ sym c.in_ok-add_name.ensures.taken ∙ c.if-not-branch.false in
     let all : c.add_name.new.names.items ≡ c.loop-part.names.items ++ trimmed c.in-Some.part.now ∷ [] =
-        c.in_ok-add_name.ensures.names c.if-not-branch.false ∙ ap (λ (n : List ℕ). c.loop-part.names.items ++ n ∷ []) c.trimmed.ensures in
+    c.in_ok-add_name.ensures.names c.if-not-branch.false ∙ ap (λ (n : List ℕ). c.loop-part.names.items ++ n ∷ []) c.trimmed.ensures in
     record {
       seen = c.in_ok-add_name.ensures.seen c.if-not-branch.false;
       so_far =
-        c.loop-part.invariant.so_far
-        ∙ cut_yes _ _ _ _ _ cut next
-        ∙ ap (λ (ns : List (List ℕ)). names_from c.args.path.now ns (slice_split (λ b. eqb b 44) c.in-Some.after.now)) (sym all);
+          c.loop-part.invariant.so_far
+          ∙ cut_yes _ _ _ _ _ cut next
+          ∙ ap (λ (ns : List (List ℕ)). names_from c.args.path.now ns (slice_split (λ b. eqb b 44) c.in-Some.after.now)) (sym all);
     }
 
 pub returns-then-not-branch : goal.returns-then-not-branch
@@ -30,7 +30,7 @@ returns-then-not-branch c =
     let cut = cut_some 44 c.loop-part.rest.now c.in-Some.part.now c.in-Some.after.now (sym c.in-Some.ensures) in
     let full : 0 < length c.args.bytes.now = grind (arith, nat_tests) in
     let no : is_next c.args.path.now c.loop-part.names.items (trimmed c.in-Some.part.now) ≡ false =
-        ap (is_next c.args.path.now c.loop-part.names.items) (sym c.trimmed.ensures) ∙ sym c.in_ok-add_name.ensures.taken ∙ c.if-not-branch.true in
+    ap (is_next c.args.path.now c.loop-part.names.items) (sym c.trimmed.ensures) ∙ sym c.in_ok-add_name.ensures.taken ∙ c.if-not-branch.true in
     sym (sym (names_for_is c.args.path.now c.args.bytes.now full) ∙ c.loop-part.invariant.so_far ∙ cut_no _ _ _ _ _ cut no)
 
 pub returns-then-not-branch-2 : goal.returns-then-not-branch-2
@@ -38,7 +38,7 @@ returns-then-not-branch-2 c =
     let one = cut_none 44 c.loop-part.rest.now (sym c.in_default.ensures) in
     let full : 0 < length c.args.bytes.now = grind (arith, nat_tests) in
     let no : is_next c.args.path.now c.loop-part.names.items (trimmed c.loop-part.rest.now) ≡ false =
-        ap (is_next c.args.path.now c.loop-part.names.items) (sym c.trimmed-2.ensures) ∙ sym c.in_ok-add_name-2.ensures.taken ∙ c.if-not-branch-2.true in
+    ap (is_next c.args.path.now c.loop-part.names.items) (sym c.trimmed-2.ensures) ∙ sym c.in_ok-add_name-2.ensures.taken ∙ c.if-not-branch-2.true in
     sym (sym (names_for_is c.args.path.now c.args.bytes.now full) ∙ c.loop-part.invariant.so_far ∙ last_no _ _ _ one no)
 
 pub returns : goal.returns
@@ -46,7 +46,7 @@ returns c =
     let one = cut_none 44 c.loop-part.rest.now (sym c.in_default.ensures) in
     let full : 0 < length c.args.bytes.now = grind (arith, nat_tests) in
     let yes : is_next c.args.path.now c.loop-part.names.items (trimmed c.loop-part.rest.now) ≡ true =
-        ap (is_next c.args.path.now c.loop-part.names.items) (sym c.trimmed-2.ensures) ∙ sym c.in_ok-add_name-2.ensures.taken ∙ c.if-not-branch-2.false in
+    ap (is_next c.args.path.now c.loop-part.names.items) (sym c.trimmed-2.ensures) ∙ sym c.in_ok-add_name-2.ensures.taken ∙ c.if-not-branch-2.false in
     let all : c.add_name-2.new.names.items ≡ c.loop-part.names.items ++ trimmed c.loop-part.rest.now ∷ [] =
-        c.in_ok-add_name-2.ensures.names c.if-not-branch-2.false ∙ ap (λ (n : List ℕ). c.loop-part.names.items ++ n ∷ []) c.trimmed-2.ensures in
+    c.in_ok-add_name-2.ensures.names c.if-not-branch-2.false ∙ ap (λ (n : List ℕ). c.loop-part.names.items ++ n ∷ []) c.trimmed-2.ensures in
     ap Some all ∙ sym (sym (names_for_is c.args.path.now c.args.bytes.now full) ∙ c.loop-part.invariant.so_far ∙ last_yes _ _ _ one yes)

@@ -9,4 +9,4 @@ use Rattle.cap_config.proofs.seen.add_new.Goals as goal
 pub returns-clause-after : goal.returns-clause-after
 returns-clause-after c = λ q.
     there_after (bytes_eq c.args.bytes.now q) (get_by (λ k. slice_cmp nat_cmp q k.now) c.args.seen.now) _ _ refl
-      (btree_map_updates_str c.args.bytes.now c.args.seen.now c.insert.new.self _ c.in_ok-old.ensures.updates q)
+    (btree_map_updates_str c.args.bytes.now c.args.seen.now c.insert.new.self _ c.in_ok-old.ensures.updates q)

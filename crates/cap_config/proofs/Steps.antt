@@ -1,0 +1,83 @@
+-- A line after those before.
+use Rattle.std.proofs.Common.{◌≡◌, ℕ, ◌+◌, List, [], ◌∷◌, ◌++◌, length, Bool, true, false, not, Option, Some, None, Result, Ok, Err, refl, sym, ap, ◌∙◌, arith}
+use Rattle.std.specs.Str.Lines.{lines}
+use Rattle.cap_config.specs.declared.entry.Entry.{Entry}
+use Rattle.cap_config.specs.declared.key.Key.{Key}
+use Rattle.cap_config.specs.declared.value.Value.{Value}
+use Rattle.cap_config.specs.declared.fault.ConfigFault.{ConfigFault}
+use Rattle.cap_config.specs.declared.fault.ConfigFaultKind.{ConfigFaultKind}
+use Rattle.cap_config.specs.declared.fault.ConfigFaultKind.TheVariants.{BadLine, UnknownKey, Repeated, BadValue, NoSuchQueue, OverParent, GuaranteeOverMaximum, TooManyQueues, TooDeep, NoChild, NoMemory}
+use Rattle.cap_config.specs.Fault.{fault_at, FailsBy}
+use Rattle.cap_config.specs.Keys.{key_of}
+use Rattle.cap_config.specs.Seen.{is_among}
+use Rattle.cap_config.specs.Values.{value_of}
+use Rattle.cap_config.specs.Entries.{line_parts, entry_of, is_passed_over, read_after, key_text}
+
+pub not_false : (b : Bool) → not b ≡ false → b ≡ true
+not_false true h = refl
+not_false false h = absurd (cc h)
+
+pub not_true : (b : Bool) → not b ≡ true → b ≡ false
+not_true true h = absurd (cc h)
+not_true false h = refl
+
+pub entry_no_parts : (keys : List (List ℕ)) (n : ℕ) (line : List ℕ) → line_parts line ≡ None → entry_of keys n line ≡ Err (fault_at n BadLine)
+unfolding entry_of
+entry_no_parts keys n line h = rw h refl
+
+pub entry_no_key : (keys : List (List ℕ)) (n : ℕ) (line name value : List ℕ) → line_parts line ≡ Some (name, value) → key_of name ≡ None → entry_of keys n line ≡ Err (fault_at n UnknownKey)
+unfolding entry_of
+entry_no_key keys n line name value h k = rw (h, k) refl
+
+pub entry_repeated : (keys : List (List ℕ)) (n : ℕ) (line name value : List ℕ) (key : Key) → line_parts line ≡ Some (name, value) → key_of name ≡ Some key → is_among keys name ≡ true →
+    entry_of keys n line ≡ Err (fault_at n Repeated)
+unfolding entry_of
+entry_repeated keys n line name value key h k stood = rw (h, k, stood) refl
+
+pub entry_no_value : (keys : List (List ℕ)) (n : ℕ) (line name value : List ℕ) (key : Key) → line_parts line ≡ Some (name, value) → key_of name ≡ Some key → is_among keys name ≡ false →
+    value_of key value ≡ None → entry_of keys n line ≡ Err (fault_at n BadValue)
+unfolding entry_of
+entry_no_value keys n line name value key h k stood v = rw (h, k, stood, v) refl
+
+pub entry_good : (keys : List (List ℕ)) (n : ℕ) (line name value : List ℕ) (key : Key) (is : Value) → line_parts line ≡ Some (name, value) → key_of name ≡ Some key → is_among keys name ≡ false →
+    value_of key value ≡ Some is → entry_of keys n line ≡ Ok (record { line = n; queue = key.queue; setting = key.setting; value = is })
+unfolding entry_of
+entry_good keys n line name value key is h k stood v = rw (h, k, stood, v) refl
+
+pub after_passed : (n : ℕ) (keys : List (List ℕ)) (entries : List Entry) (line : List ℕ) (more : List (List ℕ)) → is_passed_over line ≡ true →
+    read_after n keys entries (line ∷ more) ≡ read_after (n + 1) keys entries more
+unfolding read_after
+after_passed n keys entries line more h = rw h refl
+
+pub after_entry : (n : ℕ) (keys : List (List ℕ)) (entries : List Entry) (line : List ℕ) (more : List (List ℕ)) (entry : Entry) → is_passed_over line ≡ false → entry_of keys (n + 1) line ≡ Ok entry →
+    read_after n keys entries (line ∷ more) ≡ read_after (n + 1) (keys ++ key_text line ∷ []) (entries ++ entry ∷ []) more
+unfolding read_after
+after_entry n keys entries line more entry h is = rw (h, is) refl
+
+pub after_fault : (n : ℕ) (keys : List (List ℕ)) (entries : List Entry) (line : List ℕ) (more : List (List ℕ)) (fault : ConfigFault) → is_passed_over line ≡ false → entry_of keys (n + 1) line ≡ Err fault →
+    read_after n keys entries (line ∷ more) ≡ Err fault
+unfolding read_after
+after_fault n keys entries line more fault h is = rw (h, is) refl
+
+pub after_all : (n : ℕ) (keys : List (List ℕ)) (entries : List Entry) → read_after n keys entries [] ≡ Ok entries
+unfolding read_after
+after_all n keys entries = refl
+
+pub lines_none : (text : List ℕ) → length text ≡ 0 → lines text ≡ []
+lines_none [] h = refl
+lines_none (b ∷ text) h = absurd (omega arith)
+
+-- what fails so that another fails by it
+pub fails_after : {X Y : Type 0} (kind : ConfigFaultKind) (fault : ConfigFault) (r : Result X ConfigFault) (s : Result Y ConfigFault) → (r ≡ Err fault → s ≡ Err fault) →
+    FailsBy kind fault r → FailsBy kind fault s
+fails_after NoMemory fault r s f h = h
+fails_after BadLine fault r s f h = f h
+fails_after UnknownKey fault r s f h = f h
+fails_after Repeated fault r s f h = f h
+fails_after BadValue fault r s f h = f h
+fails_after NoSuchQueue fault r s f h = f h
+fails_after OverParent fault r s f h = f h
+fails_after GuaranteeOverMaximum fault r s f h = f h
+fails_after TooManyQueues fault r s f h = f h
+fails_after TooDeep fault r s f h = f h
+fails_after NoChild fault r s f h = f h

@@ -1,0 +1,65 @@
+use Rattle.std.proofs.Common.{◌≡◌, ◌+◌, ◌++◌, ◌∷◌, [], sym, ◌∙◌, ap, true, false, not, List, ℕ, arith, Err}
+use Rattle.std.specs.Str.Lines.{lines}
+use Rattle.std.proofs.lemmas.Result.{err_from_is_err_and}
+use Rattle.std.proofs.lemmas.Bool.Decides.{nat_tests}
+use Rattle.cap_config.specs.declared.entry.Entry.{Entry}
+use Rattle.cap_config.specs.Entries.{read_after, entry_of, is_passed_over, key_text, read_lines}
+use Rattle.cap_config.proofs.Steps.{not_false, after_passed, after_entry, after_fault, after_all, lines_none, fails_after}
+use Rattle.cap_config.proofs.first_pass.read_lines.Goals as goal
+
+pub returns-in_err-entry : goal.returns-in_err-entry
+returns-in_err-entry c =
+    let p = err_from_is_err_and c.from_residual.result c.from_residual.ensures.1 in
+    let fault = c.in_err-entry.field-0.0 in
+    let keys = c.loop-rest.invariant.so_far.0 in
+    let line = c.split_line.result.0.now in
+    let here : is_passed_over line ≡ false = sym c.is_passed_over.ensures ∙ c.if-not-is_passed_over.true in
+    rw (p.1, p.2)
+      (fails_after fault.kind fault (entry_of keys (c.loop-rest.line + 1) line) (read_lines (lines c.args.text.now))
+        (λ is.
+            c.loop-rest.invariant.so_far.2
+            ∙ ap (read_after c.loop-rest.line keys c.loop-rest.entries.items) c.split_line.ensures.lines
+            ∙ after_fault c.loop-rest.line keys c.loop-rest.entries.items line (lines c.split_line.result.1.now) fault here is)
+        (c.in_err-entry.ensures.entry keys c.loop-rest.invariant.so_far.1))
+
+pub loop-rest-preserved-in_ok-push : goal.loop-rest-preserved-in_ok-push
+loop-rest-preserved-in_ok-push c =
+    let keys = c.loop-rest.invariant.so_far.0 in
+    let line = c.split_line.result.0.now in
+    let more = lines c.split_line.result.1.now in
+    let here : is_passed_over line ≡ false = sym c.is_passed_over.ensures ∙ c.if-not-is_passed_over.true in
+    let is : entry_of keys (c.loop-rest.line + 1) line ≡ _ = c.in_ok-entry.ensures.entry keys c.loop-rest.invariant.so_far.1 in
+    record {
+      small = omega (arith, c.loop-rest.invariant.small, c.split_line.ensures.shorter);
+      so_far = (
+        keys ++ key_text line ∷ [],
+        c.in_ok-entry.ensures.keys keys c.loop-rest.invariant.so_far.1,
+        c.loop-rest.invariant.so_far.2
+        ∙ ap (read_after c.loop-rest.line keys c.loop-rest.entries.items) c.split_line.ensures.lines
+        ∙ after_entry c.loop-rest.line keys c.loop-rest.entries.items line more c.in_ok-entry.entry here is
+        ∙ ap (λ (es : List Entry). read_after (c.loop-rest.line + 1) (keys ++ key_text line ∷ []) es more) (sym c.in_ok-push.ensures.items),
+      );
+    }
+
+pub loop-rest-preserved : goal.loop-rest-preserved
+loop-rest-preserved c =
+    let keys = c.loop-rest.invariant.so_far.0 in
+    let line = c.split_line.result.0.now in
+    let here : is_passed_over line ≡ true = sym c.is_passed_over.ensures ∙ c.if-not-is_passed_over.false in
+    record {
+      small = omega (arith, c.loop-rest.invariant.small, c.split_line.ensures.shorter);
+      so_far = (
+        keys,
+        c.loop-rest.invariant.so_far.1,
+        c.loop-rest.invariant.so_far.2
+        ∙ ap (read_after c.loop-rest.line keys c.loop-rest.entries.items) c.split_line.ensures.lines
+        ∙ after_passed c.loop-rest.line keys c.loop-rest.entries.items line (lines c.split_line.result.1.now) here,
+      );
+    }
+
+pub returns : goal.returns
+returns c =
+    let keys = c.loop-rest.invariant.so_far.0 in
+    c.loop-rest.invariant.so_far.2
+    ∙ ap (read_after c.loop-rest.line keys c.loop-rest.entries.items) (lines_none c.loop-rest.rest.now (grind (arith, nat_tests)))
+    ∙ after_all c.loop-rest.line keys c.loop-rest.entries.items
