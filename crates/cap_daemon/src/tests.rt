@@ -1,1 +1,257 @@
 use super::*;
+use std::cell::Cell;
+use std::io::{self, Read, Write};
+use std::process::Abort;
+use std::test::Fail;
+
+/// Gives its pieces one a read, then the end or a failure. It notes how much was written before each read.
+#[derive(Drop)]
+struct Pieces<'a> {
+    left: &'a [&'a [u8]],
+    fails: bool,
+    written: &'a Cell<usize>,
+    before_last: usize,
+}
+
+impl Read for Pieces<'_> {
+    fn read(&mut self, buf: &mut [u8]) -> io::Result<usize> {
+        self.before_last = self.written.get();
+        let Some((piece, left)) = self.left.split_first() else {
+            return if self.fails {
+                Err(io::Error::from(io::ErrorKind::Other))
+            } else {
+                Ok(0)
+            };
+        };
+        self.left = left;
+        let n = piece.len().min(buf.len());
+        for (to, from) in buf.iter_mut().zip(*piece) {
+            *to = *from;
+        }
+        Ok(n)
+    }
+}
+
+/// Keeps what is written, up to a limit past which writing fails.
+#[derive(Drop)]
+struct Paper<'a> {
+    kept: Vec<u8>,
+    limit: usize,
+    written: &'a Cell<usize>,
+}
+
+impl Write for Paper<'_> {
+    fn write(&mut self, buf: &[u8]) -> io::Result<usize> {
+        if self.kept.len() >= self.limit {
+            return Err(io::Error::from(io::ErrorKind::Other));
+        }
+        self.kept.extend_from_slice(buf)?;
+        self.written.set(self.kept.len());
+        Ok(buf.len())
+    }
+
+    fn flush(&mut self) -> io::Result<()> {
+        Ok(())
+    }
+}
+
+/// Plays the script and looks at what it prints and at its status.
+fn plays<R: Abort + AllocGlobal>(rt: &R, script: &str, printed: &str, status: u8) {
+    let mut input = script.as_bytes();
+    let mut output = Vec::new(rt.alloc());
+    assert_eq!(rt;
+        replay(rt.alloc(), &mut input, &mut output),
+        status,
+        "{script}"
+    );
+    assert_eq!(rt; output.as_slice(), printed.as_bytes(), "{script}");
+}
+
+const EMPTY: &str =
+    "out 1 00000033010a00000001000000000000000000000000000000000000000000000000000000000000000000000000000000000000000000\n";
+
+#[test]
+fn an_empty_cluster_is_told(rt: HostRuntime) -> Result<(), Fail> {
+    let script = "open 1\nbytes 1 00000006010a00000001\nend 1\n";
+    let printed = format!(in rt.alloc(); "opened 1\n{EMPTY}closed 1\n")?;
+    plays(&rt, script, printed.as_str(), 0);
+    let in_pieces =
+        "open 1\nbytes 1 00\nbytes 1 00\nbytes 1 00\nbytes 1 06\nbytes 1 01\nbytes 1 0A\nbytes 1 0000\nbytes 1 0001\nend 1";
+    plays(&rt, in_pieces, printed.as_str(), 0);
+    plays(&rt, "", "", 0);
+    plays(&rt, "\n# a comment\r\n\r\n", "", 0);
+    Ok(())
+}
+
+#[test]
+fn a_node_is_registered_once(rt: HostRuntime) {
+    plays(
+        &rt,
+        "open 1\n\
+        bytes 1 0000001d010500000002026e31032f723100000000000020000000000000000008\n\
+        bytes 1 00000006010a00000003\n\
+        bytes 1 0000001d010500000004026e31032f723100000000000020000000000000000008\n",
+        "opened 1\n\
+        out 1 0000000f010500000002000000000000000001\n\
+        out 1 00000033010a00000003000000000100000000000000000000000000002000000000000000000800000000000000000000000000000000\n\
+        out 1 000000070105000000040c\n",
+        0,
+    );
+}
+
+#[test]
+fn faults_in_the_stream_are_told(rt: HostRuntime) {
+    let ended = "opened 1\nout 1 0000000701000000000028\nended 1\nidle\nidle\nidle\n";
+    plays(
+        &rt,
+        "open 1\nbytes 1 00000000\nbytes 1 00\nend 1\nopen 1\n",
+        ended,
+        0,
+    );
+    plays(
+        &rt,
+        "open 1\nbytes 1 00010001\nbytes 1 00\nend 1\nopen 1\n",
+        ended,
+        0,
+    );
+    plays(
+        &rt,
+        "open 1\nbytes 1 00000006010a\nend 1\n",
+        "opened 1\nclosed 1\n",
+        0,
+    );
+    plays(
+        &rt,
+        "open 1\nbytes 1 00000007010a0000000100\n",
+        "opened 1\nout 1 0000000701000000000029\n",
+        0,
+    );
+}
+
+#[test]
+fn bad_lines_stop_the_script(rt: HostRuntime) {
+    for line in [
+        "close 1",
+        "open",
+        "open ",
+        "open 1 ",
+        "open  1",
+        " open 1",
+        "open +1",
+        "open 4294967296",
+        "open 00000000001",
+        "bytes 1",
+        "bytes 1 ",
+        "bytes 1 0",
+        "bytes 1 0g",
+        "bytes 1  00",
+        "bytes x 00",
+        "end -1",
+        "End 1",
+        "copy 0",
+    ] {
+        let mut input = line.as_bytes();
+        let mut output = Vec::new(rt.alloc());
+        assert_eq!(rt; replay(rt.alloc(), &mut input, &mut output), 2, "{line}");
+        assert_eq!(rt; output.as_slice(), b"bad line 1\n".as_slice(), "{line}");
+    }
+    plays(
+        &rt,
+        "open 007\n# fine\nopen 4294967295\nopen 2\r",
+        "opened 7\nopened 4294967295\nbad line 4\n",
+        2,
+    );
+    plays(
+        &rt,
+        "open 0000000002\nx\nopen 3\n",
+        "opened 2\nbad line 2\n",
+        2,
+    );
+}
+
+#[test]
+fn a_long_line_is_one_line(rt: HostRuntime) -> Result<(), Fail> {
+    let mut script = String::from_str(rt.alloc(), "open 1\n#")?;
+    for _ in 0..20_000 {
+        script.push_str("fifty bytes of a comment that goes on and on so on")?;
+    }
+    script.push_str("\nend 1\n")?;
+    plays(&rt, script.as_str(), "opened 1\nclosed 1\n", 0);
+    Ok(())
+}
+
+#[test]
+fn a_failed_stream_loses_nothing_printed(rt: HostRuntime) {
+    let written = Cell::new(0);
+    let pieces = [b"open 1\nope".as_slice(), b"n 2\nend 1"];
+    let mut reader = Pieces {
+        left: &pieces,
+        fails: true,
+        written: &written,
+        before_last: 0,
+    };
+    let mut writer = Paper {
+        kept: Vec::new(rt.alloc()),
+        limit: 1000,
+        written: &written,
+    };
+    assert_eq!(rt; replay(rt.alloc(), &mut reader, &mut writer), 1);
+    assert_eq!(rt; writer.kept.as_slice(), b"opened 1\nopened 2\n".as_slice());
+    assert_eq!(rt; reader.before_last, 18);
+}
+
+#[test]
+fn replies_are_written_before_the_next_read(rt: HostRuntime) {
+    let written = Cell::new(0);
+    let pieces = [b"open 1\n".as_slice()];
+    let mut reader = Pieces {
+        left: &pieces,
+        fails: false,
+        written: &written,
+        before_last: 0,
+    };
+    let mut writer = Paper {
+        kept: Vec::new(rt.alloc()),
+        limit: 1000,
+        written: &written,
+    };
+    assert_eq!(rt; replay(rt.alloc(), &mut reader, &mut writer), 0);
+    assert_eq!(rt; reader.before_last, 9);
+}
+
+#[test]
+fn a_closed_output_ends_the_program(rt: HostRuntime) {
+    let written = Cell::new(0);
+    let pieces = [b"open 1\n".as_slice(), b"open 2\n", b"open 3\n"];
+    let mut reader = Pieces {
+        left: &pieces,
+        fails: false,
+        written: &written,
+        before_last: 0,
+    };
+    let mut writer = Paper {
+        kept: Vec::new(rt.alloc()),
+        limit: 1,
+        written: &written,
+    };
+    assert_eq!(rt; replay(rt.alloc(), &mut reader, &mut writer), 1);
+    assert_eq!(rt; writer.kept.as_slice(), b"opened 1\n".as_slice());
+}
+
+// Under `--fail-alloc` this passes whichever allocation fails: no answer changes in place of the refusal.
+#[test]
+fn refused_memory_is_told(rt: HostRuntime) {
+    let mut input = b"open 1\nbytes 1 00000006010a00000001\nend 1\n".as_slice();
+    let mut output = [0u8; 200];
+    let mut room = output.as_mut_slice();
+    let status = replay(rt.alloc(), &mut input, &mut room);
+    let left = room.len();
+    let printed = output.get(..200 - left.min(200)).unwrap_or(&[]);
+    if status == 0 {
+        assert_eq!(rt; printed.len(), 9 + 117 + 9);
+    } else {
+        assert_eq!(rt; status, 3);
+        assert!(rt; printed.ends_with(b"no memory\n"));
+        assert!(rt; printed.starts_with(b"opened 1\n") || printed.len() == 10);
+    }
+}

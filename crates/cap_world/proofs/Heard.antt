@@ -133,15 +133,21 @@ hears_done c (steps.Bytes d piece) dids.Done old new before after heard o a =
     let f = o.2 in
     own_or_other c d f.1 old.connections new.connections heard (HearsPiece piece.now heard) f.4 a
     (λ same. hears_piece d piece.now old.cluster new.cluster before after heard f.0 f.1 f.3 (subst (λ (x : Option Connection). Agrees heard x) (rw same f.2) a) (λ starved. o.1 (sym f.6 ∙ starved)) f.5)
-hears_done c (steps.Open d) dids.Idle old new before after heard o a =
-    (heard, same_choice (d == c) (opened heard) heard (λ t. no_open heard (connection_at c old.connections) (subst (λ (x : ℕ). IsSome (connection_at x old.connections)) (eqb-true d c t) o.0) a),
-      subst (λ (x : Sight). Agrees heard (connection_at c x.connections)) (sym o.1) a)
-hears_done c (steps.End d) dids.Idle old new before after heard o a =
-    (heard, same_choice (d == c) (ended heard) heard (λ t. no_end heard (connection_at c old.connections) (subst (λ (x : ℕ). is_open x old ≡ false) (eqb-true d c t) o.0) a),
-      subst (λ (x : Sight). Agrees heard (connection_at c x.connections)) (sym o.1) a)
-hears_done c (steps.Bytes d piece) dids.Idle old new before after heard o a =
-    (heard, same_match (d == c) (HearsPiece piece.now heard heard) (heard ≡ heard) (λ t. no_piece piece.now heard (connection_at c old.connections) (subst (λ (x : ℕ). is_open x old ≡ false) (eqb-true d c t) o.0) a) refl,
-      subst (λ (x : Sight). Agrees heard (connection_at c x.connections)) (sym o.1) a)
+hears_done c (steps.Open d) dids.Idle old new before after heard o a = (
+  heard,
+  same_choice (d == c) (opened heard) heard (λ t. no_open heard (connection_at c old.connections) (subst (λ (x : ℕ). IsSome (connection_at x old.connections)) (eqb-true d c t) o.0) a),
+  subst (λ (x : Sight). Agrees heard (connection_at c x.connections)) (sym o.1) a,
+)
+hears_done c (steps.End d) dids.Idle old new before after heard o a = (
+  heard,
+  same_choice (d == c) (ended heard) heard (λ t. no_end heard (connection_at c old.connections) (subst (λ (x : ℕ). is_open x old ≡ false) (eqb-true d c t) o.0) a),
+  subst (λ (x : Sight). Agrees heard (connection_at c x.connections)) (sym o.1) a,
+)
+hears_done c (steps.Bytes d piece) dids.Idle old new before after heard o a = (
+  heard,
+  same_match (d == c) (HearsPiece piece.now heard heard) (heard ≡ heard) (λ t. no_piece piece.now heard (connection_at c old.connections) (subst (λ (x : ℕ). is_open x old ≡ false) (eqb-true d c t) o.0) a) refl,
+  subst (λ (x : Sight). Agrees heard (connection_at c x.connections)) (sym o.1) a,
+)
 
 -- ---- what was answered for what was heard
 
@@ -217,11 +223,9 @@ abbrev pub HeardSoFar : List Step → Sight → Type 0
 HeardSoFar made sight = (c : ℕ) → (heard : Hearing) × Hears c made unopened heard × Agrees heard (connection_at c sight.connections)
 
 pub heard_none : (cluster : Cluster) → HeardSoFar [] (record { cluster = cluster; connections = [] })
-
 heard_none cluster c = (unopened, refl, tt)
 
 pub heard_next : (all : List Step) (i : ℕ) (d : Step) (did : Did) (old new : Sight) (before after : List (Event 2)) → i < length all → HeardSoFar (take i all) old → Outcome (get_or all i d) (Ok did) old new before after → HeardSoFar (take (i + 1) all) new
-
 heard_next all i d did old new before after below so_far o c =
     let was = so_far c in
     let next = hears_done c (get_or all i d) did old new before after was.0 o was.2 in

@@ -105,9 +105,9 @@ served_starved {by} {old} {mid} {a} {b} {before} {after} {first} {second} new th
   fed = f ∙ served.fed;
   serves = served.serves;
   stands =
-    let all : new.given ++ reading.0 ≡ (old.given ++ served.payloads) ++ (left ++ reading.0) =
-    ap (λ (x : List (List ℕ)). x ++ reading.0) (g ∙ ap (λ (x : List (List ℕ)). x ++ left) served.given) ∙ append_assoc (old.given ++ served.payloads) left reading.0 in
-    (left ++ reading.0, reading.1, subst (λ (x : List (List ℕ)). IsStream new.fed x reading.1) all reading.2, refl);
+      let all : new.given ++ reading.0 ≡ (old.given ++ served.payloads) ++ (left ++ reading.0) =
+      ap (λ (x : List (List ℕ)). x ++ reading.0) (g ∙ ap (λ (x : List (List ℕ)). x ++ left) served.given) ∙ append_assoc (old.given ++ served.payloads) left reading.0 in
+      (left ++ reading.0, reading.1, subst (λ (x : List (List ℕ)). IsStream new.fed x reading.1) all reading.2, refl);
   waits = tt;
   output = no_more first served.frames third (e ∙ served.output);
 }

@@ -98,6 +98,13 @@ impl Session {
                 return;
             }
         }
-        self.standing = serve(alloc, by, &mut self.framer, &mut self.output, cluster, events);
+        self.standing = serve(
+            alloc,
+            by,
+            &mut self.framer,
+            &mut self.output,
+            cluster,
+            events,
+        );
     }
 }

@@ -15,7 +15,7 @@ returns-in_ok-reserve-in-Ok-2-clause-ok c =
       added,
       p.2 ∙ ap (λ (x : List ℕ). x ++ added) c.in_ok-reserve-in-Ok.ensures.items,
       serves_call c.args.by c.in-Ok.call_id c.args.payload.now c.in-Ok.request p.0 c.args.cluster.now c.perform.new.cluster c.args.events.now.items c.perform.new.events.items found p.1
-      (p.3 ∙ ap (λ (x : List (Event 2)). x ++ call_event c.args.by c.in-Ok.request p.0 ∷ []) c.in_ok-reserve-in-Ok-2.ensures.items),
+          (p.3 ∙ ap (λ (x : List (Event 2)). x ++ call_event c.args.by c.in-Ok.request p.0 ∷ []) c.in_ok-reserve-in-Ok-2.ensures.items),
     )
 
 pub returns-in-Err-Bad-clause-ok : goal.returns-in-Err-Bad-clause-ok
