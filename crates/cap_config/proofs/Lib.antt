@@ -7,3 +7,7 @@ pub mod Resources
 pub mod Among
 pub mod NameLists
 pub mod Steps
+pub mod Places
+pub mod Above
+pub mod Trees
+pub mod FirstLines

@@ -5,3 +5,6 @@ pub mod Keys
 pub mod Seen
 pub mod Values
 pub mod Entries
+pub mod Queues
+pub mod Index
+pub mod Tests

@@ -1,5 +1,7 @@
+ghost use Rattle.cap_config.specs.Index.{IsIndex};
+
 use crate::fault::{ConfigFault, ConfigFaultKind};
-use crate::index::{Index, child_bytes};
+use crate::index::{Index, child_bytes, entry_at};
 use crate::key::ROOT;
 use crate::queues::{LEVELS_MAX, guaranteed, maximum};
 use crate::second_pass::{cluster_entry, number_or};
@@ -79,7 +81,9 @@ impl<const K: usize> Config<K> {
 }
 
 /// The settings that the lines make.
-pub fn config_of(alloc: Global, index: &Index) -> Result<Config<2>, ConfigFault> {
+pub fn config_of(alloc: Global, index: &Index) -> Result<Config<2>, ConfigFault>
+    requires { IsIndex index.now }
+{
     let mut queues = Vec::new(alloc);
     let Some(root) = PathText::new(ROOT) else {
         return Err(ConfigFault::new(0, ConfigFaultKind::NoChild));
@@ -112,12 +116,14 @@ fn add_queues(
     path: PathText,
     levels: usize,
     queues: &mut Vec<QueueRow<2>>,
-) -> Result<(), ConfigFault> {
+) -> Result<(), ConfigFault>
+    requires { IsIndex index.now }
+{
     if levels == 0 {
         return Ok(());
     }
     queues.push(row_of(index, path))?;
-    let Some(entry) = index.queues.get(index.entries, path.as_bytes()) else {
+    let Some(entry) = entry_at(&index.queues, path.as_bytes()) else {
         return Ok(());
     };
     let Value::Names(names) = &entry.value else {
@@ -133,22 +139,21 @@ fn add_queues(
     Ok(())
 }
 
-fn row_of(index: &Index, path: PathText) -> QueueRow<2> {
+fn row_of(index: &Index, path: PathText) -> QueueRow<2>
+    requires { IsIndex index.now }
+{
     QueueRow {
         path,
         guaranteed: guaranteed(index, path.as_bytes()),
         maximum: maximum(index, path.as_bytes()),
-        factor: number_or(
-            index.user_limit_factor.get(index.entries, path.as_bytes()),
-            1,
-        ),
+        factor: number_or(entry_at(&index.user_limit_factor, path.as_bytes()), 1),
         running: is_running(index, path.as_bytes()),
     }
 }
 
 /// Whether a queue's own state is RUNNING, which it is where no line sets it.
 fn is_running(index: &Index, path: &[u8]) -> bool {
-    match index.state.get(index.entries, path) {
+    match entry_at(&index.state, path) {
         Some(entry) => !matches!(entry.value, Value::Running(false)),
         None => true,
     }

@@ -1,8 +1,13 @@
+ghost use Rattle.std.specs.Prelude.{◌≡◌, length};
+ghost use Rattle.std.specs.Option.{option_copied};
+ghost use Rattle.cap_config.specs.Index.{IsIndex};
+ghost use Rattle.cap_config.specs.Tests.{cluster_entry, number_or, line_or_zero, pair_line, lesser, allocation_line, lists_none, no_child_line, is_astray, no_such_queue_line, lists_deep, level, too_deep_line, listed_by, too_many_line, shape_fault};
+
 use crate::entry::Entry;
 use crate::fault::{ConfigFault, ConfigFaultKind};
-use crate::index::{Index, child_bytes};
+use crate::index::{Index, child_bytes, entry_at};
 use crate::key::{ROOT, split_last_dot};
-use crate::queues::{LEVELS_MAX, guaranteed, is_queue, level, maximum};
+use crate::queues::{LEVELS_MAX, guaranteed, is_queue, is_root, level, maximum};
 use crate::setting::Setting;
 use crate::value::Value;
 use cap_model::ShortText;
@@ -13,28 +18,71 @@ use std::alloc::{AllocError, Global};
 const QUEUES_MAX: usize = 1024;
 
 /// The first test over the whole text that fails, at its least line.
-pub fn check(alloc: Global, index: &Index) -> Result<(), ConfigFault> {
-    refuse(allocation_line(index.entries), ConfigFaultKind::BadValue)?;
-    refuse(no_child_line(index), ConfigFaultKind::NoChild)?;
-    refuse(no_such_queue_line(index), ConfigFaultKind::NoSuchQueue)?;
-    refuse(too_deep_line(index.entries), ConfigFaultKind::TooDeep)?;
-    refuse(too_many_line(index.entries), ConfigFaultKind::TooManyQueues)?;
-    refuse(
-        over_maximum_line(index),
-        ConfigFaultKind::GuaranteeOverMaximum,
-    )?;
-    refuse(over_parent_line(alloc, index)?, ConfigFaultKind::OverParent)
-}
-
-fn refuse(line: Option<usize>, kind: ConfigFaultKind) -> Result<(), ConfigFault> {
-    match line {
-        Some(line) => Err(ConfigFault::new(line, kind)),
+pub fn check(alloc: Global, index: &Index) -> Result<(), ConfigFault>
+    requires { IsIndex index.now }
+{
+    if let Some(fault) = shape_fault(index) {
+        return Err(fault);
+    }
+    if let Some(line) = over_maximum_line(index) {
+        return Err(ConfigFault {
+            line,
+            kind: ConfigFaultKind::GuaranteeOverMaximum,
+        });
+    }
+    match over_parent_line(alloc, index)? {
+        Some(line) => Err(ConfigFault {
+            line,
+            kind: ConfigFaultKind::OverParent,
+        }),
         None => Ok(()),
     }
 }
 
+/// The first fault in the bounds of a container and in the shape of the tree.
+#[tactic(auto, unfolding(crate::specs::Tests::shape_fault))]
+fn shape_fault(index: &Index) -> Option<ConfigFault>
+    requires { IsIndex index.now }
+    ensures { result ≡ shape_fault index.now.entries.now }
+{
+    if let Some(line) = allocation_line(index.entries) {
+        return Some(ConfigFault {
+            line,
+            kind: ConfigFaultKind::BadValue,
+        });
+    }
+    if let Some(line) = no_child_line(index) {
+        return Some(ConfigFault {
+            line,
+            kind: ConfigFaultKind::NoChild,
+        });
+    }
+    if let Some(line) = no_such_queue_line(index) {
+        return Some(ConfigFault {
+            line,
+            kind: ConfigFaultKind::NoSuchQueue,
+        });
+    }
+    if let Some(line) = too_deep_line(index.entries) {
+        return Some(ConfigFault {
+            line,
+            kind: ConfigFaultKind::TooDeep,
+        });
+    }
+    if let Some(line) = too_many_line(index.entries) {
+        return Some(ConfigFault {
+            line,
+            kind: ConfigFaultKind::TooManyQueues,
+        });
+    }
+    None
+}
+
 /// The least line at which a maximum allocation is less than the minimum: the later of the two lines.
-fn allocation_line(entries: &[Entry]) -> Option<usize> {
+#[tactic(auto, unfolding(crate::specs::Tests::allocation_line))]
+fn allocation_line(entries: &[Entry]) -> Option<usize>
+    ensures { result ≡ allocation_line entries.now }
+{
     let memory = pair_line(
         cluster_entry(entries, Setting::MinimumMemory),
         1024,
@@ -47,16 +95,24 @@ fn allocation_line(entries: &[Entry]) -> Option<usize> {
         cluster_entry(entries, Setting::MaximumVcores),
         4,
     );
-    match (memory, vcores) {
-        (Some(memory), Some(vcores)) => Some(memory.min(vcores)),
-        (Some(memory), None) => Some(memory),
-        (None, vcores) => vcores,
+    lesser(memory, vcores)
+}
+
+fn lesser(a: Option<usize>, b: Option<usize>) -> Option<usize>
+    ensures { result ≡ lesser a b }
+{
+    match (a, b) {
+        (Some(a), Some(b)) => Some(a.min(b)),
+        (Some(a), None) => Some(a),
+        (None, b) => b,
     }
 }
 
 /// The entry of a property of the whole cluster.
-pub fn cluster_entry(entries: &[Entry], setting: Setting) -> Option<&Entry> {
-    entries.iter().find(|entry| entry.setting == setting)
+pub fn cluster_entry(entries: &[Entry], setting: Setting) -> Option<&Entry>
+    ensures { option_copied result ≡ cluster_entry entries.now setting }
+{
+    entries.iter().find(|entry| entry.setting.is(setting))
 }
 
 /// The later of the two lines, where the maximum is less than the minimum.
@@ -65,7 +121,9 @@ fn pair_line(
     least_default: u64,
     most: Option<&Entry>,
     most_default: u64,
-) -> Option<usize> {
+) -> Option<usize>
+    ensures { result ≡ pair_line (option_copied least.entry) least_default (option_copied most.entry) most_default }
+{
     if number_or(most, most_default) < number_or(least, least_default) {
         Some(line_or_zero(least).max(line_or_zero(most)))
     } else {
@@ -74,7 +132,9 @@ fn pair_line(
 }
 
 /// The number that a line sets, or the one that stands where there is no line.
-pub fn number_or(entry: Option<&Entry>, default: u64) -> u64 {
+pub fn number_or(entry: Option<&Entry>, default: u64) -> u64
+    ensures { result ≡ number_or (option_copied entry.entry) default }
+{
     match entry {
         Some(entry) => match entry.value {
             Value::Number(number) => number,
@@ -84,7 +144,9 @@ pub fn number_or(entry: Option<&Entry>, default: u64) -> u64 {
     }
 }
 
-fn line_or_zero(entry: Option<&Entry>) -> usize {
+fn line_or_zero(entry: Option<&Entry>) -> usize
+    ensures { result ≡ line_or_zero (option_copied entry.entry) }
+{
     match entry {
         Some(entry) => entry.line,
         None => 0,
@@ -92,57 +154,100 @@ fn line_or_zero(entry: Option<&Entry>) -> usize {
 }
 
 /// 0 where `root` lists no queues, or else the first line that lists none.
-fn no_child_line(index: &Index) -> Option<usize> {
-    if index.queues.get(index.entries, ROOT).is_none() {
+fn no_child_line(index: &Index) -> Option<usize>
+    requires { IsIndex index.now }
+    ensures { result ≡ no_child_line index.now.entries.now }
+{
+    if entry_at(&index.queues, ROOT).is_none() {
         return Some(0);
     }
     for entry in index.entries {
-        if let Value::Names(names) = &entry.value {
-            if names.names().is_empty() {
-                return Some(entry.line);
-            }
+        if lists_none(entry) {
+            return Some(entry.line);
         }
     }
     None
 }
 
-fn no_such_queue_line(index: &Index) -> Option<usize> {
+fn lists_none(entry: &Entry) -> bool
+    ensures { result ≡ lists_none entry.now }
+{
+    match &entry.value {
+        Value::Names(names) => names.names().is_empty(),
+        _ => false,
+    }
+}
+
+/// The first line for a queue that is not in the tree.
+fn no_such_queue_line(index: &Index) -> Option<usize>
+    requires { IsIndex index.now }
+    ensures { result ≡ no_such_queue_line index.now.entries.now }
+{
     for entry in index.entries {
-        if let Some(path) = &entry.queue {
-            if !is_queue(index, path.as_bytes()) {
-                return Some(entry.line);
-            }
+        if is_astray(index, entry) {
+            return Some(entry.line);
         }
     }
     None
 }
 
-fn too_deep_line(entries: &[Entry]) -> Option<usize> {
+fn is_astray(index: &Index, entry: &Entry) -> bool
+    requires { IsIndex index.now }
+    ensures { result ≡ is_astray index.now.entries.now entry.now }
+{
+    match &entry.queue {
+        Some(path) => !is_queue(index, path.as_bytes()),
+        None => false,
+    }
+}
+
+/// The first line that lists queues on the level after the last.
+fn too_deep_line(entries: &[Entry]) -> Option<usize>
+    ensures { result ≡ too_deep_line entries.now }
+{
     for entry in entries {
-        if let (Value::Names(_), Some(path)) = (&entry.value, &entry.queue) {
-            if level(path.as_bytes()) == LEVELS_MAX {
-                return Some(entry.line);
-            }
+        if lists_deep(entry) {
+            return Some(entry.line);
         }
     }
     None
+}
+
+fn lists_deep(entry: &Entry) -> bool
+    ensures { result ≡ lists_deep entry.now }
+{
+    match (&entry.value, &entry.queue) {
+        (Value::Names(_), Some(path)) => level(path.as_bytes()) == LEVELS_MAX,
+        _ => false,
+    }
 }
 
 /// The line up to which more than 1,024 queues are listed.
-fn too_many_line(entries: &[Entry]) -> Option<usize> {
+fn too_many_line(entries: &[Entry]) -> Option<usize>
+    ensures { result ≡ too_many_line entries.now }
+{
     let mut count: usize = 1;
     for entry in entries {
-        if let Value::Names(names) = &entry.value {
-            count = count.saturating_add(names.names().len());
-            if count > QUEUES_MAX {
-                return Some(entry.line);
-            }
+        count = count.saturating_add(listed_by(entry));
+        if count > QUEUES_MAX {
+            return Some(entry.line);
         }
     }
     None
 }
 
-fn over_maximum_line(index: &Index) -> Option<usize> {
+fn listed_by(entry: &Entry) -> usize
+    ensures { result ≡ listed_by entry.now.value }
+{
+    match &entry.value {
+        Value::Names(names) => names.names().len(),
+        _ => 0,
+    }
+}
+
+fn over_maximum_line(index: &Index) -> Option<usize>
+    requires { IsIndex index.now }
+{
     for entry in index.entries {
         if is_over_maximum(index, entry) {
             return Some(entry.line);
@@ -152,8 +257,10 @@ fn over_maximum_line(index: &Index) -> Option<usize> {
 }
 
 /// Whether this line guarantees a queue more than its maximum.
-fn is_over_maximum(index: &Index, entry: &Entry) -> bool {
-    if entry.setting != Setting::Capacity {
+fn is_over_maximum(index: &Index, entry: &Entry) -> bool
+    requires { IsIndex index.now }
+{
+    if !entry.setting.is(Setting::Capacity) {
         return false;
     }
     let (Value::Amounts(amounts), Some(path)) = (&entry.value, &entry.queue) else {
@@ -165,7 +272,9 @@ fn is_over_maximum(index: &Index, entry: &Entry) -> bool {
     }
 }
 
-fn over_parent_line(alloc: Global, index: &Index) -> Result<Option<usize>, AllocError> {
+fn over_parent_line(alloc: Global, index: &Index) -> Result<Option<usize>, AllocError>
+    requires { IsIndex index.now }
+{
     for entry in index.entries {
         if is_over_parent(alloc, index, entry)? {
             return Ok(Some(entry.line));
@@ -175,17 +284,19 @@ fn over_parent_line(alloc: Global, index: &Index) -> Result<Option<usize>, Alloc
 }
 
 /// Whether this line sets a maximum above the parent's, or lists queues that are guaranteed more than their parent.
-fn is_over_parent(alloc: Global, index: &Index, entry: &Entry) -> Result<bool, AllocError> {
+fn is_over_parent(alloc: Global, index: &Index, entry: &Entry) -> Result<bool, AllocError>
+    requires { IsIndex index.now }
+{
     let Some(path) = &entry.queue else {
         return Ok(false);
     };
     match &entry.value {
         Value::Amounts(amounts) => Ok(
-            entry.setting == Setting::MaximumCapacity
+            entry.setting.is(Setting::MaximumCapacity)
                 && is_above_parent(index, path.as_bytes(), amounts),
         ),
         Value::Names(names) => {
-            if path.as_bytes() == ROOT {
+            if is_root(path.as_bytes()) {
                 return Ok(false);
             }
             guarantees_exceed(alloc, index, path.as_bytes(), names.names())
@@ -194,7 +305,9 @@ fn is_over_parent(alloc: Global, index: &Index, entry: &Entry) -> Result<bool, A
     }
 }
 
-fn is_above_parent(index: &Index, path: &[u8], amounts: &Resource<2>) -> bool {
+fn is_above_parent(index: &Index, path: &[u8], amounts: &Resource<2>) -> bool
+    requires { IsIndex index.now }
+{
     let Some((parent, _)) = split_last_dot(path) else {
         return false;
     };
@@ -210,7 +323,9 @@ fn guarantees_exceed(
     index: &Index,
     path: &[u8],
     names: &[ShortText],
-) -> Result<bool, AllocError> {
+) -> Result<bool, AllocError>
+    requires { IsIndex index.now }
+{
     let mut left = guaranteed(index, path);
     for name in names {
         let child = child_bytes(alloc, path, name.as_bytes())?;

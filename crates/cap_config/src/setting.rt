@@ -44,6 +44,7 @@ pub const QUEUE_SETTINGS: [Setting; 5] = [
 
 impl Setting {
     ghost use Rattle.cap_config.specs.Keys.{spelling, is_of_root};
+    ghost use Rattle.cap_config.specs.Queues.{same_setting, setting_number};
 
     /// The whole key of a property of the cluster, or the end of the key of one of a queue.
     #[tactic(auto, unfolding(crate::specs::Keys::spelling))]
@@ -61,6 +62,30 @@ impl Setting {
             Setting::MinimumVcores => b"yarn.scheduler.minimum-allocation-vcores",
             Setting::MaximumMemory => b"yarn.scheduler.maximum-allocation-mb",
             Setting::MaximumVcores => b"yarn.scheduler.maximum-allocation-vcores",
+        }
+    }
+
+    /// Whether the two are the same.
+    pub fn is(self, other: Setting) -> bool
+        ensures { result ≡ same_setting self other }
+    {
+        self.number() == other.number()
+    }
+
+    fn number(self) -> u8
+        ensures { result ≡ setting_number self }
+    {
+        match self {
+            Setting::Queues => 0,
+            Setting::Capacity => 1,
+            Setting::MaximumCapacity => 2,
+            Setting::UserLimitFactor => 3,
+            Setting::State => 4,
+            Setting::MaximumApplications => 5,
+            Setting::MinimumMemory => 6,
+            Setting::MinimumVcores => 7,
+            Setting::MaximumMemory => 8,
+            Setting::MaximumVcores => 9,
         }
     }
 

@@ -15,12 +15,12 @@ returns-in_err-entry c =
     let line = c.split_line.result.0.now in
     let here : is_passed_over line ≡ false = sym c.is_passed_over.ensures ∙ c.if-not-is_passed_over.true in
     rw (p.1, p.2)
-      (fails_after fault.kind fault (entry_of keys (c.loop-rest.line + 1) line) (read_lines (lines c.args.text.now))
-        (λ is.
-            c.loop-rest.invariant.so_far.2
-            ∙ ap (read_after c.loop-rest.line keys c.loop-rest.entries.items) c.split_line.ensures.lines
-            ∙ after_fault c.loop-rest.line keys c.loop-rest.entries.items line (lines c.split_line.result.1.now) fault here is)
-        (c.in_err-entry.ensures.entry keys c.loop-rest.invariant.so_far.1))
+    (fails_after fault.kind fault (entry_of keys (c.loop-rest.line + 1) line) (read_lines (lines c.args.text.now))
+    (λ is.
+    c.loop-rest.invariant.so_far.2
+    ∙ ap (read_after c.loop-rest.line keys c.loop-rest.entries.items) c.split_line.ensures.lines
+    ∙ after_fault c.loop-rest.line keys c.loop-rest.entries.items line (lines c.split_line.result.1.now) fault here is)
+    (c.in_err-entry.ensures.entry keys c.loop-rest.invariant.so_far.1))
 
 pub loop-rest-preserved-in_ok-push : goal.loop-rest-preserved-in_ok-push
 loop-rest-preserved-in_ok-push c =
@@ -35,9 +35,9 @@ loop-rest-preserved-in_ok-push c =
         keys ++ key_text line ∷ [],
         c.in_ok-entry.ensures.keys keys c.loop-rest.invariant.so_far.1,
         c.loop-rest.invariant.so_far.2
-        ∙ ap (read_after c.loop-rest.line keys c.loop-rest.entries.items) c.split_line.ensures.lines
-        ∙ after_entry c.loop-rest.line keys c.loop-rest.entries.items line more c.in_ok-entry.entry here is
-        ∙ ap (λ (es : List Entry). read_after (c.loop-rest.line + 1) (keys ++ key_text line ∷ []) es more) (sym c.in_ok-push.ensures.items),
+            ∙ ap (read_after c.loop-rest.line keys c.loop-rest.entries.items) c.split_line.ensures.lines
+            ∙ after_entry c.loop-rest.line keys c.loop-rest.entries.items line more c.in_ok-entry.entry here is
+            ∙ ap (λ (es : List Entry). read_after (c.loop-rest.line + 1) (keys ++ key_text line ∷ []) es more) (sym c.in_ok-push.ensures.items),
       );
     }
 
@@ -52,8 +52,8 @@ loop-rest-preserved c =
         keys,
         c.loop-rest.invariant.so_far.1,
         c.loop-rest.invariant.so_far.2
-        ∙ ap (read_after c.loop-rest.line keys c.loop-rest.entries.items) c.split_line.ensures.lines
-        ∙ after_passed c.loop-rest.line keys c.loop-rest.entries.items line (lines c.split_line.result.1.now) here,
+            ∙ ap (read_after c.loop-rest.line keys c.loop-rest.entries.items) c.split_line.ensures.lines
+            ∙ after_passed c.loop-rest.line keys c.loop-rest.entries.items line (lines c.split_line.result.1.now) here,
       );
     }
 

@@ -1,0 +1,36 @@
+-- The first line that passes a test, entry by entry.
+use Rattle.std.proofs.Common.{◌≡◌, ℕ, suc, ◌+◌, ◌<◌, ◌≤◌, List, [], ◌∷◌, length, get_or, drop, drop-cons, drop_all, Bool, true, false, cond, ltb, Option, Some, None, refl, sym, ap, ◌∙◌, arith, add-one}
+use Rattle.cap_config.specs.declared.entry.Entry.{Entry}
+use Rattle.cap_config.specs.Tests.{line_where, line_past, listed_by}
+
+here_first : (test : Entry → Bool) (entries : List Entry) (i : ℕ) (entry : Entry) → i < length entries → entry ≡ get_or entries i entry →
+    drop i entries ≡ entry ∷ drop (i + 1) entries
+here_first test entries i entry h is = drop-cons entries i entry h ∙ ap (λ (x : Entry). x ∷ drop (suc i) entries) (sym is) ∙ ap (λ n. entry ∷ drop n entries) (sym (add-one i))
+
+pub line_here : (test : Entry → Bool) (entries : List Entry) (i : ℕ) (entry : Entry) → i < length entries → entry ≡ get_or entries i entry → test entry ≡ true →
+    line_where test (drop i entries) ≡ Some entry.line
+unfolding line_where
+line_here test entries i entry h is passes = ap (line_where test) (here_first test entries i entry h is) ∙ rw passes refl
+
+pub line_later : (test : Entry → Bool) (entries : List Entry) (i : ℕ) (entry : Entry) → i < length entries → entry ≡ get_or entries i entry → test entry ≡ false →
+    line_where test (drop i entries) ≡ line_where test (drop (i + 1) entries)
+unfolding line_where
+line_later test entries i entry h is fails = ap (line_where test) (here_first test entries i entry h is) ∙ rw fails refl
+
+pub line_nowhere : (test : Entry → Bool) (entries : List Entry) (i : ℕ) → length entries ≤ i → line_where test (drop i entries) ≡ None
+unfolding line_where
+line_nowhere test entries i h = ap (line_where test) (drop_all i entries h)
+
+pub past_here : (count n : ℕ) (entries : List Entry) (i : ℕ) (entry : Entry) → i < length entries → entry ≡ get_or entries i entry → n ≡ count + listed_by entry.value → ltb 1024 n ≡ true →
+    line_past count (drop i entries) ≡ Some entry.line
+unfolding line_past
+past_here count n entries i entry h is e passes = ap (line_past count) (here_first (λ _. true) entries i entry h is) ∙ rw (← e, passes) refl
+
+pub past_later : (count n : ℕ) (entries : List Entry) (i : ℕ) (entry : Entry) → i < length entries → entry ≡ get_or entries i entry → n ≡ count + listed_by entry.value → ltb 1024 n ≡ false →
+    line_past count (drop i entries) ≡ line_past n (drop (i + 1) entries)
+unfolding line_past
+past_later count n entries i entry h is e fails = ap (line_past count) (here_first (λ _. true) entries i entry h is) ∙ rw (← e, fails) refl
+
+pub past_nowhere : (count : ℕ) (entries : List Entry) (i : ℕ) → length entries ≤ i → line_past count (drop i entries) ≡ None
+unfolding line_past
+past_nowhere count entries i h = ap (line_past count) (drop_all i entries h)

@@ -1,0 +1,19 @@
+-- Entries by the paths of their queues.
+use Rattle.std.proofs.Common.{◌≡◌, ℕ, suc, ◌+◌, ◌<◌, ◌≤◌, List, [], ◌∷◌, length, get_or, drop, drop-cons, Bool, true, false, cond, Option, Some, None, refl, sym, ap, ◌∙◌, arith, add-one}
+use Rattle.std.specs.Prelude.{find}
+use denote.Ref.{Bor}
+use Rattle.cap_config.specs.declared.entry.Entry.{Entry}
+use Rattle.cap_config.specs.Queues.{pointed}
+
+pub found_after : (here : Bool) (o r : Option (Bor Entry)) (w : Bor Entry) → r ≡ cond here (Some w) o → pointed r ≡ cond here (Some w.now) (pointed o)
+found_after true o r w e = ap pointed e
+found_after false o r w e = ap pointed e
+
+-- one entry more at the front
+pub find_before : (p : Entry → Bool) (entries : List Entry) (end i : ℕ) (entry : Entry) → end ≡ suc i → end ≤ length entries → entry ≡ get_or entries i entry →
+    find p (drop i entries) ≡ cond (p entry) (Some entry) (find p (drop end entries))
+find_before p entries end i entry e h is =
+    let inside : i < length entries = omega arith in
+    ap (find p) (drop-cons entries i entry inside)
+    ∙ ap (λ (x : Entry). cond (p x) (Some x) (find p (drop (suc i) entries))) (sym is)
+    ∙ ap (λ n. cond (p entry) (Some entry) (find p (drop n entries))) (sym e)

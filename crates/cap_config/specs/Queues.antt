@@ -1,0 +1,122 @@
+-- The queues that entries set up, and what is set for each.
+use Rattle.std.specs.Prelude.{◌≡◌, ℕ, List, [], ◌∷◌, ◌++◌, map, find, Option, Some, None, Bool, true, false, ◌&&◌, ◌==◌, if◌then◌else◌, is_some}
+use Rattle.std.specs.List.{flat_map, list_any}
+use Rattle.std.specs.Option.{option_map}
+use Rattle.std.specs.Str.{bytes_eq}
+use Rattle.std.specs.BTreeMap.{BTreeMap, get_by}
+use Rattle.std.specs.Cmp.Lexicographic.{slice_cmp}
+use Rattle.std.specs.Ordering.{nat_cmp}
+use denote.Ref.{Bor}
+use Rattle.cap_vector.specs.Vector.{zeros}
+use Rattle.cap_config.specs.declared.entry.Entry.{Entry}
+use Rattle.cap_config.specs.declared.value.Value.{Value}
+use Rattle.cap_config.specs.declared.value.Value.TheVariants.{Names, Amounts, Number, Running}
+use Rattle.cap_config.specs.declared.setting.Setting.{Setting}
+use Rattle.cap_config.specs.declared.setting.Setting.TheVariants.{Queues, Capacity, MaximumCapacity, UserLimitFactor, State, MaximumApplications, MinimumMemory, MinimumVcores, MaximumMemory, MaximumVcores}
+use Rattle.cap_config.specs.Keys.{root, is_dot}
+use Rattle.cap_config.specs.Seen.{is_among}
+
+abbrev pub setting_number : Setting → ℕ
+setting_number Queues = 0
+setting_number Capacity = 1
+setting_number MaximumCapacity = 2
+setting_number UserLimitFactor = 3
+setting_number State = 4
+setting_number MaximumApplications = 5
+setting_number MinimumMemory = 6
+setting_number MinimumVcores = 7
+setting_number MaximumMemory = 8
+setting_number MaximumVcores = 9
+
+abbrev pub same_setting : Setting → Setting → Bool
+same_setting a b = setting_number a == setting_number b
+
+-- the queue for which an entry sets a property
+abbrev pub path_for : Setting → Entry → Option (List ℕ)
+path_for setting entry = if same_setting entry.setting setting then entry.queue else None
+
+abbrev pub is_path_at : Option (List ℕ) → List ℕ → Bool
+is_path_at (Some path) q = bytes_eq path q
+is_path_at None q = false
+
+abbrev pub is_for : Setting → List ℕ → Entry → Bool
+is_for setting q entry = is_path_at (path_for setting entry) q
+
+-- the entry that sets a property for the queue of a path
+unfoldable pub entry_for : List Entry → Setting → List ℕ → Option Entry
+entry_for entries setting q = find (is_for setting q) entries
+
+-- what a map from paths to entries has at a path
+abbrev pub pointed : Option (Bor Entry) → Option Entry
+pointed (Some entry) = Some entry.now
+pointed None = None
+
+abbrev pub found : BTreeMap (Bor (List ℕ)) (Bor Entry) → List ℕ → Option Entry
+found places q = pointed (get_by (λ k. slice_cmp nat_cmp q k.now) places)
+
+-- the map has each entry of a property at its path
+abbrev pub FindsAll : BTreeMap (Bor (List ℕ)) (Bor Entry) → Setting → List Entry → Type 0
+FindsAll places setting entries = (q : List ℕ) → found places q ≡ find (is_for setting q) entries
+
+-- the path of the queue with this name below another
+abbrev pub child : List ℕ → List ℕ → List ℕ
+child path name = path ++ 46 ∷ name
+
+-- the paths of the queues that an entry lists
+abbrev pub paths_below : Option (List ℕ) → Value → List (List ℕ)
+paths_below (Some path) (Names names) = map (child path) names
+paths_below (Some path) (Amounts amounts) = []
+paths_below (Some path) (Number n) = []
+paths_below (Some path) (Running running) = []
+paths_below None value = []
+
+abbrev pub paths_listed : Entry → List (List ℕ)
+paths_listed entry = paths_below entry.queue entry.value
+
+unfoldable pub all_listed : List Entry → List (List ℕ)
+all_listed entries = flat_map paths_listed entries
+
+-- the paths above a path, the nearest first: what stands before each of its dots
+abbrev pub dot_ends : Bool → List (List ℕ)
+dot_ends true = [] ∷ []
+dot_ends false = []
+
+unfoldable pub above : List ℕ → List (List ℕ)
+above [] = []
+above (b ∷ bytes) = map (λ path. b ∷ path) (above bytes) ++ dot_ends (is_dot b)
+
+-- whether each path but the last is listed, and the last is `root`
+abbrev pub leads_to_root : List (List ℕ) → List ℕ → List (List ℕ) → Bool
+leads_to_root listed path [] = bytes_eq path root
+leads_to_root listed path (parent ∷ more) = is_among listed path && leads_to_root listed parent more
+
+-- whether a path is a queue of the tree: `root`, or listed by a queue of the tree
+abbrev pub is_queue : List Entry → List ℕ → Bool
+is_queue entries path = leads_to_root (all_listed entries) path (above path)
+
+-- what an entry has, where there is one
+abbrev pub amounts_or : Option (List ℕ) → Value → Option (List ℕ)
+amounts_or other (Amounts amounts) = Some amounts
+amounts_or other (Names names) = other
+amounts_or other (Number n) = other
+amounts_or other (Running running) = other
+
+abbrev pub amounts_at : Option (List ℕ) → Option Entry → Option (List ℕ)
+amounts_at other (Some entry) = amounts_or other entry.value
+amounts_at other None = other
+
+abbrev pub or_zero : Option (List ℕ) → List ℕ
+or_zero (Some amounts) = amounts
+or_zero None = zeros 2
+
+-- what a queue is guaranteed
+abbrev pub guaranteed : List Entry → List ℕ → List ℕ
+guaranteed entries path = or_zero (amounts_at None (entry_for entries Capacity path))
+
+-- up to where a queue may grow: its own maximum, or that of the nearest queue above that has one
+abbrev pub nearest_maximum : List Entry → List ℕ → List (List ℕ) → Option (List ℕ)
+nearest_maximum entries path [] = amounts_at None (entry_for entries MaximumCapacity path)
+nearest_maximum entries path (parent ∷ more) = amounts_at (nearest_maximum entries parent more) (entry_for entries MaximumCapacity path)
+
+abbrev pub maximum : List Entry → List ℕ → Option (List ℕ)
+maximum entries path = nearest_maximum entries path (above path)
