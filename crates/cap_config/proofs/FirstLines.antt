@@ -1,7 +1,14 @@
 -- The first line that passes a test, entry by entry.
-use Rattle.std.proofs.Common.{◌≡◌, ℕ, suc, ◌+◌, ◌<◌, ◌≤◌, List, [], ◌∷◌, length, get_or, drop, drop-cons, drop_all, Bool, true, false, cond, ltb, Option, Some, None, refl, sym, ap, ◌∙◌, arith, add-one}
+use Rattle.std.proofs.Common.{◌≡◌, ℕ, suc, ◌+◌, ◌<◌, ◌≤◌, List, [], ◌∷◌, length, get_or, drop, drop-cons, Bool, true, false, cond, ltb, Option, Some, None, refl, sym, ap, ◌∙◌, arith, add-one}
 use Rattle.cap_config.specs.declared.entry.Entry.{Entry}
-use Rattle.cap_config.specs.Tests.{line_where, line_past, listed_by}
+use Rattle.std.proofs.lemmas.List.{drop_all}
+use Rattle.std.specs.Prelude.{is_none}
+use Rattle.std.specs.Option.{option_copied}
+use denote.Ref.{Bor}
+use Rattle.cap_config.specs.declared.setting.Setting.TheVariants.{Queues}
+use Rattle.cap_config.specs.Keys.{root}
+use Rattle.cap_config.specs.Queues.{entry_for}
+use Rattle.cap_config.specs.Tests.{line_where, line_past, listed_by, no_child_line, lists_none}
 
 here_first : (test : Entry → Bool) (entries : List Entry) (i : ℕ) (entry : Entry) → i < length entries → entry ≡ get_or entries i entry →
     drop i entries ≡ entry ∷ drop (i + 1) entries
@@ -34,3 +41,16 @@ past_later count n entries i entry h is e fails = ap (line_past count) (here_fir
 pub past_nowhere : (count : ℕ) (entries : List Entry) (i : ℕ) → length entries ≤ i → line_past count (drop i entries) ≡ None
 unfolding line_past
 past_nowhere count entries i h = ap (line_past count) (drop_all i entries h)
+
+pub childless_root : (entries : List Entry) (found : Option (Bor Entry)) → option_copied found ≡ entry_for entries Queues root → found ≡ None → no_child_line entries ≡ Some 0
+unfolding no_child_line
+childless_root entries found is h =
+    let missing : is_none (entry_for entries Queues root) ≡ true = ap is_none (sym is) ∙ ap (λ (o : Option (Bor Entry)). is_none (option_copied o)) h in
+    rw missing refl
+
+pub childless_later : (entries : List Entry) (found : Option (Bor Entry)) (entry : Bor Entry) → option_copied found ≡ entry_for entries Queues root → found ≡ Some entry →
+    no_child_line entries ≡ line_where lists_none entries
+unfolding no_child_line
+childless_later entries found entry is h =
+    let there : is_none (entry_for entries Queues root) ≡ false = ap is_none (sym is) ∙ ap (λ (o : Option (Bor Entry)). is_none (option_copied o)) h in
+    rw there refl

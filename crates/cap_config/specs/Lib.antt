@@ -8,3 +8,5 @@ pub mod Entries
 pub mod Queues
 pub mod Index
 pub mod Tests
+pub mod Rows
+pub mod First

@@ -1,17 +1,20 @@
+ghost use Rattle.std.specs.Prelude.{◌≡◌, ◌++◌, IfOk, OnOk};
 ghost use Rattle.cap_config.specs.Index.{IsIndex};
+ghost use Rattle.cap_config.specs.Rows.{row_of, rows_under, settings_of, names_below};
 
 use crate::fault::{ConfigFault, ConfigFaultKind};
 use crate::index::{Index, child_bytes, entry_at};
 use crate::key::ROOT;
-use crate::queues::{LEVELS_MAX, guaranteed, maximum};
-use crate::second_pass::{cluster_entry, number_or};
+use crate::queues::{LEVELS_MAX, factor, guaranteed, is_running, maximum, number_or};
+use crate::second_pass::cluster_entry;
 use crate::setting::Setting;
 use crate::value::Value;
-use cap_model::PathText;
+use cap_model::{PathText, ShortText};
 use cap_vector::Resource;
 use std::alloc::Global;
+use std::marker::Model;
 
-/// A queue of the settings.
+/// A queue of the settings. Contracts see it as the record of its path, capacity, maximum capacity, factor and state.
 #[derive(Clone, Copy, Debug)]
 pub struct QueueRow<const K: usize> {
     path: PathText,
@@ -21,35 +24,55 @@ pub struct QueueRow<const K: usize> {
     running: bool,
 }
 
+impl<const K: usize> Model for QueueRow<K> {
+    ghost use Rattle.cap_model.specs.Settings.{QueueRow as Row};
+
+    ghost Value = { Row };
+
+    ghost view = { λ r. record { path = r.path; guaranteed = r.guaranteed; maximum = r.maximum; factor = r.factor; running = r.running } };
+
+    ghost inverse = { λ r. record { path = r.path; guaranteed = r.guaranteed; maximum = r.maximum; factor = r.factor; running = r.running } };
+}
+
 impl<const K: usize> QueueRow<K> {
     /// Its dotted path from `root`.
-    pub fn path(&self) -> PathText {
+    pub fn path(&self) -> PathText
+        ensures { result ≡ self.now.path }
+    {
         self.path
     }
 
     /// What it is guaranteed, in MiB and vcores: `yarn.scheduler.capacity.<queue-path>.capacity`.
-    pub fn guaranteed(&self) -> Resource<K> {
+    pub fn guaranteed(&self) -> Resource<K>
+        ensures { result ≡ self.now.guaranteed }
+    {
         self.guaranteed
     }
 
     /// Up to where it may grow, in MiB and vcores: its own `yarn.scheduler.capacity.<queue-path>.maximum-capacity`, or
     /// else that of the nearest queue above that has one. None where none has.
-    pub fn maximum(&self) -> Option<Resource<K>> {
+    pub fn maximum(&self) -> Option<Resource<K>>
+        ensures { result ≡ self.now.maximum }
+    {
         self.maximum
     }
 
     /// Its `yarn.scheduler.capacity.<queue-path>.user-limit-factor`.
-    pub fn factor(&self) -> u64 {
+    pub fn factor(&self) -> u64
+        ensures { result ≡ self.now.factor }
+    {
         self.factor
     }
 
     /// Whether its own `yarn.scheduler.capacity.<queue-path>.state` is RUNNING.
-    pub fn is_running(&self) -> bool {
+    pub fn is_running(&self) -> bool
+        ensures { result ≡ self.now.running }
+    {
         self.running
     }
 }
 
-/// The settings of a cluster.
+/// The settings of a cluster. Contracts see them as the record of the queues and the limits.
 #[derive(Drop)]
 pub struct Config<const K: usize> {
     queues: Vec<QueueRow<K>>,
@@ -58,31 +81,49 @@ pub struct Config<const K: usize> {
     application_limit: u64,
 }
 
+impl<const K: usize> Model for Config<K> {
+    ghost use Rattle.cap_model.specs.Settings.{Settings};
+
+    ghost Value = { Settings };
+
+    ghost view = { λ c. record { queues = c.queues.items; minimum_allocation = c.minimum_allocation; maximum_allocation = c.maximum_allocation; application_limit = c.application_limit } };
+}
+
 impl<const K: usize> Config<K> {
     /// The queues: `root`, and each queue before those under it, siblings in the order of their parent's list.
-    pub fn queues(&self) -> &[QueueRow<K>] {
+    pub fn queues(&self) -> &[QueueRow<K>]
+        ensures { result.now ≡ self.now.queues }
+    {
         &self.queues
     }
 
     /// The least that a container may have.
-    pub fn minimum_allocation(&self) -> Resource<K> {
+    pub fn minimum_allocation(&self) -> Resource<K>
+        ensures { result ≡ self.now.minimum_allocation }
+    {
         self.minimum_allocation
     }
 
     /// The most that a container may have.
-    pub fn maximum_allocation(&self) -> Resource<K> {
+    pub fn maximum_allocation(&self) -> Resource<K>
+        ensures { result ≡ self.now.maximum_allocation }
+    {
         self.maximum_allocation
     }
 
     /// How many applications may be active at once: `yarn.scheduler.capacity.maximum-applications`.
-    pub fn application_limit(&self) -> u64 {
+    pub fn application_limit(&self) -> u64
+        ensures { result ≡ self.now.application_limit }
+    {
         self.application_limit
     }
 }
 
 /// The settings that the lines make.
+#[tactic(auto, unfolding(crate::specs::Rows::settings_of, crate::specs::Keys::root))]
 pub fn config_of(alloc: Global, index: &Index) -> Result<Config<2>, ConfigFault>
     requires { IsIndex index.now }
+    ensures { IfOk result (λ config. config ≡ settings_of index.now.entries.now) }
 {
     let mut queues = Vec::new(alloc);
     let Some(root) = PathText::new(ROOT) else {
@@ -98,14 +139,18 @@ pub fn config_of(alloc: Global, index: &Index) -> Result<Config<2>, ConfigFault>
         number_or(cluster_entry(entries, Setting::MaximumMemory), 8192),
         number_or(cluster_entry(entries, Setting::MaximumVcores), 4),
     ]);
-    let (Some(minimum_allocation), Some(maximum_allocation)) = (least, most) else {
+    let Some(minimum_allocation) = least else {
         return Err(ConfigFault::new(0, ConfigFaultKind::BadValue));
     };
+    let Some(maximum_allocation) = most else {
+        return Err(ConfigFault::new(0, ConfigFaultKind::BadValue));
+    };
+    let application_limit = number_or(cluster_entry(entries, Setting::MaximumApplications), 10_000);
     Ok(Config {
         queues,
         minimum_allocation,
         maximum_allocation,
-        application_limit: number_or(cluster_entry(entries, Setting::MaximumApplications), 10_000),
+        application_limit,
     })
 }
 
@@ -118,43 +163,46 @@ fn add_queues(
     queues: &mut Vec<QueueRow<2>>,
 ) -> Result<(), ConfigFault>
     requires { IsIndex index.now }
+    ensures { OnOk result (queues.new.items ≡ queues.old.items ++ rows_under levels index.now.entries.now path) }
 {
     if levels == 0 {
         return Ok(());
     }
     queues.push(row_of(index, path))?;
-    let Some(entry) = entry_at(&index.queues, path.as_bytes()) else {
-        return Ok(());
-    };
-    let Value::Names(names) = &entry.value else {
-        return Ok(());
-    };
-    for name in names.names() {
+    for name in names_below(index, path.as_bytes()) {
         let child = child_bytes(alloc, path.as_bytes(), name.as_bytes())?;
         let Some(child) = PathText::new(&child) else {
-            return Err(ConfigFault::new(entry.line, ConfigFaultKind::BadValue));
+            return Err(ConfigFault::new(0, ConfigFaultKind::BadValue));
         };
         add_queues(alloc, index, child, levels - 1, queues)?;
     }
     Ok(())
 }
 
+/// The names that a queue lists.
+fn names_below<'e>(index: &Index<'e>, path: &[u8]) -> &'e [ShortText]
+    requires { IsIndex index.now }
+    ensures { result.now ≡ names_below index.now.entries.now path.now }
+{
+    match entry_at(&index.queues, path) {
+        Some(entry) => match &entry.value {
+            Value::Names(names) => names.names(),
+            _ => &[],
+        },
+        None => &[],
+    }
+}
+
+#[tactic(auto, unfolding(crate::specs::Rows::row_of))]
 fn row_of(index: &Index, path: PathText) -> QueueRow<2>
     requires { IsIndex index.now }
+    ensures { result ≡ row_of index.now.entries.now path }
 {
     QueueRow {
         path,
         guaranteed: guaranteed(index, path.as_bytes()),
         maximum: maximum(index, path.as_bytes()),
-        factor: number_or(entry_at(&index.user_limit_factor, path.as_bytes()), 1),
+        factor: factor(index, path.as_bytes()),
         running: is_running(index, path.as_bytes()),
-    }
-}
-
-/// Whether a queue's own state is RUNNING, which it is where no line sets it.
-fn is_running(index: &Index, path: &[u8]) -> bool {
-    match entry_at(&index.state, path) {
-        Some(entry) => !matches!(entry.value, Value::Running(false)),
-        None => true,
     }
 }

@@ -1,9 +1,10 @@
-ghost use Rattle.std.specs.Prelude.{◌≡◌, None};
+ghost use Rattle.std.specs.Prelude.{◌≡◌, ◌≤◌, None, length, count_by};
 ghost use Rattle.std.specs.Option.{option_copied};
 ghost use Rattle.std.specs.Str.{bytes_eq};
-ghost use Rattle.cap_config.specs.Keys.{root};
+ghost use Rattle.cap_config.specs.Keys.{root, is_dot};
 ghost use Rattle.cap_config.specs.Index.{IsIndex};
-ghost use Rattle.cap_config.specs.Tests.{level};
+ghost use Rattle.cap_config.specs.Rows.{factor, is_running, running_or};
+ghost use Rattle.cap_config.specs.Tests.{level, number_or};
 ghost use Rattle.cap_config.specs.Queues.{is_queue, amounts_at, guaranteed, maximum};
 
 use crate::entry::Entry;
@@ -42,7 +43,14 @@ pub fn is_root(path: &[u8]) -> bool
 pub fn level(path: &[u8]) -> usize
     ensures { result ≡ level path.now }
 {
-    path.split(|byte| *byte == b'.').count()
+    dots(path) + 1
+}
+
+fn dots(path: &[u8]) -> usize
+    ensures count { result ≡ count_by is_dot path.now }
+    ensures few { result ≤ length path.now }
+{
+    path.iter().filter(|byte| **byte == b'.').count()
 }
 
 /// What a queue is guaranteed: its `capacity`, or nothing.
@@ -82,4 +90,45 @@ pub fn maximum(index: &Index, path: &[u8]) -> Option<Resource<2>>
         rest = parent;
     }
     amounts_at(entry_at(&index.maximum_capacity, rest))
+}
+
+/// How many times its guarantee one user may take of a queue: its `user-limit-factor`, or 1.
+pub fn factor(index: &Index, path: &[u8]) -> u64
+    requires { IsIndex index.now }
+    ensures { result ≡ factor index.now.entries.now path.now }
+{
+    number_or(entry_at(&index.user_limit_factor, path), 1)
+}
+
+/// The number that a line sets, or the one that stands where there is no line.
+pub fn number_or(entry: Option<&Entry>, default: u64) -> u64
+    ensures { result ≡ number_or (option_copied entry.entry) default }
+{
+    match entry {
+        Some(entry) => match entry.value {
+            Value::Number(number) => number,
+            _ => default,
+        },
+        None => default,
+    }
+}
+
+/// Whether a queue's own state is RUNNING, which it is where no line sets it.
+pub fn is_running(index: &Index, path: &[u8]) -> bool
+    requires { IsIndex index.now }
+    ensures { result ≡ is_running index.now.entries.now path.now }
+{
+    running_or(entry_at(&index.state, path))
+}
+
+fn running_or(entry: Option<&Entry>) -> bool
+    ensures { result ≡ running_or (option_copied entry.entry) }
+{
+    match entry {
+        Some(entry) => match entry.value {
+            Value::Running(running) => running,
+            _ => true,
+        },
+        None => true,
+    }
 }

@@ -1,13 +1,13 @@
 ghost use Rattle.std.specs.Prelude.{◌≡◌, length};
 ghost use Rattle.std.specs.Option.{option_copied};
 ghost use Rattle.cap_config.specs.Index.{IsIndex};
-ghost use Rattle.cap_config.specs.Tests.{cluster_entry, number_or, line_or_zero, pair_line, lesser, allocation_line, lists_none, no_child_line, is_astray, no_such_queue_line, lists_deep, level, too_deep_line, listed_by, too_many_line, shape_fault};
+ghost use Rattle.cap_config.specs.Tests.{line_where, cluster_entry, number_or, line_or_zero, pair_line, lesser, allocation_line, lists_none, no_child_line, is_astray, no_such_queue_line, lists_deep, level, too_deep_line, listed_by, too_many_line, shape_fault};
 
 use crate::entry::Entry;
 use crate::fault::{ConfigFault, ConfigFaultKind};
 use crate::index::{Index, child_bytes, entry_at};
 use crate::key::{ROOT, split_last_dot};
-use crate::queues::{LEVELS_MAX, guaranteed, is_queue, is_root, level, maximum};
+use crate::queues::{LEVELS_MAX, guaranteed, is_queue, is_root, level, maximum, number_or};
 use crate::setting::Setting;
 use crate::value::Value;
 use cap_model::ShortText;
@@ -131,19 +131,6 @@ fn pair_line(
     }
 }
 
-/// The number that a line sets, or the one that stands where there is no line.
-pub fn number_or(entry: Option<&Entry>, default: u64) -> u64
-    ensures { result ≡ number_or (option_copied entry.entry) default }
-{
-    match entry {
-        Some(entry) => match entry.value {
-            Value::Number(number) => number,
-            _ => default,
-        },
-        None => default,
-    }
-}
-
 fn line_or_zero(entry: Option<&Entry>) -> usize
     ensures { result ≡ line_or_zero (option_copied entry.entry) }
 {
@@ -158,10 +145,17 @@ fn no_child_line(index: &Index) -> Option<usize>
     requires { IsIndex index.now }
     ensures { result ≡ no_child_line index.now.entries.now }
 {
-    if entry_at(&index.queues, ROOT).is_none() {
+    let Some(_) = entry_at(&index.queues, ROOT) else {
         return Some(0);
-    }
-    for entry in index.entries {
+    };
+    childless_line(index.entries)
+}
+
+/// The first line that lists no queue.
+fn childless_line(entries: &[Entry]) -> Option<usize>
+    ensures { result ≡ line_where lists_none entries.now }
+{
+    for entry in entries {
         if lists_none(entry) {
             return Some(entry.line);
         }
@@ -228,10 +222,11 @@ fn too_many_line(entries: &[Entry]) -> Option<usize>
 {
     let mut count: usize = 1;
     for entry in entries {
-        count = count.saturating_add(listed_by(entry));
-        if count > QUEUES_MAX {
+        let listed = listed_by(entry);
+        if QUEUES_MAX - count < listed {
             return Some(entry.line);
         }
+        count += listed;
     }
     None
 }

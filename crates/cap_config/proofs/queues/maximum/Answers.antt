@@ -1,4 +1,4 @@
-use Rattle.std.proofs.Common.{◌≡◌, sym, ◌∙◌, ap, None, Option}
+use Rattle.std.proofs.Common.{◌≡◌, sym, ◌∙◌, ap, None, Some, Option}
 use Rattle.cap_config.specs.declared.entry.Entry.{Entry}
 use Rattle.cap_config.specs.declared.setting.Setting.TheVariants.{MaximumCapacity}
 use Rattle.cap_config.specs.Queues.{amounts_at, entry_for}
@@ -17,6 +17,15 @@ loop-parent-preserved c =
     let none : amounts_at None (entry_for entries MaximumCapacity rest) ≡ None =
     sym (ap (λ (e : Option Entry). amounts_at None e) here) ∙ sym c.amounts_at.ensures ∙ c.in_default-amounts_at.is in
     c.loop-parent.invariant ∙ maximum_inherited entries rest c.in-Some.parent.now (parent_is rest c.in-Some.parent.now _ (sym c.in-Some.ensures)) none
+
+pub returns-in-Some-amounts_at : goal.returns-in-Some-amounts_at
+returns-in-Some-amounts_at c =
+    let entries = c.args.index.now.entries.now in
+    let rest = c.loop-parent.rest.now in
+    let here = c.entry_at.ensures ∙ entry_found entries MaximumCapacity c.args.index.now.maximum_capacity rest c.requires.maximum_capacity in
+    let own : amounts_at None (entry_for entries MaximumCapacity rest) ≡ Some c.in-Some-amounts_at.amounts =
+    sym (ap (λ (e : Option Entry). amounts_at None e) here) ∙ sym c.amounts_at.ensures ∙ c.in-Some-amounts_at.is in
+    sym (c.loop-parent.invariant ∙ maximum_own entries rest c.in-Some.parent.now c.in-Some-amounts_at.amounts (parent_is rest c.in-Some.parent.now _ (sym c.in-Some.ensures)) own)
 
 pub returns : goal.returns
 returns c =

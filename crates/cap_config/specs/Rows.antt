@@ -1,0 +1,67 @@
+-- The settings that entries without a fault make.
+use Rattle.std.specs.Prelude.{◌≡◌, ℕ, zero, suc, List, [], ◌∷◌, Option, Some, None, Bool, true}
+use Rattle.std.specs.List.{flat_map}
+use Rattle.cap_model.specs.Settings.{QueueRow, Settings}
+use Rattle.cap_config.specs.declared.entry.Entry.{Entry}
+use Rattle.cap_config.specs.declared.value.Value.{Value}
+use Rattle.cap_config.specs.declared.value.Value.TheVariants.{Names, Amounts, Number, Running}
+use Rattle.cap_config.specs.declared.setting.Setting.TheVariants.{Queues, UserLimitFactor, State, MaximumApplications, MinimumMemory, MinimumVcores, MaximumMemory, MaximumVcores}
+use Rattle.cap_config.specs.Keys.{root}
+use Rattle.cap_config.specs.Queues.{entry_for, guaranteed, maximum, child}
+use Rattle.cap_config.specs.Tests.{number_or, cluster_entry}
+
+-- the user limit factor of a queue
+abbrev pub factor : List Entry → List ℕ → ℕ
+factor entries path = number_or (entry_for entries UserLimitFactor path) 1
+
+-- whether a queue's own state is RUNNING
+abbrev pub running_in : Value → Bool
+running_in (Running running) = running
+running_in (Names names) = true
+running_in (Amounts amounts) = true
+running_in (Number n) = true
+
+abbrev pub running_or : Option Entry → Bool
+running_or (Some entry) = running_in entry.value
+running_or None = true
+
+abbrev pub is_running : List Entry → List ℕ → Bool
+is_running entries path = running_or (entry_for entries State path)
+
+-- the row of a queue
+unfoldable pub row_of : List Entry → List ℕ → QueueRow
+row_of entries path = record {
+  path = path;
+  guaranteed = guaranteed entries path;
+  maximum = maximum entries path;
+  factor = factor entries path;
+  running = is_running entries path;
+}
+
+-- the names that a queue lists
+abbrev pub names_in_value : Value → List (List ℕ)
+names_in_value (Names names) = names
+names_in_value (Amounts amounts) = []
+names_in_value (Number n) = []
+names_in_value (Running running) = []
+
+abbrev pub names_or_none : Option Entry → List (List ℕ)
+names_or_none (Some entry) = names_in_value entry.value
+names_or_none None = []
+
+abbrev pub names_below : List Entry → List ℕ → List (List ℕ)
+names_below entries path = names_or_none (entry_for entries Queues path)
+
+-- a queue and those under it on so many levels, each before those under it, siblings in the order of their list
+unfoldable pub rows_under : ℕ → List Entry → List ℕ → List QueueRow
+rows_under zero entries path = []
+rows_under (suc levels) entries path = row_of entries path ∷ flat_map (λ name. rows_under levels entries (child path name)) (names_below entries path)
+
+-- the settings of entries: there are queues on 16 levels
+unfoldable pub settings_of : List Entry → Settings
+settings_of entries = record {
+  queues = rows_under 16 entries root;
+  minimum_allocation = number_or (cluster_entry entries MinimumMemory) 1024 ∷ number_or (cluster_entry entries MinimumVcores) 1 ∷ [];
+  maximum_allocation = number_or (cluster_entry entries MaximumMemory) 8192 ∷ number_or (cluster_entry entries MaximumVcores) 4 ∷ [];
+  application_limit = number_or (cluster_entry entries MaximumApplications) 10000;
+}
