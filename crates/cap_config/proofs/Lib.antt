@@ -11,3 +11,4 @@ pub mod Places
 pub mod Above
 pub mod Trees
 pub mod FirstLines
+pub mod RowLists

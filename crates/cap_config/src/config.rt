@@ -1,7 +1,9 @@
 ghost use Rattle.std.specs.Prelude.{◌≡◌, ◌++◌, IfOk, OnOk};
+ghost use Rattle.std.specs.Option.{option_copied};
 ghost use Rattle.cap_config.specs.Index.{IsIndex};
-ghost use Rattle.cap_config.specs.Rows.{row_of, rows_under, settings_of, names_below};
+ghost use Rattle.cap_config.specs.Rows.{row_of, rows_under, settings_of, names_below, names_or_none};
 
+use crate::entry::Entry;
 use crate::fault::{ConfigFault, ConfigFaultKind};
 use crate::index::{Index, child_bytes, entry_at};
 use crate::key::ROOT;
@@ -184,7 +186,13 @@ fn names_below<'e>(index: &Index<'e>, path: &[u8]) -> &'e [ShortText]
     requires { IsIndex index.now }
     ensures { result.now ≡ names_below index.now.entries.now path.now }
 {
-    match entry_at(&index.queues, path) {
+    names_or_none(entry_at(&index.queues, path))
+}
+
+fn names_or_none(entry: Option<&Entry>) -> &[ShortText]
+    ensures { result.now ≡ names_or_none (option_copied entry.entry) }
+{
+    match entry {
         Some(entry) => match &entry.value {
             Value::Names(names) => names.names(),
             _ => &[],

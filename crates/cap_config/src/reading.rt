@@ -1,3 +1,6 @@
+ghost use Rattle.std.specs.Prelude.{◌≡◌, IfOk, Some};
+ghost use Rattle.cap_config.specs.First.{AnswersFault, early_fault, settings_in};
+
 use crate::config::{Config, config_of};
 use crate::fault::ConfigFault;
 use crate::first_pass::read_lines;
@@ -5,8 +8,17 @@ use crate::index::{index_of, listed_paths};
 use crate::second_pass::check;
 use std::alloc::Global;
 
-/// The settings that property lines make, or the first fault in them.
-pub fn read_config(alloc: Global, text: &[u8]) -> Result<Config<2>, ConfigFault> {
+/// The settings that property lines make, or the first fault in them: first of each line in turn, and then of the whole
+/// text. Memory may run out in place of any answer.
+///
+/// A line is `key=value`, a comment that begins with `#`, or empty. The keys are those of the Capacity Scheduler:
+/// `yarn.scheduler.capacity.<queue-path>` with `.queues`, `.capacity`, `.maximum-capacity`, `.user-limit-factor` or
+/// `.state`, `yarn.scheduler.capacity.maximum-applications`, and `yarn.scheduler.minimum-allocation-mb`, its `-vcores`,
+/// and the same of `maximum`.
+pub fn read_config(alloc: Global, text: &[u8]) -> Result<Config<2>, ConfigFault>
+    ensures fault { AnswersFault (early_fault text.now) result }
+    ensures settings { IfOk result (λ config. settings_in text.now ≡ Some config) }
+{
     let entries = read_lines(alloc, text)?;
     let paths = listed_paths(alloc, &entries)?;
     let index = index_of(alloc, &entries, &paths)?;

@@ -1,4 +1,4 @@
-ghost use Rattle.std.specs.Prelude.{◌≡◌, length};
+ghost use Rattle.std.specs.Prelude.{◌≡◌, MatchOption, ⊤};
 ghost use Rattle.std.specs.Option.{option_copied};
 ghost use Rattle.cap_config.specs.Index.{IsIndex};
 ghost use Rattle.cap_config.specs.Tests.{line_where, cluster_entry, number_or, line_or_zero, pair_line, lesser, allocation_line, lists_none, no_child_line, is_astray, no_such_queue_line, lists_deep, level, too_deep_line, listed_by, too_many_line, shape_fault};
@@ -20,6 +20,7 @@ const QUEUES_MAX: usize = 1024;
 /// The first test over the whole text that fails, at its least line.
 pub fn check(alloc: Global, index: &Index) -> Result<(), ConfigFault>
     requires { IsIndex index.now }
+    ensures { MatchOption (shape_fault index.now.entries.now) ⊤ (λ fault. result ≡ Err fault) }
 {
     if let Some(fault) = shape_fault(index) {
         return Err(fault);
