@@ -7,7 +7,8 @@ use std::test::Fail;
 /// Gives its pieces one a read, then the end or a failure. It notes how much was written before each read.
 #[derive(Drop)]
 struct Pieces<'a> {
-    left: &'a [&'a [u8]],
+    pieces: &'a [&'a [u8]],
+    next: usize,
     fails: bool,
     written: &'a Cell<usize>,
     before_last: usize,
@@ -16,14 +17,15 @@ struct Pieces<'a> {
 impl Read for Pieces<'_> {
     fn read(&mut self, buf: &mut [u8]) -> io::Result<usize> {
         self.before_last = self.written.get();
-        let Some((piece, left)) = self.left.split_first() else {
+        let pieces = self.pieces;
+        let Some(piece) = pieces.get(self.next) else {
             return if self.fails {
                 Err(io::Error::from(io::ErrorKind::Other))
             } else {
                 Ok(0)
             };
         };
-        self.left = left;
+        self.next = self.next.saturating_add(1);
         let n = piece.len().min(buf.len());
         for (to, from) in buf.iter_mut().zip(*piece) {
             *to = *from;
@@ -185,7 +187,8 @@ fn a_failed_stream_loses_nothing_printed(rt: HostRuntime) {
     let written = Cell::new(0);
     let pieces = [b"open 1\nope".as_slice(), b"n 2\nend 1"];
     let mut reader = Pieces {
-        left: &pieces,
+        pieces: &pieces,
+        next: 0,
         fails: true,
         written: &written,
         before_last: 0,
@@ -205,7 +208,8 @@ fn replies_are_written_before_the_next_read(rt: HostRuntime) {
     let written = Cell::new(0);
     let pieces = [b"open 1\n".as_slice()];
     let mut reader = Pieces {
-        left: &pieces,
+        pieces: &pieces,
+        next: 0,
         fails: false,
         written: &written,
         before_last: 0,
@@ -224,7 +228,8 @@ fn a_closed_output_ends_the_program(rt: HostRuntime) {
     let written = Cell::new(0);
     let pieces = [b"open 1\n".as_slice(), b"open 2\n", b"open 3\n"];
     let mut reader = Pieces {
-        left: &pieces,
+        pieces: &pieces,
+        next: 0,
         fails: false,
         written: &written,
         before_last: 0,

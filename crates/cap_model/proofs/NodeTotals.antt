@@ -1,11 +1,10 @@
 -- What the nodes have together.
-use Rattle.std.proofs.Common.{◌≡◌, ℕ, ◌+◌, ◌<◌, List, [], ◌∷◌, ◌++◌, length, get_or, refl, sym, ◌∙◌, ap, arith}
-use Rattle.std.specs.Prelude.{map}
-use Rattle.std.specs.List.{sum_by, range_with_len}
+use Rattle.std.proofs.Common.{◌≡◌, ℕ, ◌+◌, ◌<◌, List, [], ◌∷◌, ◌++◌, length, get_or, sym, ◌∙◌, ap, arith}
+use Rattle.std.specs.List.{sum_by}
 use Rattle.std.proofs.lemmas.List.{ext_get_or, get_or-replicate, length-replicate}
 use Rattle.std.proofs.lemmas.List.Sums.{sum_by_push}
 use Rattle.std.proofs.lemmas.List.FromFn.{get_or-map-range_with_len, length-map-range_with_len}
-use Rattle.cap_vector.specs.Vector.{amount, by_amount, plus, zeros}
+use Rattle.cap_vector.specs.Vector.{amount, plus, zeros}
 use Rattle.cap_vector.proofs.AmountLemmas.{amount-plus}
 use Rattle.cap_model.specs.Cluster.{Node, totals}
 
@@ -22,16 +21,16 @@ pub totals-push : (k : ℕ) (nodes : List Node) (node : Node) → length (plus (
 totals-push k nodes node count =
     ext_get_or 0 (totals k (nodes ++ node ∷ [])) (plus (totals k nodes) node.total) (omega (arith, length-totals k (nodes ++ node ∷ [])))
     (λ i h.
-      let below : i < k = omega (arith, length-totals k (nodes ++ node ∷ [])) in
-      amount-totals k (nodes ++ node ∷ []) i below
-      ∙ sum_by_push (λ (n : Node). amount n.total i) nodes node
-      ∙ ap (λ x. x + amount node.total i) (sym (amount-totals k nodes i below))
-      ∙ sym (amount-plus (totals k nodes) node.total i))
+    let below : i < k = omega (arith, length-totals k (nodes ++ node ∷ [])) in
+    amount-totals k (nodes ++ node ∷ []) i below
+    ∙ sum_by_push (λ (n : Node). amount n.total i) nodes node
+    ∙ ap (λ x. x + amount node.total i) (sym (amount-totals k nodes i below))
+    ∙ sym (amount-plus (totals k nodes) node.total i))
 
 -- no node has nothing
 pub totals-none : (k : ℕ) → totals k [] ≡ zeros k
 totals-none k =
     ext_get_or 0 (totals k []) (zeros k) (omega (arith, length-totals k [], length-replicate {A = ℕ} k 0))
     (λ i h.
-      let below : i < k = omega (arith, length-totals k []) in
-      amount-totals k [] i below ∙ sym (get_or-replicate k i 0 0 below))
+    let below : i < k = omega (arith, length-totals k []) in
+    amount-totals k [] i below ∙ sym (get_or-replicate k i 0 0 below))

@@ -1,5 +1,5 @@
 -- A text in an array that is filled up with zeros.
-use Rattle.std.proofs.Common.{◌≡◌, ℕ, ◌+◌, ◌-◌, ◌<◌, ◌≤◌, List, ◌++◌, length, get_or, take, true, refl, sym, ap, ◌∙◌, subst, arith, inl, inr}
+use Rattle.std.proofs.Common.{◌≡◌, ℕ, ◌-◌, ◌<◌, ◌≤◌, List, length, get_or, take, true, refl, sym, ap, ◌∙◌, arith, inl, inr}
 use Rattle.std.specs.Prelude.{replicate}
 use Rattle.std.proofs.lemmas.Bool.{cases_lt}
 use Rattle.std.proofs.lemmas.List.{ext_get_or, get_or-append_right, get_or_append_left, get_or-replicate, length-append, length-replicate, take_at}
@@ -20,7 +20,7 @@ padded_is most text array long short is =
       | inr past ↦
           is.zero k past
           ∙ sym (get_or-append_right text (replicate (most - length text) 0) (length text) k 0 refl past
-              ∙ get_or-replicate (most - length text) (k - length text) 0 0 (omega arith))
+          ∙ get_or-replicate (most - length text) (k - length text) 0 0 (omega arith))
     ])
 
 -- the array holds the text

@@ -1,5 +1,5 @@
 -- The flat cluster: plain lists of all that is there.
-use Rattle.std.specs.Prelude.{◌≡◌, ℕ, List, [], length, Bool}
+use Rattle.std.specs.Prelude.{ℕ, List, [], Bool}
 use Rattle.std.specs.List.{list_any, sum_by}
 use Rattle.std.specs.Str.{bytes_eq}
 use Rattle.cap_vector.specs.Vector.{amount, by_amount}

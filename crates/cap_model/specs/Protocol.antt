@@ -1,5 +1,5 @@
 -- The reply function: what each request is answered, and the cluster after it.
-use Rattle.std.specs.Prelude.{◌≡◌, ℕ, ◌+◌, List, [], ◌∷◌, ◌++◌, length, Bool, Option, Some, None, nat_le, not, ◌⊎◌}
+use Rattle.std.specs.Prelude.{◌≡◌, ℕ, ◌+◌, List, [], ◌∷◌, ◌++◌, length, Option, Some, None, nat_le, not, ◌⊎◌}
 use Rattle.cap_vector.specs.Vector.{amount_max, plus, zeros, is_zero, is_within}
 use Rattle.cap_model.specs.declared.request.Request.{Request}
 use Rattle.cap_model.specs.declared.request.Request.TheVariants as requests
@@ -8,7 +8,7 @@ use Rattle.cap_model.specs.declared.reply.Reply.TheVariants as replies
 use Rattle.cap_model.specs.declared.refusal.Refusal.{Refusal}
 use Rattle.cap_model.specs.declared.refusal.Refusal.TheVariants.{HostTaken, TotalTooLarge, TooManyNodes, ZeroResource, NumbersSpent, NoMemory}
 use Rattle.cap_model.specs.Refusals.{first_of}
-use Rattle.cap_model.specs.Cluster.{Cluster, Node, number_end, nodes_max, is_taken, totals}
+use Rattle.cap_model.specs.Cluster.{Cluster, number_end, nodes_max, is_taken, totals}
 
 -- why a node of this host and total is refused, memory aside
 unfoldable pub register_node_refusal : ℕ → Cluster → List ℕ → List ℕ → Option Refusal

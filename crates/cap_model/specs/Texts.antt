@@ -1,7 +1,7 @@
 -- Texts of messages.
-use Rattle.std.specs.Prelude.{◌≡◌, ℕ, ◌-◌, ◌≤◌, List, ◌++◌, length, take, replicate, Bool, true, nat_lt, nat_le, ◌&&◌, refl}
+use Rattle.std.specs.Prelude.{◌≡◌, ℕ, ◌-◌, ◌≤◌, List, ◌++◌, length, take, replicate, Bool, true, nat_lt, nat_le, ◌&&◌}
 use Rattle.std.specs.List.{list_all}
-use Rattle.std.proofs.Common.{length-take-le, sym, arith}
+use Rattle.std.proofs.Common.{length-take-le}
 
 -- a byte that a text may have
 abbrev pub is_graphic : ℕ → Bool

@@ -3,7 +3,7 @@ use Rattle.std.proofs.Common.{inl, inr, ◌≡◌, ℕ, zero, suc, ◌+◌, ◌-
 use Rattle.std.specs.Prelude.{nat_le}
 use Rattle.std.proofs.lemmas.List.{ext_get_or, get_or_past}
 use Rattle.std.proofs.lemmas.Bool.{cases_lt, and_parts, leb-true, le-leb}
-use Rattle.cap_vector.specs.Vector.{plus, less, Fits, IsWithin, is_within}
+use Rattle.cap_vector.specs.Vector.{plus, less, IsWithin, is_within}
 
 pub amount-plus : (a b : List ℕ) (k : ℕ) → get_or (plus a b) k 0 ≡ get_or a k 0 + get_or b k 0
 unfolding plus

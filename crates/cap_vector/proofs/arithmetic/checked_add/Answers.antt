@@ -1,5 +1,5 @@
-use Rattle.std.proofs.Common.{◌≡◌, ◌<◌, ◌≤◌, length, refl, arith, subst, sym, ◌+◌, ◌∙◌}
-use Rattle.cap_vector.specs.Vector.{IsVector, plus}
+use Rattle.std.proofs.Common.{◌≡◌, refl, arith, subst, sym, ◌∙◌}
+use Rattle.cap_vector.specs.Vector.{IsVector}
 use Rattle.cap_vector.proofs.AmountLemmas.{is_plus, amount-plus, length-plus, within_below}
 use Rattle.cap_vector.proofs.arithmetic.checked_add.Goals as goal
 
