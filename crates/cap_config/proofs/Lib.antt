@@ -12,3 +12,4 @@ pub mod Above
 pub mod Trees
 pub mod FirstLines
 pub mod RowLists
+pub mod Firsts

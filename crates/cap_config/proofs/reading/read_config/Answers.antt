@@ -1,0 +1,36 @@
+use Rattle.std.proofs.Common.{◌≡◌, ◌∙◌, Some}
+use Rattle.std.specs.Str.Lines.{lines}
+use Rattle.std.proofs.lemmas.Result.{err_from_is_err_and, IfOk-weaker}
+use Rattle.cap_model.specs.Settings.{Settings}
+use Rattle.cap_config.specs.Entries.{read_lines}
+use Rattle.cap_config.specs.Rows.{settings_of}
+use Rattle.cap_config.specs.First.{early_fault, settings_in}
+use Rattle.cap_config.proofs.Firsts.{early_by_line, line_fault, shape_answers, shape_passes, settings_answer}
+use Rattle.cap_config.proofs.reading.read_config.Goals as goal
+
+pub returns-in_err-entries-clause-fault : goal.returns-in_err-entries-clause-fault
+returns-in_err-entries-clause-fault c =
+    let p = err_from_is_err_and c.from_residual.result c.from_residual.ensures.1 in
+    let text = c.args.text.now in
+    rw (p.1, p.2)
+    (line_fault _ (early_fault text) (read_lines (lines text)) c.in_err-entries.field-0.0 (early_by_line text c.in_err-entries.field-0.0) c.in_err-entries.ensures)
+
+pub returns-in_err-check-clause-fault : goal.returns-in_err-check-clause-fault
+returns-in_err-check-clause-fault c =
+    let p = err_from_is_err_and c.from_residual-in_err-check.result c.from_residual-in_err-check.ensures.1 in
+    rw (p.1, p.2)
+    (shape_answers _ _ c.args.text.now c.in_ok-entries.entries.items c.in_ok-index.index.entries.now c.in_err-check.field-0.0 c.in_ok-entries.ensures
+    (c.in_ok-index.ensures.1 ∙ c.deref-2.ensures.value)
+    c.in_err-check.ensures)
+
+pub returns-clause-fault : goal.returns-clause-fault
+returns-clause-fault c =
+    shape_passes _ _ c.args.text.now c.in_ok-entries.entries.items c.in_ok-index.index.entries.now c.in_ok-check.field-0 c.config_of.result c.in_ok-entries.ensures
+    (c.in_ok-index.ensures.1 ∙ c.deref-2.ensures.value)
+    c.in_ok-check.ensures
+
+pub returns-clause-settings : goal.returns-clause-settings
+returns-clause-settings c =
+    IfOk-weaker c.config_of.result (λ (config : Settings). config ≡ settings_of c.in_ok-index.index.entries.now) (λ (config : Settings). settings_in c.args.text.now ≡ Some config)
+    (λ config e. settings_answer c.args.text.now c.in_ok-entries.entries.items c.in_ok-index.index.entries.now config c.in_ok-entries.ensures (c.in_ok-index.ensures.1 ∙ c.deref-2.ensures.value) e)
+    c.config_of.ensures
