@@ -7,20 +7,20 @@ use Rattle.cap_config.specs.declared.entry.Entry.{Entry}
 use Rattle.cap_config.specs.declared.fault.ConfigFault.{ConfigFault}
 use Rattle.cap_config.specs.declared.fault.ConfigFaultKind.{ConfigFaultKind}
 use Rattle.cap_config.specs.declared.fault.ConfigFaultKind.TheVariants.{BadLine, UnknownKey, Repeated, BadValue, NoSuchQueue, OverParent, GuaranteeOverMaximum, TooManyQueues, TooDeep, NoChild, NoMemory}
-use Rattle.cap_config.specs.Fault.{FailsBy}
+use Rattle.cap_config.specs.Fault.{FailsBy, fault_at}
 use Rattle.cap_config.specs.Entries.{read_lines}
 use Rattle.cap_model.specs.Settings.{Settings}
-use Rattle.cap_config.specs.Tests.{or_else, shape_fault, allocation_line, no_child_line, no_such_queue_line, too_deep_line, too_many_line}
+use Rattle.cap_config.specs.Tests.{or_else, shape_fault, allocation_line, no_child_line, no_such_queue_line, too_deep_line, too_many_line, over_maximum_line, over_parent_line, whole_fault}
 use Rattle.cap_config.specs.Rows.{settings_of}
-use Rattle.cap_config.specs.First.{fault_after, early_fault, AnswersFault, settings_in, settings_after}
+use Rattle.cap_config.specs.First.{fault_after, first_fault, AnswersFault, settings_in, settings_after}
 use Rattle.cap_config.proofs.Steps.{fails_after}
 
-pub early_by_line : (text : List ℕ) (fault : ConfigFault) → read_lines (lines text) ≡ Err fault → early_fault text ≡ Some fault
-unfolding early_fault
+pub early_by_line : (text : List ℕ) (fault : ConfigFault) → read_lines (lines text) ≡ Err fault → first_fault text ≡ Some fault
+unfolding first_fault
 early_by_line text fault is = ap fault_after is
 
-pub early_by_shape : (text : List ℕ) (entries : List Entry) → read_lines (lines text) ≡ Ok entries → early_fault text ≡ shape_fault entries
-unfolding early_fault
+pub early_by_shape : (text : List ℕ) (entries : List Entry) → read_lines (lines text) ≡ Ok entries → first_fault text ≡ whole_fault entries
+unfolding first_fault
 early_by_shape text entries is = ap fault_after is
 
 pub settings_are : (text : List ℕ) (entries : List Entry) → read_lines (lines text) ≡ Ok entries → settings_in text ≡ Some (settings_of entries)
@@ -48,13 +48,14 @@ or_of_line None kind other here there = there
 shape_of_line : (entries : List Entry) → IsOfLine (shape_fault entries)
 unfolding shape_fault
 shape_of_line entries =
-    let many = or_else (too_many_line entries) TooManyQueues None in
+    let over = or_else (over_maximum_line entries) GuaranteeOverMaximum None in
+    let many = or_else (too_many_line entries) TooManyQueues over in
     let deep = or_else (too_deep_line entries) TooDeep many in
     let astray = or_else (no_such_queue_line entries) NoSuchQueue deep in
     let childless = or_else (no_child_line entries) NoChild astray in
     or_of_line (allocation_line entries) BadValue childless tt
     (or_of_line (no_child_line entries) NoChild astray tt
-    (or_of_line (no_such_queue_line entries) NoSuchQueue deep tt (or_of_line (too_deep_line entries) TooDeep many tt (or_of_line (too_many_line entries) TooManyQueues None tt tt))))
+    (or_of_line (no_such_queue_line entries) NoSuchQueue deep tt (or_of_line (too_deep_line entries) TooDeep many tt (or_of_line (too_many_line entries) TooManyQueues over tt (or_of_line (over_maximum_line entries) GuaranteeOverMaximum None tt tt)))))
 
 itself : (X : Type 0) (kind : ConfigFaultKind) (fault : ConfigFault) → OfLine kind → FailsBy kind fault {Y = X} (Err fault)
 itself X NoMemory fault h = absurd h
@@ -69,29 +70,45 @@ itself X TooManyQueues fault h = refl
 itself X TooDeep fault h = refl
 itself X NoChild fault h = refl
 
-given_by : (X Y : Type 0) (early : Option ConfigFault) (given : ConfigFault) → IsOfLine early → MatchOption early ⊤ (λ fault. ◌≡◌ {A = Result Y ConfigFault} (Err given) (Err fault)) →
-    AnswersFault {X = X} early (Err given)
-given_by X Y None given of h = tt
-given_by X Y (Some fault) given of h =
-    let e : fault ≡ given = cc h in
-    subst (λ (f : ConfigFault). FailsBy f.kind f {Y = X} (Err fault)) e (itself X fault.kind fault of)
+of_itself : (X : Type 0) (early : Option ConfigFault) (fault : ConfigFault) → IsOfLine early → early ≡ Some fault → FailsBy fault.kind fault {Y = X} (Err fault)
+of_itself X None fault of h = absurd (cc h)
+of_itself X (Some f) fault of h = let e = same_Some f fault h in itself X fault.kind fault (subst (λ (g : ConfigFault). OfLine g.kind) e of)
 
-no_fault : (Y : Type 0) (early : Option ConfigFault) (y : Y) → MatchOption early ⊤ (λ fault. ◌≡◌ {A = Result Y ConfigFault} (Ok y) (Err fault)) → early ≡ None
+-- the fault of the shape is the first of the whole text
+pub shape_first : (X : Type 0) (entries : List Entry) (fault : ConfigFault) → shape_fault entries ≡ Some fault → AnswersFault {X = X} (whole_fault entries) (Err fault)
+unfolding whole_fault
+shape_first X entries fault h = rw h (of_itself X (shape_fault entries) fault (shape_of_line entries) h)
+
+pub parent_answers : (X : Type 0) (entries : List Entry) (line : ℕ) → shape_fault entries ≡ None → over_parent_line entries ≡ Some line →
+    AnswersFault {X = X} (whole_fault entries) (Err (fault_at line OverParent))
+unfolding whole_fault
+parent_answers X entries line h e = rw (h, e) refl
+
+pub parent_passes : (X : Type 0) (entries : List Entry) (y : X) → shape_fault entries ≡ None → over_parent_line entries ≡ None → AnswersFault {X = X} (whole_fault entries) (Ok y)
+unfolding whole_fault
+parent_passes X entries y h e = rw (h, e) tt
+
+to_other : (X Y : Type 0) (early : Option ConfigFault) (given : ConfigFault) → AnswersFault {X = Y} early (Err given) → AnswersFault {X = X} early (Err given)
+to_other X Y None given h = tt
+to_other X Y (Some fault) given h =
+    fails_after given.kind given (let r : Result Y ConfigFault = Err fault in r) (let r : Result X ConfigFault = Err fault in r) (λ e. cc e) h
+
+no_fault : (Y : Type 0) (early : Option ConfigFault) (y : Y) → AnswersFault {X = Y} early (Ok y) → early ≡ None
 no_fault Y None y h = refl
-no_fault Y (Some fault) y h = absurd (cc h)
+no_fault Y (Some fault) y h = absurd h
 
--- a fault in the shape of the entries that the index sees
+-- a fault in the entries that the index sees
 pub shape_answers : (X Y : Type 0) (text : List ℕ) (entries seen : List Entry) (given : ConfigFault) → read_lines (lines text) ≡ Ok entries → seen ≡ entries →
-    MatchOption (shape_fault seen) ⊤ (λ fault. ◌≡◌ {A = Result Y ConfigFault} (Err given) (Err fault)) → AnswersFault {X = X} (early_fault text) (Err given)
+    AnswersFault {X = Y} (whole_fault seen) (Err given) → AnswersFault {X = X} (first_fault text) (Err given)
 shape_answers X Y text entries seen given is same h =
-    let early : shape_fault seen ≡ early_fault text = ap shape_fault same ∙ sym (early_by_shape text entries is) in
-    subst (λ (o : Option ConfigFault). AnswersFault {X = X} o (Err given)) early (given_by X Y (shape_fault seen) given (shape_of_line seen) h)
+    let early : whole_fault seen ≡ first_fault text = ap whole_fault same ∙ sym (early_by_shape text entries is) in
+    subst (λ (o : Option ConfigFault). AnswersFault {X = X} o (Err given)) early (to_other X Y (whole_fault seen) given h)
 
--- no fault in it
+-- no fault in them
 pub shape_passes : (X Y : Type 0) (text : List ℕ) (entries seen : List Entry) (y : Y) (r : Result X ConfigFault) → read_lines (lines text) ≡ Ok entries → seen ≡ entries →
-    MatchOption (shape_fault seen) ⊤ (λ fault. ◌≡◌ {A = Result Y ConfigFault} (Ok y) (Err fault)) → AnswersFault {X = X} (early_fault text) r
+    AnswersFault {X = Y} (whole_fault seen) (Ok y) → AnswersFault {X = X} (first_fault text) r
 shape_passes X Y text entries seen y r is same h =
-    let early : None ≡ early_fault text = sym (no_fault Y (shape_fault seen) y h) ∙ ap shape_fault same ∙ sym (early_by_shape text entries is) in
+    let early : None ≡ first_fault text = sym (no_fault Y (whole_fault seen) y h) ∙ ap whole_fault same ∙ sym (early_by_shape text entries is) in
     subst (λ (o : Option ConfigFault). AnswersFault {X = X} o r) early tt
 
 -- the settings of the entries that the index sees

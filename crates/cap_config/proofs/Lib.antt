@@ -13,3 +13,4 @@ pub mod Trees
 pub mod FirstLines
 pub mod RowLists
 pub mod Firsts
+pub mod Spending

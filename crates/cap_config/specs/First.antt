@@ -1,4 +1,4 @@
--- The first fault of a text, as far as its lines, the bounds of a container and the shape of the tree go, and its settings.
+-- The first fault of a text, and its settings.
 use Rattle.std.specs.Prelude.{◌≡◌, List, ℕ, Option, Some, None, Result, Ok, Err}
 use Rattle.std.specs.Str.Lines.{lines}
 use Rattle.cap_model.specs.Settings.{Settings}
@@ -6,17 +6,16 @@ use Rattle.cap_config.specs.declared.entry.Entry.{Entry}
 use Rattle.cap_config.specs.declared.fault.ConfigFault.{ConfigFault}
 use Rattle.cap_config.specs.Fault.{FailsBy}
 use Rattle.cap_config.specs.Entries.{read_lines}
-use Rattle.cap_config.specs.Tests.{shape_fault}
+use Rattle.cap_config.specs.Tests.{whole_fault}
 use Rattle.cap_config.specs.Rows.{settings_of}
 
 abbrev pub fault_after : Result (List Entry) ConfigFault → Option ConfigFault
-fault_after (Ok entries) = shape_fault entries
+fault_after (Ok entries) = whole_fault entries
 fault_after (Err fault) = Some fault
 
--- The first fault of a text by the tests of each line, and then over the whole text by those of the bounds of a
--- container and of the shape of the tree. The tests of capacities and maximum capacities come after these
-unfoldable pub early_fault : List ℕ → Option ConfigFault
-early_fault text = fault_after (read_lines (lines text))
+-- the first fault of a text: by the tests of each line in turn, and then by those over the whole text
+unfoldable pub first_fault : List ℕ → Option ConfigFault
+first_fault text = fault_after (read_lines (lines text))
 
 -- a text with such a fault is answered by it, unless memory ran out
 abbrev pub AnswersFault : {X : Type 0} → Option ConfigFault → Result X ConfigFault → Type 0

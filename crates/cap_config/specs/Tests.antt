@@ -1,17 +1,17 @@
 -- The tests over the whole text: each finds its least line.
-use Rattle.std.specs.Prelude.{◌≡◌, ℕ, ◌+◌, List, [], ◌∷◌, length, find, Option, Some, None, Bool, true, false, not, ◌&&◌, ◌==◌, nat_lt, max, min, if◌then◌else◌, is_none}
-use Rattle.std.specs.Option.{option_map}
+use Rattle.std.specs.Prelude.{◌≡◌, ℕ, ◌+◌, ◌-◌, List, [], ◌∷◌, length, find, Option, Some, None, Bool, true, false, not, ◌&&◌, ◌||◌, ◌==◌, slice_index, nat_lt, max, min, if◌then◌else◌, is_none}
+use Rattle.std.specs.Str.{bytes_eq}
 use Rattle.cap_config.specs.declared.entry.Entry.{Entry}
 use Rattle.cap_config.specs.declared.value.Value.{Value}
 use Rattle.cap_config.specs.declared.value.Value.TheVariants.{Names, Amounts, Number, Running}
 use Rattle.cap_config.specs.declared.setting.Setting.{Setting}
-use Rattle.cap_config.specs.declared.setting.Setting.TheVariants.{Queues, MinimumMemory, MinimumVcores, MaximumMemory, MaximumVcores}
+use Rattle.cap_config.specs.declared.setting.Setting.TheVariants.{Queues, Capacity, MaximumCapacity, MinimumMemory, MinimumVcores, MaximumMemory, MaximumVcores}
 use Rattle.cap_config.specs.declared.fault.ConfigFault.{ConfigFault}
 use Rattle.cap_config.specs.declared.fault.ConfigFaultKind.{ConfigFaultKind}
-use Rattle.cap_config.specs.declared.fault.ConfigFaultKind.TheVariants.{BadValue, NoChild, NoSuchQueue, TooDeep, TooManyQueues}
+use Rattle.cap_config.specs.declared.fault.ConfigFaultKind.TheVariants.{BadValue, NoChild, NoSuchQueue, TooDeep, TooManyQueues, GuaranteeOverMaximum, OverParent}
 use Rattle.cap_config.specs.Fault.{fault_at}
-use Rattle.cap_config.specs.Keys.{root, names_in}
-use Rattle.cap_config.specs.Queues.{same_setting, entry_for, is_queue}
+use Rattle.cap_config.specs.Keys.{root, names_in, parts_at_last_dot}
+use Rattle.cap_config.specs.Queues.{same_setting, entry_for, is_queue, maximum, guaranteed, child}
 
 -- the line of the first entry that passes a test
 unfoldable pub line_where : (Entry → Bool) → List Entry → Option ℕ
@@ -112,14 +112,78 @@ line_past count (entry ∷ entries) =
 abbrev pub too_many_line : List Entry → Option ℕ
 too_many_line entries = line_past 1 entries
 
+-- whether an amount is more than the other's
+abbrev pub exceeds : List ℕ → List ℕ → Bool
+exceeds a b = nat_lt (slice_index b 0) (slice_index a 0) || nat_lt (slice_index b 1) (slice_index a 1)
+
+abbrev pub exceeds_limit : List ℕ → Option (List ℕ) → Bool
+exceeds_limit amounts (Some most) = exceeds amounts most
+exceeds_limit amounts None = false
+
+-- a capacity that does not fit the queue's own or inherited maximum capacity
+abbrev pub is_over_limit : List Entry → Option (List ℕ) → Value → Bool
+is_over_limit entries (Some path) (Amounts amounts) = exceeds_limit amounts (maximum entries path)
+is_over_limit entries (Some path) (Names names) = false
+is_over_limit entries (Some path) (Number n) = false
+is_over_limit entries (Some path) (Running running) = false
+is_over_limit entries None value = false
+
+abbrev pub is_over_maximum : List Entry → Entry → Bool
+is_over_maximum entries entry = same_setting entry.setting Capacity && is_over_limit entries entry.queue entry.value
+
+abbrev pub over_maximum_line : List Entry → Option ℕ
+over_maximum_line entries = line_where (is_over_maximum entries) entries
+
+-- a maximum capacity that does not fit that of the queue above
+abbrev pub is_over_parts : List Entry → List ℕ → Option (List ℕ × List ℕ) → Bool
+is_over_parts entries amounts (Some parts) = exceeds_limit amounts (maximum entries parts.0)
+is_over_parts entries amounts None = false
+
+-- what is left of two amounts
+abbrev pub left_of : List ℕ → List ℕ → List ℕ
+left_of a b = (slice_index a 0 - slice_index b 0) ∷ (slice_index a 1 - slice_index b 1) ∷ []
+
+-- whether the queues of these names are guaranteed more than is left, one after the other
+unfoldable pub overspends : List Entry → List ℕ → List ℕ → List (List ℕ) → Bool
+overspends entries path left [] = false
+overspends entries path left (name ∷ names) =
+    if exceeds (guaranteed entries (child path name)) left
+    then true
+    else overspends entries path (left_of left (guaranteed entries (child path name))) names
+
+-- under a queue other than root, capacities that add up to more than the queue's own
+abbrev pub is_overspent : List Entry → List ℕ → List (List ℕ) → Bool
+is_overspent entries path names = not (bytes_eq path root) && overspends entries path (guaranteed entries path) names
+
+abbrev pub is_over_above : List Entry → Bool → Option (List ℕ) → Value → Bool
+is_over_above entries of_maximum (Some path) (Amounts amounts) = of_maximum && is_over_parts entries amounts (parts_at_last_dot path)
+is_over_above entries of_maximum (Some path) (Names names) = is_overspent entries path names
+is_over_above entries of_maximum (Some path) (Number n) = false
+is_over_above entries of_maximum (Some path) (Running running) = false
+is_over_above entries of_maximum None value = false
+
+abbrev pub is_over_parent : List Entry → Entry → Bool
+is_over_parent entries entry = is_over_above entries (same_setting entry.setting MaximumCapacity) entry.queue entry.value
+
+abbrev pub over_parent_line : List Entry → Option ℕ
+over_parent_line entries = line_where (is_over_parent entries) entries
+
 -- a fault at a line, if there is one, or else another
 abbrev pub or_else : Option ℕ → ConfigFaultKind → Option ConfigFault → Option ConfigFault
 or_else (Some line) kind other = Some (fault_at line kind)
 or_else None kind other = other
 
--- the first fault in the shape of the tree and the bounds of a container
+-- the first fault in the bounds of a container, in the shape of the tree and of a capacity over its maximum
 unfoldable pub shape_fault : List Entry → Option ConfigFault
 shape_fault entries =
     or_else (allocation_line entries) BadValue
     (or_else (no_child_line entries) NoChild
-    (or_else (no_such_queue_line entries) NoSuchQueue (or_else (too_deep_line entries) TooDeep (or_else (too_many_line entries) TooManyQueues None))))
+    (or_else (no_such_queue_line entries) NoSuchQueue (or_else (too_deep_line entries) TooDeep (or_else (too_many_line entries) TooManyQueues (or_else (over_maximum_line entries) GuaranteeOverMaximum None)))))
+
+-- the first fault of the whole text
+abbrev pub or_fault : Option ConfigFault → Option ConfigFault → Option ConfigFault
+or_fault (Some fault) other = Some fault
+or_fault None other = other
+
+unfoldable pub whole_fault : List Entry → Option ConfigFault
+whole_fault entries = or_fault (shape_fault entries) (or_else (over_parent_line entries) OverParent None)

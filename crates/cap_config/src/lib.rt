@@ -5,6 +5,7 @@ mod config;
 mod entry;
 mod fault;
 mod first_pass;
+mod guarantees;
 mod index;
 mod key;
 mod lines;

@@ -1,5 +1,5 @@
 ghost use Rattle.std.specs.Prelude.{◌≡◌, IfOk, Some};
-ghost use Rattle.cap_config.specs.First.{AnswersFault, early_fault, settings_in};
+ghost use Rattle.cap_config.specs.First.{AnswersFault, first_fault, settings_in};
 
 use crate::config::{Config, config_of};
 use crate::fault::ConfigFault;
@@ -16,7 +16,7 @@ use std::alloc::Global;
 /// `.state`, `yarn.scheduler.capacity.maximum-applications`, and `yarn.scheduler.minimum-allocation-mb`, its `-vcores`,
 /// and the same of `maximum`.
 pub fn read_config(alloc: Global, text: &[u8]) -> Result<Config<2>, ConfigFault>
-    ensures fault { AnswersFault (early_fault text.now) result }
+    ensures fault { AnswersFault (first_fault text.now) result }
     ensures settings { IfOk result (λ config. settings_in text.now ≡ Some config) }
 {
     let entries = read_lines(alloc, text)?;

@@ -1,18 +1,18 @@
-ghost use Rattle.std.specs.Prelude.{◌≡◌, MatchOption, ⊤};
+ghost use Rattle.std.specs.Prelude.{◌≡◌};
 ghost use Rattle.std.specs.Option.{option_copied};
 ghost use Rattle.cap_config.specs.Index.{IsIndex};
-ghost use Rattle.cap_config.specs.Tests.{line_where, cluster_entry, number_or, line_or_zero, pair_line, lesser, allocation_line, lists_none, no_child_line, is_astray, no_such_queue_line, lists_deep, level, too_deep_line, listed_by, too_many_line, shape_fault};
+ghost use Rattle.cap_config.specs.Tests.{line_where, cluster_entry, number_or, line_or_zero, pair_line, lesser, allocation_line, lists_none, no_child_line, is_astray, no_such_queue_line, lists_deep, level, too_deep_line, listed_by, too_many_line, shape_fault, whole_fault};
+ghost use Rattle.cap_config.specs.First.{AnswersFault};
 
 use crate::entry::Entry;
 use crate::fault::{ConfigFault, ConfigFaultKind};
-use crate::index::{Index, child_bytes, entry_at};
-use crate::key::{ROOT, split_last_dot};
-use crate::queues::{LEVELS_MAX, guaranteed, is_queue, is_root, level, maximum, number_or};
+use crate::guarantees::{over_maximum_line, over_parent_line};
+use crate::index::{Index, entry_at};
+use crate::key::ROOT;
+use crate::queues::{LEVELS_MAX, is_queue, level, number_or};
 use crate::setting::Setting;
 use crate::value::Value;
-use cap_model::ShortText;
-use cap_vector::{Resource, fits, minus};
-use std::alloc::{AllocError, Global};
+use std::alloc::Global;
 
 /// The greatest number of queues, root among them.
 const QUEUES_MAX: usize = 1024;
@@ -20,16 +20,10 @@ const QUEUES_MAX: usize = 1024;
 /// The first test over the whole text that fails, at its least line.
 pub fn check(alloc: Global, index: &Index) -> Result<(), ConfigFault>
     requires { IsIndex index.now }
-    ensures { MatchOption (shape_fault index.now.entries.now) ⊤ (λ fault. result ≡ Err fault) }
+    ensures { AnswersFault (whole_fault index.now.entries.now) result }
 {
     if let Some(fault) = shape_fault(index) {
         return Err(fault);
-    }
-    if let Some(line) = over_maximum_line(index) {
-        return Err(ConfigFault {
-            line,
-            kind: ConfigFaultKind::GuaranteeOverMaximum,
-        });
     }
     match over_parent_line(alloc, index)? {
         Some(line) => Err(ConfigFault {
@@ -40,7 +34,7 @@ pub fn check(alloc: Global, index: &Index) -> Result<(), ConfigFault>
     }
 }
 
-/// The first fault in the bounds of a container and in the shape of the tree.
+/// The first fault in the bounds of a container, in the shape of the tree and of a capacity over its maximum.
 #[tactic(auto, unfolding(crate::specs::Tests::shape_fault))]
 fn shape_fault(index: &Index) -> Option<ConfigFault>
     requires { IsIndex index.now }
@@ -74,6 +68,12 @@ fn shape_fault(index: &Index) -> Option<ConfigFault>
         return Some(ConfigFault {
             line,
             kind: ConfigFaultKind::TooManyQueues,
+        });
+    }
+    if let Some(line) = over_maximum_line(index) {
+        return Some(ConfigFault {
+            line,
+            kind: ConfigFaultKind::GuaranteeOverMaximum,
         });
     }
     None
@@ -239,97 +239,4 @@ fn listed_by(entry: &Entry) -> usize
         Value::Names(names) => names.names().len(),
         _ => 0,
     }
-}
-
-fn over_maximum_line(index: &Index) -> Option<usize>
-    requires { IsIndex index.now }
-{
-    for entry in index.entries {
-        if is_over_maximum(index, entry) {
-            return Some(entry.line);
-        }
-    }
-    None
-}
-
-/// Whether this line guarantees a queue more than its maximum.
-fn is_over_maximum(index: &Index, entry: &Entry) -> bool
-    requires { IsIndex index.now }
-{
-    if !entry.setting.is(Setting::Capacity) {
-        return false;
-    }
-    let (Value::Amounts(amounts), Some(path)) = (&entry.value, &entry.queue) else {
-        return false;
-    };
-    match maximum(index, path.as_bytes()) {
-        Some(most) => !fits(amounts, &most),
-        None => false,
-    }
-}
-
-fn over_parent_line(alloc: Global, index: &Index) -> Result<Option<usize>, AllocError>
-    requires { IsIndex index.now }
-{
-    for entry in index.entries {
-        if is_over_parent(alloc, index, entry)? {
-            return Ok(Some(entry.line));
-        }
-    }
-    Ok(None)
-}
-
-/// Whether this line sets a maximum above the parent's, or lists queues that are guaranteed more than their parent.
-fn is_over_parent(alloc: Global, index: &Index, entry: &Entry) -> Result<bool, AllocError>
-    requires { IsIndex index.now }
-{
-    let Some(path) = &entry.queue else {
-        return Ok(false);
-    };
-    match &entry.value {
-        Value::Amounts(amounts) => Ok(
-            entry.setting.is(Setting::MaximumCapacity)
-                && is_above_parent(index, path.as_bytes(), amounts),
-        ),
-        Value::Names(names) => {
-            if is_root(path.as_bytes()) {
-                return Ok(false);
-            }
-            guarantees_exceed(alloc, index, path.as_bytes(), names.names())
-        }
-        _ => Ok(false),
-    }
-}
-
-fn is_above_parent(index: &Index, path: &[u8], amounts: &Resource<2>) -> bool
-    requires { IsIndex index.now }
-{
-    let Some((parent, _)) = split_last_dot(path) else {
-        return false;
-    };
-    match maximum(index, parent) {
-        Some(most) => !fits(amounts, &most),
-        None => false,
-    }
-}
-
-/// Whether the guarantees of the queues below add up to more than the queue's own in an amount.
-fn guarantees_exceed(
-    alloc: Global,
-    index: &Index,
-    path: &[u8],
-    names: &[ShortText],
-) -> Result<bool, AllocError>
-    requires { IsIndex index.now }
-{
-    let mut left = guaranteed(index, path);
-    for name in names {
-        let child = child_bytes(alloc, path, name.as_bytes())?;
-        let guarantee = guaranteed(index, &child);
-        if !fits(&guarantee, &left) {
-            return Ok(true);
-        }
-        left = minus(&left, &guarantee);
-    }
-    Ok(false)
 }

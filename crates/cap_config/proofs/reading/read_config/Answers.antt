@@ -4,7 +4,7 @@ use Rattle.std.proofs.lemmas.Result.{err_from_is_err_and, IfOk-weaker}
 use Rattle.cap_model.specs.Settings.{Settings}
 use Rattle.cap_config.specs.Entries.{read_lines}
 use Rattle.cap_config.specs.Rows.{settings_of}
-use Rattle.cap_config.specs.First.{early_fault, settings_in}
+use Rattle.cap_config.specs.First.{first_fault, settings_in}
 use Rattle.cap_config.proofs.Firsts.{early_by_line, line_fault, shape_answers, shape_passes, settings_answer}
 use Rattle.cap_config.proofs.reading.read_config.Goals as goal
 
@@ -13,7 +13,7 @@ returns-in_err-entries-clause-fault c =
     let p = err_from_is_err_and c.from_residual.result c.from_residual.ensures.1 in
     let text = c.args.text.now in
     rw (p.1, p.2)
-    (line_fault _ (early_fault text) (read_lines (lines text)) c.in_err-entries.field-0.0 (early_by_line text c.in_err-entries.field-0.0) c.in_err-entries.ensures)
+    (line_fault _ (first_fault text) (read_lines (lines text)) c.in_err-entries.field-0.0 (early_by_line text c.in_err-entries.field-0.0) c.in_err-entries.ensures)
 
 pub returns-in_err-check-clause-fault : goal.returns-in_err-check-clause-fault
 returns-in_err-check-clause-fault c =

@@ -1,0 +1,143 @@
+ghost use Rattle.std.specs.Prelude.{◌≡◌, IfOk};
+ghost use Rattle.cap_config.specs.Index.{IsIndex};
+ghost use Rattle.cap_config.specs.Tests.{exceeds, exceeds_limit, is_over_limit, is_over_maximum, over_maximum_line, is_over_parts, overspends, is_overspent, is_over_parent, over_parent_line};
+ghost use Rattle.cap_config.specs.Keys.{parts_at_last_dot};
+
+use crate::entry::Entry;
+use crate::index::{Index, child_bytes};
+use crate::key::split_last_dot;
+use crate::queues::{guaranteed, is_root, maximum};
+use crate::setting::Setting;
+use crate::value::Value;
+use cap_model::ShortText;
+use cap_vector::Resource;
+use std::alloc::{AllocError, Global};
+
+/// The first line that guarantees a queue more than its maximum capacity, own or inherited.
+pub fn over_maximum_line(index: &Index) -> Option<usize>
+    requires { IsIndex index.now }
+    ensures { result ≡ over_maximum_line index.now.entries.now }
+{
+    for entry in index.entries {
+        if is_over_maximum(index, entry) {
+            return Some(entry.line);
+        }
+    }
+    None
+}
+
+fn is_over_maximum(index: &Index, entry: &Entry) -> bool
+    requires { IsIndex index.now }
+    ensures { result ≡ is_over_maximum index.now.entries.now entry.now }
+{
+    entry.setting.is(Setting::Capacity) && is_over_limit(index, entry)
+}
+
+fn is_over_limit(index: &Index, entry: &Entry) -> bool
+    requires { IsIndex index.now }
+    ensures { result ≡ is_over_limit index.now.entries.now entry.now.queue entry.now.value }
+{
+    match (&entry.value, &entry.queue) {
+        (Value::Amounts(amounts), Some(path)) => {
+            exceeds_limit(amounts, maximum(index, path.as_bytes()))
+        }
+        _ => false,
+    }
+}
+
+fn exceeds_limit(amounts: &Resource<2>, limit: Option<Resource<2>>) -> bool
+    ensures { result ≡ exceeds_limit amounts.now limit }
+{
+    match limit {
+        Some(most) => exceeds(amounts.amounts(), most.amounts()),
+        None => false,
+    }
+}
+
+/// Whether an amount is more than the other's.
+fn exceeds(a: [u64; 2], b: [u64; 2]) -> bool
+    ensures { result ≡ exceeds a b }
+{
+    b[0] < a[0] || b[1] < a[1]
+}
+
+/// The first line that sets a maximum capacity over that of the queue above, or lists queues below one other than root
+/// whose capacities add up to more than its own.
+pub fn over_parent_line(alloc: Global, index: &Index) -> Result<Option<usize>, AllocError>
+    requires { IsIndex index.now }
+    ensures { IfOk result (λ line. line ≡ over_parent_line index.now.entries.now) }
+{
+    for entry in index.entries {
+        if is_over_parent(alloc, index, entry)? {
+            return Ok(Some(entry.line));
+        }
+    }
+    Ok(None)
+}
+
+fn is_over_parent(alloc: Global, index: &Index, entry: &Entry) -> Result<bool, AllocError>
+    requires { IsIndex index.now }
+    ensures { IfOk result (λ over. over ≡ is_over_parent index.now.entries.now entry.now) }
+{
+    match (&entry.value, &entry.queue) {
+        (Value::Amounts(amounts), Some(path)) => {
+            let over = is_over_parts(index, amounts, path.as_bytes());
+            Ok(entry.setting.is(Setting::MaximumCapacity) && over)
+        }
+        (Value::Names(names), Some(path)) => {
+            is_overspent(alloc, index, path.as_bytes(), names.names())
+        }
+        _ => Ok(false),
+    }
+}
+
+fn is_over_parts(index: &Index, amounts: &Resource<2>, path: &[u8]) -> bool
+    requires { IsIndex index.now }
+    ensures { result ≡ is_over_parts index.now.entries.now amounts.now (parts_at_last_dot path.now) }
+{
+    match split_last_dot(path) {
+        Some((parent, _)) => exceeds_limit(amounts, maximum(index, parent)),
+        None => false,
+    }
+}
+
+fn is_overspent(
+    alloc: Global,
+    index: &Index,
+    path: &[u8],
+    names: &[ShortText],
+) -> Result<bool, AllocError>
+    requires { IsIndex index.now }
+    ensures { IfOk result (λ over. over ≡ is_overspent index.now.entries.now path.now names.now) }
+{
+    if is_root(path) {
+        return Ok(false);
+    }
+    overspends(alloc, index, path, guaranteed(index, path).amounts(), names)
+}
+
+/// Whether the queues of these names are guaranteed more than is left.
+fn overspends(
+    alloc: Global,
+    index: &Index,
+    path: &[u8],
+    most: [u64; 2],
+    names: &[ShortText],
+) -> Result<bool, AllocError>
+    requires { IsIndex index.now }
+    ensures { IfOk result (λ over. over ≡ overspends index.now.entries.now path.now most names.now) }
+{
+    let mut left = most;
+    for name in names {
+        let child = child_bytes(alloc, path, name.as_bytes())?;
+        let guarantee = guaranteed(index, &child).amounts();
+        if exceeds(guarantee, left) {
+            return Ok(true);
+        }
+        left = [
+            left[0].saturating_sub(guarantee[0]),
+            left[1].saturating_sub(guarantee[1]),
+        ];
+    }
+    Ok(false)
+}
