@@ -29,7 +29,7 @@ settings_are text entries is = ap settings_after is
 
 pub line_fault : (X : Type 0) (early : Option ConfigFault) (r : Result (List Entry) ConfigFault) (given : ConfigFault) → (r ≡ Err given → early ≡ Some given) → FailsBy given.kind given r →
     AnswersFault {X = X} early (Err given)
-line_fault X None r given is h = tt
+line_fault X None r given is h = fails_after given.kind given r (let ok : Result (Unit {0}) ConfigFault = Ok tt in ok) (λ e. absurd (cc (is e))) h
 line_fault X (Some fault) r given is h = fails_after given.kind given r (Err fault) (λ e. ap Err (same_Some fault given (is e))) h
 
 -- a kind of fault that a line has
@@ -89,7 +89,7 @@ unfolding whole_fault
 parent_passes X entries y h e = rw (h, e) tt
 
 to_other : (X Y : Type 0) (early : Option ConfigFault) (given : ConfigFault) → AnswersFault {X = Y} early (Err given) → AnswersFault {X = X} early (Err given)
-to_other X Y None given h = tt
+to_other X Y None given h = h
 to_other X Y (Some fault) given h =
     fails_after given.kind given (let r : Result Y ConfigFault = Err fault in r) (let r : Result X ConfigFault = Err fault in r) (λ e. cc e) h
 
@@ -105,11 +105,11 @@ shape_answers X Y text entries seen given is same h =
     subst (λ (o : Option ConfigFault). AnswersFault {X = X} o (Err given)) early (to_other X Y (whole_fault seen) given h)
 
 -- no fault in them
-pub shape_passes : (X Y : Type 0) (text : List ℕ) (entries seen : List Entry) (y : Y) (r : Result X ConfigFault) → read_lines (lines text) ≡ Ok entries → seen ≡ entries →
-    AnswersFault {X = Y} (whole_fault seen) (Ok y) → AnswersFault {X = X} (first_fault text) r
-shape_passes X Y text entries seen y r is same h =
+pub shape_passes : (X Y : Type 0) (text : List ℕ) (entries seen : List Entry) (y : Y) (x : X) → read_lines (lines text) ≡ Ok entries → seen ≡ entries →
+    AnswersFault {X = Y} (whole_fault seen) (Ok y) → AnswersFault {X = X} (first_fault text) (Ok x)
+shape_passes X Y text entries seen y x is same h =
     let early : None ≡ first_fault text = sym (no_fault Y (whole_fault seen) y h) ∙ ap whole_fault same ∙ sym (early_by_shape text entries is) in
-    subst (λ (o : Option ConfigFault). AnswersFault {X = X} o r) early tt
+    subst (λ (o : Option ConfigFault). AnswersFault {X = X} o (Ok x)) early tt
 
 -- the settings of the entries that the index sees
 pub settings_answer : (text : List ℕ) (entries seen : List Entry) (settings : Settings) → read_lines (lines text) ≡ Ok entries → seen ≡ entries → settings ≡ settings_of seen → settings_in text ≡ Some settings

@@ -17,9 +17,10 @@ fault_after (Err fault) = Some fault
 unfoldable pub first_fault : List ℕ → Option ConfigFault
 first_fault text = fault_after (read_lines (lines text))
 
--- a text with such a fault is answered by it, unless memory ran out
+-- a text with a fault is answered by it and one with none by no fault, unless memory ran out
 abbrev pub AnswersFault : {X : Type 0} → Option ConfigFault → Result X ConfigFault → Type 0
-AnswersFault None answer = Unit {0}
+AnswersFault None (Ok x) = Unit {0}
+AnswersFault None (Err given) = FailsBy given.kind given {Y = Unit {0}} (Ok tt)
 AnswersFault (Some fault) (Ok x) = ⊥
 AnswersFault {X} (Some fault) (Err given) = FailsBy given.kind given {Y = X} (Err fault)
 

@@ -4,7 +4,6 @@ ghost use Rattle.cap_config.specs.Index.{IsIndex};
 ghost use Rattle.cap_config.specs.Rows.{row_of, rows_under, settings_of, names_below, names_or_none};
 
 use crate::entry::Entry;
-use crate::fault::{ConfigFault, ConfigFaultKind};
 use crate::index::{Index, child_bytes, entry_at};
 use crate::key::ROOT;
 use crate::queues::{LEVELS_MAX, factor, guaranteed, is_running, maximum, number_or};
@@ -13,7 +12,7 @@ use crate::setting::Setting;
 use crate::value::Value;
 use cap_model::{PathText, ShortText};
 use cap_vector::Resource;
-use std::alloc::Global;
+use std::alloc::{AllocError, Global};
 use std::marker::Model;
 
 /// A queue of the settings. Contracts see it as the record of its path, capacity, maximum capacity, factor and state.
@@ -121,15 +120,16 @@ impl<const K: usize> Config<K> {
     }
 }
 
-/// The settings that the lines make.
+/// The settings that the lines make. No path is too long and no number too large once the lines are tested, so that only
+/// want of memory is an error.
 #[tactic(auto, unfolding(crate::specs::Rows::settings_of, crate::specs::Keys::root))]
-pub fn config_of(alloc: Global, index: &Index) -> Result<Config<2>, ConfigFault>
+pub fn config_of(alloc: Global, index: &Index) -> Result<Config<2>, AllocError>
     requires { IsIndex index.now }
     ensures { IfOk result (λ config. config ≡ settings_of index.now.entries.now) }
 {
     let mut queues = Vec::new(alloc);
     let Some(root) = PathText::new(ROOT) else {
-        return Err(ConfigFault::new(0, ConfigFaultKind::NoChild));
+        return Err(AllocError);
     };
     add_queues(alloc, index, root, LEVELS_MAX, &mut queues)?;
     let entries = index.entries;
@@ -142,10 +142,10 @@ pub fn config_of(alloc: Global, index: &Index) -> Result<Config<2>, ConfigFault>
         number_or(cluster_entry(entries, Setting::MaximumVcores), 4),
     ]);
     let Some(minimum_allocation) = least else {
-        return Err(ConfigFault::new(0, ConfigFaultKind::BadValue));
+        return Err(AllocError);
     };
     let Some(maximum_allocation) = most else {
-        return Err(ConfigFault::new(0, ConfigFaultKind::BadValue));
+        return Err(AllocError);
     };
     let application_limit = number_or(cluster_entry(entries, Setting::MaximumApplications), 10_000);
     Ok(Config {
@@ -163,7 +163,7 @@ fn add_queues(
     path: PathText,
     levels: usize,
     queues: &mut Vec<QueueRow<2>>,
-) -> Result<(), ConfigFault>
+) -> Result<(), AllocError>
     requires { IsIndex index.now }
     ensures { OnOk result (queues.new.items ≡ queues.old.items ++ rows_under levels index.now.entries.now path) }
 {
@@ -174,7 +174,7 @@ fn add_queues(
     for name in names_below(index, path.as_bytes()) {
         let child = child_bytes(alloc, path.as_bytes(), name.as_bytes())?;
         let Some(child) = PathText::new(&child) else {
-            return Err(ConfigFault::new(0, ConfigFaultKind::BadValue));
+            return Err(AllocError);
         };
         add_queues(alloc, index, child, levels - 1, queues)?;
     }

@@ -37,13 +37,6 @@ pub enum ConfigFaultKind {
     NoMemory = 20,
 }
 
-impl ConfigFault {
-    /// The fault of a line.
-    pub(crate) fn new(line: usize, kind: ConfigFaultKind) -> ConfigFault {
-        ConfigFault { line, kind }
-    }
-}
-
 impl From<AllocError> for ConfigFault {
     ghost use Rattle.std.specs.Prelude.{◌≡◌};
     ghost use Rattle.cap_config.specs.Fault.{no_memory};

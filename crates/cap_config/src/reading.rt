@@ -23,5 +23,5 @@ pub fn read_config(alloc: Global, text: &[u8]) -> Result<Config<2>, ConfigFault>
     let paths = listed_paths(alloc, &entries)?;
     let index = index_of(alloc, &entries, &paths)?;
     check(alloc, &index)?;
-    config_of(alloc, &index)
+    Ok(config_of(alloc, &index)?)
 }

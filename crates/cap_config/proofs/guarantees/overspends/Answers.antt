@@ -30,7 +30,7 @@ loop-name-preserved c =
     ∙ c.guaranteed.ensures
     ∙ ap (guaranteed entries) (c.deref.ensures.value ∙ c.in_ok-child.ensures ∙ ap (child path) c.as_bytes.ensures.value) in
     let less : left_of left guarantee ≡ c.saturating_sub.result ∷ c.saturating_sub-in-loop-name.result ∷ [] =
-        two_are _ _ _ _ c.saturating_sub.ensures c.saturating_sub-in-loop-name.ensures in
+    two_are _ _ _ _ c.saturating_sub.ensures c.saturating_sub-in-loop-name.ensures in
     c.loop-name.invariant
     ∙ spend_later entries path left c.args.names.now c.loop-name.name-index c.name-item.result guarantee c.loop-name-test.true c.name-item.is g (sym c.exceeds.ensures ∙ c.if-exceeds.false)
     ∙ ap (λ (l : List ℕ). overspends entries path l (drop (c.loop-name.name-index + 1) c.args.names.now)) less

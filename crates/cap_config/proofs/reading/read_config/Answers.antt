@@ -25,12 +25,12 @@ returns-in_err-check-clause-fault c =
 
 pub returns-clause-fault : goal.returns-clause-fault
 returns-clause-fault c =
-    shape_passes _ _ c.args.text.now c.in_ok-entries.entries.items c.in_ok-index.index.entries.now c.in_ok-check.field-0 c.config_of.result c.in_ok-entries.ensures
+    shape_passes _ _ c.args.text.now c.in_ok-entries.entries.items c.in_ok-index.index.entries.now c.in_ok-check.field-0 c.in_ok-config_of.field-0 c.in_ok-entries.ensures
     (c.in_ok-index.ensures.1 ∙ c.deref-2.ensures.value)
     c.in_ok-check.ensures
 
 pub returns-clause-settings : goal.returns-clause-settings
 returns-clause-settings c =
-    IfOk-weaker c.config_of.result (λ (config : Settings). config ≡ settings_of c.in_ok-index.index.entries.now) (λ (config : Settings). settings_in c.args.text.now ≡ Some config)
-    (λ config e. settings_answer c.args.text.now c.in_ok-entries.entries.items c.in_ok-index.index.entries.now config c.in_ok-entries.ensures (c.in_ok-index.ensures.1 ∙ c.deref-2.ensures.value) e)
-    c.config_of.ensures
+    settings_answer c.args.text.now c.in_ok-entries.entries.items c.in_ok-index.index.entries.now c.in_ok-config_of.field-0 c.in_ok-entries.ensures
+    (c.in_ok-index.ensures.1 ∙ c.deref-2.ensures.value)
+    c.in_ok-config_of.ensures
