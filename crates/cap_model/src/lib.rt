@@ -3,6 +3,7 @@
 #![tactic(auto)]
 
 mod event;
+pub mod examples;
 mod refusal;
 mod reply;
 mod request;
