@@ -1,11 +1,11 @@
 -- The bounds that hold in every state of a run.
-use Rattle.std.specs.Prelude.{◌≡◌, ℕ, ◌+◌, ◌≤◌, Bool, true, List, [], ◌∷◌, Option, Some, None, map, filter, length, ◌==◌}
+use Rattle.std.specs.Prelude.{◌≡◌, ℕ, ◌+◌, ◌≤◌, Bool, true, List, [], ◌∷◌, Option, Some, None, map, filter, length, ◌==◌, nat_le}
 use Rattle.std.specs.List.{All, list_any}
 use Rattle.cap_model.specs.Cascade.{holds_of}
 use Rattle.cap_model.specs.Amounts.{fits, times, sum_where}
 use Rattle.cap_model.specs.Settings.{QueueRow}
-use Rattle.cap_model.specs.Calls.{Ask}
-use Rattle.cap_model.specs.Flat.{Flat, App, ClusterNode, Reservation, is_for, node_at, is_child_of}
+use Rattle.cap_model.specs.Calls.{Key}
+use Rattle.cap_model.specs.Flat.{Flat, ClusterNode, Reservation, is_for, ask_at, app_at, node_at, is_child_of}
 use Rattle.cap_model.specs.Submit.{has_children}
 use Rattle.cap_model.specs.Uses.{queue_use, user_use, node_held}
 
@@ -39,21 +39,21 @@ module _ {K : ℕ} where
   abbrev pub IsNodeBounded : Flat K → ClusterNode → Type 0
   IsNodeBounded cluster node = fits (node_held cluster node.number) node.total ≡ true
 
-  -- a key has no more reservations than its ask counts
-  abbrev pub IsAskBounded : Flat K → App → Ask → Type 0
-  IsAskBounded cluster app ask = length (filter (is_for app.number ask.key) cluster.nodes.reserved) ≤ ask.count
+  -- how many reservations there are for a key of an application
+  abbrev pub reservations_for : Flat K → ℕ → Key → ℕ
+  reservations_for cluster app key = length (filter (is_for app key) cluster.nodes.reserved)
 
-  -- a reservation fits the total of its node
-  abbrev pub IsReservationBounded : Flat K → Reservation → Type 0
-  IsReservationBounded cluster r = holds_of (λ node. fits r.resource node.total) (node_at cluster r.node) ≡ true
+  -- a reservation fits the total of its node, and its key has no more reservations than its ask counts
+  pub record IsReservationBounded (cluster : Flat K) (r : Reservation) : Type 0 where
+    pub node : holds_of (λ node. fits r.resource node.total) (node_at cluster r.node) ≡ true
+    pub ask : holds_of (λ app. holds_of (λ ask. nat_le (reservations_for cluster r.app r.key) ask.count) (ask_at r.key app.asks)) (app_at cluster r.app) ≡ true
 
-  -- the bounds of a cluster: no queue over its maximum, no user over the limit, each queue the sum of its children, no node over its total, at most one reservation a
-  -- node and it fits there, no more reservations than asked for, and no container number twice
+  -- the bounds of a cluster: no queue over its maximum, no user over the limit, each queue the sum of its children, no node over its
+  -- total, at most one reservation a node, which fits there and is asked for, and no container number twice
   pub record IsBounded (cluster : Flat K) : Type 0 where
     pub queues : All (IsQueueBounded cluster) cluster.settings.queues
     pub parents : All (IsSumOfChildren cluster) cluster.settings.queues
     pub nodes : All (IsNodeBounded cluster) cluster.nodes.present
-    pub asks : All (λ app. All (IsAskBounded cluster app) app.asks) cluster.apps.active
     pub reservations : All (IsReservationBounded cluster) cluster.nodes.reserved
     pub apart : AreApart cluster.nodes.reserved
     pub numbers : IsRising 1 (map (λ c. c.number) cluster.nodes.live) cluster.nodes.next_container

@@ -32,3 +32,4 @@ pub mod ExampleClusters
 pub mod ExampleShares
 pub mod ExampleProposals
 pub mod ExampleCalls
+pub mod EngineLaws

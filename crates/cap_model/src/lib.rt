@@ -4,6 +4,7 @@
 
 mod event;
 pub mod examples;
+pub mod laws;
 mod refusal;
 mod reply;
 mod request;
