@@ -1,3 +1,4 @@
+pub mod ContainerNumbers
 pub mod Reasons
 pub mod NodeTotals
 pub mod Padding

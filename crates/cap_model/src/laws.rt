@@ -1,7 +1,13 @@
 //! Laws of the definitions in `specs/`, for callers to cite. The functions do nothing.
-ghost use Rattle.cap_model.specs.EngineLaws.{RejectedExactly};
+ghost use Rattle.cap_model.specs.EngineLaws.{RejectedExactly, NumbersStayDistinct, GrantedOnce};
 
 /// A proposal has no reason to be rejected exactly where it is admissible.
 pub fn reason_says_why()
     ensures { RejectedExactly }
+{}
+
+/// No container number is live twice or granted twice.
+pub fn container_numbers_are_used_once()
+    ensures live { NumbersStayDistinct }
+    ensures granted { GrantedOnce }
 {}
