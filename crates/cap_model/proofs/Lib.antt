@@ -1,3 +1,6 @@
+pub mod Choosing
+pub mod Orders
+pub mod Ranks
 pub mod ContainerNumbers
 pub mod Reasons
 pub mod NodeTotals

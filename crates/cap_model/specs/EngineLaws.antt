@@ -3,6 +3,9 @@ use Rattle.std.specs.Prelude.{◌≡◌, ◌↔◌, ℕ, List, None, map}
 use Rattle.cap_model.specs.Flat.{Flat, Container}
 use Rattle.cap_model.specs.Sight.{Sight}
 use Rattle.cap_model.specs.Admission.{NodeProposal, IsAdmissible, reason_of}
+use Rattle.cap_model.specs.Choice.{rank_cmp, rank_of, IsNodeChoice, IsChoiceFrom}
+use Rattle.cap_model.specs.Candidates.{choice_on, choice_from}
+use Rattle.std.specs.declared.cmp.Ordering.TheVariants.{Equal}
 use Rattle.cap_model.specs.Events.{ClusterEvent, Step, Run, ever_granted}
 use Rattle.cap_model.specs.Bounds.{IsRising}
 
@@ -26,3 +29,16 @@ NumbersStayDistinct = (K : ℕ) (old new : Flat K) (event : ClusterEvent) → Ha
 abbrev pub GrantedOnce : Type 0
 GrantedOnce =
     (K : ℕ) (events : List ClusterEvent) (old new : Flat K) → Run old events new → IsRising old.nodes.next_container (numbers_of (ever_granted events)) new.nodes.next_container
+
+-- two admissible proposals of one node are never of one rank
+abbrev pub OneOfEachRank : Type 0
+OneOfEachRank =
+    (K : ℕ) (sight : Sight K) (p q : NodeProposal) → IsAdmissible sight p → IsAdmissible sight q → p.node ≡ q.node → rank_cmp (rank_of sight p) (rank_of sight q) ≡ Equal → p ≡ q
+
+-- the choice on a node, computed from all that might be proposed there, is the choice
+abbrev pub ChoiceIsComputed : Type 0
+ChoiceIsComputed = (K : ℕ) (sight : Sight K) (n : ℕ) → IsNodeChoice sight n (choice_on sight n)
+
+-- and so is the choice from a starting node
+abbrev pub ChoiceFromIsComputed : Type 0
+ChoiceFromIsComputed = (K : ℕ) (sight : Sight K) (start : ℕ) → IsChoiceFrom sight start (choice_from sight start)

@@ -1,5 +1,5 @@
 //! Laws of the definitions in `specs/`, for callers to cite. The functions do nothing.
-ghost use Rattle.cap_model.specs.EngineLaws.{RejectedExactly, NumbersStayDistinct, GrantedOnce};
+ghost use Rattle.cap_model.specs.EngineLaws.{RejectedExactly, NumbersStayDistinct, GrantedOnce, OneOfEachRank, ChoiceIsComputed, ChoiceFromIsComputed};
 
 /// A proposal has no reason to be rejected exactly where it is admissible.
 pub fn reason_says_why()
@@ -10,4 +10,11 @@ pub fn reason_says_why()
 pub fn container_numbers_are_used_once()
     ensures live { NumbersStayDistinct }
     ensures granted { GrantedOnce }
+{}
+
+/// Of the admissible proposals on a node exactly one is served first, and it is the least of all that are written out.
+pub fn choice_is_the_least()
+    ensures ranks { OneOfEachRank }
+    ensures node { ChoiceIsComputed }
+    ensures ring { ChoiceFromIsComputed }
 {}
