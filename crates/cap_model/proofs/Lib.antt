@@ -1,3 +1,4 @@
+pub mod Parents
 pub mod Choosing
 pub mod Orders
 pub mod Ranks

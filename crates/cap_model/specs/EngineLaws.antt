@@ -1,13 +1,14 @@
 -- Laws of the definitions.
-use Rattle.std.specs.Prelude.{◌≡◌, ◌↔◌, ℕ, List, None, map}
-use Rattle.cap_model.specs.Flat.{Flat, Container}
+use Rattle.std.specs.Prelude.{◌≡◌, ◌↔◌, ℕ, List, Option, Some, None, map, count_by, ◌&&◌, if◌then◌else◌}
+use Rattle.cap_model.specs.Flat.{Flat, App, Container, app_at, is_under, is_child_of}
+use Rattle.cap_model.specs.Settings.{QueueRow}
 use Rattle.cap_model.specs.Sight.{Sight}
 use Rattle.cap_model.specs.Admission.{NodeProposal, IsAdmissible, reason_of}
 use Rattle.cap_model.specs.Choice.{rank_cmp, rank_of, IsNodeChoice, IsChoiceFrom}
 use Rattle.cap_model.specs.Candidates.{choice_on, choice_from}
 use Rattle.std.specs.declared.cmp.Ordering.TheVariants.{Equal}
 use Rattle.cap_model.specs.Events.{ClusterEvent, Step, Run, ever_granted}
-use Rattle.cap_model.specs.Bounds.{IsRising}
+use Rattle.cap_model.specs.Bounds.{IsRising, IsSumOfChildren}
 
 -- a proposal has no reason to be rejected exactly where it is admissible
 abbrev pub RejectedExactly : Type 0
@@ -42,3 +43,13 @@ ChoiceIsComputed = (K : ℕ) (sight : Sight K) (n : ℕ) → IsNodeChoice sight 
 -- and so is the choice from a starting node
 abbrev pub ChoiceFromIsComputed : Type 0
 ChoiceFromIsComputed = (K : ℕ) (sight : Sight K) (start : ℕ) → IsChoiceFrom sight start (choice_from sight start)
+
+-- an application in a queue with children, or under it, is in or under exactly one of them
+abbrev pub IsInOneChild : {K : ℕ} → Flat K → List ℕ → App → Type 0
+IsInOneChild cluster path app =
+    count_by (λ child. is_child_of path child.path && is_under child.path app.leaf) cluster.settings.queues ≡ (if is_under path app.leaf then 1 else 0)
+
+-- where each application is in one child of a queue that it is in or under, the queue's use is the sum of its children's
+abbrev pub ParentUsesChildren : Type 0
+ParentUsesChildren =
+    (K : ℕ) (cluster : Flat K) (q : QueueRow) → ((n : ℕ) (app : App) → app_at cluster n ≡ Some app → IsInOneChild cluster q.path app) → IsSumOfChildren cluster q

@@ -1,5 +1,5 @@
 //! Laws of the definitions in `specs/`, for callers to cite. The functions do nothing.
-ghost use Rattle.cap_model.specs.EngineLaws.{RejectedExactly, NumbersStayDistinct, GrantedOnce, OneOfEachRank, ChoiceIsComputed, ChoiceFromIsComputed};
+ghost use Rattle.cap_model.specs.EngineLaws.{RejectedExactly, NumbersStayDistinct, GrantedOnce, OneOfEachRank, ChoiceIsComputed, ChoiceFromIsComputed, ParentUsesChildren};
 
 /// A proposal has no reason to be rejected exactly where it is admissible.
 pub fn reason_says_why()
@@ -17,4 +17,9 @@ pub fn choice_is_the_least()
     ensures ranks { OneOfEachRank }
     ensures node { ChoiceIsComputed }
     ensures ring { ChoiceFromIsComputed }
+{}
+
+/// A parent queue uses what its children use together.
+pub fn parents_use_what_their_children_use()
+    ensures { ParentUsesChildren }
 {}
