@@ -1,17 +1,16 @@
 -- The computed choice is the choice.
 use Rattle.std.proofs.Common.{◌≡◌, ℕ, Bool, true, false, List, [], ◌∷◌, ◌++◌, refl, sym, ◌∙◌, ap, subst, inl, inr, arith}
-use Rattle.std.specs.Prelude.{◌⊎◌, Option, Some, None, IsSome, is_none, is_some, bytes_eq, option_and_then, cond, filter, find, flat_map, unwrap_or, ◌==◌, ◌&&◌}
+use Rattle.std.specs.Prelude.{◌⊎◌, Option, Some, None, is_none, bytes_eq, option_and_then, cond, filter, find, flat_map, unwrap_or, ◌==◌, ◌&&◌}
 use Rattle.std.specs.Option.{option_or}
-use Rattle.std.specs.Ordering.{is_gt, on}
 use Rattle.std.proofs.lemmas.Slice.Eq.{bytes_eq-Decides}
 use Rattle.std.proofs.lemmas.Bool.Decides.{nat_tests}
-use Rattle.cap_model.specs.Calls.{Key, Ask, same_key}
+use Rattle.cap_model.specs.Calls.{Ask, same_key}
 use Rattle.cap_model.specs.Flat.{ask_at}
 use Rattle.cap_model.specs.Cascade.{holds_of}
-use Rattle.cap_model.specs.Sight.{Sight, AppSight, NodeSight, seen_app, seen_node}
+use Rattle.cap_model.specs.Sight.{Sight, AppSight, NodeSight, seen_app}
 use Rattle.cap_model.specs.Admission.{NodeProposal, ProposalKind, RejectReason, IsAdmissible, reason_of}
 use Rattle.cap_model.specs.Choice.{rank_cmp, rank_of, is_after, ring_from, IsNodeChoice, IsFirstChoice}
-use Rattle.cap_model.specs.Candidates.{proposals_of, admissible_on, sooner, first_served, choice_on, first_choice, choice_from}
+use Rattle.cap_model.specs.Candidates.{proposals_of, admissible_on, sooner, first_served, choice_on, first_choice}
 use Rattle.cap_model.specs.EngineLaws.{ChoiceIsComputed, ChoiceFromIsComputed}
 use Rattle.cap_model.proofs.Orders.{rank_cmp_total, not_after_trans, not_after_other, not_after_itself}
 use Rattle.cap_model.proofs.Reasons.{rejected_exactly}
@@ -73,7 +72,7 @@ found_here : {A : Type 0} (test : A → Bool) (y x : A) (ys : List A) (rest : Op
 found_here test y x ys rest true t e f = let s : y ≡ x = ap (λ o. unwrap_or o y) e in (inl s, ap test (sym s) ∙ t)
 found_here test y x ys rest false t e f = let r = f e in (inr (r.0), r.1)
 
-found : {A : Type 0} (test : A → Bool) (xs : List A) (x : A) → find test xs ≡ Some x → IsIn x xs × (test x ≡ true)
+pub found : {A : Type 0} (test : A → Bool) (xs : List A) (x : A) → find test xs ≡ Some x → IsIn x xs × (test x ≡ true)
 found test [] x e = absurd (cc e)
 found test (y ∷ ys) x e = found_here test y x ys (find test ys) (test y) refl e (found test ys x)
 

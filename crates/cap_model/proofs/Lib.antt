@@ -1,3 +1,4 @@
+pub mod Telling
 pub mod Parents
 pub mod Choosing
 pub mod Orders

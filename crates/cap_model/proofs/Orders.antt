@@ -1,13 +1,13 @@
 -- The order of shares, of fullness and of ranks is total.
-use Rattle.std.specs.Prelude.{◌≡◌, ℕ, ◌+◌, ◌*◌, ◌<◌, Bool, true, false, max}
-use Rattle.std.specs.Ordering.{nat_cmp, MatchOrdering, is_gt, ordering_then, ordering_reverse, on}
+use Rattle.std.specs.Prelude.{◌≡◌, ℕ, ◌*◌, ◌<◌, true, false, max}
+use Rattle.std.specs.Ordering.{nat_cmp, MatchOrdering, is_gt, ordering_reverse}
 use Rattle.std.specs.declared.cmp.Ordering.{Ordering}
 use Rattle.std.specs.declared.cmp.Ordering.TheVariants.{Less, Equal, Greater}
 use Rattle.std.specs.Cmp.{IsTotalOrder, nat_cmp_is}
 use Rattle.std.proofs.Common.{arith, refl, sym, ◌∙◌, ap}
 use Rattle.std.proofs.lemmas.Cmp.{nat_cmp_total, nat_list_cmp_total, lists_total, on_total, then_total, ranked}
 use Rattle.std.proofs.Math.Nat.{mul_right_comm, mul-lt-mul_of_pos_right}
-use Rattle.cap_model.specs.Fullness.{Share, share_cmp, shares_cmp}
+use Rattle.cap_model.specs.Fullness.{share_cmp, shares_cmp}
 use Rattle.cap_model.specs.Calls.{ask_key_cmp}
 use Rattle.cap_model.specs.Choice.{level_cmp, rank_cmp}
 

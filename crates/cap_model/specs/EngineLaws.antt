@@ -1,5 +1,8 @@
 -- Laws of the definitions.
-use Rattle.std.specs.Prelude.{◌≡◌, ◌↔◌, ℕ, List, Option, Some, None, map, count_by, ◌&&◌, if◌then◌else◌}
+use Rattle.std.specs.Prelude.{◌≡◌, ◌↔◌, ℕ, List, Some, None, [], ◌∷◌, ◌++◌, map, count_by, IsSome, not, ◌==◌, ◌&&◌, if◌then◌else◌}
+use Rattle.std.specs.Option.{option_map_or}
+use Rattle.cap_model.specs.Calls.{GrantedContainer, CallRequest, CallReply}
+use Rattle.cap_model.specs.Allocate.{is_repeated_allocate}
 use Rattle.cap_model.specs.Flat.{Flat, App, Container, app_at, is_under, is_child_of}
 use Rattle.cap_model.specs.Settings.{QueueRow}
 use Rattle.cap_model.specs.Sight.{Sight}
@@ -7,7 +10,7 @@ use Rattle.cap_model.specs.Admission.{NodeProposal, IsAdmissible, reason_of}
 use Rattle.cap_model.specs.Choice.{rank_cmp, rank_of, IsNodeChoice, IsChoiceFrom}
 use Rattle.cap_model.specs.Candidates.{choice_on, choice_from}
 use Rattle.std.specs.declared.cmp.Ordering.TheVariants.{Equal}
-use Rattle.cap_model.specs.Events.{ClusterEvent, Step, Run, ever_granted}
+use Rattle.cap_model.specs.Events.{ClusterEvent, Step, Run, ever_granted, news_of}
 use Rattle.cap_model.specs.Bounds.{IsRising, IsSumOfChildren}
 
 -- a proposal has no reason to be rejected exactly where it is admissible
@@ -53,3 +56,24 @@ IsInOneChild cluster path app =
 abbrev pub ParentUsesChildren : Type 0
 ParentUsesChildren =
     (K : ℕ) (cluster : Flat K) (q : QueueRow) → ((n : ℕ) (app : App) → app_at cluster n ≡ Some app → IsInOneChild cluster q.path app) → IsSumOfChildren cluster q
+
+-- the grants that an application was not yet told
+abbrev pub untold_grants : {K : ℕ} → Flat K → ℕ → List GrantedContainer
+untold_grants cluster n = option_map_or (λ app. app.grants) (app_at cluster n) []
+
+-- the grants that an event tells an application: those in the reply to an allocate that repeats nothing
+abbrev pub told_grants : {K : ℕ} → Flat K → ℕ → ClusterEvent → List GrantedContainer
+told_grants old n (ClusterEvent.call by (CallRequest.allocate app id asks releases) (CallReply.allocate reply)) =
+    if app == n && not (is_repeated_allocate old app id) then reply.grants else []
+told_grants old n _ = []
+
+-- the grants that an event adds for an application
+abbrev pub new_grants : {K : ℕ} → Flat K → ℕ → ClusterEvent → List GrantedContainer
+new_grants old n (ClusterEvent.grant c) = if c.app == n then news_of old c ∷ [] else []
+new_grants old n _ = []
+
+-- what a step tells an application of grants, with what is then left to tell, is what was left before with what the step adds: told in
+-- order, each once, none lost
+abbrev pub GrantsAreToldInOrder : Type 0
+GrantsAreToldInOrder =
+    (K : ℕ) (old new : Flat K) (n : ℕ) (event : ClusterEvent) → Step old event new → IsSome (app_at new n) → told_grants old n event ++ untold_grants new n ≡ untold_grants old n ++ new_grants old n event

@@ -1,5 +1,5 @@
 //! Laws of the definitions in `specs/`, for callers to cite. The functions do nothing.
-ghost use Rattle.cap_model.specs.EngineLaws.{RejectedExactly, NumbersStayDistinct, GrantedOnce, OneOfEachRank, ChoiceIsComputed, ChoiceFromIsComputed, ParentUsesChildren};
+ghost use Rattle.cap_model.specs.EngineLaws.{RejectedExactly, NumbersStayDistinct, GrantedOnce, OneOfEachRank, ChoiceIsComputed, ChoiceFromIsComputed, ParentUsesChildren, GrantsAreToldInOrder};
 
 /// A proposal has no reason to be rejected exactly where it is admissible.
 pub fn reason_says_why()
@@ -22,4 +22,9 @@ pub fn choice_is_the_least()
 /// A parent queue uses what its children use together.
 pub fn parents_use_what_their_children_use()
     ensures { ParentUsesChildren }
+{}
+
+/// An application is told of its grants in the order in which they were made, of each once.
+pub fn grants_are_told_in_order()
+    ensures { GrantsAreToldInOrder }
 {}
