@@ -119,3 +119,25 @@ OperatorSees =
     ≡ CallReply.queue_info (record { running = false; leaf = true; guaranteed = mb_and_vcores 2048 8; maximum = None; used = mb_and_vcores 0 0; applications = 1 }))
     × (reply_to small CallRequest.cluster_info
     ≡ CallReply.cluster_info (record { nodes = 1; applications = 2; containers = 0; totals = mb_and_vcores 8192 8; used = mb_and_vcores 0 0 }))
+
+-- a granted container is told with the host that it was granted on, and once
+abbrev pub GrantIsTold : Type 0
+GrantIsTold =
+    let asked = after_calls small (asks_of 1 0 (ask_anywhere (key 1 0) 1 (mb_and_vcores 1024 1) ∷ []) ∷ []) in
+    let got = granted 1 1 (key 1 0) 1 (mb_and_vcores 1024 1) asked in
+    let news : GrantedContainer = record { container = 1; key = key 1 0; node = 1; host = codes "n1"; resource = mb_and_vcores 1024 1 } in
+    (reply_to got (asks_of 1 1 []) ≡ CallReply.allocate (record { response = 2; ignored = 0; grants = news ∷ []; ends = [] }))
+    × (reply_to (after_request got (asks_of 1 1 [])) (asks_of 1 2 []) ≡ told_nothing 3 0)
+    × (asks_in got 1 ≡ [])
+
+-- a node reports a container that has ended, one that is none, and the first again; a repeat gets the same reply; the master is told
+abbrev pub HeartbeatEnds : Type 0
+HeartbeatEnds =
+    let two = granted 2 1 (key 0 0) 1 (mb_and_vcores 1024 1) small in
+    let quiet = with_app 1 (λ app. record app { grants = [] }) two in
+    let beat = CallRequest.heartbeat 1 0 (2 ∷ 7 ∷ 2 ∷ []) in
+    let answer = CallReply.heartbeat (record { response = 1; ignored = 2; live = 1 }) in
+    (reply_to quiet beat ≡ answer)
+    × (reply_to (after_request quiet beat) beat ≡ answer)
+    × (reply_to (after_request quiet beat) (asks_of 1 0 [])
+    ≡ CallReply.allocate (record { response = 1; ignored = 0; grants = []; ends = record { container = 2; cause = Cause.ended_on_node } ∷ [] }))

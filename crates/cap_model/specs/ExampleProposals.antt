@@ -159,3 +159,23 @@ RingFromTheStart =
     let two = after_calls one_asked (CallRequest.register_node (codes "n2") (codes "/r1") (mb_and_vcores 8192 8) ∷ []) in
     (choice_from (sight_of two) 1 ≡ Some (grant_of 1 (key 1 0) 2 (mb_and_vcores 1024 1)))
     × (choice_from (sight_of two) 2 ≡ Some (grant_of 1 (key 1 0) 1 (mb_and_vcores 1024 1)))
+
+-- the reasons that no other example shows: no registered application, a wrong place, too many live, a reservation for what fits now or
+-- never fits, and no number left; of several that hold, the first
+abbrev pub OtherReasons : Type 0
+OtherReasons =
+    let sight = sight_of one_asked in
+    let placed = sight_of (after_calls small (asks_of 1 0 (record { key = key 1 0; count = 1; resource = mb_and_vcores 1024 1; place = codes "n2" } ∷ []) ∷ [])) in
+    let large = sight_of (after_calls (opened two_queues) (
+    CallRequest.register_node (codes "n1") (codes "/r1") (mb_and_vcores 4096 4)
+    ∷ CallRequest.submit (codes "root.a") (codes "u1")
+    ∷ CallRequest.register_master 1
+    ∷ asks_of 1 0 (ask_anywhere (key 1 0) 1 (mb_and_vcores 8192 1) ∷ [])
+    ∷ [])) in
+    (reason_of sight (grant_of 3 (key 1 0) 1 (mb_and_vcores 1024 1)) ≡ Some RejectReason.no_app)
+    × (reason_of placed (grant_of 1 (key 1 0) 1 (mb_and_vcores 1024 1)) ≡ Some RejectReason.wrong_place)
+    × (reason_of (record sight { live = 65536 }) (grant_of 1 (key 1 0) 1 (mb_and_vcores 1024 1)) ≡ Some RejectReason.too_many_live)
+    × (reason_of sight (reserve_of 1 (key 1 0) 1 (mb_and_vcores 1024 1)) ≡ Some RejectReason.fits_now)
+    × (reason_of large (reserve_of 1 (key 1 0) 1 (mb_and_vcores 8192 1)) ≡ Some RejectReason.never_fits)
+    × (reason_of (record sight { next_container = 4611686018427387904 }) (grant_of 1 (key 1 0) 1 (mb_and_vcores 1024 1)) ≡ Some RejectReason.numbers_spent)
+    × (reason_of sight (grant_of 3 (key 9 9) 7 (mb_and_vcores 9999 9)) ≡ Some RejectReason.no_app)

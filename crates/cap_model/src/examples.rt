@@ -1,8 +1,8 @@
 //! Worked examples of the definitions in `specs/`, computed by the checker. The functions do nothing: each states in
 //! its contract what small clusters and calls give.
 ghost use Rattle.cap_model.specs.ExampleShares.{DominantShares, ShareOfNothing, ThreeShares, LessFullQueueFirst, EqualQueuesByName, AsksByPriority, AsksAreRounded};
-ghost use Rattle.cap_model.specs.ExampleProposals.{MiddleMaximum, RoomIsReserved, ReservationKeepsOthersOut, ReservationIsConverted, SmallerAskDropsNewest, ChangedAskDropsAll, UserLimit, SecondProposalRejected, ReplacedAskRejected, ReturnedNodeIsAnother, NodeFillsUp, RingFromTheStart};
-ghost use Rattle.cap_model.specs.ExampleCalls.{SubmitRefusals, MasterComesAndGoes, ReleasedOnce, ResponseIds, ResponseIdsWrap, NewsInTwoReplies, LargeAsks, KeptAsks, TotalsStayBounded, NodeRefusals, OperatorSees};
+ghost use Rattle.cap_model.specs.ExampleProposals.{MiddleMaximum, RoomIsReserved, ReservationKeepsOthersOut, ReservationIsConverted, SmallerAskDropsNewest, ChangedAskDropsAll, UserLimit, SecondProposalRejected, ReplacedAskRejected, ReturnedNodeIsAnother, NodeFillsUp, OtherReasons, RingFromTheStart};
+ghost use Rattle.cap_model.specs.ExampleCalls.{SubmitRefusals, MasterComesAndGoes, GrantIsTold, HeartbeatEnds, ReleasedOnce, ResponseIds, ResponseIdsWrap, NewsInTwoReplies, LargeAsks, KeptAsks, TotalsStayBounded, NodeRefusals, OperatorSees};
 
 /// Fullness compares the greatest share first, and then the next greatest.
 pub fn shares_compare_as_in_the_examples()
@@ -48,6 +48,7 @@ pub fn proposals_are_rejected_as_in_the_examples()
     ensures replaced { ReplacedAskRejected }
     ensures returned { ReturnedNodeIsAnother }
     ensures full { NodeFillsUp }
+    ensures others { OtherReasons }
 {}
 
 /// Nodes are looked at as a ring from the starting position.
@@ -63,6 +64,16 @@ pub fn submits_are_refused_as_in_the_examples()
 /// A master registers once and finishes once.
 pub fn masters_come_and_go_as_in_the_examples()
     ensures { MasterComesAndGoes }
+{}
+
+/// A granted container is told with its host, once.
+pub fn grants_are_told_as_in_the_example()
+    ensures { GrantIsTold }
+{}
+
+/// A heartbeat ends the named containers that are live on its node, and a repeat changes nothing.
+pub fn heartbeats_end_containers_as_in_the_example()
+    ensures { HeartbeatEnds }
 {}
 
 /// A release named twice ends its container once, and a foreign one ends nothing.

@@ -21,3 +21,7 @@ returns-clause-returned c = (refl, refl, refl)
 pub returns-clause-full : goal.returns-clause-full
 unfolding plus less
 returns-clause-full c = (refl, refl, refl, refl)
+
+pub returns-clause-others : goal.returns-clause-others
+unfolding plus less
+returns-clause-others c = (refl, refl, refl, refl, refl, refl, refl)
