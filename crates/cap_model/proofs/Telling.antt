@@ -17,7 +17,7 @@ use Rattle.cap_model.specs.Events.{ClusterEvent, Step, after_grant, news_of, tak
 use Rattle.cap_model.specs.EngineLaws.{untold_grants, told_grants, new_grants, GrantsAreToldInOrder}
 use Rattle.cap_model.proofs.Choosing.{found}
 
-abbrev is_number : ℕ → App → Bool
+abbrev pub is_number : ℕ → App → Bool
 is_number n app = app.number == n
 
 abbrev grants_in : Option App → List GrantedContainer
@@ -27,7 +27,7 @@ mapped : (f : App → App) (b : Bool) (x : App) (o p : Option App) → p ≡ opt
 mapped f true x o p e = refl
 mapped f false x o p e = e
 
-find_mapped : (f : App → App) → ((a : App) → (f a).number ≡ a.number) → (n : ℕ) (xs : List App) → find (is_number n) (map f xs) ≡ option_map f (find (is_number n) xs)
+pub find_mapped : (f : App → App) → ((a : App) → (f a).number ≡ a.number) → (n : ℕ) (xs : List App) → find (is_number n) (map f xs) ≡ option_map f (find (is_number n) xs)
 find_mapped f same n [] = refl
 find_mapped f same n (x ∷ xs) =
     (λ i. cond (same x i == n) (Some (f x)) (find (is_number n) (map f xs)))
@@ -45,7 +45,7 @@ kept_in f k (Some a) = k.grants a
 kept_at : (f : App → App) → KeepsGrants f → (n : ℕ) (xs : List App) → grants_in (find (is_number n) (map f xs)) ≡ grants_in (find (is_number n) xs)
 kept_at f k n xs = ap grants_in (find_mapped f k.number n xs) ∙ kept_in f k (find (is_number n) xs)
 
-kept_if : {A : Type 0} (b : Bool) (g : App → A) (x y : App) → g x ≡ g y → g (cond b x y) ≡ g y
+pub kept_if : {A : Type 0} (b : Bool) (g : App → A) (x y : App) → g x ≡ g y → g (cond b x y) ≡ g y
 kept_if true g x y e = e
 kept_if false g x y e = refl
 
@@ -55,11 +55,11 @@ only_at m change k = record {
   grants = λ a. kept_if (a.number == m) (λ (x : App). x.grants) (change a) a (k.grants a);
 }
 
-numbers_at : (m : ℕ) (change : App → App) → ((a : App) → (change a).number ≡ a.number) → (a : App) → (cond (a.number == m) (change a) a).number ≡ a.number
+pub numbers_at : (m : ℕ) (change : App → App) → ((a : App) → (change a).number ≡ a.number) → (a : App) → (cond (a.number == m) (change a) a).number ≡ a.number
 numbers_at m change same a = kept_if (a.number == m) (λ (x : App). x.number) (change a) a (same a)
 
 -- a change at another number
-elsewhere : (m n : ℕ) (change : App → App) → m == n ≡ false → (o : Option App) → ((a : App) → o ≡ Some a → a.number == n ≡ true) → option_map (λ a. cond (a.number == m) (change a) a) o ≡ o
+pub elsewhere : (m n : ℕ) (change : App → App) → m == n ≡ false → (o : Option App) → ((a : App) → o ≡ Some a → a.number == n ≡ true) → option_map (λ a. cond (a.number == m) (change a) a) o ≡ o
 elsewhere m n change e None at = refl
 elsewhere m n change e (Some a) at =
     let here = at a refl in
@@ -67,18 +67,18 @@ elsewhere m n change e (Some a) at =
     ap (λ b. Some (cond b (change a) a)) other
 
 -- a change at this number
-at_number : (n : ℕ) (change : App → App) (o : Option App) → ((a : App) → o ≡ Some a → a.number == n ≡ true) → option_map (λ a. cond (a.number == n) (change a) a) o ≡ option_map change o
+pub at_number : (n : ℕ) (change : App → App) (o : Option App) → ((a : App) → o ≡ Some a → a.number == n ≡ true) → option_map (λ a. cond (a.number == n) (change a) a) o ≡ option_map change o
 at_number n change None at = refl
 at_number n change (Some a) at = ap (λ b. Some (cond b (change a) a)) (at a refl)
 
-at_this : (m n : ℕ) (change : App → App) → m == n ≡ true → (o : Option App) → ((a : App) → o ≡ Some a → a.number == n ≡ true) → option_map (λ a. cond (a.number == m) (change a) a) o ≡ option_map change o
+pub at_this : (m n : ℕ) (change : App → App) → m == n ≡ true → (o : Option App) → ((a : App) → o ≡ Some a → a.number == n ≡ true) → option_map (λ a. cond (a.number == m) (change a) a) o ≡ option_map change o
 at_this m n change e None at = refl
 at_this m n change e (Some a) at =
     let here = at a refl in
     let this : a.number == m ≡ true = grind (arith, nat_tests, here, e) in
     ap (λ b. Some (cond b (change a) a)) this
 
-found_at : (n : ℕ) (xs : List App) (a : App) → find (is_number n) xs ≡ Some a → a.number == n ≡ true
+pub found_at : (n : ℕ) (xs : List App) (a : App) → find (is_number n) xs ≡ Some a → a.number == n ≡ true
 found_at n xs a e = (found (is_number n) xs a e).1
 
 -- the telling of one application
@@ -117,7 +117,7 @@ module _ {K : ℕ} where
       subst (λ x. (kept_reply (with_app m (after_telling id ignored) w) m).grants ++ untold_grants (with_app m (after_telling id ignored) w) x ≡ untold_grants w x) same all
 
 -- an application of another number stays where one goes, and the one that goes is not found
-others_stay : (m n : ℕ) → m == n ≡ false → (xs : List App) → find (is_number n) (filter (λ app. not (app.number == m)) xs) ≡ find (is_number n) xs
+pub others_stay : (m n : ℕ) → m == n ≡ false → (xs : List App) → find (is_number n) (filter (λ app. not (app.number == m)) xs) ≡ find (is_number n) xs
 others_stay m n e [] = refl
 others_stay m n e (x ∷ xs) = by (x.number == m) refl (others_stay m n e xs)
   where
@@ -126,7 +126,7 @@ others_stay m n e (x ∷ xs) = by (x.number == m) refl (others_stay m n e xs)
     by true c r = let other : x.number == n ≡ false = grind (arith, nat_tests, c, e) in r ∙ sym (ap (λ b. cond b (Some x) (find (is_number n) xs)) other)
     by false c r = ap (λ o. cond (x.number == n) (Some x) o) r
 
-gone_is_none : (m n : ℕ) → m == n ≡ true → (xs : List App) → find (is_number n) (filter (λ app. not (app.number == m)) xs) ≡ None
+pub gone_is_none : (m n : ℕ) → m == n ≡ true → (xs : List App) → find (is_number n) (filter (λ app. not (app.number == m)) xs) ≡ None
 gone_is_none m n e [] = refl
 gone_is_none m n e (x ∷ xs) = by (x.number == m) refl (gone_is_none m n e xs)
   where
@@ -135,7 +135,7 @@ gone_is_none m n e (x ∷ xs) = by (x.number == m) refl (gone_is_none m n e xs)
     by true c r = r
     by false c r = let other : x.number == n ≡ false = grind (arith, nat_tests, c, e) in ap (λ b. cond b (Some x) (find (is_number n) (filter (λ app. not (app.number == m)) xs))) other ∙ r
 
-not_none : {A : Type 0} (o : Option A) → o ≡ None → IsSome o → ⊥
+pub not_none : {A : Type 0} (o : Option A) → o ≡ None → IsSome o → ⊥
 not_none None e h = cc h
 not_none (Some x) e h = cc e
 
@@ -144,11 +144,11 @@ one_more None true a e = e
 one_more None false a e = refl
 one_more (Some x) b a e = refl
 
-nothing_where : {A : Type 0} (c : Bool) (xs : List A) → cond (c && false) xs [] ≡ []
+pub nothing_where : {A : Type 0} (c : Bool) (xs : List A) → cond (c && false) xs [] ≡ []
 nothing_where true xs = refl
 nothing_where false xs = refl
 
-only_where : (c : Bool) → c && true ≡ c
+pub only_where : (c : Bool) → c && true ≡ c
 only_where true = refl
 only_where false = refl
 

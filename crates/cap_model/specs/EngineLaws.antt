@@ -1,8 +1,9 @@
 -- Laws of the definitions.
-use Rattle.std.specs.Prelude.{◌≡◌, ◌↔◌, ℕ, List, Some, None, [], ◌∷◌, ◌++◌, map, count_by, IsSome, not, ◌==◌, ◌&&◌, if◌then◌else◌}
+use Rattle.std.specs.Prelude.{◌≡◌, ◌↔◌, ℕ, List, Some, None, [], ◌∷◌, ◌++◌, map, filter, count_by, IsSome, not, ◌==◌, ◌&&◌, if◌then◌else◌}
 use Rattle.std.specs.Option.{option_map_or}
-use Rattle.cap_model.specs.Calls.{GrantedContainer, CallRequest, CallReply}
-use Rattle.cap_model.specs.Allocate.{is_repeated_allocate}
+use Rattle.cap_model.specs.Calls.{Cause, GrantedContainer, EndedContainer, CallRequest, CallReply}
+use Rattle.cap_model.specs.Allocate.{is_repeated_allocate, released_by}
+use Rattle.cap_model.specs.Heartbeat.{is_repeated_heartbeat, ended_by, containers_on}
 use Rattle.cap_model.specs.Flat.{Flat, App, Container, app_at, is_under, is_child_of}
 use Rattle.cap_model.specs.Settings.{QueueRow}
 use Rattle.cap_model.specs.Sight.{Sight}
@@ -77,3 +78,31 @@ new_grants old n _ = []
 abbrev pub GrantsAreToldInOrder : Type 0
 GrantsAreToldInOrder =
     (K : ℕ) (old new : Flat K) (n : ℕ) (event : ClusterEvent) → Step old event new → IsSome (app_at new n) → told_grants old n event ++ untold_grants new n ≡ untold_grants old n ++ new_grants old n event
+
+-- the ends that an application was not yet told
+abbrev pub untold_ends : {K : ℕ} → Flat K → ℕ → List EndedContainer
+untold_ends cluster n = option_map_or (λ app. app.ends) (app_at cluster n) []
+
+-- the ends that an event tells an application: those in the reply to an allocate that repeats nothing
+abbrev pub told_ends : {K : ℕ} → Flat K → ℕ → ClusterEvent → List EndedContainer
+told_ends old n (ClusterEvent.call by (CallRequest.allocate app id asks releases) (CallReply.allocate reply)) =
+    if app == n && not (is_repeated_allocate old app id) then reply.ends else []
+told_ends old n _ = []
+
+-- the ends of those of some containers that were an application's
+abbrev pub ends_of : Cause → ℕ → List Container → List EndedContainer
+ends_of cause n gone = map (λ c. record { container = c.number; cause = cause }) (filter (λ c. c.app == n) gone)
+
+-- the ends that an event adds for an application: released, ended on their node, or lost with it
+abbrev pub new_ends : {K : ℕ} → Flat K → ℕ → ClusterEvent → List EndedContainer
+new_ends old n (ClusterEvent.call by (CallRequest.allocate app id asks releases) (CallReply.allocate reply)) =
+    if is_repeated_allocate old app id then [] else ends_of Cause.released n (released_by old app releases)
+new_ends old n (ClusterEvent.call by (CallRequest.heartbeat node id ended) (CallReply.heartbeat reply)) =
+    if is_repeated_heartbeat old node id then [] else ends_of Cause.ended_on_node n (ended_by old node ended)
+new_ends old n (ClusterEvent.call by (CallRequest.node_gone node) (CallReply.node_gone count)) = ends_of Cause.node_lost n (containers_on old node)
+new_ends old n _ = []
+
+-- the same of ends: told in order, each once, none lost
+abbrev pub EndsAreToldInOrder : Type 0
+EndsAreToldInOrder =
+    (K : ℕ) (old new : Flat K) (n : ℕ) (event : ClusterEvent) → Step old event new → IsSome (app_at new n) → told_ends old n event ++ untold_ends new n ≡ untold_ends old n ++ new_ends old n event

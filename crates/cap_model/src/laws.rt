@@ -1,5 +1,5 @@
 //! Laws of the definitions in `specs/`, for callers to cite. The functions do nothing.
-ghost use Rattle.cap_model.specs.EngineLaws.{RejectedExactly, NumbersStayDistinct, GrantedOnce, OneOfEachRank, ChoiceIsComputed, ChoiceFromIsComputed, ParentUsesChildren, GrantsAreToldInOrder};
+ghost use Rattle.cap_model.specs.EngineLaws.{RejectedExactly, NumbersStayDistinct, GrantedOnce, OneOfEachRank, ChoiceIsComputed, ChoiceFromIsComputed, ParentUsesChildren, GrantsAreToldInOrder, EndsAreToldInOrder};
 
 /// A proposal has no reason to be rejected exactly where it is admissible.
 pub fn reason_says_why()
@@ -24,7 +24,8 @@ pub fn parents_use_what_their_children_use()
     ensures { ParentUsesChildren }
 {}
 
-/// An application is told of its grants in the order in which they were made, of each once.
-pub fn grants_are_told_in_order()
-    ensures { GrantsAreToldInOrder }
+/// An application is told of its grants and of its ends in the order in which they came, of each once.
+pub fn news_is_told_in_order()
+    ensures grants { GrantsAreToldInOrder }
+    ensures ends { EndsAreToldInOrder }
 {}
