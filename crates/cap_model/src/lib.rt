@@ -3,6 +3,8 @@
 #![tactic(auto)]
 
 mod event;
+pub mod examples;
+pub mod laws;
 mod refusal;
 mod reply;
 mod request;

@@ -1,0 +1,179 @@
+-- When a proposal may be granted or reserved, and the first reason why not.
+use Rattle.std.specs.Prelude.{◌≡◌, ◌⊎◌, ℕ, ◌<◌, Bool, true, false, not, ◌&&◌, ◌||◌, List, [], ◌∷◌, Option, None, is_some, is_none, option_and_then, unwrap_or, option_map, position, nat_le, bytes_eq, if◌then◌else◌}
+use Rattle.std.specs.List.{list_all}
+use Rattle.cap_vector.specs.Vector.{plus, less}
+use Rattle.cap_model.specs.Cluster.{number_end}
+use Rattle.cap_model.specs.Cascade.{earliest, holds_of}
+use Rattle.cap_model.specs.Amounts.{fits, times}
+use Rattle.cap_model.specs.Calls.{Key, Ask}
+use Rattle.cap_model.specs.Flat.{Reservation, is_for, ask_at}
+use Rattle.cap_model.specs.Sight.{Sight, QueueSight, NodeSight, seen_app, seen_node, seen_queue, queues_to, still_wanted}
+
+-- a proposal grants a container at once, or reserves room for one
+pub data ProposalKind : Type 0 where
+  grant : ProposalKind
+  reserve : ProposalKind
+
+-- a proposal: a container of this resource for the application's ask under the key, on the node
+pub record NodeProposal : Type 0 where
+  pub kind : ProposalKind
+  pub app : ℕ
+  pub key : Key
+  pub node : ℕ
+  pub resource : List ℕ
+
+-- why a proposal is rejected
+pub data RejectReason : Type 0 where
+  no_app : RejectReason
+  no_ask : RejectReason
+  other_ask : RejectReason
+  no_node : RejectReason
+  wrong_place : RejectReason
+  reserved_by_other : RejectReason
+  no_room : RejectReason
+  over_maximum : (level : ℕ) → RejectReason
+  over_user : RejectReason
+  too_many_live : RejectReason
+  fits_now : RejectReason
+  never_fits : RejectReason
+  numbers_spent : RejectReason
+
+-- the number of a reason
+abbrev pub reason_number : RejectReason → ℕ
+reason_number no_app = 1
+reason_number no_ask = 2
+reason_number other_ask = 3
+reason_number no_node = 4
+reason_number wrong_place = 5
+reason_number reserved_by_other = 6
+reason_number no_room = 7
+reason_number (over_maximum level) = 8
+reason_number over_user = 9
+reason_number too_many_live = 10
+reason_number fits_now = 11
+reason_number never_fits = 12
+reason_number numbers_spent = 13
+
+-- the greatest number of containers that are live at once
+abbrev pub live_max : ℕ
+live_max = 65536
+
+abbrev pub is_grant : ProposalKind → Bool
+is_grant grant = true
+is_grant reserve = false
+
+-- whether a place is anywhere (an asterisk), the node's host or its rack
+abbrev pub takes_place : List ℕ → NodeSight → Bool
+takes_place place node = bytes_eq place (42 ∷ []) || bytes_eq place node.host || bytes_eq place node.rack
+
+module _ {K : ℕ} where
+  -- the ask that a proposal is for
+  abbrev pub proposed_ask : Sight K → NodeProposal → Option Ask
+  proposed_ask sight p = option_and_then (λ app. ask_at p.key app.asks) (seen_app sight p.app)
+
+  -- the reservation that the proposal's node holds, and whether it is for the proposal's own application and key
+  abbrev pub node_reservation : Sight K → NodeProposal → Option Reservation
+  node_reservation sight p = option_and_then (λ node. node.reservation) (seen_node sight p.node)
+
+  abbrev pub is_reserved_for : Sight K → NodeProposal → Bool
+  is_reserved_for sight p = holds_of (is_for p.app p.key) (node_reservation sight p)
+
+  -- whether the ask wants a container beyond those that room is reserved for
+  abbrev pub is_wanted : Sight K → NodeProposal → Bool
+  is_wanted sight p = holds_of (λ ask. nat_le 1 (still_wanted sight p.app ask)) (proposed_ask sight p)
+
+  -- whether the ask is for this very resource, and its place suits the node
+  abbrev pub asks_resource : Sight K → NodeProposal → Bool
+  asks_resource sight p = holds_of (λ ask. bytes_eq ask.resource p.resource) (proposed_ask sight p)
+
+  abbrev pub suits_place : Sight K → NodeProposal → Bool
+  suits_place sight p = holds_of (λ ask. holds_of (takes_place ask.place) (seen_node sight p.node)) (proposed_ask sight p)
+
+  -- whether the resource fits what the node has left, and the node's total
+  abbrev pub fits_free : Sight K → NodeProposal → Bool
+  fits_free sight p = holds_of (λ node. fits p.resource node.free) (seen_node sight p.node)
+
+  abbrev pub fits_total : Sight K → NodeProposal → Bool
+  fits_total sight p = holds_of (λ node. fits p.resource node.total) (seen_node sight p.node)
+
+  -- what a grant takes back: the room that was reserved on the node for its application and key
+  abbrev pub replaced : Sight K → NodeProposal → List ℕ
+  replaced sight p = if is_grant p.kind && is_reserved_for sight p then unwrap_or (option_map (λ r. r.resource) (node_reservation sight p)) [] else []
+
+  -- a use as the proposal would leave it
+  abbrev pub use_after : Sight K → NodeProposal → List ℕ → List ℕ
+  use_after sight p used = plus (less used (replaced sight p)) p.resource
+
+  -- the leaf queue and the user of the proposal's application
+  abbrev pub leaf_path : Sight K → NodeProposal → List ℕ
+  leaf_path sight p = unwrap_or (option_map (λ app. app.leaf) (seen_app sight p.app)) []
+
+  abbrev pub user_name : Sight K → NodeProposal → List ℕ
+  user_name sight p = unwrap_or (option_map (λ app. app.user) (seen_app sight p.app)) []
+
+  -- whether a queue would stay within its maximum, where it has one
+  abbrev pub stays_in_maximum : Sight K → NodeProposal → QueueSight → Bool
+  stays_in_maximum sight p q = is_none q.row.maximum || holds_of (fits (use_after sight p q.used)) q.row.maximum
+
+  -- whether every queue from the root down to the leaf would
+  abbrev pub stays_in_maxima : Sight K → NodeProposal → Bool
+  stays_in_maxima sight p = list_all (stays_in_maximum sight p) (queues_to sight (leaf_path sight p))
+
+  -- the least level, counted from the root as 0, whose maximum would be passed
+  abbrev pub broken_level : Sight K → NodeProposal → Option ℕ
+  broken_level sight p = position (λ q. not (stays_in_maximum sight p q)) (queues_to sight (leaf_path sight p))
+
+  -- whether the user would stay within the leaf's user limit factor times its guarantee
+  abbrev pub stays_in_user_limit : Sight K → NodeProposal → Bool
+  stays_in_user_limit sight p =
+      holds_of (λ q. fits (use_after sight p (q.used_by (user_name sight p))) (times q.row.factor q.row.guaranteed)) (seen_queue sight (leaf_path sight p))
+
+  -- what every proposal needs: its ask, its node, the place, the maxima of its queues, the user limit, and numbers
+  pub record IsWithinLimits (sight : Sight K) (p : NodeProposal) : Type 0 where
+    pub registered : is_some (seen_app sight p.app) ≡ true
+    pub asked : is_some (proposed_ask sight p) ≡ true
+    pub resource : asks_resource sight p ≡ true
+    pub present : is_some (seen_node sight p.node) ≡ true
+    pub place : suits_place sight p ≡ true
+    pub maxima : stays_in_maxima sight p ≡ true
+    pub user : stays_in_user_limit sight p ≡ true
+    pub few_live : sight.live < live_max
+    pub numbers_left : sight.next_container < number_end
+
+  -- A grant needs room, and either a node without reservation and a container that is still wanted, or the node's reservation.
+  abbrev pub NeedsOf : Sight K → NodeProposal → ProposalKind → Type 0
+  NeedsOf sight p grant =
+      (fits_free sight p ≡ true)
+      × (((node_reservation sight p ≡ None) × (is_wanted sight p ≡ true)) ⊎ (is_reserved_for sight p ≡ true))
+  -- A reservation needs a container that is still wanted, a node without one, and a resource that fits the node, but not now.
+  NeedsOf sight p reserve =
+      (is_wanted sight p ≡ true)
+      × (node_reservation sight p ≡ None)
+      × (fits_free sight p ≡ false)
+      × (fits_total sight p ≡ true)
+
+  -- an admissible grant, or an admissible reservation
+  abbrev pub IsAdmissible : Sight K → NodeProposal → Type 0
+  IsAdmissible sight p = IsWithinLimits sight p × NeedsOf sight p p.kind
+
+  -- the tests of a proposal in their order, each with the reason where it holds
+  abbrev pub reasons : Sight K → NodeProposal → List (Bool × RejectReason)
+  reasons sight p =
+      (is_none (seen_app sight p.app), no_app)
+      ∷ (is_none (proposed_ask sight p) || not (is_wanted sight p || is_grant p.kind && is_reserved_for sight p), no_ask)
+      ∷ (not (asks_resource sight p), other_ask)
+      ∷ (is_none (seen_node sight p.node), no_node)
+      ∷ (not (suits_place sight p), wrong_place)
+      ∷ (is_some (node_reservation sight p) && not (is_grant p.kind && is_reserved_for sight p), reserved_by_other)
+      ∷ (is_grant p.kind && not (fits_free sight p), no_room)
+      ∷ (not (stays_in_maxima sight p), over_maximum (unwrap_or (broken_level sight p) 0))
+      ∷ (not (stays_in_user_limit sight p), over_user)
+      ∷ (nat_le live_max sight.live, too_many_live)
+      ∷ (not (is_grant p.kind) && fits_free sight p, fits_now)
+      ∷ (not (is_grant p.kind) && not (fits_total sight p), never_fits)
+      ∷ (nat_le number_end sight.next_container, numbers_spent)
+      ∷ []
+
+  -- the first reason why a proposal is rejected, none where it is admissible
+  abbrev pub reason_of : Sight K → NodeProposal → Option RejectReason
+  reason_of sight p = earliest (reasons sight p)

@@ -1,0 +1,59 @@
+-- The bounds that hold in every state of a run.
+use Rattle.std.specs.Prelude.{◌≡◌, ℕ, ◌+◌, ◌≤◌, Bool, true, List, [], ◌∷◌, Option, Some, None, map, filter, length, ◌==◌, nat_le}
+use Rattle.std.specs.List.{All, list_any}
+use Rattle.cap_model.specs.Cascade.{holds_of}
+use Rattle.cap_model.specs.Amounts.{fits, times, sum_where}
+use Rattle.cap_model.specs.Settings.{QueueRow}
+use Rattle.cap_model.specs.Calls.{Key}
+use Rattle.cap_model.specs.Flat.{Flat, ClusterNode, Reservation, is_for, ask_at, app_at, node_at, is_child_of}
+use Rattle.cap_model.specs.Submit.{has_children}
+use Rattle.cap_model.specs.Uses.{queue_use, user_use, node_held}
+
+-- numbers that rise, each at least the lower bound and below the upper one
+abbrev pub IsRising : ℕ → List ℕ → ℕ → Type 0
+IsRising low [] high = low ≤ high
+IsRising low (n ∷ ns) high = (low ≤ n) × IsRising (n + 1) ns high
+
+-- a use within a maximum, where there is one
+abbrev pub FitsMaximum : List ℕ → Option (List ℕ) → Type 0
+FitsMaximum used None = Unit {0}
+FitsMaximum used (Some most) = fits used most ≡ true
+
+-- no two reservations are of one node
+abbrev pub AreApart : List Reservation → Type 0
+AreApart [] = Unit {0}
+AreApart (r ∷ rs) = (list_any (λ s. r.node == s.node) rs ≡ Bool.false) × AreApart rs
+
+module _ {K : ℕ} where
+  -- a queue's use is within its maximum, and each user's use there within the user limit
+  pub record IsQueueBounded (cluster : Flat K) (q : QueueRow) : Type 0 where
+    pub maximum : FitsMaximum (queue_use cluster q.path) q.maximum
+    pub users : (user : List ℕ) → fits (user_use cluster q.path user) (times q.factor q.guaranteed) ≡ true
+
+  -- a queue with children uses what its children use together
+  abbrev pub IsSumOfChildren : Flat K → QueueRow → Type 0
+  IsSumOfChildren cluster q =
+      has_children cluster q.path ≡ true → queue_use cluster q.path ≡ sum_where K (λ child. is_child_of q.path child.path) (λ child. queue_use cluster child.path) cluster.settings.queues
+
+  -- a node's live containers are within its total
+  abbrev pub IsNodeBounded : Flat K → ClusterNode → Type 0
+  IsNodeBounded cluster node = fits (node_held cluster node.number) node.total ≡ true
+
+  -- how many reservations there are for a key of an application
+  abbrev pub reservations_for : Flat K → ℕ → Key → ℕ
+  reservations_for cluster app key = length (filter (is_for app key) cluster.nodes.reserved)
+
+  -- a reservation fits the total of its node, and its key has no more reservations than its ask counts
+  pub record IsReservationBounded (cluster : Flat K) (r : Reservation) : Type 0 where
+    pub node : holds_of (λ node. fits r.resource node.total) (node_at cluster r.node) ≡ true
+    pub ask : holds_of (λ app. holds_of (λ ask. nat_le (reservations_for cluster r.app r.key) ask.count) (ask_at r.key app.asks)) (app_at cluster r.app) ≡ true
+
+  -- the bounds of a cluster: no queue over its maximum, no user over the limit, each queue the sum of its children, no node over its
+  -- total, at most one reservation a node, which fits there and is asked for, and no container number twice
+  pub record IsBounded (cluster : Flat K) : Type 0 where
+    pub queues : All (IsQueueBounded cluster) cluster.settings.queues
+    pub parents : All (IsSumOfChildren cluster) cluster.settings.queues
+    pub nodes : All (IsNodeBounded cluster) cluster.nodes.present
+    pub reservations : All (IsReservationBounded cluster) cluster.nodes.reserved
+    pub apart : AreApart cluster.nodes.reserved
+    pub numbers : IsRising 1 (map (λ c. c.number) cluster.nodes.live) cluster.nodes.next_container

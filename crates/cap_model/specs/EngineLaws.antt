@@ -1,0 +1,108 @@
+-- Laws of the definitions.
+use Rattle.std.specs.Prelude.{◌≡◌, ◌↔◌, ℕ, List, Some, None, [], ◌∷◌, ◌++◌, map, filter, count_by, IsSome, not, ◌==◌, ◌&&◌, if◌then◌else◌}
+use Rattle.std.specs.Option.{option_map_or}
+use Rattle.cap_model.specs.Calls.{Cause, GrantedContainer, EndedContainer, CallRequest, CallReply}
+use Rattle.cap_model.specs.Allocate.{is_repeated_allocate, released_by}
+use Rattle.cap_model.specs.Heartbeat.{is_repeated_heartbeat, ended_by, containers_on}
+use Rattle.cap_model.specs.Flat.{Flat, App, Container, app_at, is_under, is_child_of}
+use Rattle.cap_model.specs.Settings.{QueueRow}
+use Rattle.cap_model.specs.Sight.{Sight}
+use Rattle.cap_model.specs.Admission.{NodeProposal, IsAdmissible, reason_of}
+use Rattle.cap_model.specs.Choice.{rank_cmp, rank_of, IsNodeChoice, IsChoiceFrom}
+use Rattle.cap_model.specs.Candidates.{choice_on, choice_from}
+use Rattle.std.specs.declared.cmp.Ordering.TheVariants.{Equal}
+use Rattle.cap_model.specs.Events.{ClusterEvent, Step, Run, ever_granted, news_of}
+use Rattle.cap_model.specs.Bounds.{IsRising, IsSumOfChildren}
+
+-- a proposal has no reason to be rejected exactly where it is admissible
+abbrev pub RejectedExactly : Type 0
+RejectedExactly = (K : ℕ) (sight : Sight K) (p : NodeProposal) → (reason_of sight p ≡ None) ↔ IsAdmissible sight p
+
+-- the numbers of containers
+abbrev pub numbers_of : List Container → List ℕ
+numbers_of containers = map (λ c. c.number) containers
+
+-- the live containers have distinct numbers below the next
+abbrev pub HasDistinctNumbers : {K : ℕ} → Flat K → Type 0
+HasDistinctNumbers cluster = IsRising 1 (numbers_of cluster.nodes.live) cluster.nodes.next_container
+
+-- a step keeps the numbers of live containers distinct and below the next
+abbrev pub NumbersStayDistinct : Type 0
+NumbersStayDistinct = (K : ℕ) (old new : Flat K) (event : ClusterEvent) → HasDistinctNumbers old → Step old event new → HasDistinctNumbers new
+
+-- the containers that a run grants have rising numbers, from the first that was free at its start: none is granted twice
+abbrev pub GrantedOnce : Type 0
+GrantedOnce =
+    (K : ℕ) (events : List ClusterEvent) (old new : Flat K) → Run old events new → IsRising old.nodes.next_container (numbers_of (ever_granted events)) new.nodes.next_container
+
+-- two admissible proposals of one node are never of one rank
+abbrev pub OneOfEachRank : Type 0
+OneOfEachRank =
+    (K : ℕ) (sight : Sight K) (p q : NodeProposal) → IsAdmissible sight p → IsAdmissible sight q → p.node ≡ q.node → rank_cmp (rank_of sight p) (rank_of sight q) ≡ Equal → p ≡ q
+
+-- the choice on a node, computed from all that might be proposed there, is the choice
+abbrev pub ChoiceIsComputed : Type 0
+ChoiceIsComputed = (K : ℕ) (sight : Sight K) (n : ℕ) → IsNodeChoice sight n (choice_on sight n)
+
+-- and so is the choice from a starting node
+abbrev pub ChoiceFromIsComputed : Type 0
+ChoiceFromIsComputed = (K : ℕ) (sight : Sight K) (start : ℕ) → IsChoiceFrom sight start (choice_from sight start)
+
+-- an application in a queue with children, or under it, is in or under exactly one of them
+abbrev pub IsInOneChild : {K : ℕ} → Flat K → List ℕ → App → Type 0
+IsInOneChild cluster path app =
+    count_by (λ child. is_child_of path child.path && is_under child.path app.leaf) cluster.settings.queues ≡ (if is_under path app.leaf then 1 else 0)
+
+-- where each application is in one child of a queue that it is in or under, the queue's use is the sum of its children's
+abbrev pub ParentUsesChildren : Type 0
+ParentUsesChildren =
+    (K : ℕ) (cluster : Flat K) (q : QueueRow) → ((n : ℕ) (app : App) → app_at cluster n ≡ Some app → IsInOneChild cluster q.path app) → IsSumOfChildren cluster q
+
+-- the grants that an application was not yet told
+abbrev pub untold_grants : {K : ℕ} → Flat K → ℕ → List GrantedContainer
+untold_grants cluster n = option_map_or (λ app. app.grants) (app_at cluster n) []
+
+-- the grants that an event tells an application: those in the reply to an allocate that repeats nothing
+abbrev pub told_grants : {K : ℕ} → Flat K → ℕ → ClusterEvent → List GrantedContainer
+told_grants old n (ClusterEvent.call by (CallRequest.allocate app id asks releases) (CallReply.allocate reply)) =
+    if app == n && not (is_repeated_allocate old app id) then reply.grants else []
+told_grants old n _ = []
+
+-- the grants that an event adds for an application
+abbrev pub new_grants : {K : ℕ} → Flat K → ℕ → ClusterEvent → List GrantedContainer
+new_grants old n (ClusterEvent.grant c) = if c.app == n then news_of old c ∷ [] else []
+new_grants old n _ = []
+
+-- what a step tells an application of grants, with what is then left to tell, is what was left before with what the step adds: told in
+-- order, each once, none lost
+abbrev pub GrantsAreToldInOrder : Type 0
+GrantsAreToldInOrder =
+    (K : ℕ) (old new : Flat K) (n : ℕ) (event : ClusterEvent) → Step old event new → IsSome (app_at new n) → told_grants old n event ++ untold_grants new n ≡ untold_grants old n ++ new_grants old n event
+
+-- the ends that an application was not yet told
+abbrev pub untold_ends : {K : ℕ} → Flat K → ℕ → List EndedContainer
+untold_ends cluster n = option_map_or (λ app. app.ends) (app_at cluster n) []
+
+-- the ends that an event tells an application: those in the reply to an allocate that repeats nothing
+abbrev pub told_ends : {K : ℕ} → Flat K → ℕ → ClusterEvent → List EndedContainer
+told_ends old n (ClusterEvent.call by (CallRequest.allocate app id asks releases) (CallReply.allocate reply)) =
+    if app == n && not (is_repeated_allocate old app id) then reply.ends else []
+told_ends old n _ = []
+
+-- the ends of those of some containers that were an application's
+abbrev pub ends_of : Cause → ℕ → List Container → List EndedContainer
+ends_of cause n gone = map (λ c. record { container = c.number; cause = cause }) (filter (λ c. c.app == n) gone)
+
+-- the ends that an event adds for an application: released, ended on their node, or lost with it
+abbrev pub new_ends : {K : ℕ} → Flat K → ℕ → ClusterEvent → List EndedContainer
+new_ends old n (ClusterEvent.call by (CallRequest.allocate app id asks releases) (CallReply.allocate reply)) =
+    if is_repeated_allocate old app id then [] else ends_of Cause.released n (released_by old app releases)
+new_ends old n (ClusterEvent.call by (CallRequest.heartbeat node id ended) (CallReply.heartbeat reply)) =
+    if is_repeated_heartbeat old node id then [] else ends_of Cause.ended_on_node n (ended_by old node ended)
+new_ends old n (ClusterEvent.call by (CallRequest.node_gone node) (CallReply.node_gone count)) = ends_of Cause.node_lost n (containers_on old node)
+new_ends old n _ = []
+
+-- the same of ends: told in order, each once, none lost
+abbrev pub EndsAreToldInOrder : Type 0
+EndsAreToldInOrder =
+    (K : ℕ) (old new : Flat K) (n : ℕ) (event : ClusterEvent) → Step old event new → IsSome (app_at new n) → told_ends old n event ++ untold_ends new n ≡ untold_ends old n ++ new_ends old n event

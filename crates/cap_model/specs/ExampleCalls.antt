@@ -1,0 +1,143 @@
+-- Worked examples: calls, their refusals and their replies.
+use Rattle.std.specs.Prelude.{◌≡◌, ℕ, true, false, List, [], ◌∷◌, Some, None, codes, map}
+use Rattle.std.specs.List.{range_with_len}
+use Rattle.cap_model.specs.Calls.{Ask, Cause, GrantedContainer, CallRefusal, CallRequest, CallReply}
+use Rattle.cap_model.specs.Flat.{Flat, opened, app_at, with_app}
+use Rattle.cap_model.specs.Replies.{reply_to, after_request}
+use Rattle.cap_model.specs.ExampleClusters.{mb_and_vcores, key, ask_anywhere, two_queues, after_calls, small, asks_of, granted, container}
+
+-- the reply to an allocate that has nothing to tell
+abbrev pub told_nothing : ℕ → ℕ → CallReply
+told_nothing response ignored = CallReply.allocate (record { response = response; ignored = ignored; grants = []; ends = [] })
+
+-- a cluster of two queues in which root.a is STOPPED and at most two applications may be active
+abbrev pub stopped : Flat 2
+stopped = after_calls (record small { settings = record small.settings { application_limit = 2 } }) (CallRequest.set_queue_state (codes "root.a") false ∷ [])
+
+-- no such queue; not a leaf; the queue is stopped; the limit is reached; and of several the smallest number
+abbrev pub SubmitRefusals : Type 0
+SubmitRefusals =
+    (reply_to small (CallRequest.submit (codes "root.c") (codes "u1")) ≡ CallReply.refused CallRefusal.unknown_queue)
+    × (reply_to small (CallRequest.submit (codes "root") (codes "u1")) ≡ CallReply.refused CallRefusal.not_leaf)
+    × (reply_to stopped (CallRequest.submit (codes "root.a") (codes "u1")) ≡ CallReply.refused CallRefusal.queue_stopped)
+    × (reply_to stopped (CallRequest.submit (codes "root.b") (codes "u1")) ≡ CallReply.refused CallRefusal.too_many_applications)
+    × (reply_to (after_request stopped (CallRequest.set_queue_state (codes "root") false)) (CallRequest.submit (codes "root") (codes "u1")) ≡ CallReply.refused CallRefusal.not_leaf)
+    × (reply_to small (CallRequest.submit (codes "root.b") (codes "u1")) ≡ CallReply.submit 3)
+
+-- a master is registered once, and finished once
+abbrev pub MasterComesAndGoes : Type 0
+MasterComesAndGoes =
+    (reply_to small (CallRequest.register_master 1) ≡ CallReply.refused CallRefusal.already_registered)
+    × (reply_to small (CallRequest.register_master 3) ≡ CallReply.refused CallRefusal.unknown_application)
+    × (reply_to small (CallRequest.finish_master 1) ≡ CallReply.finish_master 0)
+    × (reply_to (after_request small (CallRequest.finish_master 1)) (CallRequest.finish_master 1) ≡ CallReply.refused CallRefusal.unknown_application)
+    × (reply_to (after_request small (CallRequest.submit (codes "root.b") (codes "u1"))) (CallRequest.register_master 3) ≡ CallReply.register_master (mb_and_vcores 1024 1) (mb_and_vcores 8192 4))
+
+-- container 1 is application 1's, container 2 application 2's; application 1 releases 1, 1 and 2
+abbrev pub ReleasedOnce : Type 0
+ReleasedOnce =
+    let before = granted 1 2 (key 0 0) 1 (mb_and_vcores 1024 1) (granted 1 1 (key 0 0) 1 (mb_and_vcores 1024 1) small) in
+    let quiet = with_app 1 (λ app. record app { grants = [] }) before in
+    let release = CallRequest.allocate 1 0 [] (1 ∷ 1 ∷ 2 ∷ []) in
+    let after = after_request quiet release in
+    (reply_to quiet release ≡ CallReply.allocate (record { response = 1; ignored = 2; grants = []; ends = record { container = 1; cause = Cause.released } ∷ [] }))
+    × (after.nodes.live ≡ container 2 2 (key 0 0) 1 (mb_and_vcores 1024 1) ∷ [])
+
+-- the last response id that application 1 was answered is 4
+abbrev pub allocated_four : Flat 2
+allocated_four = with_app 1 (λ app. record app { response = 4 }) small
+
+-- the next id is processed; the same again gets the kept reply and changes nothing; an older one, and one before the first, is refused
+abbrev pub ResponseIds : Type 0
+ResponseIds =
+    let fifth = after_request allocated_four (asks_of 1 4 []) in
+    (reply_to allocated_four (asks_of 1 4 []) ≡ told_nothing 5 0)
+    × (reply_to fifth (asks_of 1 4 (ask_anywhere (key 1 0) 1 (mb_and_vcores 9000 1) ∷ [])) ≡ told_nothing 5 0)
+    × (after_request fifth (asks_of 1 4 (ask_anywhere (key 1 0) 1 (mb_and_vcores 1024 1) ∷ [])) ≡ fifth)
+    × (reply_to fifth (asks_of 1 2 []) ≡ CallReply.refused CallRefusal.bad_response_id)
+    × (reply_to fifth (asks_of 1 6 []) ≡ CallReply.refused CallRefusal.bad_response_id)
+    × (reply_to small (asks_of 1 2147483647 []) ≡ CallReply.refused CallRefusal.bad_response_id)
+
+-- ids begin again at 0 after 2^31 - 1, and there the kept reply stands too
+abbrev pub ResponseIdsWrap : Type 0
+ResponseIdsWrap =
+    let late = with_app 1 (λ app. record app { response = 2147483647 }) small in
+    let wrapped = after_request late (asks_of 1 2147483647 []) in
+    (reply_to late (asks_of 1 2147483647 []) ≡ told_nothing 0 0)
+    × (reply_to wrapped (asks_of 1 2147483647 []) ≡ told_nothing 0 0)
+    × (reply_to wrapped (asks_of 1 4294967295 []) ≡ CallReply.refused CallRefusal.bad_response_id)
+
+-- grants not yet told, of these container numbers
+abbrev pub grants_from : ℕ → ℕ → List GrantedContainer
+grants_from first count = map (λ n. record { container = n; key = key 0 0; node = 1; host = codes "n1"; resource = mb_and_vcores 1024 1 }) (range_with_len first count)
+
+-- of 70 grants not yet told an allocate tells the oldest 64, and the next one the other 6
+abbrev pub NewsInTwoReplies : Type 0
+NewsInTwoReplies =
+    let waiting = with_app 1 (λ app. record app { grants = grants_from 1 70 }) small in
+    (reply_to waiting (asks_of 1 0 []) ≡ CallReply.allocate (record { response = 1; ignored = 0; grants = grants_from 1 64; ends = [] }))
+    × (reply_to (after_request waiting (asks_of 1 0 [])) (asks_of 1 1 []) ≡ CallReply.allocate (record { response = 2; ignored = 0; grants = grants_from 65 6; ends = [] }))
+
+-- an ask over the maximum allocation is refused, also where a later one takes it back; one that takes its key away may be of any size
+abbrev pub LargeAsks : Type 0
+LargeAsks =
+    let large = ask_anywhere (key 1 0) 1 (mb_and_vcores 9000 1) in
+    let none = ask_anywhere (key 1 0) 0 (mb_and_vcores 9000 1) in
+    (reply_to small (asks_of 1 0 (large ∷ [])) ≡ CallReply.refused CallRefusal.ask_too_large)
+    × (reply_to small (asks_of 1 0 (large ∷ none ∷ [])) ≡ CallReply.refused CallRefusal.ask_too_large)
+    × (reply_to small (asks_of 1 0 (none ∷ [])) ≡ told_nothing 1 0)
+
+-- the application's asks as the cluster keeps them, in order of key
+abbrev pub asks_in : Flat 2 → ℕ → List Ask
+asks_in cluster app = Rattle.std.specs.Option.option_map_or (λ a. a.asks) (app_at cluster app) []
+
+abbrev pub KeptAsks : Type 0
+KeptAsks =
+    asks_in (after_request small (asks_of 1 0 (ask_anywhere (key 2 0) 1 (mb_and_vcores 1500 1) ∷ ask_anywhere (key 1 0) 3 (mb_and_vcores 1 1) ∷ []))) 1
+    ≡ ask_anywhere (key 1 0) 3 (mb_and_vcores 1024 1) ∷ ask_anywhere (key 2 0) 1 (mb_and_vcores 2048 1) ∷ []
+
+-- a second node would bring the sum of the totals over 2^40
+abbrev pub TotalsStayBounded : Type 0
+TotalsStayBounded =
+    let one = after_calls (opened {K = 2} two_queues) (CallRequest.register_node (codes "n1") (codes "/r1") (mb_and_vcores 1099511627776 1) ∷ []) in
+    reply_to one (CallRequest.register_node (codes "n2") (codes "/r1") (mb_and_vcores 1 1)) ≡ CallReply.refused CallRefusal.total_too_large
+
+-- a host is taken while its node is present; a node of nothing is refused
+abbrev pub NodeRefusals : Type 0
+NodeRefusals =
+    (reply_to small (CallRequest.register_node (codes "n1") (codes "/r2") (mb_and_vcores 0 0)) ≡ CallReply.refused CallRefusal.host_taken)
+    × (reply_to small (CallRequest.register_node (codes "n2") (codes "/r2") (mb_and_vcores 0 0)) ≡ CallReply.refused CallRefusal.zero_resource)
+    × (reply_to small (CallRequest.node_gone 2) ≡ CallReply.refused CallRefusal.unknown_node)
+    × (reply_to small (CallRequest.heartbeat 1 1 []) ≡ CallReply.refused CallRefusal.bad_response_id)
+
+-- what an operator sees
+abbrev pub OperatorSees : Type 0
+OperatorSees =
+    (reply_to (opened {K = 2} two_queues) (CallRequest.queue_info (codes "root.a"))
+    ≡ CallReply.queue_info (record { running = true; leaf = true; guaranteed = mb_and_vcores 4096 4; maximum = Some (mb_and_vcores 16384 16); used = mb_and_vcores 0 0; applications = 0 }))
+    × (reply_to (after_request small (CallRequest.set_queue_state (codes "root") false)) (CallRequest.queue_info (codes "root.b"))
+    ≡ CallReply.queue_info (record { running = false; leaf = true; guaranteed = mb_and_vcores 2048 8; maximum = None; used = mb_and_vcores 0 0; applications = 1 }))
+    × (reply_to small CallRequest.cluster_info
+    ≡ CallReply.cluster_info (record { nodes = 1; applications = 2; containers = 0; totals = mb_and_vcores 8192 8; used = mb_and_vcores 0 0 }))
+
+-- a granted container is told with the host that it was granted on, and once
+abbrev pub GrantIsTold : Type 0
+GrantIsTold =
+    let asked = after_calls small (asks_of 1 0 (ask_anywhere (key 1 0) 1 (mb_and_vcores 1024 1) ∷ []) ∷ []) in
+    let got = granted 1 1 (key 1 0) 1 (mb_and_vcores 1024 1) asked in
+    let news : GrantedContainer = record { container = 1; key = key 1 0; node = 1; host = codes "n1"; resource = mb_and_vcores 1024 1 } in
+    (reply_to got (asks_of 1 1 []) ≡ CallReply.allocate (record { response = 2; ignored = 0; grants = news ∷ []; ends = [] }))
+    × (reply_to (after_request got (asks_of 1 1 [])) (asks_of 1 2 []) ≡ told_nothing 3 0)
+    × (asks_in got 1 ≡ [])
+
+-- a node reports a container that has ended, one that is none, and the first again; a repeat gets the same reply; the master is told
+abbrev pub HeartbeatEnds : Type 0
+HeartbeatEnds =
+    let two = granted 2 1 (key 0 0) 1 (mb_and_vcores 1024 1) small in
+    let quiet = with_app 1 (λ app. record app { grants = [] }) two in
+    let beat = CallRequest.heartbeat 1 0 (2 ∷ 7 ∷ 2 ∷ []) in
+    let answer = CallReply.heartbeat (record { response = 1; ignored = 2; live = 1 }) in
+    (reply_to quiet beat ≡ answer)
+    × (reply_to (after_request quiet beat) beat ≡ answer)
+    × (reply_to (after_request quiet beat) (asks_of 1 0 [])
+    ≡ CallReply.allocate (record { response = 1; ignored = 0; grants = []; ends = record { container = 2; cause = Cause.ended_on_node } ∷ [] }))

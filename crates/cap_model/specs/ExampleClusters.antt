@@ -1,0 +1,81 @@
+-- Small clusters in which the definitions are tried.
+use Rattle.std.specs.Prelude.{ℕ, zero, suc, true, List, [], ◌∷◌, Option, Some, None, codes}
+use Rattle.std.specs.List.{fold}
+use Rattle.cap_model.specs.Settings.{Settings, QueueRow}
+use Rattle.cap_model.specs.Calls.{Key, Ask, CallRequest}
+use Rattle.cap_model.specs.Flat.{Flat, Container, opened}
+use Rattle.cap_model.specs.Admission.{NodeProposal, ProposalKind}
+use Rattle.cap_model.specs.Replies.{after_request}
+use Rattle.cap_model.specs.Events.{after_grant, after_reserve}
+
+-- memory in MiB and vcores
+abbrev pub mb_and_vcores : ℕ → ℕ → List ℕ
+mb_and_vcores mb vcores = mb ∷ vcores ∷ []
+
+abbrev pub key : ℕ → ℕ → Key
+key priority request = record { priority = priority; request = request }
+
+-- an ask that takes any node
+abbrev pub ask_anywhere : Key → ℕ → List ℕ → Ask
+ask_anywhere k count resource = record { key = k; count = count; resource = resource; place = codes "*" }
+
+abbrev pub queue : List ℕ → List ℕ → Option (List ℕ) → ℕ → QueueRow
+queue path guaranteed most factor = record { path = path; guaranteed = guaranteed; maximum = most; factor = factor; running = true }
+
+abbrev pub with_queues : List QueueRow → Settings
+with_queues queues = record {
+  queues = queues;
+  minimum_allocation = mb_and_vcores 1024 1;
+  maximum_allocation = mb_and_vcores 8192 4;
+  application_limit = 10000;
+}
+
+-- two leaf queues under the root
+abbrev pub two_queues : Settings
+two_queues = with_queues (
+    queue (codes "root") (mb_and_vcores 0 0) None 1
+    ∷ queue (codes "root.a") (mb_and_vcores 4096 4) (Some (mb_and_vcores 16384 16)) 4
+    ∷ queue (codes "root.b") (mb_and_vcores 2048 8) None 1
+    ∷ [])
+
+-- the cluster after some calls, none of which lacks memory
+abbrev pub after_calls : Flat 2 → List CallRequest → Flat 2
+after_calls cluster requests = fold after_request cluster requests
+
+-- two applications, one in each queue, both registered
+abbrev pub two_masters : List CallRequest
+two_masters =
+    CallRequest.submit (codes "root.a") (codes "u1")
+    ∷ CallRequest.submit (codes "root.b") (codes "u2")
+    ∷ CallRequest.register_master 1
+    ∷ CallRequest.register_master 2
+    ∷ []
+
+-- one node of 8192 MiB and 8 vcores, and the two applications
+abbrev pub small : Flat 2
+small = after_calls (opened two_queues) (CallRequest.register_node (codes "n1") (codes "/r1") (mb_and_vcores 8192 8) ∷ two_masters)
+
+-- an allocate with asks alone
+abbrev pub asks_of : ℕ → ℕ → List Ask → CallRequest
+asks_of app id asks = CallRequest.allocate app id asks []
+
+-- a proposal to grant, and one to reserve
+abbrev pub grant_of : ℕ → Key → ℕ → List ℕ → NodeProposal
+grant_of app k node resource = record { kind = ProposalKind.grant; app = app; key = k; node = node; resource = resource }
+
+abbrev pub reserve_of : ℕ → Key → ℕ → List ℕ → NodeProposal
+reserve_of app k node resource = record { kind = ProposalKind.reserve; app = app; key = k; node = node; resource = resource }
+
+-- a container of that number, and the cluster after it was granted
+abbrev pub container : ℕ → ℕ → Key → ℕ → List ℕ → Container
+container number app k node resource = record { number = number; app = app; key = k; node = node; resource = resource }
+
+-- the cluster after so many equal containers of the next numbers were granted to an application on a node
+abbrev pub granted : ℕ → ℕ → Key → ℕ → List ℕ → Flat 2 → Flat 2
+granted zero app k node resource cluster = cluster
+granted (suc n) app k node resource cluster =
+    granted n app k node resource (after_grant cluster (container cluster.nodes.next_container app k node resource))
+
+-- the cluster after room was reserved
+abbrev pub reserved : ℕ → Key → ℕ → List ℕ → Flat 2 → Flat 2
+reserved app k node resource cluster = after_reserve cluster (record { app = app; key = k; node = node; resource = resource })

@@ -1,0 +1,115 @@
+-- The flat cluster of the whole engine: plain lists of all that is there, by part.
+use Rattle.std.specs.Prelude.{ℕ, Bool, List, [], ◌∷◌, Option, map, find, ◌==◌, ◌&&◌, bytes_eq, if◌then◌else◌}
+use Rattle.std.specs.List.{starts_with, list_any}
+use Rattle.std.specs.Prelude.{nat_eq, ◌||◌, ◌++◌}
+use Rattle.cap_model.specs.Settings.{Settings, QueueRow}
+use Rattle.cap_model.specs.Calls.{Key, same_key, Ask, GrantedContainer, EndedContainer, AllocateReply, HeartbeatReply}
+
+-- an active application: its leaf queue and user, its standing with its master, its asks in order of key, and the news not yet told
+pub record App : Type 0 where
+  pub number : ℕ
+  pub leaf : List ℕ
+  pub user : List ℕ
+  pub registered : Bool
+  pub response : ℕ
+  pub kept : Option AllocateReply
+  pub asks : List Ask
+  pub grants : List GrantedContainer
+  pub ends : List EndedContainer
+
+-- the active applications, in order of number
+pub record AppTable : Type 0 where
+  pub active : List App
+  pub next : ℕ
+
+-- a node that is present
+pub record ClusterNode : Type 0 where
+  pub number : ℕ
+  pub host : List ℕ
+  pub rack : List ℕ
+  pub total : List ℕ
+  pub response : ℕ
+  pub kept : Option HeartbeatReply
+
+-- a live container: the application and the key that it was granted for, and the node that it runs on
+pub record Container : Type 0 where
+  pub number : ℕ
+  pub app : ℕ
+  pub key : Key
+  pub node : ℕ
+  pub resource : List ℕ
+
+-- room that a node keeps for an ask that does not fit there at present
+pub record Reservation : Type 0 where
+  pub app : ℕ
+  pub key : Key
+  pub node : ℕ
+  pub resource : List ℕ
+
+-- the nodes and the live containers, each in order of number, and the reservations in order of making
+pub record NodeTable : Type 0 where
+  pub present : List ClusterNode
+  pub live : List Container
+  pub reserved : List Reservation
+  pub next_node : ℕ
+  pub next_container : ℕ
+
+-- a cluster of K resources
+pub record Flat (K : ℕ) : Type 0 where
+  pub settings : Settings
+  pub apps : AppTable
+  pub nodes : NodeTable
+
+-- whether a queue is the one of this path, or stands under it
+abbrev pub is_under : List ℕ → List ℕ → Bool
+is_under path queue = bytes_eq path queue || starts_with nat_eq queue (path ++ 46 ∷ [])
+
+-- the last name of a dotted path
+abbrev pub name_of : List ℕ → List ℕ
+name_of [] = []
+name_of (b ∷ path) = if list_any (λ x. x == 46) (b ∷ path) then name_of path else b ∷ path
+
+-- whether a queue is a child of another
+abbrev pub is_child_of : List ℕ → List ℕ → Bool
+is_child_of parent queue = bytes_eq queue (parent ++ 46 ∷ name_of queue)
+
+-- whether a reservation is for this key of this application
+abbrev pub is_for : ℕ → Key → Reservation → Bool
+is_for app key r = r.app == app && same_key r.key key
+
+-- the ask for a key
+abbrev pub ask_at : Key → List Ask → Option Ask
+ask_at key asks = find (λ ask. same_key ask.key key) asks
+
+module _ {K : ℕ} where
+  -- a cluster that was opened just now, with nothing in it
+  abbrev pub opened : Settings → Flat K
+  opened settings = record {
+    settings = settings;
+    apps = record { active = []; next = 1 };
+    nodes = record { present = []; live = []; reserved = []; next_node = 1; next_container = 1 };
+  }
+
+  -- the active application, the present node and the queue of that number or path
+  abbrev pub app_at : Flat K → ℕ → Option App
+  app_at cluster n = find (λ app. app.number == n) cluster.apps.active
+
+  abbrev pub node_at : Flat K → ℕ → Option ClusterNode
+  node_at cluster n = find (λ node. node.number == n) cluster.nodes.present
+
+  abbrev pub queue_at : Flat K → List ℕ → Option QueueRow
+  queue_at cluster path = find (λ q. bytes_eq q.path path) cluster.settings.queues
+
+  -- the reservation that a node holds
+  abbrev pub reservation_on : Flat K → ℕ → Option Reservation
+  reservation_on cluster n = find (λ r. r.node == n) cluster.nodes.reserved
+
+  -- the cluster after a change of one application, of one node, or of the reservations
+  abbrev pub with_app : ℕ → (App → App) → Flat K → Flat K
+  with_app n change cluster = record cluster { apps = record cluster.apps { active = map (λ app. if app.number == n then change app else app) cluster.apps.active } }
+
+  abbrev pub with_node : ℕ → (ClusterNode → ClusterNode) → Flat K → Flat K
+  with_node n change cluster = record cluster { nodes = record cluster.nodes { present = map (λ node. if node.number == n then change node else node) cluster.nodes.present } }
+
+  abbrev pub with_reserved : List Reservation → Flat K → Flat K
+  with_reserved reserved cluster = record cluster { nodes = record cluster.nodes { reserved = reserved } }

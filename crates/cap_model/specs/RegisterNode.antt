@@ -1,0 +1,39 @@
+-- RegisterNode: a node manager joins the cluster.
+use Rattle.std.specs.Prelude.{ℕ, ◌+◌, List, [], ◌∷◌, ◌++◌, true, Option, None, length, not, nat_le, bytes_eq}
+use Rattle.std.specs.List.{list_any}
+use Rattle.cap_vector.specs.Vector.{amount_max, plus, is_zero, is_within}
+use Rattle.cap_model.specs.Cluster.{number_end, nodes_max}
+use Rattle.cap_model.specs.Cascade.{earliest}
+use Rattle.cap_model.specs.Amounts.{sum_where}
+use Rattle.cap_model.specs.Calls.{CallRefusal, CallReply}
+use Rattle.cap_model.specs.Flat.{Flat, ClusterNode}
+
+module _ {K : ℕ} where
+  -- what all nodes have together
+  abbrev pub total_of_nodes : Flat K → List ℕ
+  total_of_nodes cluster = sum_where K (λ node. true) (λ node. node.total) cluster.nodes.present
+
+  -- why a node is refused
+  abbrev pub register_node_refusal : Flat K → List ℕ → List ℕ → Option CallRefusal
+  register_node_refusal cluster host total = earliest (
+      (list_any (λ node. bytes_eq node.host host) cluster.nodes.present, CallRefusal.host_taken)
+      ∷ (not (is_within amount_max (plus (total_of_nodes cluster) total)), CallRefusal.total_too_large)
+      ∷ (nat_le nodes_max (length cluster.nodes.present), CallRefusal.too_many_nodes)
+      ∷ (is_zero total, CallRefusal.zero_resource)
+      ∷ (nat_le number_end cluster.nodes.next_node, CallRefusal.numbers_spent)
+      ∷ [])
+
+  -- the new node, of the next number
+  abbrev pub new_node : Flat K → List ℕ → List ℕ → List ℕ → ClusterNode
+  new_node cluster host rack total = record { number = cluster.nodes.next_node; host = host; rack = rack; total = total; response = 0; kept = None }
+
+  abbrev pub after_register_node : Flat K → List ℕ → List ℕ → List ℕ → Flat K
+  after_register_node cluster host rack total = record cluster {
+    nodes = record cluster.nodes {
+      present = cluster.nodes.present ++ new_node cluster host rack total ∷ [];
+      next_node = cluster.nodes.next_node + 1;
+    };
+  }
+
+  abbrev pub register_node_reply : Flat K → CallReply
+  register_node_reply cluster = CallReply.register_node cluster.nodes.next_node

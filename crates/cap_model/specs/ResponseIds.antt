@@ -1,0 +1,22 @@
+-- Response ids: which request is the next one, and which repeats the last.
+use Rattle.std.specs.Prelude.{ℕ, ◌+◌, ◌%◌, Bool, ◌&&◌, not, ◌||◌, Option, is_some, nat_lt, ◌==◌}
+
+-- response ids stay below 2^31, and begin again at 0
+abbrev pub response_end : ℕ
+response_end = 2147483648
+
+-- the response id that answers a processed request of this id
+abbrev pub next_response : ℕ → ℕ
+next_response id = (id + 1) % response_end
+
+-- whether a request is to be processed: it has the last id that was answered
+abbrev pub is_current : ℕ → ℕ → Bool
+is_current last id = id == last
+
+-- whether it repeats the request that was processed last, whose reply is kept
+abbrev pub is_repeated : {A : Type 0} → ℕ → Option A → ℕ → Bool
+is_repeated last kept id = is_some kept && nat_lt id response_end && next_response id == last
+
+-- whether it is neither of the two
+abbrev pub is_bad_id : {A : Type 0} → ℕ → Option A → ℕ → Bool
+is_bad_id last kept id = not (is_current last id || is_repeated last kept id)

@@ -1,0 +1,31 @@
+//! Laws of the definitions in `specs/`, for callers to cite. The functions do nothing.
+ghost use Rattle.cap_model.specs.EngineLaws.{RejectedExactly, NumbersStayDistinct, GrantedOnce, OneOfEachRank, ChoiceIsComputed, ChoiceFromIsComputed, ParentUsesChildren, GrantsAreToldInOrder, EndsAreToldInOrder};
+
+/// A proposal has no reason to be rejected exactly where it is admissible.
+pub fn reason_says_why()
+    ensures { RejectedExactly }
+{}
+
+/// No container number is live twice or granted twice.
+pub fn container_numbers_are_used_once()
+    ensures live { NumbersStayDistinct }
+    ensures granted { GrantedOnce }
+{}
+
+/// Of the admissible proposals on a node exactly one is served first, and it is the least of all that are written out.
+pub fn choice_is_the_least()
+    ensures ranks { OneOfEachRank }
+    ensures node { ChoiceIsComputed }
+    ensures ring { ChoiceFromIsComputed }
+{}
+
+/// A parent queue uses what its children use together.
+pub fn parents_use_what_their_children_use()
+    ensures { ParentUsesChildren }
+{}
+
+/// An application is told of its grants and of its ends in the order in which they came, of each once.
+pub fn news_is_told_in_order()
+    ensures grants { GrantsAreToldInOrder }
+    ensures ends { EndsAreToldInOrder }
+{}
