@@ -1,9 +1,8 @@
 -- The paths above a path.
-use Rattle.std.proofs.Common.{◌≡◌, ℕ, zero, suc, ◌+◌, ◌<◌, ◌≤◌, List, [], ◌∷◌, ◌++◌, length, take, drop, Bool, true, false, Option, Some, None, refl, sym, ap, ◌∙◌, arith, add-one, length-take-le}
-use Rattle.std.specs.Prelude.{map}
+use Rattle.std.proofs.Common.{◌≡◌, ℕ, suc, ◌+◌, ◌<◌, List, [], ◌∷◌, length, take, Bool, true, false, Option, Some, None, refl, sym, ◌∙◌, arith, add-one, length-take-le}
 use Rattle.std.proofs.lemmas.Option.{same_Some, some_pair_parts}
 use Rattle.cap_config.specs.Keys.{last_dot, dot_or, is_dot, parts_at_last_dot, parts_round}
-use Rattle.cap_config.specs.Queues.{above, dot_ends}
+use Rattle.cap_config.specs.Queues.{above}
 
 no_dot : (first : Bool) (r : Option ℕ) → dot_or first r ≡ None → (first ≡ false) × (r ≡ None)
 no_dot first (Some i) h = absurd (cc h)

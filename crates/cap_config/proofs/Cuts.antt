@@ -1,11 +1,11 @@
 -- Cutting at a separator.
-use Rattle.std.proofs.Common.{◌≡◌, ℕ, zero, ◌+◌, ◌-◌, ◌<◌, ◌≤◌, List, [], ◌∷◌, length, get_or, take, drop, length-drop, Bool, true, false, cond, eqb, ltb, Option, Some, None, refl, sym, ap, ◌∙◌, subst, arith, rules, inl, inr}
-use Rattle.std.specs.List.{position_or_len, slice_split, before_first, after_first, All, list_all}
+use Rattle.std.proofs.Common.{◌≡◌, ℕ, ◌+◌, ◌-◌, ◌<◌, ◌≤◌, List, [], ◌∷◌, length, get_or, take, drop, length-drop, Bool, true, false, cond, eqb, ltb, Some, None, refl, sym, ap, ◌∙◌, arith}
+use Rattle.std.specs.List.{position_or_len, slice_split, list_all}
 use Rattle.std.specs.Str.Lines.{lines, strip_carriage_return, lines_of_parts}
 use Rattle.std.specs.Prelude.{◌&&◌}
 use Rattle.std.proofs.lemmas.List.{take_all}
 use Rattle.std.proofs.lemmas.Bool.Decides.{nat_tests}
-use Rattle.std.proofs.lemmas.List.Sums.{fails_before_first, prefix_len-le-length, position_or_len_is}
+use Rattle.std.proofs.lemmas.List.Sums.{fails_before_first, position_or_len_is}
 use Rattle.std.proofs.lemmas.List.Splits.{slice_split_first, slice_split_none, length-slice_split}
 use Rattle.std.proofs.lemmas.Option.{some_pair_parts}
 use Rattle.cap_config.specs.Pieces.{parts_at, parts_by}

@@ -1,5 +1,5 @@
 -- Entries by the paths of their queues.
-use Rattle.std.proofs.Common.{◌≡◌, ℕ, suc, ◌+◌, ◌<◌, ◌≤◌, List, [], ◌∷◌, length, get_or, drop, drop-cons, Bool, true, false, cond, Option, Some, None, refl, sym, ap, ◌∙◌, arith, add-one}
+use Rattle.std.proofs.Common.{◌≡◌, ℕ, suc, ◌<◌, ◌≤◌, List, length, get_or, drop, drop-cons, Bool, true, false, cond, Option, Some, sym, ap, ◌∙◌, arith}
 use Rattle.std.specs.Prelude.{find}
 use denote.Ref.{Bor}
 use Rattle.cap_config.specs.declared.entry.Entry.{Entry}

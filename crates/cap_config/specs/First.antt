@@ -1,5 +1,5 @@
 -- The first fault of a text, and its settings.
-use Rattle.std.specs.Prelude.{◌≡◌, List, ℕ, Option, Some, None, Result, Ok, Err}
+use Rattle.std.specs.Prelude.{List, ℕ, Option, Some, None, Result, Ok, Err}
 use Rattle.std.specs.Str.Lines.{lines}
 use Rattle.cap_model.specs.Settings.{Settings}
 use Rattle.cap_config.specs.declared.entry.Entry.{Entry}

@@ -1,5 +1,5 @@
 -- The settings that entries without a fault make.
-use Rattle.std.specs.Prelude.{◌≡◌, ℕ, zero, suc, List, [], ◌∷◌, Option, Some, None, Bool, true}
+use Rattle.std.specs.Prelude.{ℕ, zero, suc, List, [], ◌∷◌, Option, Some, None, Bool, true}
 use Rattle.std.specs.List.{flat_map}
 use Rattle.cap_model.specs.Settings.{QueueRow, Settings}
 use Rattle.cap_config.specs.declared.entry.Entry.{Entry}

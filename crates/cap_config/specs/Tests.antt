@@ -1,5 +1,5 @@
 -- The tests over the whole text: each finds its least line.
-use Rattle.std.specs.Prelude.{◌≡◌, ℕ, ◌+◌, ◌-◌, List, [], ◌∷◌, length, find, Option, Some, None, Bool, true, false, not, ◌&&◌, ◌||◌, ◌==◌, slice_index, nat_lt, max, min, if◌then◌else◌, is_none}
+use Rattle.std.specs.Prelude.{ℕ, ◌+◌, ◌-◌, List, [], ◌∷◌, length, find, Option, Some, None, Bool, true, false, not, ◌&&◌, ◌||◌, ◌==◌, slice_index, nat_lt, max, min, if◌then◌else◌, is_none}
 use Rattle.std.specs.Str.{bytes_eq}
 use Rattle.cap_config.specs.declared.entry.Entry.{Entry}
 use Rattle.cap_config.specs.declared.value.Value.{Value}

@@ -1,5 +1,4 @@
-use Rattle.std.proofs.Common.{◌≡◌, sym, ◌∙◌, ap, true, false, not}
-use Rattle.cap_config.specs.Seen.{is_among}
+use Rattle.std.proofs.Common.{sym, ◌∙◌}
 use Rattle.cap_config.proofs.Steps.{not_false, not_true, entry_no_parts, entry_no_key, entry_repeated, entry_no_value, entry_good}
 use Rattle.cap_config.proofs.first_pass.entry_of.Goals as goal
 

@@ -1,4 +1,4 @@
-use Rattle.std.proofs.Common.{◌≡◌, ◌+◌, ◌≤◌, [], List, ℕ, length}
+use Rattle.std.proofs.Common.{◌≡◌, ◌+◌, ◌≤◌, List, ℕ, length}
 use Rattle.std.specs.Str.Lines.{lines}
 use Rattle.cap_config.specs.Entries.{read_after, read_lines}
 use Rattle.cap_config.specs.Seen.{HasAll}

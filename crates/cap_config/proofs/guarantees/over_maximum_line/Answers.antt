@@ -1,4 +1,4 @@
-use Rattle.std.proofs.Common.{◌≡◌, sym, ◌∙◌, arith}
+use Rattle.std.proofs.Common.{sym, ◌∙◌, arith}
 use Rattle.cap_config.specs.Tests.{is_over_maximum}
 use Rattle.cap_config.proofs.FirstLines.{line_here, line_later, line_nowhere}
 use Rattle.cap_config.proofs.guarantees.over_maximum_line.Goals as goal

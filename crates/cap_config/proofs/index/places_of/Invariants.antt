@@ -1,4 +1,4 @@
-use Rattle.std.proofs.Common.{◌≡◌, ℕ, ◌≤◌, length, drop, List}
+use Rattle.std.proofs.Common.{◌≤◌, length, drop}
 use Rattle.cap_config.specs.Queues.{FindsAll}
 use Rattle.cap_config.proofs.index.places_of.Given as goal
 

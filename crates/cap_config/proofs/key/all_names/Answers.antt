@@ -2,7 +2,7 @@ use Rattle.std.proofs.Common.{◌≡◌, sym, ◌∙◌, ap, true, false}
 use Rattle.std.specs.Prelude.{◌&&◌}
 use Rattle.std.specs.List.{list_all}
 use Rattle.cap_config.specs.Keys.{is_name, names_in}
-use Rattle.cap_config.proofs.Cuts.{IsCut, cut_some, cut_none, all_parts, all_of_last}
+use Rattle.cap_config.proofs.Cuts.{cut_some, cut_none, all_parts, all_of_last}
 use Rattle.cap_config.proofs.key.all_names.Goals as goal
 
 pub returns-then-not-is_name : goal.returns-then-not-is_name

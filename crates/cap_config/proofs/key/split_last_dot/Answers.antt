@@ -1,4 +1,4 @@
-use Rattle.std.proofs.Common.{◌≡◌, ◌-◌, sym, arith, eq-eqb}
+use Rattle.std.proofs.Common.{◌-◌, sym, arith, eq-eqb}
 use Rattle.cap_config.proofs.Dots.{dot_found}
 use Rattle.cap_config.proofs.key.split_last_dot.Goals as goal
 

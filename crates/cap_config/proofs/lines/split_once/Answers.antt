@@ -1,4 +1,4 @@
-use Rattle.std.proofs.Common.{◌≡◌, eq-eqb, sym, arith}
+use Rattle.std.proofs.Common.{eq-eqb, sym, arith}
 use Rattle.cap_config.proofs.Cuts.{cut_found, cut_missing}
 use Rattle.cap_config.proofs.lines.split_once.Goals as goal
 

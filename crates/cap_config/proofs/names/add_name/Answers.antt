@@ -1,8 +1,7 @@
-use Rattle.std.proofs.Common.{◌≡◌, ◌++◌, ◌∷◌, [], true, false, not, sym, ap, ◌∙◌, refl, ℕ, List}
-use Rattle.std.specs.Prelude.{◌&&◌, ◌||◌}
+use Rattle.std.proofs.Common.{◌≡◌, ◌++◌, ◌∷◌, [], true, not, sym, ap, ◌∙◌, refl, ℕ, List}
+use Rattle.std.specs.Prelude.{◌||◌}
 use Rattle.std.specs.Str.{bytes_eq}
-use Rattle.cap_config.specs.Seen.{has, is_among}
-use Rattle.cap_config.specs.Values.{is_name_under, is_next}
+use Rattle.cap_config.specs.Seen.{is_among}
 use Rattle.cap_config.proofs.Among.{among_push}
 use Rattle.cap_config.proofs.NameLists.{name_under_some, name_under_none}
 use Rattle.cap_config.proofs.names.add_name.Goals as goal

@@ -3,7 +3,7 @@ use Rattle.std.specs.List.{slice_split}
 use Rattle.std.proofs.lemmas.Bool.Decides.{nat_tests}
 use Rattle.cap_config.specs.Pieces.{trimmed}
 use Rattle.cap_config.specs.Values.{is_next}
-use Rattle.cap_config.proofs.Cuts.{IsCut, cut_some, cut_none}
+use Rattle.cap_config.proofs.Cuts.{cut_some, cut_none}
 use Rattle.cap_config.proofs.NameLists.{names_from, names_for_is, cut_yes, cut_no, last_yes, last_no}
 use Rattle.cap_config.proofs.names.names_for.Goals as goal
 

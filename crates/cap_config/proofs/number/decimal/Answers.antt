@@ -1,5 +1,5 @@
-use Rattle.std.proofs.Common.{◌≡◌, ◌≤◌, ◌+◌, ◌*◌, ◌^◌, arith}
-use Rattle.cap_config.proofs.Digits.{power_small, power_more, digit_at, decimal_more}
+use Rattle.std.proofs.Common.{arith}
+use Rattle.cap_config.proofs.Digits.{power_small, digit_at}
 use Rattle.cap_config.proofs.number.decimal.Goals as goal
 
 pub overflow_mul-number : goal.overflow_mul-number

@@ -1,4 +1,4 @@
-use Rattle.std.proofs.Common.{◌≡◌, ◌∙◌, ap, Option}
+use Rattle.std.proofs.Common.{◌∙◌, ap, Option}
 use Rattle.cap_config.specs.declared.entry.Entry.{Entry}
 use Rattle.cap_config.specs.declared.setting.Setting.TheVariants.{UserLimitFactor}
 use Rattle.cap_config.specs.Tests.{number_or}

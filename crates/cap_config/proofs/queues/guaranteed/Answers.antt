@@ -1,7 +1,7 @@
-use Rattle.std.proofs.Common.{◌≡◌, sym, ◌∙◌, ap, None, Some, Option}
+use Rattle.std.proofs.Common.{sym, ◌∙◌, ap, None, Option}
 use Rattle.cap_config.specs.declared.entry.Entry.{Entry}
 use Rattle.cap_config.specs.declared.setting.Setting.TheVariants.{Capacity}
-use Rattle.cap_config.specs.Queues.{amounts_at, entry_for, or_zero}
+use Rattle.cap_config.specs.Queues.{amounts_at, or_zero}
 use Rattle.cap_config.proofs.Trees.{entry_found}
 use Rattle.cap_config.proofs.queues.guaranteed.Goals as goal
 

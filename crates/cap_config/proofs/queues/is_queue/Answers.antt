@@ -1,7 +1,7 @@
 use Rattle.std.proofs.Common.{◌≡◌, sym, ◌∙◌, true, false}
 use Rattle.cap_config.specs.Seen.{is_among}
 use Rattle.cap_config.specs.Queues.{all_listed}
-use Rattle.cap_config.proofs.Above.{IsParent, parent_is, no_parent}
+use Rattle.cap_config.proofs.Above.{parent_is, no_parent}
 use Rattle.cap_config.proofs.Trees.{queue_not_listed, queue_listed, queue_at_top}
 use Rattle.cap_config.proofs.queues.is_queue.Goals as goal
 

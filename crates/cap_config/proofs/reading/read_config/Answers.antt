@@ -1,10 +1,8 @@
-use Rattle.std.proofs.Common.{◌≡◌, ◌∙◌, Some}
+use Rattle.std.proofs.Common.{◌∙◌}
 use Rattle.std.specs.Str.Lines.{lines}
-use Rattle.std.proofs.lemmas.Result.{err_from_is_err_and, IfOk-weaker}
-use Rattle.cap_model.specs.Settings.{Settings}
+use Rattle.std.proofs.lemmas.Result.{err_from_is_err_and}
 use Rattle.cap_config.specs.Entries.{read_lines}
-use Rattle.cap_config.specs.Rows.{settings_of}
-use Rattle.cap_config.specs.First.{first_fault, settings_in}
+use Rattle.cap_config.specs.First.{first_fault}
 use Rattle.cap_config.proofs.Firsts.{early_by_line, line_fault, shape_answers, shape_passes, settings_answer}
 use Rattle.cap_config.proofs.reading.read_config.Goals as goal
 

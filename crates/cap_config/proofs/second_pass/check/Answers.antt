@@ -1,4 +1,4 @@
-use Rattle.std.proofs.Common.{◌≡◌, sym, ◌∙◌}
+use Rattle.std.proofs.Common.{sym, ◌∙◌}
 use Rattle.cap_config.proofs.Firsts.{shape_first, parent_answers, parent_passes}
 use Rattle.cap_config.proofs.second_pass.check.Goals as goal
 

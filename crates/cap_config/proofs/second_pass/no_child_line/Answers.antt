@@ -1,4 +1,4 @@
-use Rattle.std.proofs.Common.{◌≡◌, sym, ◌∙◌}
+use Rattle.std.proofs.Common.{sym, ◌∙◌}
 use Rattle.cap_config.specs.declared.setting.Setting.TheVariants.{Queues}
 use Rattle.cap_config.specs.Keys.{root}
 use Rattle.cap_config.proofs.FirstLines.{childless_root, childless_later}

@@ -1,4 +1,4 @@
-use Rattle.std.proofs.Common.{◌≡◌, sym, ◌∙◌, arith}
+use Rattle.std.proofs.Common.{sym, ◌∙◌, arith}
 use Rattle.cap_config.specs.Tests.{is_astray}
 use Rattle.cap_config.proofs.FirstLines.{line_here, line_later, line_nowhere}
 use Rattle.cap_config.proofs.second_pass.no_such_queue_line.Goals as goal

@@ -1,4 +1,4 @@
-use Rattle.std.proofs.Common.{◌≡◌, arith}
+use Rattle.std.proofs.Common.{arith}
 use Rattle.std.proofs.lemmas.Bool.Decides.{nat_tests}
 use Rattle.cap_config.proofs.Trims.{front_trimmed}
 use Rattle.cap_config.proofs.trim.from_first_word.Goals.{then-loop-start-test+else-bytes-start-eq32, else-loop-start-test}

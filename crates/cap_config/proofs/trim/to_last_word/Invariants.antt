@@ -1,4 +1,4 @@
-use Rattle.std.proofs.Common.{◌≡◌, ℕ, ◌-◌, ◌<◌, ◌≤◌, length, get_or, true}
+use Rattle.std.proofs.Common.{◌≡◌, ℕ, ◌<◌, ◌≤◌, length, get_or, true}
 use Rattle.cap_config.specs.Pieces.{is_space}
 use Rattle.cap_config.proofs.trim.to_last_word.Given as goal
 

@@ -1,5 +1,4 @@
-use Rattle.std.proofs.Common.{sym, ◌∙◌, ap, ◌≡◌, Some, refl}
-use Rattle.cap_config.specs.Values.{resource}
+use Rattle.std.proofs.Common.{◌∙◌, refl}
 use Rattle.cap_config.proofs.Resources.{resource_is}
 use Rattle.cap_config.proofs.value.resource.Goals as goal
 
