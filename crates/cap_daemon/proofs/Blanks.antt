@@ -1,15 +1,15 @@
 -- What stands before the first blank.
-use Rattle.std.proofs.Common.{◌≡◌, ℕ, Bool, true, false, List, [], ◌∷◌, ◌++◌, refl, sym, ap, ◌∙◌, subst, arith, inl, inr, length, take, drop, take-append-drop}
+use Rattle.std.proofs.Common.{◌≡◌, ℕ, true, false, List, [], ◌∷◌, ◌++◌, refl, sym, ap, ◌∙◌, subst, arith, inl, inr, length, take, drop, take-append-drop}
 use Rattle.std.specs.Cmp.Lexicographic.{pointwise, same_text}
 use Rattle.std.specs.Prelude.{nat_eq}
-use Rattle.std.specs.Prelude.{not, ◌==◌, ◌&&◌, nat_le}
 use Rattle.std.specs.List.{list_all}
 use Rattle.std.proofs.lemmas.Bool.{and_parts}
 use Rattle.std.proofs.lemmas.Bool.Decides.{nat_tests}
 use Rattle.cap_daemon.specs.Number.{is_digit, IsNumber}
 use Rattle.cap_daemon.specs.declared.command.Command.{Command}
 use Rattle.cap_daemon.specs.declared.command.Command.TheVariants.{Nothing, Open, Bytes, End}
-use Rattle.cap_daemon.specs.Script.{is_no_blank, IsCommand}
+use denote.Ref.{Bor}
+use Rattle.cap_daemon.specs.Script.{is_no_blank, IsCommand, IsPiece, IsPlayable, IsGood}
 
 -- a blank is one
 no_blank_is_blank : (first last : List ℕ) → list_all is_no_blank (first ++ 32 ∷ last) ≡ true → ⊥
@@ -65,3 +65,19 @@ no_command line left number piece starts cut first none (Bytes n brought) is =
 -- a line that begins so
 pub begins_so : (line left prefix : List ℕ) → pointwise nat_eq (take (length prefix) line) prefix ≡ true → left ≡ drop (length prefix) line → line ≡ prefix ++ left
 begins_so line left prefix same e = sym (take-append-drop (length prefix) line) ∙ ap (λ (x : List ℕ). x ++ drop (length prefix) line) (same_text (take (length prefix) line) prefix (sym same)) ∙ ap (λ (x : List ℕ). prefix ++ x) (sym e)
+
+not_playable : (line digits piece : List ℕ) → line ≡ 98 ∷ 121 ∷ 116 ∷ 101 ∷ 115 ∷ 32 ∷ (digits ++ 32 ∷ piece) → list_all is_no_blank digits ≡ true → (IsPiece piece → ⊥) → (command : Command) → IsCommand line command → IsPlayable command → false ≡ true
+not_playable line digits piece starts first bad Nothing (inl empty) playable = cc (starts, empty)
+not_playable line digits piece starts first bad Nothing (inr comment) playable = cc (starts, comment.1)
+not_playable line digits piece starts first bad (Open m) is playable = cc (starts, is.1)
+not_playable line digits piece starts first bad (End m) is playable = cc (starts, is.1)
+not_playable line digits piece starts first bad (Bytes m brought) is playable =
+    let same : digits ++ 32 ∷ piece ≡ is.0 ++ 32 ∷ brought.now = cc (starts, is.1) in
+    let cut = same_cut digits is.0 piece brought.now first (digits_no_blank is.0 is.2.each) same in
+    absurd (bad (subst IsPiece (sym cut.1) playable))
+
+-- a line whose piece is none
+pub no_good_line : (line : List ℕ) (n : ℕ) (piece : Bor (List ℕ)) → IsCommand line (Bytes n piece) → (IsPiece piece.now → ⊥) → IsGood line → ⊥
+no_good_line line n piece is bad good =
+    let none : false ≡ true = not_playable line is.0 piece.now is.1 (digits_no_blank is.0 is.2.each) bad good.0 good.1 good.2 in
+    absurd (cc none)

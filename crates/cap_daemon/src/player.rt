@@ -1,5 +1,10 @@
-ghost use Rattle.std.specs.Prelude.{◌≡◌, ◌≢◌, ◌<◌, ◌⊎◌, ◌++◌, ◌∷◌, [], length, slice_index, reverse, Ok, OnOk, IfOk, IsOk};
-ghost use Rattle.std.specs.Io.KnownBytes.{IsAtEnd};
+ghost use Rattle.std.specs.Prelude.{◌≡◌, ◌<◌, ◌++◌, ◌∷◌, ℕ, List, true, length, Ok, Err, OnOk, IfOk, IfErr, IsOk, IfSome, IfNone};
+ghost use Rattle.std.specs.Io.KnownBytes.{Consumes, IsAtEnd};
+ghost use Rattle.std.specs.List.{All, list_all};
+ghost use Rattle.std.specs.Str.Lines.{lines, strip_carriage_return};
+ghost use Rattle.cap_daemon.specs.declared.stop.Stop.TheVariants.{BadLine, Stream as stream_failed};
+ghost use Rattle.cap_daemon.specs.Script.{IsGood, HasBadLine};
+ghost use Rattle.cap_daemon.specs.Progress.{is_no_feed, IsPlayed, StopsIn};
 
 use crate::script::Script;
 use crate::stop::Stop;
@@ -17,8 +22,10 @@ const CHUNK: usize = 65536;
 /// input did not end within 2^32 reads; 2 after a line `bad line N`; 3 after a line `no memory`. What was printed before stays.
 pub fn replay<R: Read, W: Write>(alloc: Global, reader: &mut R, writer: &mut W) -> u8
     ensures status { result < 4 }
-    // It is done only where the input has ended.
-    ensures ended { result ≡ 0 → IsAtEnd (R.remaining reader.new) }
+    // It is done only where the input has ended and each of its lines is a command.
+    ensures done { result ≡ 0 → (text : List ℕ) × Consumes (R.remaining reader.old) (R.remaining reader.new) text × IsAtEnd (R.remaining reader.new) × All IsGood (lines text) }
+    // It answers 2 only where a line that was read is no command.
+    ensures bad { result ≡ 2 → (text : List ℕ) × Consumes (R.remaining reader.old) (R.remaining reader.new) text × HasBadLine text }
 {
     let mut script = Script::new(alloc);
     let played = play_all(alloc, reader, writer, &mut script);
@@ -32,7 +39,8 @@ fn play_all<R: Read, W: Write>(
     writer: &mut W,
     script: &mut Script,
 ) -> Result<(), Stop>
-    ensures { OnOk result (IsAtEnd (R.remaining reader.new)) }
+    ensures done { OnOk result ((text : List ℕ) × Consumes (R.remaining reader.old) (R.remaining reader.new) text × IsAtEnd (R.remaining reader.new) × All IsGood (lines text)) }
+    ensures bad { (n : ℕ) → result ≡ Err (BadLine n) → (text : List ℕ) × Consumes (R.remaining reader.old) (R.remaining reader.new) text × HasBadLine text }
 {
     let mut chunk = [0u8; CHUNK];
     let mut begun = Vec::new(alloc);
@@ -42,14 +50,19 @@ fn play_all<R: Read, W: Write>(
         if piece.is_empty() {
             return play_last(&begun, script);
         }
-        play_lines(piece, &mut begun, script)?;
+        match play_lines(piece, &mut begun, script) {
+            Ok(()) => {}
+            Err(stop) => return Err(stop),
+        }
     }
     Err(Stop::Stream)
 }
 
 /// The next bytes of the input; none where it has ended.
 fn read_piece<'a, R: Read>(reader: &mut R, chunk: &'a mut [u8; CHUNK]) -> Result<&'a [u8], Stop>
-    ensures { IfOk result (λ piece. length piece.now ≡ 0 → IsAtEnd (R.remaining reader.new)) }
+    ensures read { IfOk result (λ piece. Consumes (R.remaining reader.old) (R.remaining reader.new) piece.now) }
+    ensures ended { IfOk result (λ piece. length piece.now ≡ 0 → IsAtEnd (R.remaining reader.new)) }
+    ensures failed { IfErr result (λ stop. stop ≡ stream_failed) }
 {
     match reader.read(chunk) {
         Ok(n) => Ok(&chunk[..n]),
@@ -58,20 +71,45 @@ fn read_piece<'a, R: Read>(reader: &mut R, chunk: &'a mut [u8; CHUNK]) -> Result
 }
 
 /// Plays the lines that end in these bytes, the first with what was begun before, and keeps what is begun of the next.
-fn play_lines(bytes: &[u8], begun: &mut Vec<u8>, script: &mut Script) -> Result<(), Stop> {
+fn play_lines(bytes: &[u8], begun: &mut Vec<u8>, script: &mut Script) -> Result<(), Stop>
+    requires { list_all is_no_feed begun.old.items ≡ true }
+    ensures begun { OnOk result (list_all is_no_feed begun.new.items ≡ true) }
+    ensures good { OnOk result (IsPlayed (begun.old.items ++ bytes.now) begun.new.items) }
+    ensures bad { (n : ℕ) → result ≡ Err (BadLine n) → StopsIn (begun.old.items ++ bytes.now) }
+{
     let mut rest = bytes;
-    while let Some(at) = rest.iter().position(|b| *b == b'\n') {
-        begun.extend_from_slice(&rest[..at])?;
-        script.play(without_return(begun))?;
-        begun.clear();
-        rest = &rest[at + 1..];
+    while let Some((front, after)) = cut_at_feed(rest) {
+        begun.extend_from_slice(front)?;
+        match script.play(without_return(begun)) {
+            Ok(()) => begun.clear(),
+            Err(stop) => return Err(stop),
+        }
+        rest = after;
     }
     begun.extend_from_slice(rest)?;
     Ok(())
 }
 
+/// The bytes before the first line feed and those after it.
+fn cut_at_feed(bytes: &[u8]) -> Option<(&[u8], &[u8])>
+    ensures found { IfSome result (λ cut. bytes.now ≡ cut.0.now ++ 10 ∷ cut.1.now) }
+    ensures first { IfSome result (λ cut. list_all is_no_feed cut.0.now ≡ true) }
+    ensures none { IfNone result (list_all is_no_feed bytes.now ≡ true) }
+{
+    for (at, byte) in bytes.iter().enumerate() {
+        if *byte == b'\n' {
+            return Some((&bytes[..at], &bytes[at + 1..]));
+        }
+    }
+    None
+}
+
 /// Plays a last line that no line feed ends, if there is one.
-fn play_last(line: &[u8], script: &mut Script) -> Result<(), Stop> {
+fn play_last(line: &[u8], script: &mut Script) -> Result<(), Stop>
+    requires { list_all is_no_feed line.now ≡ true }
+    ensures good { OnOk result (All IsGood (lines line.now)) }
+    ensures bad { (n : ℕ) → result ≡ Err (BadLine n) → HasBadLine line.now }
+{
     if line.is_empty() {
         return Ok(());
     }
@@ -80,7 +118,7 @@ fn play_last(line: &[u8], script: &mut Script) -> Result<(), Stop> {
 
 /// A line without the one carriage return at its end.
 fn without_return(line: &[u8]) -> &[u8]
-    ensures { (line.now ≡ result.now ++ 13 ∷ []) ⊎ ((line.now ≡ result.now) × (slice_index (reverse line.now) 0 ≢ 13)) }
+    ensures { result.now ≡ strip_carriage_return line.now }
 {
     match line {
         [front @ .., b'\r'] => front,
@@ -96,6 +134,7 @@ fn finish<W: Write>(
 ) -> Result<u8, Stop>
     ensures status { IfOk result (λ status. status < 4) }
     ensures done { result ≡ Ok 0 → IsOk played }
+    ensures bad { result ≡ Ok 2 → (n : ℕ) × (played ≡ Err (BadLine n)) }
 {
     let stop = match played {
         Ok(()) => {

@@ -1,3 +1,7 @@
+ghost use Rattle.std.specs.Prelude.{◌≡◌, ℕ, Err, OnOk, IfErr};
+ghost use Rattle.cap_daemon.specs.declared.stop.Stop.TheVariants.{BadLine, NoMemory as out_of_memory, Stream as stream_failed};
+ghost use Rattle.cap_daemon.specs.Script.{IsGood, IsPiece};
+
 use crate::command::{Command, command_of};
 use crate::frames::print_frames;
 use crate::stop::Stop;
@@ -28,7 +32,10 @@ impl Script {
     }
 
     /// Plays one line.
-    pub(crate) fn play(&mut self, line: &[u8]) -> Result<(), Stop> {
+    pub(crate) fn play(&mut self, line: &[u8]) -> Result<(), Stop>
+        ensures good { OnOk result (IsGood line.now) }
+        ensures bad { (n : ℕ) → result ≡ Err (BadLine n) → IsGood line.now → ⊥ }
+    {
         self.lines = self.lines.saturating_add(1);
         match command_of(line) {
             None => Err(Stop::BadLine(self.lines)),
@@ -39,7 +46,9 @@ impl Script {
         }
     }
 
-    fn open(&mut self, number: u32) -> Result<(), Stop> {
+    fn open(&mut self, number: u32) -> Result<(), Stop>
+        ensures { IfErr result (λ stop. stop ≡ out_of_memory) }
+    {
         match self.step(Step::Open(number)) {
             Ok(Did::Done) => writeln!(self.printed, "opened {number}")?,
             Ok(Did::Idle) => writeln!(self.printed, "idle")?,
@@ -48,7 +57,9 @@ impl Script {
         Ok(())
     }
 
-    fn end(&mut self, number: u32) -> Result<(), Stop> {
+    fn end(&mut self, number: u32) -> Result<(), Stop>
+        ensures { IfErr result (λ stop. stop ≡ out_of_memory) }
+    {
         match self.step(Step::End(number)) {
             Ok(Did::Done) => writeln!(self.printed, "closed {number}")?,
             Ok(Did::Idle) => writeln!(self.printed, "idle")?,
@@ -57,7 +68,10 @@ impl Script {
         Ok(())
     }
 
-    fn bytes(&mut self, number: u32, hex: &[u8]) -> Result<(), Stop> {
+    fn bytes(&mut self, number: u32, hex: &[u8]) -> Result<(), Stop>
+        ensures good { OnOk result (IsPiece hex.now) }
+        ensures bad { (n : ℕ) → result ≡ Err (BadLine n) → IsPiece hex.now → ⊥ }
+    {
         let piece = self.piece(hex)?;
         let before = self.world.output(number).len();
         let did = self.step(Step::Bytes(number, &piece));
@@ -77,7 +91,10 @@ impl Script {
     }
 
     /// The bytes that an even number of hexadecimal digits write, at least two.
-    fn piece(&self, digits: &[u8]) -> Result<Vec<u8>, Stop> {
+    fn piece(&self, digits: &[u8]) -> Result<Vec<u8>, Stop>
+        ensures good { OnOk result (IsPiece digits.now) }
+        ensures bad { (n : ℕ) → result ≡ Err (BadLine n) → IsPiece digits.now → ⊥ }
+    {
         if digits.is_empty() {
             return Err(Stop::BadLine(self.lines));
         }
@@ -102,7 +119,9 @@ impl Script {
     }
 
     /// Writes out what was printed.
-    pub(crate) fn write_out<W: Write>(&mut self, writer: &mut W) -> Result<(), Stop> {
+    pub(crate) fn write_out<W: Write>(&mut self, writer: &mut W) -> Result<(), Stop>
+        ensures { IfErr result (λ stop. stop ≡ stream_failed) }
+    {
         if self.printed.is_empty() {
             return Ok(());
         }

@@ -1,4 +1,4 @@
-use Rattle.std.proofs.Common.{◌≡◌, ◌∷◌, [], arith}
+use Rattle.std.proofs.Common.{◌∷◌, []}
 use Rattle.cap_daemon.proofs.Blanks.{no_command, begins_so}
 use Rattle.cap_daemon.proofs.command.command_of.Goals as goal
 

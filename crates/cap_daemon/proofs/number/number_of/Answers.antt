@@ -1,4 +1,4 @@
-use Rattle.std.proofs.Common.{◌≡◌, arith}
+use Rattle.std.proofs.Common.{arith}
 use Rattle.cap_daemon.proofs.Digits.{too_large}
 use Rattle.cap_daemon.proofs.number.number_of.Goals as goal
 
