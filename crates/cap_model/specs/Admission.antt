@@ -2,7 +2,7 @@
 use Rattle.std.specs.Prelude.{◌≡◌, ◌⊎◌, ℕ, ◌<◌, Bool, true, false, not, ◌&&◌, ◌||◌, List, [], ◌∷◌, Option, None, is_some, is_none, option_and_then, unwrap_or, option_map, position, nat_le, bytes_eq, if◌then◌else◌}
 use Rattle.std.specs.List.{list_all}
 use Rattle.cap_vector.specs.Vector.{plus, less}
-use Rattle.cap_model.specs.Cluster.{number_end}
+use Rattle.cap_model.specs.Limits.{number_end}
 use Rattle.cap_model.specs.Cascade.{earliest, holds_of}
 use Rattle.cap_model.specs.Amounts.{fits, times}
 use Rattle.cap_model.specs.Calls.{Key, Ask}

@@ -1,9 +1,7 @@
 pub mod Texts
 pub mod Refusals
 pub mod Settings
-pub mod Cluster
-pub mod Protocol
-pub mod Runs
+pub mod Limits
 pub mod Cascade
 pub mod Amounts
 pub mod Fullness
@@ -27,6 +25,8 @@ pub mod NodeGone
 pub mod QueueCalls
 pub mod Replies
 pub mod Events
+pub mod Messages
+pub mod Runs
 pub mod Bounds
 pub mod ExampleClusters
 pub mod ExampleShares

@@ -2,16 +2,20 @@
 use Rattle.std.specs.Prelude.{ℕ, ◌+◌, List, [], ◌∷◌, ◌++◌, true, Option, None, length, not, nat_le, bytes_eq}
 use Rattle.std.specs.List.{list_any}
 use Rattle.cap_vector.specs.Vector.{amount_max, plus, is_zero, is_within}
-use Rattle.cap_model.specs.Cluster.{number_end, nodes_max}
+use Rattle.cap_model.specs.Limits.{number_end, nodes_max}
 use Rattle.cap_model.specs.Cascade.{earliest}
 use Rattle.cap_model.specs.Amounts.{sum_where}
 use Rattle.cap_model.specs.Calls.{CallRefusal, CallReply}
 use Rattle.cap_model.specs.Flat.{Flat, ClusterNode}
 
+-- what the nodes have together, of k resources
+abbrev pub sum_of_totals : ℕ → List ClusterNode → List ℕ
+sum_of_totals k nodes = sum_where k (λ node. true) (λ node. node.total) nodes
+
 module _ {K : ℕ} where
   -- what all nodes have together
   abbrev pub total_of_nodes : Flat K → List ℕ
-  total_of_nodes cluster = sum_where K (λ node. true) (λ node. node.total) cluster.nodes.present
+  total_of_nodes cluster = sum_of_totals K cluster.nodes.present
 
   -- why a node is refused
   abbrev pub register_node_refusal : Flat K → List ℕ → List ℕ → Option CallRefusal

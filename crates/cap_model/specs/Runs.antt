@@ -1,15 +1,22 @@
--- Steps of the flat cluster, and runs.
-use Rattle.std.specs.Prelude.{◌≡◌, ℕ, List, [], ◌∷◌}
+-- Replies, steps and runs of the flat cluster, told in the messages of the code.
+use Rattle.std.specs.Prelude.{ℕ, List, map}
+use Rattle.cap_model.specs.declared.request.Request.{Request}
+use Rattle.cap_model.specs.declared.reply.Reply.{Reply}
 use Rattle.cap_model.specs.declared.event.Event.{Event}
-use Rattle.cap_model.specs.declared.event.Event.TheVariants.{Call}
-use Rattle.cap_model.specs.Cluster.{Cluster}
-use Rattle.cap_model.specs.Protocol.{Replies}
+use Rattle.cap_model.specs.Flat.{Flat}
+use Rattle.cap_model.specs.Replies as flat_replies
+use Rattle.cap_model.specs.Events as flat_events
+use Rattle.cap_model.specs.Messages.{as_call, as_reply, as_event}
 
--- one step of the cluster
-abbrev pub Step : {K : ℕ} → Cluster → Event K → Cluster → Type 0
-Step old (Call by request reply) new = Replies old request reply new
+module _ {K : ℕ} where
+  -- the request is answered so, and leads from old to new
+  abbrev pub Replies : Flat K → Request K → Reply K → Flat K → Type 0
+  Replies old request reply new = flat_replies.Replies old (as_call request) (as_reply reply) new
 
--- the events lead from old to new, one step each
-abbrev pub Run : {K : ℕ} → Cluster → List (Event K) → Cluster → Type 0
-Run old [] new = old ≡ new
-Run old (event ∷ events) new = (mid : Cluster) × Step old event mid × Run mid events new
+  -- one step of the cluster
+  abbrev pub Step : Flat K → Event K → Flat K → Type 0
+  Step old event new = flat_events.Step old (as_event event) new
+
+  -- the events lead from old to new, one step each
+  abbrev pub Run : Flat K → List (Event K) → Flat K → Type 0
+  Run old events new = flat_events.Run old (map as_event events) new

@@ -1,7 +1,7 @@
 -- Submit: an application enters a leaf queue.
 use Rattle.std.specs.Prelude.{ℕ, ◌+◌, Bool, List, [], ◌∷◌, ◌++◌, Option, None, length, not, is_none, filter, nat_eq, nat_le}
 use Rattle.std.specs.List.{list_any, list_all, starts_with}
-use Rattle.cap_model.specs.Cluster.{number_end}
+use Rattle.cap_model.specs.Limits.{number_end}
 use Rattle.cap_model.specs.Cascade.{earliest}
 use Rattle.cap_model.specs.Calls.{CallRefusal, CallReply}
 use Rattle.cap_model.specs.Flat.{Flat, App, is_under, queue_at}

@@ -2,6 +2,8 @@
 /// cluster as it was.
 #[derive(Clone, Copy, Debug, PartialEq, Eq)]
 pub enum Refusal {
+    /// No queue has this path.
+    UnknownQueue = 1,
     /// A present node has this host.
     HostTaken = 12,
     /// The sum of all nodes' totals would pass 2^40 in some resource.

@@ -8,6 +8,17 @@ pub enum Reply<const K: usize> {
     RegisterNode {
         node: u64,
     },
+    /// A queue runs where its own state and that of each queue above it is RUNNING. Applications count in and under it. None
+    /// where the queue has no maximum, its own or inherited.
+    QueueInfo {
+        running: bool,
+        leaf: bool,
+        guaranteed: Resource<K>,
+        maximum: Option<Resource<K>>,
+        used: Sum<K>,
+        applications: u32,
+    },
+    SetQueueState,
     ClusterInfo {
         nodes: u32,
         applications: u32,

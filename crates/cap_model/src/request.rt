@@ -1,4 +1,4 @@
-use crate::text::ShortText;
+use crate::text::{PathText, ShortText};
 use cap_vector::Resource;
 
 /// A call of an application master, a node manager or an operator.
@@ -9,6 +9,15 @@ pub enum Request<const K: usize> {
         host: ShortText,
         rack: ShortText,
         total: Resource<K>,
+    },
+    /// What an operator sees of a queue.
+    QueueInfo {
+        path: PathText,
+    },
+    /// A queue is started or stopped: `yarn.scheduler.capacity.<queue-path>.state`.
+    SetQueueState {
+        path: PathText,
+        running: bool,
     },
     /// What the cluster holds.
     ClusterInfo,

@@ -17,6 +17,7 @@ fn texts_are_graphic_and_bounded(rt: HostRuntime) -> Result<(), Fail> {
 
 #[test]
 fn refusals_have_their_numbers(rt: HostRuntime) {
+    assert_eq!(rt; Refusal::UnknownQueue.status(), 1);
     assert_eq!(rt; Refusal::HostTaken.status(), 12);
     assert_eq!(rt; Refusal::TotalTooLarge.status(), 13);
     assert_eq!(rt; Refusal::TooManyNodes.status(), 14);

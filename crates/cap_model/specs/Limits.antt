@@ -1,0 +1,10 @@
+-- The bounds of the numbers of a cluster.
+use Rattle.std.specs.Prelude.{ℕ}
+
+-- node, application and container numbers stay below this
+abbrev pub number_end : ℕ
+number_end = 4611686018427387904
+
+-- the greatest number of nodes that are present at once
+abbrev pub nodes_max : ℕ
+nodes_max = 4096

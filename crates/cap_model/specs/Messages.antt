@@ -1,0 +1,40 @@
+-- The messages of the code as the calls, replies and events of the flat cluster.
+use Rattle.cap_model.specs.declared.request.Request.{Request}
+use Rattle.cap_model.specs.declared.request.Request.TheVariants as requests
+use Rattle.cap_model.specs.declared.reply.Reply.{Reply}
+use Rattle.cap_model.specs.declared.reply.Reply.TheVariants as replies
+use Rattle.cap_model.specs.declared.refusal.Refusal.{Refusal}
+use Rattle.cap_model.specs.declared.refusal.Refusal.TheVariants as refusals
+use Rattle.cap_model.specs.declared.event.Event.{Event}
+use Rattle.cap_model.specs.declared.event.Event.TheVariants as events
+use Rattle.std.specs.Prelude.{ℕ}
+use Rattle.cap_model.specs.Calls.{CallRequest, CallRefusal, CallReply}
+use Rattle.cap_model.specs.Events.{ClusterEvent}
+
+abbrev pub as_refusal : Refusal → CallRefusal
+as_refusal refusals.UnknownQueue = CallRefusal.unknown_queue
+as_refusal refusals.HostTaken = CallRefusal.host_taken
+as_refusal refusals.TotalTooLarge = CallRefusal.total_too_large
+as_refusal refusals.TooManyNodes = CallRefusal.too_many_nodes
+as_refusal refusals.ZeroResource = CallRefusal.zero_resource
+as_refusal refusals.NumbersSpent = CallRefusal.numbers_spent
+as_refusal refusals.NoMemory = CallRefusal.no_memory
+
+module _ {K : ℕ} where
+  abbrev pub as_call : Request K → CallRequest
+  as_call (requests.RegisterNode host rack total) = CallRequest.register_node host rack total
+  as_call (requests.QueueInfo path) = CallRequest.queue_info path
+  as_call (requests.SetQueueState path running) = CallRequest.set_queue_state path running
+  as_call requests.ClusterInfo = CallRequest.cluster_info
+
+  abbrev pub as_reply : Reply K → CallReply
+  as_reply (replies.Refused refusal) = CallReply.refused (as_refusal refusal)
+  as_reply (replies.RegisterNode node) = CallReply.register_node node
+  as_reply (replies.QueueInfo running leaf guaranteed maximum used applications) =
+      CallReply.queue_info record { running = running; leaf = leaf; guaranteed = guaranteed; maximum = maximum; used = used; applications = applications }
+  as_reply replies.SetQueueState = CallReply.set_queue_state
+  as_reply (replies.ClusterInfo nodes applications containers totals used) =
+      CallReply.cluster_info record { nodes = nodes; applications = applications; containers = containers; totals = totals; used = used }
+
+  abbrev pub as_event : Event K → ClusterEvent
+  as_event (events.Call by request reply) = ClusterEvent.call by (as_call request) (as_reply reply)
