@@ -5,6 +5,7 @@
 mod event;
 pub mod examples;
 pub mod laws;
+mod no_memory;
 mod refusal;
 mod reply;
 mod request;
@@ -13,7 +14,8 @@ mod tests;
 mod text;
 
 pub use event::Event;
-pub use refusal::Refusal;
+pub use no_memory::NoMemory;
+pub use refusal::{Refusal, first_refusal};
 pub use reply::Reply;
 pub use request::Request;
 pub use text::{PathText, ShortText, Text};

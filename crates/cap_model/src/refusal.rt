@@ -1,3 +1,6 @@
+ghost use Rattle.std.specs.Prelude.{◌≡◌};
+ghost use Rattle.cap_model.specs.Cascade.{earliest};
+
 /// Why a call is refused. Where several hold, the one of the smallest number is answered. A refused call leaves the
 /// cluster as it was.
 #[derive(Clone, Copy, Debug, PartialEq, Eq)]
@@ -29,4 +32,16 @@ impl Refusal {
     {
         self as u8
     }
+}
+
+/// The refusal of the first test that holds, none where none does. The tests stand in the order of the numbers.
+pub fn first_refusal(tests: &[(bool, Refusal)]) -> Option<Refusal>
+    ensures { result ≡ earliest tests.now }
+{
+    for (holds, refusal) in tests {
+        if *holds {
+            return Some(*refusal);
+        }
+    }
+    None
 }

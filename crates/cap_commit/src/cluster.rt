@@ -1,0 +1,159 @@
+ghost use Rattle.std.specs.Prelude.{◌≡◌, ◌≤◌, ◌<◌, None, IfOk, OnErr, length, bytes_eq};
+ghost use Rattle.std.specs.List.{list_any};
+ghost use Rattle.cap_model.specs.Limits.{nodes_max};
+ghost use Rattle.cap_model.specs.Flat.{opened, queue_at};
+ghost use Rattle.cap_model.specs.Submit.{has_children, is_running};
+ghost use Rattle.cap_model.specs.RegisterNode.{register_node_refusal, after_register_node, total_of_nodes};
+ghost use Rattle.cap_model.specs.QueueCalls.{after_set_queue_state};
+
+use crate::node::Node;
+use crate::queue::{Queue, is_below, is_under};
+use cap_config::Config;
+use cap_model::{NoMemory, ShortText};
+use cap_vector::{Resource, checked_add};
+use std::alloc::Global;
+use std::marker::Model;
+
+/// The cluster of K resources: its queues, its limits, its nodes, and the number of the next node. Contracts see it as the
+/// flat cluster.
+#[derive(Drop)]
+pub struct Cluster<const K: usize> {
+    queues: Vec<Queue<K>>,
+    minimum_allocation: Resource<K>,
+    maximum_allocation: Resource<K>,
+    application_limit: u64,
+    nodes: Vec<Node<K>>,
+    total: Resource<K>,
+    next_node: u64,
+}
+
+impl<const K: usize> Model for Cluster<K> {
+    ghost use Rattle.std.specs.Prelude.{◌≡◌, ◌≤◌, [], length};
+    ghost use Rattle.cap_model.specs.Flat.{Flat};
+    ghost use Rattle.cap_model.specs.Limits.{nodes_max};
+    ghost use Rattle.cap_model.specs.RegisterNode.{sum_of_totals};
+
+    ghost Value = { Flat K };
+
+    ghost view = { λ c. record {
+        settings = record { queues = c.queues.items; minimum_allocation = c.minimum_allocation; maximum_allocation = c.maximum_allocation; application_limit = c.application_limit };
+        apps = record { active = []; next = 1 };
+        nodes = record { present = c.nodes.items; live = []; reserved = []; next_node = c.next_node; next_container = 1 };
+    } };
+
+    ghost invariant = { λ c. (c.total ≡ sum_of_totals K c.nodes.items) × (length c.nodes.items ≤ nodes_max) };
+}
+
+impl<const K: usize> Cluster<K> {
+    /// The cluster that settings open: their queues and limits, and nothing else.
+    pub fn from_config(alloc: Global, config: &Config<K>) -> Result<Cluster<K>, NoMemory>
+        ensures { IfOk result (λ cluster. cluster ≡ opened config.now) }
+    {
+        let mut queues = Vec::new(alloc);
+        for row in config.queues() {
+            let Ok(()) = queues.push(Queue::of(row)) else {
+                return Err(NoMemory);
+            };
+        }
+        Ok(Cluster {
+            queues,
+            minimum_allocation: config.minimum_allocation(),
+            maximum_allocation: config.maximum_allocation(),
+            application_limit: config.application_limit(),
+            nodes: Vec::new(alloc),
+            total: Resource::zero(),
+            next_node: 1,
+        })
+    }
+
+    /// The queue of this path, none where there is none.
+    pub fn queue(&self, path: &[u8]) -> Option<Queue<K>>
+        ensures { result ≡ queue_at self.now path.now }
+    {
+        self.queues
+            .iter()
+            .find(|queue| queue.path().as_bytes() == path)
+            .copied()
+    }
+
+    /// Whether the queue of this path has children.
+    pub fn has_children(&self, path: &[u8]) -> bool
+        ensures { result ≡ has_children self.now path.now }
+    {
+        self.queues
+            .iter()
+            .any(|queue| is_below(path, queue.path().as_bytes()))
+    }
+
+    /// Whether the queue of this path takes applications: it and every queue above it are RUNNING.
+    pub fn is_running(&self, path: &[u8]) -> bool
+        ensures { result ≡ is_running self.now path.now }
+    {
+        self.queues
+            .iter()
+            .all(|queue| queue.is_running() || !is_under(queue.path().as_bytes(), path))
+    }
+
+    /// Sets the own state of the queue of this path, and nothing else.
+    pub fn set_state(&mut self, path: &[u8], running: bool)
+        ensures { self.new ≡ after_set_queue_state self.old path.now running }
+    {
+        for queue in &mut self.queues {
+            if queue.path().as_bytes() == path {
+                queue.set_running(running);
+            }
+        }
+    }
+
+    /// Whether a present node has the host.
+    pub fn is_host_taken(&self, host: &[u8]) -> bool
+        ensures { result ≡ list_any (λ node. bytes_eq node.host host.now) self.now.nodes.present }
+    {
+        self.nodes.iter().any(|node| node.host().as_bytes() == host)
+    }
+
+    /// How many nodes are present.
+    pub fn node_count(&self) -> usize
+        ensures value { result ≡ length self.now.nodes.present }
+        ensures few { result ≤ nodes_max }
+    {
+        self.nodes.len()
+    }
+
+    /// What all nodes have together, in MiB and vcores.
+    pub fn node_total(&self) -> Resource<K>
+        ensures { result ≡ total_of_nodes self.now }
+    {
+        self.total
+    }
+
+    /// The number of the next node.
+    pub fn next_node(&self) -> u64
+        ensures { result ≡ self.now.nodes.next_node }
+    {
+        self.next_node
+    }
+
+    /// Takes a node in under the next number, of a total in MiB and vcores. `NoMemory` changes nothing.
+    pub fn add_node(
+        &mut self,
+        host: &ShortText,
+        rack: &ShortText,
+        total: &Resource<K>,
+    ) -> Result<u64, NoMemory>
+        requires { register_node_refusal self.old host.now total.now ≡ None }
+        ensures ok { IfOk result (λ number. (number ≡ self.old.nodes.next_node) × (self.new ≡ after_register_node self.old host.now rack.now total.now)) }
+        ensures err { OnErr result (self.new ≡ self.old) }
+    {
+        let number = self.next_node;
+        let Some(sum) = checked_add(&self.total, total) else {
+            unreachable!()
+        };
+        let Ok(()) = self.nodes.push(Node::new(number, host, rack, total)) else {
+            return Err(NoMemory);
+        };
+        self.total = sum;
+        self.next_node = number + 1;
+        Ok(number)
+    }
+}

@@ -1,0 +1,13 @@
+//! The cluster: its queues, its nodes, and the changes that calls make of it. Contracts see it as the flat cluster.
+#![tactic(auto)]
+
+mod cluster;
+mod node;
+mod queue;
+#[cfg(test)]
+mod tests;
+
+pub use cap_model::{Event, Reply, Request};
+pub use cluster::Cluster;
+pub use node::Node;
+pub use queue::Queue;

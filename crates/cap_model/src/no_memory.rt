@@ -1,0 +1,6 @@
+use thiserror::Error;
+
+/// No memory was found. Where a call answers it, the call changed nothing unless it says otherwise.
+#[derive(Clone, Copy, Debug, PartialEq, Eq, Error)]
+#[error("out of memory")]
+pub struct NoMemory;

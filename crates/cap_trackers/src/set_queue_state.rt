@@ -1,0 +1,27 @@
+ghost use Rattle.std.specs.Prelude.{◌≡◌};
+ghost use Rattle.cap_model.specs.declared.request.Request.TheVariants.{SetQueueState};
+ghost use Rattle.cap_model.specs.Messages.{as_call, as_reply};
+ghost use Rattle.cap_model.specs.Replies.{reply_to, after_request};
+
+use cap_commit::Cluster;
+use cap_model::{PathText, Refusal, Reply};
+
+/// Starts or stops the queue of this path, as `yarn.scheduler.capacity.<queue-path>.state` does: its own state, and nothing
+/// else. A queue under a stopped one takes no new application. Refused with `UnknownQueue` where no queue has the path,
+/// which changes nothing. It takes no memory.
+pub fn set_queue_state<const K: usize>(
+    cluster: &mut Cluster<K>,
+    path: &PathText,
+    running: bool,
+) -> Reply<K>
+    ensures reply { as_reply result ≡ reply_to cluster.old (as_call (SetQueueState path.now running)) }
+    ensures after { cluster.new ≡ after_request cluster.old (as_call (SetQueueState path.now running)) }
+{
+    match cluster.queue(path.as_bytes()) {
+        None => Reply::Refused(Refusal::UnknownQueue),
+        Some(_) => {
+            cluster.set_state(path.as_bytes(), running);
+            Reply::SetQueueState
+        }
+    }
+}
