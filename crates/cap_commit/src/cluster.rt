@@ -6,8 +6,9 @@ ghost use Rattle.cap_model.specs.Submit.{has_children, is_running};
 ghost use Rattle.cap_model.specs.RegisterNode.{register_node_refusal, after_register_node, total_of_nodes};
 ghost use Rattle.cap_model.specs.QueueCalls.{after_set_queue_state};
 
-use crate::node::Node;
-use crate::queue::{Queue, is_below, is_under};
+use crate::node::{Node, is_taken};
+use crate::queue::Queue;
+use crate::queues::{are_running, find_queue, have_below, set_running};
 use cap_config::Config;
 use cap_model::{NoMemory, ShortText};
 use cap_vector::{Resource, checked_add};
@@ -36,9 +37,9 @@ impl<const K: usize> Model for Cluster<K> {
     ghost Value = { Flat K };
 
     ghost view = { λ c. record {
-        settings = record { queues = c.queues.items; minimum_allocation = c.minimum_allocation; maximum_allocation = c.maximum_allocation; application_limit = c.application_limit };
-        apps = record { active = []; next = 1 };
-        nodes = record { present = c.nodes.items; live = []; reserved = []; next_node = c.next_node; next_container = 1 };
+      settings = record { queues = c.queues.items; minimum_allocation = c.minimum_allocation; maximum_allocation = c.maximum_allocation; application_limit = c.application_limit };
+      apps = record { active = []; next = 1 };
+      nodes = record { present = c.nodes.items; live = []; reserved = []; next_node = c.next_node; next_container = 1 };
     } };
 
     ghost invariant = { λ c. (c.total ≡ sum_of_totals K c.nodes.items) × (length c.nodes.items ≤ nodes_max) };
@@ -70,46 +71,35 @@ impl<const K: usize> Cluster<K> {
     pub fn queue(&self, path: &[u8]) -> Option<Queue<K>>
         ensures { result ≡ queue_at self.now path.now }
     {
-        self.queues
-            .iter()
-            .find(|queue| queue.path().as_bytes() == path)
-            .copied()
+        find_queue(&self.queues, path)
     }
 
     /// Whether the queue of this path has children.
     pub fn has_children(&self, path: &[u8]) -> bool
         ensures { result ≡ has_children self.now path.now }
     {
-        self.queues
-            .iter()
-            .any(|queue| is_below(path, queue.path().as_bytes()))
+        have_below(&self.queues, path)
     }
 
     /// Whether the queue of this path takes applications: it and every queue above it are RUNNING.
     pub fn is_running(&self, path: &[u8]) -> bool
         ensures { result ≡ is_running self.now path.now }
     {
-        self.queues
-            .iter()
-            .all(|queue| queue.is_running() || !is_under(queue.path().as_bytes(), path))
+        are_running(&self.queues, path)
     }
 
     /// Sets the own state of the queue of this path, and nothing else.
     pub fn set_state(&mut self, path: &[u8], running: bool)
         ensures { self.new ≡ after_set_queue_state self.old path.now running }
     {
-        for queue in &mut self.queues {
-            if queue.path().as_bytes() == path {
-                queue.set_running(running);
-            }
-        }
+        set_running(&mut self.queues, path, running);
     }
 
     /// Whether a present node has the host.
     pub fn is_host_taken(&self, host: &[u8]) -> bool
         ensures { result ≡ list_any (λ node. bytes_eq node.host host.now) self.now.nodes.present }
     {
-        self.nodes.iter().any(|node| node.host().as_bytes() == host)
+        is_taken(&self.nodes, host)
     }
 
     /// How many nodes are present.

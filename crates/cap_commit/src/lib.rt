@@ -4,6 +4,7 @@
 mod cluster;
 mod node;
 mod queue;
+mod queues;
 #[cfg(test)]
 mod tests;
 

@@ -1,11 +1,12 @@
-ghost use Rattle.std.specs.Prelude.{◌≡◌};
+ghost use Rattle.std.specs.Prelude.{◌≡◌, bytes_eq};
+ghost use Rattle.std.specs.List.{list_any};
 
 use cap_model::ShortText;
 use cap_vector::Resource;
 use std::marker::Model;
 
 /// A node that is present. Contracts see it as its row in the flat cluster; no heartbeat has come from it.
-#[derive(Clone, Copy, Debug)]
+#[derive(Debug, Drop)]
 pub struct Node<const K: usize> {
     number: u64,
     host: ShortText,
@@ -26,7 +27,12 @@ impl<const K: usize> Node<K> {
     ghost use Rattle.std.specs.Prelude.{None};
 
     /// A node of this number, host, rack and total, in MiB and vcores, that was registered just now.
-    pub(crate) fn new(number: u64, host: &ShortText, rack: &ShortText, total: &Resource<K>) -> Node<K>
+    pub(crate) fn new(
+        number: u64,
+        host: &ShortText,
+        rack: &ShortText,
+        total: &Resource<K>,
+    ) -> Node<K>
         ensures { result ≡ record { number = number; host = host.now; rack = rack.now; total = total.now; response = 0; kept = None } }
     {
         Node {
@@ -43,4 +49,16 @@ impl<const K: usize> Node<K> {
     {
         &self.host
     }
+}
+
+/// Whether one of the nodes has the host.
+pub(crate) fn is_taken<const K: usize>(nodes: &[Node<K>], host: &[u8]) -> bool
+    ensures { result ≡ list_any (λ node. bytes_eq node.host host.now) nodes.now }
+{
+    for node in nodes {
+        if node.host().as_bytes() == host {
+            return true;
+        }
+    }
+    false
 }

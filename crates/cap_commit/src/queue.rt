@@ -1,6 +1,7 @@
-ghost use Rattle.std.specs.Prelude.{◌≡◌, ◌++◌, ◌∷◌, [], nat_eq, bytes_eq};
+ghost use Rattle.std.specs.Prelude.{◌≡◌, ◌++◌, ◌∷◌, [], nat_eq, nat_lt, bytes_eq, if◌then◌else◌, length, slice_index, ◌&&◌, ◌==◌};
 ghost use Rattle.std.specs.List.{starts_with};
 ghost use Rattle.cap_model.specs.Flat.{is_under};
+ghost use Rattle.cap_commit.specs.Queues.{with_state};
 
 use cap_config::QueueRow;
 use cap_model::PathText;
@@ -10,7 +11,10 @@ use std::marker::Model;
 /// A queue of the cluster. Contracts see it as the record of its path, capacity, maximum capacity, factor and own state.
 #[derive(Clone, Copy, Debug)]
 pub struct Queue<const K: usize> {
-    row: QueueRow<K>,
+    path: PathText,
+    guaranteed: Resource<K>,
+    maximum: Option<Resource<K>>,
+    factor: u64,
     running: bool,
 }
 
@@ -19,9 +23,9 @@ impl<const K: usize> Model for Queue<K> {
 
     ghost Value = { Row };
 
-    ghost view = { λ q. record q.row { running = q.running } };
+    ghost view = { λ q. record { path = q.path; guaranteed = q.guaranteed; maximum = q.maximum; factor = q.factor; running = q.running } };
 
-    ghost inverse = { λ r. record { row = r; running = r.running } };
+    ghost inverse = { λ q. record { path = q.path; guaranteed = q.guaranteed; maximum = q.maximum; factor = q.factor; running = q.running } };
 }
 
 impl<const K: usize> Queue<K> {
@@ -30,7 +34,10 @@ impl<const K: usize> Queue<K> {
         ensures { result ≡ row.now }
     {
         Queue {
-            row: *row,
+            path: row.path(),
+            guaranteed: row.guaranteed(),
+            maximum: row.maximum(),
+            factor: row.factor(),
             running: row.is_running(),
         }
     }
@@ -39,14 +46,14 @@ impl<const K: usize> Queue<K> {
     pub fn path(&self) -> PathText
         ensures { result ≡ self.now.path }
     {
-        self.row.path()
+        self.path
     }
 
     /// What it is guaranteed, in MiB and vcores: `yarn.scheduler.capacity.<queue-path>.capacity`.
     pub fn guaranteed(&self) -> Resource<K>
         ensures { result ≡ self.now.guaranteed }
     {
-        self.row.guaranteed()
+        self.guaranteed
     }
 
     /// Up to where it may grow, in MiB and vcores: its own `yarn.scheduler.capacity.<queue-path>.maximum-capacity`, or
@@ -54,7 +61,7 @@ impl<const K: usize> Queue<K> {
     pub fn maximum(&self) -> Option<Resource<K>>
         ensures { result ≡ self.now.maximum }
     {
-        self.row.maximum()
+        self.maximum
     }
 
     /// Whether its own state is RUNNING.
@@ -64,11 +71,13 @@ impl<const K: usize> Queue<K> {
         self.running
     }
 
-    /// Sets its own state, and nothing else of it.
-    pub(crate) fn set_running(&mut self, running: bool)
-        ensures { self.new ≡ record self.old { running = running } }
+    /// Sets its own state, and nothing else of it, where it is the queue of this path.
+    pub(crate) fn set_running_at(&mut self, path: &[u8], running: bool)
+        ensures { self.new ≡ with_state path.now running self.old }
     {
-        self.running = running;
+        if self.path().as_bytes() == path {
+            self.running = running;
+        }
     }
 }
 
@@ -83,8 +92,15 @@ pub(crate) fn is_under(path: &[u8], queue: &[u8]) -> bool
 pub(crate) fn is_below(path: &[u8], queue: &[u8]) -> bool
     ensures { result ≡ starts_with nat_eq queue.now (path.now ++ 46 ∷ []) }
 {
-    match queue.strip_prefix(path) {
-        Some([b'.', ..]) => true,
-        _ => false,
+    has_dot_at(queue, path.len()) && queue.starts_with(path)
+}
+
+/// Whether a dot stands there.
+fn has_dot_at(bytes: &[u8], at: usize) -> bool
+    ensures { result ≡ nat_lt at (length bytes.now) && (slice_index bytes.now at == 46) }
+{
+    match bytes.get(at) {
+        Some(byte) => *byte == b'.',
+        None => false,
     }
 }

@@ -7,4 +7,5 @@ pub mod Ranks
 pub mod ContainerNumbers
 pub mod Reasons
 pub mod NodeTotals
+pub mod Registering
 pub mod Padding
