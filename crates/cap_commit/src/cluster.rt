@@ -1,7 +1,8 @@
-ghost use Rattle.std.specs.Prelude.{◌≡◌, ◌≤◌, ◌<◌, None, IfOk, OnErr, length, bytes_eq};
+ghost use Rattle.std.specs.Prelude.{◌≡◌, ◌≤◌, ◌<◌, None, IfOk, OnErr, length, bytes_eq, count_by};
 ghost use Rattle.std.specs.List.{list_any};
 ghost use Rattle.cap_model.specs.Limits.{nodes_max};
-ghost use Rattle.cap_model.specs.Flat.{opened, queue_at};
+ghost use Rattle.cap_model.specs.Flat.{opened, queue_at, is_under};
+ghost use Rattle.cap_model.specs.Uses.{queue_use};
 ghost use Rattle.cap_model.specs.Submit.{has_children, is_running};
 ghost use Rattle.cap_model.specs.RegisterNode.{register_node_refusal, after_register_node, total_of_nodes};
 ghost use Rattle.cap_model.specs.QueueCalls.{after_set_queue_state};
@@ -11,7 +12,7 @@ use crate::queue::Queue;
 use crate::queues::{are_running, find_queue, have_below, set_running};
 use cap_config::Config;
 use cap_model::{NoMemory, ShortText};
-use cap_vector::{Resource, checked_add};
+use cap_vector::{Resource, Sum, checked_add};
 use std::alloc::Global;
 use std::marker::Model;
 
@@ -93,6 +94,40 @@ impl<const K: usize> Cluster<K> {
         ensures { self.new ≡ after_set_queue_state self.old path.now running }
     {
         set_running(&mut self.queues, path, running);
+    }
+
+    // No call makes an application or a container yet, so nothing is used and none is counted.
+
+    /// What all applications in and under the queue of this path use, in MiB and vcores.
+    pub fn use_of(&self, path: &[u8]) -> Sum<K>
+        ensures { result ≡ queue_use self.now path.now }
+    {
+        let _ = &self.nodes;
+        Sum::zero()
+    }
+
+    /// How many applications are active in and under the queue of this path.
+    pub fn applications_under(&self, path: &[u8]) -> u32
+        ensures { result ≡ count_by (λ app. is_under path.now app.leaf) self.now.apps.active }
+    {
+        let _ = &self.nodes;
+        0
+    }
+
+    /// How many applications are active.
+    pub fn application_count(&self) -> u32
+        ensures { result ≡ length self.now.apps.active }
+    {
+        let _ = &self.nodes;
+        0
+    }
+
+    /// How many containers are live.
+    pub fn container_count(&self) -> u32
+        ensures { result ≡ length self.now.nodes.live }
+    {
+        let _ = &self.nodes;
+        0
     }
 
     /// Whether a present node has the host.

@@ -1,10 +1,10 @@
 -- What is known of a node that is not refused.
-use Rattle.std.proofs.Common.{◌≡◌, ℕ, ◌<◌, Bool, true, false, List, [], ◌∷◌, length, Option, None, refl}
-use Rattle.std.specs.Prelude.{not, nat_le, bytes_eq}
+use Rattle.std.proofs.Common.{◌≡◌, ℕ, ◌<◌, Bool, true, false, List, [], ◌∷◌, length, map, Option, Some, None, refl, sym, inl, inr}
+use Rattle.std.specs.Prelude.{not, nat_le, bytes_eq, IsSome, is_some, ◌↔◌, option_map}
 use Rattle.std.specs.List.{list_any}
-use Rattle.std.proofs.lemmas.Bool.{not-false, leb-false}
-use Rattle.cap_vector.specs.Vector.{amount_max, plus, is_within, IsWithin, is_zero}
-use Rattle.cap_vector.proofs.AmountLemmas.{within_from_test}
+use Rattle.std.proofs.lemmas.Bool.{cases_Bool, not-false, not-true, leb-false}
+use Rattle.cap_vector.specs.Vector.{amount_max, plus, is_within, IsWithin, IsVector, is_zero}
+use Rattle.cap_vector.proofs.AmountLemmas.{within_from_test, test_from_within}
 use Rattle.cap_model.specs.Limits.{nodes_max, number_end}
 use Rattle.cap_model.specs.Cascade.{earliest}
 use Rattle.cap_model.specs.Flat.{Flat}
@@ -32,3 +32,18 @@ may_join cluster host total h =
       few = leb-false nodes_max (length cluster.nodes.present) n.1;
       numbered = leb-false number_end cluster.nodes.next_node n.2;
     }
+
+-- a sum that is none passes the bound somewhere
+pub none_is_large : {A : Type 0} (k bound : ℕ) (o : Option A) (v : List ℕ) (none : Bool) → length v ≡ k → (IsSome o ↔ IsVector k bound v) → is_some o ≡ not none → none ≡ not (is_within bound v)
+none_is_large k bound None v none long is e =
+    elim (cases_Bool (is_within bound v)) [
+      | inl t ↦ let some : false ≡ true = is.1 (record { count = long; within = within_from_test bound v t }) in absurd (cc some)
+      | inr f ↦ rw f (not-false none (sym e))
+    ]
+none_is_large k bound (Some x) v none long is e = rw (test_from_within bound v (is.0 refl).within) (not-true none (sym e))
+
+-- the first of tests, said in other words
+pub earliest-as : {A B : Type 0} (f : A → B) (tests : List (Bool × A)) → option_map f (earliest tests) ≡ earliest (map (λ t. (t.0, f t.1)) tests)
+earliest-as f [] = refl
+earliest-as f ((true, a) ∷ tests) = refl
+earliest-as f ((false, a) ∷ tests) = earliest-as f tests

@@ -1,5 +1,5 @@
 -- Replies, steps and runs of the flat cluster, told in the messages of the code.
-use Rattle.std.specs.Prelude.{ℕ, List, map}
+use Rattle.std.specs.Prelude.{◌≡◌, ℕ, List, map}
 use Rattle.cap_model.specs.declared.request.Request.{Request}
 use Rattle.cap_model.specs.declared.reply.Reply.{Reply}
 use Rattle.cap_model.specs.declared.event.Event.{Event}
@@ -12,6 +12,11 @@ module _ {K : ℕ} where
   -- the request is answered so, and leads from old to new
   abbrev pub Replies : Flat K → Request K → Reply K → Flat K → Type 0
   Replies old request reply new = flat_replies.Replies old (as_call request) (as_reply reply) new
+
+  -- the request is answered by the reply function, which leads from old to new: no memory is wanted
+  abbrev pub RepliesAlways : Flat K → Request K → Reply K → Flat K → Type 0
+  RepliesAlways old request reply new =
+      (as_reply reply ≡ flat_replies.reply_to old (as_call request)) × (new ≡ flat_replies.after_request old (as_call request))
 
   -- one step of the cluster
   abbrev pub Step : Flat K → Event K → Flat K → Type 0

@@ -1,17 +1,14 @@
-ghost use Rattle.std.specs.Prelude.{◌≡◌};
 ghost use Rattle.cap_model.specs.declared.request.Request.TheVariants.{QueueInfo};
-ghost use Rattle.cap_model.specs.Messages.{as_call, as_reply};
-ghost use Rattle.cap_model.specs.Replies.{reply_to};
+ghost use Rattle.cap_model.specs.Runs.{RepliesAlways};
 
 use cap_commit::Cluster;
 use cap_model::{PathText, Refusal, Reply};
-use cap_vector::Sum;
 
 /// What an operator sees of the queue of this path: whether it and every queue above it are RUNNING, whether it is a leaf
 /// queue, its `capacity` and `maximum-capacity` (its own or inherited), what it uses, all in MiB and vcores, and how many
 /// applications are active in and under it. Refused with `UnknownQueue` where no queue has the path. It takes no memory.
 pub fn queue_info<const K: usize>(cluster: &Cluster<K>, path: &PathText) -> Reply<K>
-    ensures { as_reply result ≡ reply_to cluster.now (as_call (QueueInfo path.now)) }
+    ensures { RepliesAlways cluster.now (QueueInfo path.now) result cluster.now }
 {
     let bytes = path.as_bytes();
     match cluster.queue(bytes) {
@@ -21,8 +18,8 @@ pub fn queue_info<const K: usize>(cluster: &Cluster<K>, path: &PathText) -> Repl
             leaf: !cluster.has_children(bytes),
             guaranteed: queue.guaranteed(),
             maximum: queue.maximum(),
-            used: Sum::zero(),
-            applications: 0,
+            used: cluster.use_of(bytes),
+            applications: cluster.applications_under(bytes),
         },
     }
 }

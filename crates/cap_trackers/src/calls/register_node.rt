@@ -37,10 +37,7 @@ fn refusal<const K: usize>(
     ensures { option_map as_refusal result ≡ register_node_refusal cluster.now host.now total.now }
 {
     first_refusal(&[
-        (
-            cluster.is_host_taken(host.as_bytes()),
-            Refusal::HostTaken,
-        ),
+        (cluster.is_host_taken(host.as_bytes()), Refusal::HostTaken),
         (
             checked_add(&cluster.node_total(), total).is_none(),
             Refusal::TotalTooLarge,

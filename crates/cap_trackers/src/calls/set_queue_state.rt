@@ -1,7 +1,5 @@
-ghost use Rattle.std.specs.Prelude.{◌≡◌};
 ghost use Rattle.cap_model.specs.declared.request.Request.TheVariants.{SetQueueState};
-ghost use Rattle.cap_model.specs.Messages.{as_call, as_reply};
-ghost use Rattle.cap_model.specs.Replies.{reply_to, after_request};
+ghost use Rattle.cap_model.specs.Runs.{RepliesAlways};
 
 use cap_commit::Cluster;
 use cap_model::{PathText, Refusal, Reply};
@@ -14,8 +12,7 @@ pub fn set_queue_state<const K: usize>(
     path: &PathText,
     running: bool,
 ) -> Reply<K>
-    ensures reply { as_reply result ≡ reply_to cluster.old (as_call (SetQueueState path.now running)) }
-    ensures after { cluster.new ≡ after_request cluster.old (as_call (SetQueueState path.now running)) }
+    ensures { RepliesAlways cluster.old (SetQueueState path.now running) result cluster.new }
 {
     match cluster.queue(path.as_bytes()) {
         None => Reply::Refused(Refusal::UnknownQueue),

@@ -1,0 +1,5 @@
+//! One module for each call.
+pub mod cluster_info;
+pub mod queue_info;
+pub mod register_node;
+pub mod set_queue_state;
