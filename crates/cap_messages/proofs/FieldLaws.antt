@@ -1,15 +1,15 @@
 -- A field that is read is the field that was written, and what was written is read again.
-use Rattle.std.proofs.Common.{◌≡◌, ℕ, zero, suc, ◌+◌, ◌^◌, ◌<◌, ◌≤◌, Bool, true, false, cond, List, [], ◌∷◌, ◌++◌, length, get_or, take, drop, Option, Some, None, refl, sym, ap, subst, ◌∙◌, append_assoc, arith, inl, inr}
+use Rattle.std.proofs.Common.{◌≡◌, ℕ, zero, suc, ◌+◌, ◌^◌, ◌<◌, ◌≤◌, Bool, true, false, cond, List, [], ◌∷◌, ◌++◌, length, get_or, take, drop, Option, Some, None, refl, sym, ap, subst, ◌∙◌, append_assoc, arith, inl, inr, ◌⊎◌}
 use Rattle.std.specs.Prelude.{◌==◌, nat_lt, nat_le}
 use Rattle.std.specs.List.{flat_map, AllByRecursion}
 use Rattle.std.specs.Int.{Width, w32, w64, byte_len, from_be_bytes, to_be_bytes}
-use Rattle.std.proofs.lemmas.Bool.{cases_lt, ltb-false, le-ltb}
+use Rattle.std.proofs.lemmas.Bool.{cases_lt, eqb-true, ltb-false, le-ltb}
 use Rattle.std.proofs.lemmas.Bool.Decides.{nat_tests}
 use Rattle.std.proofs.lemmas.List.{take_at, drop_at, take-append-drop, length-append, length-take, get_or-drop, get_or-take, get_or_past, append-nil, nil_from_length}
 use Rattle.std.proofs.lemmas.Nat.{be_bytes_4, be_bytes_8, from_be_bytes-to_be_bytes_4, from_be_bytes-to_be_bytes_8}
 use Rattle.cap_vector.specs.Vector.{IsVector}
-use Rattle.cap_messages.specs.Spelling.{text, resource}
-use Rattle.cap_messages.specs.Fields.{◌>>=◌, number_at, byte_at, text_at, amount_at, amounts_at, pair_at, passing_at, times_at, all_at}
+use Rattle.cap_messages.specs.Spelling.{text, resource, flag}
+use Rattle.cap_messages.specs.Fields.{◌>>=◌, number_at, byte_at, flag_of_byte, flag_at, text_at, amount_at, amounts_at, pair_at, passing_at, times_at, all_at}
 
 abbrev pub AreBytes : List ℕ → Type 0
 AreBytes bytes = (i : ℕ) → get_or bytes i 0 < 256
@@ -45,6 +45,11 @@ guard_else false x y e = (refl, cc)
 pub guard_then : {A : Type 0} (b : Bool) (x : Option A) (y : A) → cond b x None ≡ Some y → (b ≡ true) × (x ≡ Some y)
 guard_then true x y e = (refl, e)
 guard_then false x y e = absurd cc
+
+-- which of two a test chose
+pub chosen : {A : Type 0} (b : Bool) (x y z : A) → cond b x y ≡ z → ((b ≡ true) × (x ≡ z)) ⊎ ((b ≡ false) × (y ≡ z))
+chosen true x y z e = inl (refl, e)
+chosen false x y z e = inr (refl, e)
 
 pub some_is : {A : Type 0} (x y : A) (o : Option A) → o ≡ Some x → o ≡ Some y → x ≡ y
 some_is x y o e f = cc
@@ -145,6 +150,32 @@ byte_takes (x ∷ xs) b rest fits e =
 
 pub is_byte : IsField byte_at (λ b. b ∷ []) (λ b. b < 256)
 is_byte = record { takes = byte_takes; again = λ b rest fits. refl }
+
+flag_byte : (b : ℕ) (holds : Bool) → flag_of_byte b ≡ Some holds → b ∷ [] ≡ flag holds
+flag_byte b holds e =
+    elim (chosen (b == 0) (Some false) (cond (b == 1) (Some true) None) (Some holds) e) [
+      | inl t ↦ let same : false ≡ holds = cc (t.1) in rw (← same, eqb-true b 0 t.0) refl
+      | inr f ↦
+          let g = guard_then (b == 1) (Some true) holds f.1 in
+          let same : true ≡ holds = cc (g.1) in rw (← same, eqb-true b 1 g.0) refl
+    ]
+
+flag_takes : (bytes : List ℕ) (holds : Bool) (rest : List ℕ) → AreBytes bytes → flag_at bytes ≡ Some (holds, rest) → Takes bytes (flag holds) rest × Unit {0}
+flag_takes bytes holds rest fits e =
+    let a = bind_some (byte_at bytes) (λ u. flag_of_byte u.0 >>= λ v. Some (v, u.1)) (holds, rest) e in
+    let b = bind_some (flag_of_byte a.0.0) (λ v. Some (v, a.0.1)) (holds, rest) a.2 in
+    let t = byte_takes bytes a.0.0 a.0.1 fits a.1 in
+    let made : Bool × List ℕ = (b.0, a.0.1) in
+    let same : made ≡ (holds, rest) = cc (b.2) in
+    let spelled : Takes bytes (flag b.0) a.0.1 = subst (λ (s : List ℕ). Takes bytes s a.0.1) (flag_byte a.0.0 b.0 b.1) t.0 in
+    subst (λ (p : Bool × List ℕ). Takes bytes (flag p.0) p.1 × Unit {0}) same (spelled, tt)
+
+flag_again : (holds : Bool) (rest : List ℕ) → flag_at (flag holds ++ rest) ≡ Some (holds, rest)
+flag_again false rest = refl
+flag_again true rest = refl
+
+pub is_flag : IsField flag_at flag (λ holds. Unit {0})
+is_flag = record { takes = flag_takes; again = λ holds rest fits. flag_again holds rest }
 
 pub record IsWide (w : Width) (limit : ℕ) : Type 0 where
   pub len : (n : ℕ) → length (to_be_bytes w n) ≡ byte_len w

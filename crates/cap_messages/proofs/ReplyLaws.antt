@@ -1,23 +1,24 @@
 -- A reply is read again from its spelling, so no two share one. No function reads replies: this reader serves the law alone.
-use Rattle.std.proofs.Common.{◌≡◌, ℕ, ◌^◌, ◌<◌, List, [], ◌∷◌, ◌++◌, Option, Some, None, refl, ap, ◌∙◌, append_assoc, arith, ◌⊎◌, inl, inr}
-use Rattle.std.specs.Prelude.{◌==◌, if◌then◌else◌}
+use Rattle.std.proofs.Common.{◌≡◌, ℕ, ◌^◌, ◌<◌, ◌≤◌, List, [], ◌∷◌, ◌++◌, length, Option, Some, None, refl, ap, ◌∙◌, append_assoc, arith, ◌⊎◌, inl, inr, zero, suc, Bool}
+use Rattle.std.specs.Prelude.{◌==◌, if◌then◌else◌, is_some, unwrap_or, IfSome}
 use Rattle.std.specs.Int.{w32, w64, to_be_bytes}
-use Rattle.cap_vector.specs.Vector.{IsResource, IsSum, amount_max, sum_max}
+use Rattle.cap_vector.specs.Vector.{IsResource, IsSum, amount, amount_max, sum_max, zeros}
 use Rattle.cap_model.specs.Refusals.{status_of}
 use Rattle.cap_model.specs.declared.refusal.Refusal.{Refusal}
-use Rattle.cap_model.specs.declared.refusal.Refusal.TheVariants.{HostTaken, TotalTooLarge, TooManyNodes, ZeroResource, NumbersSpent, NoMemory}
+use Rattle.cap_model.specs.declared.refusal.Refusal.TheVariants.{UnknownQueue, HostTaken, TotalTooLarge, TooManyNodes, ZeroResource, NumbersSpent, NoMemory}
 use Rattle.cap_model.specs.declared.reply.Reply.{Reply}
-use Rattle.cap_model.specs.declared.reply.Reply.TheVariants.{Refused, RegisterNode, ClusterInfo}
-use Rattle.cap_messages.specs.Spelling.{resource, counts, reply_body, IsOfKind, FitsReply, IsReply, fault_reply}
-use Rattle.cap_messages.specs.Fields.{◌>>=◌, byte_at, number_at, amounts_at, pair_at, all_at}
+use Rattle.cap_model.specs.declared.reply.Reply.TheVariants.{Refused, RegisterNode, QueueInfo, SetQueueState, ClusterInfo}
+use Rattle.cap_messages.specs.Spelling.{resource, flag, counts, queue_report, reply_body, IsOfKind, FitsReply, IsReply, fault_reply}
+use Rattle.cap_messages.specs.Fields.{◌>>=◌, byte_at, flag_at, number_at, amounts_at, pair_at, all_at}
 use Rattle.cap_messages.specs.Reading.{head_at}
-use Rattle.cap_messages.proofs.FieldLaws.{some_is, IsField, is_pair, all_again, is_u32, is_u64, is_amounts}
+use Rattle.cap_messages.proofs.FieldLaws.{some_is, IsField, is_pair, all_again, is_flag, is_u32, is_u64, is_amounts}
 use Rattle.cap_messages.proofs.RequestLaws.{FitsHead, is_head}
 
 -- ---- refusals
 
 abbrev refusal_at : ℕ → Option Refusal
 refusal_at status =
+    if status == 1 then Some UnknownQueue else
     if status == 12 then Some HostTaken else
     if status == 13 then Some TotalTooLarge else
     if status == 14 then Some TooManyNodes else
@@ -27,12 +28,88 @@ refusal_at status =
     None
 
 refusal_again : (refusal : Refusal) → refusal_at (status_of refusal) ≡ Some refusal
+refusal_again UnknownQueue = refl
 refusal_again HostTaken = refl
 refusal_again TotalTooLarge = refl
 refusal_again TooManyNodes = refl
 refusal_again ZeroResource = refl
 refusal_again NumbersSpent = refl
 refusal_again NoMemory = refl
+
+-- ---- what a QueueInfo gives
+
+-- whether there is a maximum, and the amounts in its place
+abbrev Limit : Type 0
+Limit = Bool × List ℕ
+
+abbrev FitsLimit : Limit → Type 0
+FitsLimit x = Unit {0} × IsResource 2 x.1
+
+abbrev limit_of : Limit → List ℕ
+limit_of x = flag x.0 ++ resource x.1
+
+abbrev limit_at : List ℕ → Option (Limit × List ℕ)
+limit_at bytes = pair_at flag_at (amounts_at 2 amount_max) bytes
+
+is_limit : IsField limit_at limit_of FitsLimit
+is_limit = is_pair flag_at flag (λ holds. Unit {0}) (amounts_at 2 amount_max) resource (IsResource 2) is_flag (is_amounts 2 amount_max (omega arith))
+
+abbrev maximum_of : Limit → Option (List ℕ)
+maximum_of x = if x.0 then Some x.1 else None
+
+abbrev limit_to : Option (List ℕ) → Limit
+limit_to maximum = (is_some maximum, unwrap_or maximum (zeros 2))
+
+maximum_again : (maximum : Option (List ℕ)) → maximum_of (limit_to maximum) ≡ maximum
+maximum_again None = refl
+maximum_again (Some amounts) = refl
+
+no_amount : (k : ℕ) → amount (zeros 2) k ≤ amount_max
+no_amount zero = omega arith
+no_amount (suc zero) = omega arith
+no_amount (suc (suc k)) = omega arith
+
+limit_fits : (maximum : Option (List ℕ)) → IfSome maximum (IsResource 2) → FitsLimit (limit_to maximum)
+limit_fits None fits = (tt, record { count = refl; within = no_amount })
+limit_fits (Some amounts) fits = (tt, fits)
+
+-- running and leaf, guaranteed, maximum, use and applications
+abbrev Report : Type 0
+Report = ((((Bool × Bool) × List ℕ) × Limit) × List ℕ) × ℕ
+
+abbrev FitsReport : Report → Type 0
+FitsReport x = ((((Unit {0} × Unit {0}) × IsResource 2 x.0.0.0.1) × FitsLimit x.0.0.1) × IsSum 2 x.0.1) × (x.1 < 2 ^ 32)
+
+abbrev report_of : Report → List ℕ
+report_of x = ((((flag x.0.0.0.0.0 ++ flag x.0.0.0.0.1) ++ resource x.0.0.0.1) ++ limit_of x.0.0.1) ++ resource x.0.1) ++ to_be_bytes w32 x.1
+
+abbrev flags_at : List ℕ → Option ((Bool × Bool) × List ℕ)
+flags_at bytes = pair_at flag_at flag_at bytes
+
+abbrev guarantee_at : List ℕ → Option (((Bool × Bool) × List ℕ) × List ℕ)
+guarantee_at bytes = pair_at flags_at (amounts_at 2 amount_max) bytes
+
+abbrev limits_at : List ℕ → Option ((((Bool × Bool) × List ℕ) × Limit) × List ℕ)
+limits_at bytes = pair_at guarantee_at limit_at bytes
+
+abbrev uses_at : List ℕ → Option (((((Bool × Bool) × List ℕ) × Limit) × List ℕ) × List ℕ)
+uses_at bytes = pair_at limits_at (amounts_at 2 sum_max) bytes
+
+abbrev report_at : List ℕ → Option (Report × List ℕ)
+report_at bytes = pair_at uses_at (number_at w32) bytes
+
+is_flags : IsField flags_at (λ (x : Bool × Bool). flag x.0 ++ flag x.1) (λ (x : Bool × Bool). Unit {0} × Unit {0})
+is_flags = is_pair flag_at flag (λ holds. Unit {0}) flag_at flag (λ holds. Unit {0}) is_flag is_flag
+
+is_report : IsField report_at report_of FitsReport
+is_report =
+    is_pair _ _ _ _ _ _
+    (is_pair _ _ _ _ _ _
+    (is_pair _ _ _ _ _ _
+    (is_pair _ _ _ _ _ _ is_flags (is_amounts 2 amount_max (omega arith)))
+    is_limit)
+    (is_amounts 2 sum_max (omega arith)))
+    is_u32
 
 -- ---- what a ClusterInfo gives
 
@@ -76,9 +153,14 @@ is_info =
 abbrev registered : ℕ → Option (Reply 2)
 registered node = Some (RegisterNode node)
 
+abbrev reported : Report → Option (Reply 2)
+reported x = Some (QueueInfo x.0.0.0.0.0 x.0.0.0.0.1 x.0.0.0.1 (maximum_of x.0.0.1) x.0.1 x.1)
+
 abbrev granted_at : ℕ → List ℕ → Option (Reply 2)
 granted_at kind bytes =
     if kind == 5 then (all_at (number_at w64) bytes >>= registered) else
+    if kind == 8 then (all_at report_at bytes >>= reported) else
+    if kind == 9 then (if length bytes == 0 then Some SetQueueState else None) else
     if kind == 10 then (all_at info_at bytes >>= λ x. Some (ClusterInfo x.0.0 x.0.1.0 x.0.1.1 x.1.0 x.1.1)) else
     None
 
@@ -88,6 +170,7 @@ reply_body_at kind bytes = do
   if status.0 == 0 then granted_at kind status.1 else (refusal_at status.0 >>= λ refusal. Some (Refused refusal))
 
 refused_again : (kind : ℕ) (refusal : Refusal) → reply_body_at kind (status_of refusal ∷ []) ≡ Some (Refused refusal)
+refused_again kind UnknownQueue = refl
 refused_again kind HostTaken = refl
 refused_again kind TotalTooLarge = refl
 refused_again kind TooManyNodes = refl
@@ -98,12 +181,21 @@ refused_again kind NoMemory = refl
 node_again : (node : ℕ) → node < 2 ^ 64 → granted_at 5 (to_be_bytes w64 node) ≡ Some (RegisterNode node)
 node_again node fits = ap (λ (o : Option ℕ). o >>= registered) (all_again (number_at w64) (to_be_bytes w64) (λ n. n < 2 ^ 64) is_u64 node fits)
 
+report_again : (x : Report) → FitsReport x → granted_at 8 (report_of x) ≡ reported x
+report_again x fits = ap (λ (o : Option Report). o >>= reported) (all_again report_at report_of FitsReport is_report x fits)
+
 info_again : (x : Info) → FitsInfo x → granted_at 10 (info_of x) ≡ Some (ClusterInfo x.0.0 x.0.1.0 x.0.1.1 x.1.0 x.1.1)
 info_again x fits = rw (all_again info_at info_of FitsInfo is_info x fits) refl
 
 reply_body_again : (kind : ℕ) (reply : Reply 2) → IsOfKind kind reply → FitsReply reply → reply_body_at kind (reply_body reply) ≡ Some reply
+unfolding queue_report
 reply_body_again kind (Refused refusal) of_kind fits = refused_again kind refusal
 reply_body_again kind (RegisterNode node) of_kind fits = rw of_kind (node_again node fits)
+reply_body_again kind (QueueInfo running leaf guaranteed maximum used applications) of_kind fits =
+    let x : Report = (((((running, leaf), guaranteed), limit_to maximum), used), applications) in
+    let ok : FitsReport x = (((((tt, tt), fits.0), limit_fits maximum fits.1), fits.2), fits.3) in
+    rw of_kind (report_again x ok ∙ ap (λ (m : Option (List ℕ)). Some (QueueInfo running leaf guaranteed m used applications)) (maximum_again maximum))
+reply_body_again kind SetQueueState of_kind fits = rw of_kind refl
 reply_body_again kind (ClusterInfo nodes applications containers totals used) of_kind fits =
     let x : Info = ((nodes, (applications, containers)), (totals, used)) in
     let ok : FitsInfo x = ((fits.0, (fits.1, fits.2)), (fits.3, fits.4)) in

@@ -1,21 +1,22 @@
 -- What is read is spelled so, and what is spelled so is read.
-use Rattle.std.proofs.Common.{◌≡◌, ℕ, ◌^◌, ◌<◌, Bool, true, false, cond, List, [], ◌∷◌, ◌++◌, length, Some, None, refl, sym, ap, subst, ◌∙◌, arith, inl, inr, ◌⊎◌}
+use Rattle.std.proofs.Common.{◌≡◌, ℕ, ◌^◌, ◌<◌, Bool, true, List, [], ◌∷◌, ◌++◌, length, Some, refl, sym, ap, subst, ◌∙◌, arith, inl, inr}
 use Rattle.std.specs.Prelude.{◌==◌, Result, Ok, Err, IfOk, IsErrOf, slice_index}
 use Rattle.std.specs.Int.{w32, to_be_bytes}
 use Rattle.std.proofs.lemmas.Bool.{eqb-true}
 use Rattle.std.proofs.lemmas.List.{nil_from_length}
 use Rattle.cap_vector.specs.Vector.{IsResource, amount_max}
 use Rattle.cap_model.specs.declared.request.Request.{Request}
-use Rattle.cap_model.specs.declared.request.Request.TheVariants.{RegisterNode, ClusterInfo}
+use Rattle.cap_model.specs.declared.request.Request.TheVariants.{RegisterNode, QueueInfo, SetQueueState, ClusterInfo}
 use Rattle.cap_messages.specs.declared.fault.MessageFault.{MessageFault}
 use Rattle.cap_messages.specs.declared.fault.MessageFault.TheVariants as faults
-use Rattle.cap_messages.specs.Texts.{is_host, is_rack}
-use Rattle.cap_messages.specs.Spelling.{text, resource, kind_of, request_body, FitsRequest, request_bytes, IsRequest, IsNoRequest}
-use Rattle.cap_messages.specs.Fields.{number_at, byte_at, text_at, amounts_at, pair_at, passing_at, all_at}
+use Rattle.cap_messages.specs.Texts.{is_host, is_rack, is_path}
+use Rattle.cap_messages.specs.Spelling.{text, resource, flag, kind_of, request_body, FitsRequest, request_bytes, IsRequest, IsNoRequest}
+use Rattle.cap_messages.specs.Fields.{number_at, byte_at, text_at, flag_at, amounts_at, pair_at, passing_at, all_at}
 use Rattle.cap_messages.specs.RegisterNode.{registration_at, register_node_at}
+use Rattle.cap_messages.specs.QueueCalls.{path_at, queue_info_at, queue_state_at, set_queue_state_at}
 use Rattle.cap_messages.specs.ClusterInfo.{cluster_info_at}
 use Rattle.cap_messages.specs.Reading.{GivesInMemory, head_at, body_at, request_at}
-use Rattle.cap_messages.proofs.FieldLaws.{AreBytes, bind_some, bind_then, guard_then, some_is, IsField, is_pair, all_takes, all_again, is_byte, is_u32, is_amounts, is_text_passing}
+use Rattle.cap_messages.proofs.FieldLaws.{AreBytes, bind_some, bind_then, guard_then, chosen, some_is, IsField, is_pair, all_takes, all_again, is_byte, is_flag, is_u32, is_amounts, is_text_passing}
 
 -- what is known of a body of this kind that was read
 pub record IsBody (kind : ℕ) (bytes : List ℕ) (request : Request 2) : Type 0 where
@@ -56,6 +57,56 @@ register_node_again host rack total fits =
     let ok : FitsRegistration x = (fits.0, (fits.1, fits.2)) in
     rw (all_again registration_at registration FitsRegistration is_registration x ok) refl
 
+-- ---- QueueInfo
+
+abbrev FitsPath : List ℕ → Type 0
+FitsPath path = is_path path ≡ true
+
+is_path_field : IsField path_at text FitsPath
+is_path_field = is_text_passing is_path
+
+queue_info_takes : (bytes : List ℕ) (r : Request 2) → AreBytes bytes → queue_info_at bytes ≡ Some r → IsBody 8 bytes r
+unfolding queue_info_at
+queue_info_takes bytes r fits e =
+    let b = bind_some (all_at path_at bytes) (λ path. Some (QueueInfo path)) r e in
+    let t = all_takes path_at text FitsPath is_path_field bytes b.0 fits b.1 in
+    let made : Request 2 = QueueInfo b.0 in
+    let same : made ≡ r = cc (b.2) in
+    subst (λ (q : Request 2). IsBody 8 bytes q) same (record { kind_is = refl; spelled = t.0; fits = t.1 })
+
+queue_info_again : (path : List ℕ) → FitsPath path → queue_info_at (text path) ≡ Some (QueueInfo path)
+unfolding queue_info_at
+queue_info_again path fits = rw (all_again path_at text FitsPath is_path_field path fits) refl
+
+-- ---- SetQueueState
+
+abbrev State : Type 0
+State = List ℕ × Bool
+
+abbrev FitsState : State → Type 0
+FitsState x = FitsPath x.0 × Unit {0}
+
+abbrev state : State → List ℕ
+state x = text x.0 ++ flag x.1
+
+is_state : IsField queue_state_at state FitsState
+is_state = is_pair path_at text FitsPath flag_at flag (λ holds. Unit {0}) is_path_field is_flag
+
+set_queue_state_takes : (bytes : List ℕ) (r : Request 2) → AreBytes bytes → set_queue_state_at bytes ≡ Some r → IsBody 9 bytes r
+unfolding set_queue_state_at
+set_queue_state_takes bytes r fits e =
+    let b = bind_some (all_at queue_state_at bytes) (λ x. Some (SetQueueState x.0 x.1)) r e in
+    let t = all_takes queue_state_at state FitsState is_state bytes b.0 fits b.1 in
+    let made : Request 2 = SetQueueState b.0.0 b.0.1 in
+    let same : made ≡ r = cc (b.2) in
+    subst (λ (q : Request 2). IsBody 9 bytes q) same (record { kind_is = refl; spelled = t.0; fits = t.1.0 })
+
+set_queue_state_again : (path : List ℕ) (running : Bool) → FitsPath path → set_queue_state_at (text path ++ flag running) ≡ Some (SetQueueState path running)
+unfolding set_queue_state_at
+set_queue_state_again path running fits =
+    let x : State = (path, running) in
+    rw (all_again queue_state_at state FitsState is_state x (fits, tt)) refl
+
 -- ---- ClusterInfo
 
 cluster_info_takes : (bytes : List ℕ) (r : Request 2) → cluster_info_at bytes ≡ Some r → IsBody 10 bytes r
@@ -72,30 +123,36 @@ cluster_info_again = refl
 
 -- ---- a body of any kind
 
-chosen : {A : Type 0} (b : Bool) (x y z : A) → cond b x y ≡ z → ((b ≡ true) × (x ≡ z)) ⊎ ((b ≡ false) × (y ≡ z))
-chosen true x y z e = inl (refl, e)
-chosen false x y z e = inr (refl, e)
-
 IsBody-same : (kind other : ℕ) (bytes : List ℕ) (r : Request 2) → (kind == other) ≡ true → IsBody other bytes r → IsBody kind bytes r
 IsBody-same kind other bytes r e is = record { kind_is = is.kind_is ∙ sym (eqb-true kind other e); spelled = is.spelled; fits = is.fits }
 
 body_takes : (kind : ℕ) (bytes : List ℕ) (r : Request 2) → AreBytes bytes → body_at kind bytes ≡ Some r → IsBody kind bytes r
 unfolding body_at
 body_takes kind bytes r fits e =
-    elim (chosen (kind == 5) (register_node_at bytes) (cond (kind == 10) (cluster_info_at bytes) None) (Some r) e) [
+    elim (chosen (kind == 5) (register_node_at bytes) _ (Some r) e) [
       | inl t ↦ IsBody-same kind 5 bytes r t.0 (register_node_takes bytes r fits t.1)
-      | inr f ↦
-          let g = guard_then (kind == 10) (cluster_info_at bytes) r f.1 in
-          IsBody-same kind 10 bytes r g.0 (cluster_info_takes bytes r g.1)
+      | inr not-5 ↦ elim (chosen (kind == 8) (queue_info_at bytes) _ (Some r) not-5.1) [
+        | inl t ↦ IsBody-same kind 8 bytes r t.0 (queue_info_takes bytes r fits t.1)
+        | inr not-8 ↦ elim (chosen (kind == 9) (set_queue_state_at bytes) _ (Some r) not-8.1) [
+          | inl t ↦ IsBody-same kind 9 bytes r t.0 (set_queue_state_takes bytes r fits t.1)
+          | inr not-9 ↦
+              let g = guard_then (kind == 10) (cluster_info_at bytes) r not-9.1 in
+              IsBody-same kind 10 bytes r g.0 (cluster_info_takes bytes r g.1)
+        ]
+      ]
     ]
 
 body_again : (r : Request 2) → FitsRequest r → body_at (kind_of r) (request_body r) ≡ Some r
 unfolding body_at
 body_again (RegisterNode host rack total) fits = register_node_again host rack total fits
+body_again (QueueInfo path) fits = queue_info_again path fits
+body_again (SetQueueState path running) fits = set_queue_state_again path running fits
 body_again ClusterInfo fits = cluster_info_again
 
 kind_fits : (r : Request 2) → kind_of r < 256
 kind_fits (RegisterNode host rack total) = omega arith
+kind_fits (QueueInfo path) = omega arith
+kind_fits (SetQueueState path running) = omega arith
 kind_fits ClusterInfo = omega arith
 
 -- ---- the whole

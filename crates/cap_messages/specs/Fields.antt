@@ -1,5 +1,5 @@
 -- Reading fields from left to right. A field is a value and the bytes after it.
-use Rattle.std.specs.Prelude.{◌≡◌, ℕ, zero, suc, List, [], ◌∷◌, length, take, drop, Option, Some, None, Result, Ok, Err, Bool, nat_lt, nat_le, ◌==◌, if◌then◌else◌}
+use Rattle.std.specs.Prelude.{◌≡◌, ℕ, zero, suc, List, [], ◌∷◌, length, take, drop, Option, Some, None, Result, Ok, Err, Bool, true, false, nat_lt, nat_le, ◌==◌, if◌then◌else◌}
 use Rattle.std.specs.Int.{Width, w64, byte_len, from_be_bytes}
 use Rattle.cap_messages.specs.declared.fault.MessageFault.{MessageFault}
 use Rattle.cap_messages.specs.declared.fault.MessageFault.TheVariants.{Bad}
@@ -52,6 +52,16 @@ all_at field bytes = do
 abbrev pub byte_at : List ℕ → Option (ℕ × List ℕ)
 byte_at [] = None
 byte_at (b ∷ rest) = Some (b, rest)
+
+-- a byte that is 1 or 0
+abbrev pub flag_of_byte : ℕ → Option Bool
+flag_of_byte byte = if byte == 0 then Some false else if byte == 1 then Some true else None
+
+abbrev pub flag_at : List ℕ → Option (Bool × List ℕ)
+flag_at bytes = do
+  byte ← byte_at bytes
+  holds ← flag_of_byte byte.0
+  Some (holds, byte.1)
 
 abbrev pub number_at : Width → List ℕ → Option (ℕ × List ℕ)
 number_at w bytes = if nat_lt (length bytes) (byte_len w) then None else Some (from_be_bytes w (take (byte_len w) bytes), drop (byte_len w) bytes)

@@ -2,7 +2,7 @@
 ghost use Rattle.std.specs.Prelude.{◌≡◌, ◌≤◌, IfOk};
 ghost use Rattle.std.specs.Int.{w32, w64};
 ghost use Rattle.cap_vector.specs.Vector.{amount_max, IsResource};
-ghost use Rattle.cap_messages.specs.Fields.{Gives, byte_at, number_at, text_at, amount_at, amounts_at};
+ghost use Rattle.cap_messages.specs.Fields.{Gives, byte_at, flag_at, number_at, text_at, amount_at, amounts_at};
 
 use crate::fault::MessageFault;
 use cap_vector::AMOUNT_MAX;
@@ -13,6 +13,18 @@ pub(crate) fn byte_of(bytes: &[u8]) -> Result<(u8, &[u8]), MessageFault>
     match bytes {
         [] => Err(MessageFault::Bad),
         [byte, rest @ ..] => Ok((*byte, rest)),
+    }
+}
+
+// A byte that is 1 or 0.
+pub(crate) fn flag_of(bytes: &[u8]) -> Result<(bool, &[u8]), MessageFault>
+    ensures { Gives (λ x. (x.0, x.1.now)) result (flag_at bytes.now) }
+{
+    let (byte, rest) = byte_of(bytes)?;
+    match byte {
+        0 => Ok((false, rest)),
+        1 => Ok((true, rest)),
+        _ => Err(MessageFault::Bad),
     }
 }
 

@@ -3,6 +3,7 @@ ghost use Rattle.cap_messages.specs.Spelling.{IsOfKind, FitsReply, IsReply, repl
 
 use crate::cluster_info::put_counts;
 use crate::output::{Out, REPLY_ROOM, put_amounts};
+use crate::queue_calls::put_queue_report;
 use cap_model::Reply;
 
 // The status and what follows it, after the 10 bytes of a frame's length and a reply's head.
@@ -19,6 +20,26 @@ fn put_reply_body(reply: &Reply<2>, out: &mut Out)
             out.extend_reserved(&[0]);
             out.extend_reserved(&node.to_be_bytes());
         }
+        Reply::QueueInfo {
+            running,
+            leaf,
+            guaranteed,
+            maximum,
+            used,
+            applications,
+        } => {
+            out.extend_reserved(&[0]);
+            put_queue_report(
+                *running,
+                *leaf,
+                guaranteed,
+                maximum,
+                used,
+                *applications,
+                out,
+            );
+        }
+        Reply::SetQueueState => out.extend_reserved(&[0]),
         Reply::ClusterInfo {
             nodes,
             applications,

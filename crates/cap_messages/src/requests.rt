@@ -7,7 +7,8 @@ ghost use Rattle.cap_messages.specs.Reading.{GivesInMemory, head_at, body_at, re
 use crate::cluster_info::cluster_info_of;
 use crate::fault::MessageFault;
 use crate::fields::{byte_of, u32_of};
-use crate::kinds::{CLUSTER_INFO, REGISTER_NODE};
+use crate::kinds::{CLUSTER_INFO, QUEUE_INFO, REGISTER_NODE, SET_QUEUE_STATE};
+use crate::queue_calls::{queue_info_of, set_queue_state_of};
 use crate::register_node::register_node_of;
 use cap_model::Request;
 use std::alloc::Global;
@@ -30,6 +31,8 @@ fn body_of(_alloc: Global, kind: u8, bytes: &[u8]) -> Result<Request<2>, Message
 {
     match kind {
         REGISTER_NODE => register_node_of(bytes),
+        QUEUE_INFO => queue_info_of(bytes),
+        SET_QUEUE_STATE => set_queue_state_of(bytes),
         CLUSTER_INFO => cluster_info_of(bytes),
         _ => Err(MessageFault::Bad),
     }
@@ -50,7 +53,7 @@ fn request_of(alloc: Global, bytes: &[u8]) -> Result<(u32, Request<2>), MessageF
 
 /// The call id and the request that a payload spells, with all of its bytes. `Bad` exactly where it spells none: a
 /// version other than 1, another kind, a text or an amount over its bound, a text with length 0 or another byte, a host
-/// that is `*` or begins with `/`, a rack that does not, bytes missing or left over. `NoMemory` where an allocation was
+/// that is `*` or begins with `/`, a rack that does not, a state other than 0 and 1, bytes missing or left over. `NoMemory` where an allocation was
 /// refused, which only a kind that carries a list can meet. Amounts are in MiB of memory and in vcores.
 pub fn read_request(alloc: Global, bytes: &[u8]) -> Result<(u32, Request<2>), MessageFault>
     // What is read is spelled so.

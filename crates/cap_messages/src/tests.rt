@@ -15,9 +15,28 @@ const REGISTER_NODE: &[u8] = &[
     0, 0, 8,
 ];
 
+// Call id 9, path root.a.
+const QUEUE_INFO: &[u8] = &[1, 8, 0, 0, 0, 9, 6, 0x72, 0x6f, 0x6f, 0x74, 0x2e, 0x61];
+
+// Call id 1, path root.a, STOPPED.
+const SET_QUEUE_STATE: &[u8] = &[1, 9, 0, 0, 0, 1, 6, 0x72, 0x6f, 0x6f, 0x74, 0x2e, 0x61, 0];
+
 const CLUSTER_INFO_REPLY: &[u8] = &[
     1, 0x0a, 0, 0, 0, 3, 0, 0, 0, 0, 1, 0, 0, 0, 0, 0, 0, 0, 0, 0, 0, 0, 0, 0, 0, 0x20, 0, 0, 0, 0,
     0, 0, 0, 0, 8, 0, 0, 0, 0, 0, 0, 0, 0, 0, 0, 0, 0, 0, 0, 0, 0,
+];
+
+// A running leaf with guarantee (4096, 4), maximum (16384, 16), use 0 and no application.
+const QUEUE_INFO_REPLY: &[u8] = &[
+    1, 8, 0, 0, 0, 9, 0, 1, 1, 0, 0, 0, 0, 0, 0, 0x10, 0, 0, 0, 0, 0, 0, 0, 0, 4, 1, 0, 0, 0, 0, 0,
+    0, 0x40, 0, 0, 0, 0, 0, 0, 0, 0, 0x10, 0, 0, 0, 0, 0, 0, 0, 0, 0, 0, 0, 0, 0, 0, 0, 0, 0, 0, 0,
+    0,
+];
+
+// A stopped parent with guarantee 0 and no maximum, use (3072, 2) and 5 applications.
+const UNBOUNDED_REPLY: &[u8] = &[
+    1, 8, 0, 0, 0, 9, 0, 0, 0, 0, 0, 0, 0, 0, 0, 0, 0, 0, 0, 0, 0, 0, 0, 0, 0, 0, 0, 0, 0, 0, 0, 0,
+    0, 0, 0, 0, 0, 0, 0, 0, 0, 0, 0, 0, 0, 0, 0, 0, 0x0c, 0, 0, 0, 0, 0, 0, 0, 0, 2, 0, 0, 0, 5,
 ];
 
 const AMOUNT_MAX: u64 = 1 << 40;
@@ -33,6 +52,18 @@ fn registration(alloc: Global, host: &[u8], rack: &[u8], memory: u64) -> Result<
     bytes.extend_from_slice(rack)?;
     bytes.extend_from_slice(&memory.to_be_bytes())?;
     bytes.extend_from_slice(&[0, 0, 0, 0, 0, 0, 0, 1])?;
+    Ok(bytes)
+}
+
+// A call with call id 1, this path, whatever it is, and these bytes after it: of kind 8 a QueueInfo where there are
+// none, of kind 9 a SetQueueState where there is one.
+fn queue_call(alloc: Global, kind: u8, path: &[u8], state: &[u8]) -> Result<Vec<u8>, AllocError>
+    requires { length path.now ≤ 255 }
+{
+    let mut bytes = Vec::from_slice(alloc, &[1, kind, 0, 0, 0, 1])?;
+    bytes.push(path.len() as u8)?;
+    bytes.extend_from_slice(path)?;
+    bytes.extend_from_slice(state)?;
     Ok(bytes)
 }
 
@@ -113,6 +144,69 @@ fn texts_and_amounts_have_bounds(rt: HostRuntime) -> Result<(), Fail> {
 }
 
 #[test]
+fn queue_calls_are_read(rt: HostRuntime) -> Result<(), Fail> {
+    let (call_id, request) = read_request(rt.alloc(), QUEUE_INFO)?;
+    assert_eq!(rt; call_id, 9);
+    assert_eq!(rt; kind(&request), 8);
+    let Request::QueueInfo { path } = request else {
+        return Err("another kind".into());
+    };
+    assert_eq!(rt; path.as_bytes(), b"root.a".as_slice());
+
+    let (call_id, request) = read_request(rt.alloc(), SET_QUEUE_STATE)?;
+    assert_eq!(rt; call_id, 1);
+    assert_eq!(rt; kind(&request), 9);
+    let Request::SetQueueState { path, running } = request else {
+        return Err("another kind".into());
+    };
+    assert_eq!(rt; path.as_bytes(), b"root.a".as_slice());
+    assert!(rt; !running);
+
+    let start = queue_call(rt.alloc(), 9, b"root.a", &[1])?;
+    let (_, request) = read_request(rt.alloc(), &start)?;
+    assert!(rt; matches!(request, Request::SetQueueState { running: true, .. }));
+    Ok(())
+}
+
+#[test]
+fn paths_and_states_have_bounds(rt: HostRuntime) -> Result<(), Fail> {
+    let rows: [(u8, &[u8], &[u8], bool); 18] = [
+        (8, b"root.a", &[], true),
+        (8, b".a..b,", &[], true),
+        (8, &[b'q'; 65], &[], true),
+        (8, &[b'q'; 255], &[], true),
+        (8, &[b'q'; 255], b"q", false),
+        (8, b"", &[], false),
+        (8, b"root a", &[], false),
+        (8, b"root.\x7f", &[], false),
+        (8, b"root.a", &[0], false),
+        (9, b"root.a", &[0], true),
+        (9, b"root.a", &[1], true),
+        (9, b"root.a", &[2], false),
+        (9, b"root.a", &[255], false),
+        (9, b"root.a", &[], false),
+        (9, b"root.a", &[1, 0], false),
+        (9, &[b'q'; 255], &[1], true),
+        (9, b"", &[1], false),
+        (9, b"root\n", &[1], false),
+    ];
+    for (i, (kind, path, state, is_good)) in rows.iter().enumerate() {
+        prove!(path.len() <= 255);
+        let bytes = queue_call(rt.alloc(), *kind, path, state)?;
+        assert_eq!(rt;
+            read_request(rt.alloc(), &bytes).is_ok(),
+            *is_good,
+            "row {i}"
+        );
+    }
+    let (_, missing) = QUEUE_INFO.split_last().ok_or("no bytes")?;
+    assert!(rt; is_bad(rt.alloc(), missing));
+    let (_, missing) = SET_QUEUE_STATE.split_last().ok_or("no bytes")?;
+    assert!(rt; is_bad(rt.alloc(), missing));
+    Ok(())
+}
+
+#[test]
 fn replies_are_written(rt: HostRuntime) -> Result<(), Fail> {
     let mut out: Out = BytesMut::with_capacity(rt.alloc(), REPLY_ROOM)?;
     write_reply(2, 5, &Reply::RegisterNode { node: 1 }, &mut out);
@@ -135,6 +229,65 @@ fn replies_are_written(rt: HostRuntime) -> Result<(), Fail> {
     };
     write_reply(3, 10, &reply, &mut out);
     assert_eq!(rt; out.as_slice(), CLUSTER_INFO_REPLY);
+    Ok(())
+}
+
+#[test]
+fn queue_replies_are_written(rt: HostRuntime) -> Result<(), Fail> {
+    let mut out: Out = BytesMut::with_capacity(rt.alloc(), REPLY_ROOM)?;
+    let reply = Reply::QueueInfo {
+        running: true,
+        leaf: true,
+        guaranteed: Resource::new([4096, 4]).ok_or("a resource")?,
+        maximum: Resource::new([16384, 16]),
+        used: Sum::zero(),
+        applications: 0,
+    };
+    write_reply(9, 8, &reply, &mut out);
+    assert_eq!(rt; out.as_slice(), QUEUE_INFO_REPLY);
+
+    let mut out: Out = BytesMut::with_capacity(rt.alloc(), REPLY_ROOM)?;
+    let reply = Reply::QueueInfo {
+        running: false,
+        leaf: false,
+        guaranteed: Resource::zero(),
+        maximum: None,
+        used: Sum::new([3072, 2]).ok_or("a sum")?,
+        applications: 5,
+    };
+    write_reply(9, 8, &reply, &mut out);
+    assert_eq!(rt; out.as_slice(), UNBOUNDED_REPLY);
+
+    let mut out: Out = BytesMut::with_capacity(rt.alloc(), REPLY_ROOM)?;
+    write_reply(1, 9, &Reply::SetQueueState, &mut out);
+    assert_eq!(rt; out.as_slice(), [1, 9, 0, 0, 0, 1, 0].as_slice());
+
+    let mut out: Out = BytesMut::with_capacity(rt.alloc(), REPLY_ROOM)?;
+    write_reply(9, 8, &Reply::Refused(Refusal::UnknownQueue), &mut out);
+    assert_eq!(rt; out.as_slice(), [1, 8, 0, 0, 0, 9, 1].as_slice());
+
+    let mut out: Out = BytesMut::with_capacity(rt.alloc(), REPLY_ROOM)?;
+    write_reply(1, 9, &Reply::Refused(Refusal::UnknownQueue), &mut out);
+    assert_eq!(rt; out.as_slice(), [1, 9, 0, 0, 0, 1, 1].as_slice());
+    Ok(())
+}
+
+// A maximum of 0 is another reply than none.
+#[test]
+fn no_maximum_is_no_maximum_of_zero(rt: HostRuntime) -> Result<(), Fail> {
+    let mut out: Out = BytesMut::with_capacity(rt.alloc(), REPLY_ROOM)?;
+    let reply = Reply::QueueInfo {
+        running: false,
+        leaf: false,
+        guaranteed: Resource::zero(),
+        maximum: Some(Resource::zero()),
+        used: Sum::new([3072, 2]).ok_or("a sum")?,
+        applications: 5,
+    };
+    write_reply(9, 8, &reply, &mut out);
+    let mut bounded = Vec::from_slice(rt.alloc(), UNBOUNDED_REPLY)?;
+    *bounded.get_mut(25).ok_or("a byte")? = 1;
+    assert_eq!(rt; out.as_slice(), bounded.as_slice());
     Ok(())
 }
 

@@ -1,8 +1,8 @@
-ghost use Rattle.cap_messages.specs.Texts.{is_host, is_rack};
+ghost use Rattle.cap_messages.specs.Texts.{is_host, is_rack, is_path};
 ghost use Rattle.cap_messages.specs.Fields.{Gives, passing};
 
 use crate::fault::MessageFault;
-use cap_model::ShortText;
+use cap_model::{PathText, ShortText};
 
 // A host: a text that is neither `*` nor begins with `/`, since those name any place and a rack.
 pub(crate) fn host_from(bytes: &[u8]) -> Result<ShortText, MessageFault>
@@ -28,4 +28,14 @@ pub(crate) fn rack_from(bytes: &[u8]) -> Result<ShortText, MessageFault>
         return Err(MessageFault::Bad);
     }
     Ok(rack)
+}
+
+// The path of a queue: any text. Whether a queue has it is the engine's to say.
+pub(crate) fn path_from(bytes: &[u8]) -> Result<PathText, MessageFault>
+    ensures { Gives (λ path. path) result (passing is_path bytes.now) }
+{
+    let Some(path) = PathText::new(bytes) else {
+        return Err(MessageFault::Bad);
+    };
+    Ok(path)
 }
