@@ -1,7 +1,7 @@
 -- Feeding a connection, and what it was answered before and after.
 use Rattle.std.proofs.Common.{◌≡◌, ℕ, Bool, false, List, [], ◌∷◌, ◌++◌, length, All, refl, sym, ap, subst, ◌∙◌, append_assoc, append-nil, inl, inr, ◌⊎◌}
 use Rattle.cap_model.specs.declared.event.Event.{Event}
-use Rattle.cap_model.specs.Cluster.{Cluster}
+use Rattle.cap_model.specs.Flat.{Flat}
 use Rattle.cap_frames.specs.Stream.{frame_of, Tail, rest, fault, IsStream, IsBytes}
 use Rattle.cap_frames.specs.History.{History, after_feed}
 use Rattle.cap_frames.proofs.Streams.{one_reading, stream_goes_on}
@@ -13,7 +13,7 @@ use Rattle.cap_world.specs.Serving.{Serves, IsServed, Feeds, StandsAfter}
 use Rattle.cap_world.proofs.Served.{answers_more, serves_none}
 
 -- a piece that was taken and served
-pub feeds_served : (by : ℕ) (piece : List ℕ) (from to : Cluster) (before after : List (Event 2)) (old new : Connection) (h fed last : History) (standing : Standing) (output : List ℕ) → old.taken ≡ h.fed → WaitsIfOpen standings.Open h → fed ≡ after_feed h piece
+pub feeds_served : (by : ℕ) (piece : List ℕ) (from to : Flat 2) (before after : List (Event 2)) (old new : Connection) (h fed last : History) (standing : Standing) (output : List ℕ) → old.taken ≡ h.fed → WaitsIfOpen standings.Open h → fed ≡ after_feed h piece
     → IsServed by standing fed last from to before after old.output output → new ≡ record { standing = standing; taken = last.fed; output = output } → Feeds by piece from to before after old new
 feeds_served by piece from to before after old new h fed last standing output t waits f served e =
     let taken : last.fed ≡ old.taken ++ piece = served.fed ∙ ap (λ (x : History). x.fed) f ∙ ap (λ (x : List ℕ). x ++ piece) (sym t) in
@@ -32,7 +32,7 @@ feeds_served by piece from to before after old new h fed last standing output t 
     })
 
 -- a piece that was refused memory
-pub feeds_starved : (by : ℕ) (piece : List ℕ) (cluster : Cluster) (events : List (Event 2)) (old new : Connection) (h : History) → IsBytes piece → old.taken ≡ h.fed → WaitsIfOpen standings.Open h → new ≡ record old { standing = standings.Starved } → Feeds by piece cluster cluster events events old new
+pub feeds_starved : (by : ℕ) (piece : List ℕ) (cluster : Flat 2) (events : List (Event 2)) (old new : Connection) (h : History) → IsBytes piece → old.taken ≡ h.fed → WaitsIfOpen standings.Open h → new ≡ record old { standing = standings.Starved } → Feeds by piece cluster cluster events events old new
 feeds_starved by piece cluster events old new h fits t waits e =
     let stream : IsStream old.taken h.given (rest waits.1.0) = subst (λ (x : List ℕ). IsStream x h.given (rest waits.1.0)) (sym t) waits.1.1 in
     let on = stream_goes_on old.taken piece h.given (rest waits.1.0) stream fits in
@@ -82,7 +82,7 @@ answers_as standings.Starved before piece after earlier payloads left calls fram
     )
 
 -- an open connection that is fed has answers for all its bytes
-pub answered_more : (by : ℕ) (piece : List ℕ) (calls : List Call) (from to : Cluster) (before after : List (Event 2)) (old new : Connection) → old.standing ≡ standings.Open → HasAnswers calls old → (f : Feeds by piece from to before after old new) → HasAnswers (calls ++ f.serves.calls) new
+pub answered_more : (by : ℕ) (piece : List ℕ) (calls : List Call) (from to : Flat 2) (before after : List (Event 2)) (old new : Connection) → old.standing ≡ standings.Open → HasAnswers calls old → (f : Feeds by piece from to before after old new) → HasAnswers (calls ++ f.serves.calls) new
 answered_more by piece calls from to before after old new live has f =
     let open_has : AnswersAs standings.Open old.taken calls old.output = subst (λ (s : Standing). AnswersAs s old.taken calls old.output) live has in
     let all = open_has.1 in

@@ -6,7 +6,7 @@ use Rattle.std.proofs.lemmas.List.{take_more}
 use Rattle.std.proofs.lemmas.List.Elements.{All-drop}
 use Rattle.std.proofs.Common.{drop_at}
 use Rattle.cap_model.specs.declared.event.Event.{Event}
-use Rattle.cap_model.specs.Cluster.{Cluster}
+use Rattle.cap_model.specs.Flat.{Flat}
 use Rattle.cap_frames.specs.Stream.{Tail, rest, fault, IsStream, IsBytes}
 use Rattle.cap_frames.proofs.Streams.{stream_goes_on}
 use Rattle.cap_world.specs.declared.session.Standing.{Standing}
@@ -15,7 +15,7 @@ use Rattle.cap_world.specs.declared.step.Step.{Step}
 use Rattle.cap_world.specs.declared.step.Step.TheVariants as steps
 use Rattle.cap_world.specs.declared.step.Did.{Did}
 use Rattle.cap_world.specs.declared.step.Did.TheVariants as dids
-use Rattle.cap_world.specs.declared.step.NoMemory.{NoMemory}
+use Rattle.cap_model.specs.declared.no_memory.NoMemory.{NoMemory}
 use Rattle.cap_world.specs.Answers.{Call}
 use Rattle.cap_world.specs.Connection.{Connection, fresh, is_open_standing, AnswersAs, AnswersSome, HasAnswers}
 use Rattle.cap_world.specs.Serving.{Feeds, StandsAfter}
@@ -88,7 +88,7 @@ hears standings.Starved before piece after output more earlier payloads fine sta
 hears standings.Open before piece after output more earlier payloads fine stands (inr stuck) = absurd (fine stuck.1)
 hears standings.Faulted before piece after output more earlier payloads fine stands (inr stuck) = absurd (fine stuck.1)
 
-hears_piece : (by : ℕ) (piece : List ℕ) (from to : Cluster) (before after : List (Event 2)) (heard : Hearing) (was is : Connection) → was.standing ≡ standings.Open → Agrees heard (Some was) → is.standing ≢ standings.Starved → Feeds by piece from to before after was is → Next (HearsPiece piece heard) (Some is)
+hears_piece : (by : ℕ) (piece : List ℕ) (from to : Flat 2) (before after : List (Event 2)) (heard : Hearing) (was is : Connection) → was.standing ≡ standings.Open → Agrees heard (Some was) → is.standing ≢ standings.Starved → Feeds by piece from to before after was is → Next (HearsPiece piece heard) (Some is)
 hears_piece by piece from to before after unopened was is lives a fine f = absurd a
 hears_piece by piece from to before after (over taken) was is lives a fine f = absurd (subst IsOver lives a.0)
 hears_piece by piece from to before after (live taken) was is lives a fine f =
@@ -177,12 +177,12 @@ some_more taken piece calls output fits has =
     let on = stream_goes_on taken piece (has.0 ++ has.1) has.2 has.3 fits in
     (has.0, has.1 ++ on.0, on.1, subst (λ (x : List (List ℕ)). IsStream (taken ++ piece) x on.1) (append_assoc has.0 has.1 on.0) on.2, has.4)
 
-starved_fits : (by : ℕ) (piece : List ℕ) (from to : Cluster) (before after : List (Event 2)) (was is : Connection) → is.standing ≡ standings.Starved → Feeds by piece from to before after was is → IsBytes piece
+starved_fits : (by : ℕ) (piece : List ℕ) (from to : Flat 2) (before after : List (Event 2)) (was is : Connection) → is.standing ≡ standings.Starved → Feeds by piece from to before after was is → IsBytes piece
 starved_fits by piece from to before after was is starved f =
     let stands = subst (λ (s : Standing). StandsAfter s (was.taken ++ piece) (f.earlier ++ f.payloads) f.more) starved f.stands in
     piece_fits was.taken piece stands.2.fits
 
-cut_short : (by : ℕ) (piece : List ℕ) (from to : Cluster) (before after : List (Event 2)) (heard : Hearing) (calls : List Call) (was is : Connection) → was.standing ≡ standings.Open → Agrees heard (Some was) → is.standing ≡ standings.Starved → Feeds by piece from to before after was is → HasAnswers calls is
+cut_short : (by : ℕ) (piece : List ℕ) (from to : Flat 2) (before after : List (Event 2)) (heard : Hearing) (calls : List Call) (was is : Connection) → was.standing ≡ standings.Open → Agrees heard (Some was) → is.standing ≡ standings.Starved → Feeds by piece from to before after was is → HasAnswers calls is
     → IsCutShort piece heard calls is.output (is_open_standing is.standing)
 cut_short by piece from to before after unopened calls was is lives a starved f has = absurd a
 cut_short by piece from to before after (over taken) calls was is lives a starved f has = absurd (subst IsOver lives a.0)
@@ -222,7 +222,7 @@ hears_more c (s ∷ made) step first second third e h = (e.0, e.1, hears_more c 
 abbrev pub HeardSoFar : List Step → Sight → Type 0
 HeardSoFar made sight = (c : ℕ) → (heard : Hearing) × Hears c made unopened heard × Agrees heard (connection_at c sight.connections)
 
-pub heard_none : (cluster : Cluster) → HeardSoFar [] (record { cluster = cluster; connections = [] })
+pub heard_none : (cluster : Flat 2) → HeardSoFar [] (record { cluster = cluster; connections = [] })
 heard_none cluster c = (unopened, refl, tt)
 
 pub heard_next : (all : List Step) (i : ℕ) (d : Step) (did : Did) (old new : Sight) (before after : List (Event 2)) → i < length all → HeardSoFar (take i all) old → Outcome (get_or all i d) (Ok did) old new before after → HeardSoFar (take (i + 1) all) new

@@ -4,7 +4,7 @@ use Rattle.std.specs.Prelude.{◌==◌}
 use Rattle.std.proofs.lemmas.Bool.{cases_Bool, eqb-true, eq-eqb}
 use Rattle.std.proofs.lemmas.List.Elements.{filter_map-append, All-nil}
 use Rattle.cap_model.specs.declared.event.Event.{Event}
-use Rattle.cap_model.specs.Cluster.{Cluster}
+use Rattle.cap_model.specs.Flat.{Flat}
 use Rattle.cap_frames.specs.Stream.{rest, IsStream, IsPayload, IsBytes}
 use Rattle.cap_frames.proofs.Streams.{written_is_read}
 use Rattle.cap_world.specs.declared.session.Standing.{Standing}
@@ -13,7 +13,7 @@ use Rattle.cap_world.specs.declared.step.Step.{Step}
 use Rattle.cap_world.specs.declared.step.Step.TheVariants as steps
 use Rattle.cap_world.specs.declared.step.Did.{Did}
 use Rattle.cap_world.specs.declared.step.Did.TheVariants as dids
-use Rattle.cap_world.specs.declared.step.NoMemory.{NoMemory}
+use Rattle.cap_model.specs.declared.no_memory.NoMemory.{NoMemory}
 use Rattle.cap_world.specs.Answers.{nothing, Call, call_by, calls_by, as_events}
 use Rattle.cap_world.specs.Connection.{Connection, fresh, AnswersAs, HasAnswers}
 use Rattle.cap_world.specs.Serving.{Feeds}
@@ -24,7 +24,7 @@ use Rattle.cap_world.proofs.Feeding.{answered_more}
 
 -- Whatever run has led to old, with what a step adds leads to new.
 abbrev pub Goes : Sight → Sight → List (Event 2) → List (Event 2) → Type 0
-Goes old new before after = (more : List (Event 2)) × (after ≡ before ++ more) × ((opening : Cluster) (events : List (Event 2)) → IsLawful opening events old → IsLawful opening (events ++ more) new)
+Goes old new before after = (more : List (Event 2)) × (after ≡ before ++ more) × ((opening : Flat 2) (events : List (Event 2)) → IsLawful opening events old → IsLawful opening (events ++ more) new)
 
 -- ---- what a connection sees of more events
 
@@ -43,7 +43,7 @@ calls_more c events more = filter_map-append (call_by c) events more
 
 keeps : (old new : Sight) → new.cluster ≡ old.cluster
     → ((c : ℕ) (calls : List Call) → HasAnswersAt calls (connection_at c old.connections) → HasAnswersAt calls (connection_at c new.connections))
-    → (opening : Cluster) (events : List (Event 2)) → IsLawful opening events old → IsLawful opening (events ++ []) new
+    → (opening : Flat 2) (events : List (Event 2)) → IsLawful opening events old → IsLawful opening (events ++ []) new
 keeps old new e each opening events w = record {
   run = rw (append-nil events, e) w.run;
   each = λ c. rw (append-nil events) (each c (calls_by c events) (w.each c));
@@ -71,13 +71,13 @@ ends_so was live calls has = subst (λ (s : Standing). AnswersAs s was.taken cal
 
 -- ---- bytes
 
-fed_own : (c : ℕ) (piece : List ℕ) (old new : List (ℕ × Connection)) (from to : Cluster) (before after : List (Event 2)) (was is : Connection) → connection_at c old ≡ Some was → was.standing ≡ standings.Open → Changes c is old new → (f : Feeds c piece from to before after was is)
+fed_own : (c : ℕ) (piece : List ℕ) (old new : List (ℕ × Connection)) (from to : Flat 2) (before after : List (Event 2)) (was is : Connection) → connection_at c old ≡ Some was → was.standing ≡ standings.Open → Changes c is old new → (f : Feeds c piece from to before after was is)
     → (calls : List Call) → HasAnswersAt calls (connection_at c old) → HasAnswersAt (calls ++ f.serves.calls) (connection_at c new)
 fed_own c piece old new from to before after was is at live change f calls a =
     rw (change c, eq-eqb c c refl) (answered_more c piece calls from to before after was is live (rw at at a) f)
 
 fed_goes : (c : ℕ) (piece : List ℕ) (old new : Sight) (before after : List (Event 2)) (was is : Connection) → connection_at c old.connections ≡ Some was → was.standing ≡ standings.Open → Changes c is old.connections new.connections → (f : Feeds c piece old.cluster new.cluster before after was is)
-    → (opening : Cluster) (events : List (Event 2)) → IsLawful opening events old → IsLawful opening (events ++ as_events c f.serves.calls) new
+    → (opening : Flat 2) (events : List (Event 2)) → IsLawful opening events old → IsLawful opening (events ++ as_events c f.serves.calls) new
 fed_goes c piece old new before after was is at live change f opening events w = record {
   run = run_more events (as_events c f.serves.calls) opening old.cluster new.cluster w.run f.serves.run;
   each = λ d. elim (cases_Bool (c == d)) [
@@ -92,7 +92,7 @@ fed_goes c piece old new before after was is at live change f opening events w =
 
 -- ---- any step
 
-quiet : (old new : Sight) (before after : List (Event 2)) → after ≡ before → ((opening : Cluster) (events : List (Event 2)) → IsLawful opening events old → IsLawful opening (events ++ []) new) → Goes old new before after
+quiet : (old new : Sight) (before after : List (Event 2)) → after ≡ before → ((opening : Flat 2) (events : List (Event 2)) → IsLawful opening events old → IsLawful opening (events ++ []) new) → Goes old new before after
 quiet old new before after e keep = ([], e ∙ sym (append-nil before), keep)
 
 same_goes : (old new : Sight) (before after : List (Event 2)) → after ≡ before → new ≡ old → Goes old new before after

@@ -1,4 +1,3 @@
-pub mod Registering
 pub mod Served
 pub mod Feeding
 pub mod Lawful

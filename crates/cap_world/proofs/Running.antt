@@ -2,11 +2,11 @@
 use Rattle.std.proofs.Common.{◌≡◌, ℕ, ◌<◌, ◌≤◌, List, ◌++◌, length, get_or, take, Some, None, slice_get, Result, Ok, Err, refl, sym, ap, subst, ◌∙◌, arith}
 use Rattle.std.proofs.lemmas.Option.{slice_get_past, slice_get-get_or}
 use Rattle.cap_model.specs.declared.event.Event.{Event}
-use Rattle.cap_model.specs.Cluster.{Cluster}
+use Rattle.cap_model.specs.Flat.{Flat}
 use Rattle.cap_model.specs.Runs.{Run}
 use Rattle.cap_world.specs.declared.step.Step.{Step}
 use Rattle.cap_world.specs.declared.step.Did.{Did}
-use Rattle.cap_world.specs.declared.step.NoMemory.{NoMemory}
+use Rattle.cap_model.specs.declared.no_memory.NoMemory.{NoMemory}
 use Rattle.cap_world.specs.Answers.{calls_by}
 use Rattle.cap_world.specs.World.{Sight, Known, IsWorld, IsLawful, connection_at, is_open, output_of, Adds}
 use Rattle.cap_world.specs.Steps.{Outcome}
@@ -14,12 +14,12 @@ use Rattle.cap_world.specs.Hearing.{IsHeadline, IsHeardBefore}
 use Rattle.cap_world.proofs.Heard.{HeardSoFar, is_heard, heard_starved}
 
 -- the opening and the events of a world are those of a run
-lawful_from : (opening : Cluster) (events : List (Event 2)) (world : Known) → world.opening ≡ opening → world.events ≡ events → IsWorld world → IsLawful opening events world.sight
+lawful_from : (opening : Flat 2) (events : List (Event 2)) (world : Known) → world.opening ≡ opening → world.events ≡ events → IsWorld world → IsLawful opening events world.sight
 lawful_from opening events world o e lawful =
-    subst (λ (x : Cluster). IsLawful x events world.sight) o (subst (λ (x : List (Event 2)). IsLawful world.opening x world.sight) e lawful)
+    subst (λ (x : Flat 2). IsLawful x events world.sight) o (subst (λ (x : List (Event 2)). IsLawful world.opening x world.sight) e lawful)
 
 -- all steps were made
-pub headline_all : (opening : Cluster) (all : List Step) (i : ℕ) (events : List (Event 2)) (world : Known) → i ≡ length all → world.opening ≡ opening → world.events ≡ events → IsWorld world → HeardSoFar (take i all) world.sight → IsHeadline opening all (length all) events world.sight
+pub headline_all : (opening : Flat 2) (all : List Step) (i : ℕ) (events : List (Event 2)) (world : Known) → i ≡ length all → world.opening ≡ opening → world.events ≡ events → IsWorld world → HeardSoFar (take i all) world.sight → IsHeadline opening all (length all) events world.sight
 headline_all opening all i events world end o e lawful so_far =
     let law = lawful_from opening events world o e lawful in
     record {
@@ -30,7 +30,7 @@ headline_all opening all i events world end o e lawful so_far =
     }
 
 -- a step was refused memory
-pub headline_cut : (opening : Cluster) (all : List Step) (i : ℕ) (d : Step) (r : Result Did NoMemory) (error : NoMemory) (mid new : Known) (before after : List (Event 2)) → i < length all → mid.opening ≡ opening → mid.events ≡ before → HeardSoFar (take i all) mid.sight → r ≡ Err error
+pub headline_cut : (opening : Flat 2) (all : List Step) (i : ℕ) (d : Step) (r : Result Did NoMemory) (error : NoMemory) (mid new : Known) (before after : List (Event 2)) → i < length all → mid.opening ≡ opening → mid.events ≡ before → HeardSoFar (take i all) mid.sight → r ≡ Err error
     → Outcome (get_or all i d) r mid.sight new.sight before after → Adds mid new before after → IsWorld new → IsHeadline opening all i after new.sight
 headline_cut opening all i d r error mid new before after below o e so_far is outcome adds lawful =
     let events : new.events ≡ after = adds.kept ∙ ap (λ (es : List (Event 2)). es ++ adds.more) e ∙ sym adds.lent in

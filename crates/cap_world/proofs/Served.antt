@@ -4,8 +4,8 @@ use Rattle.std.proofs.lemmas.List.{map-append}
 use Rattle.cap_model.specs.declared.request.Request.{Request}
 use Rattle.cap_model.specs.declared.reply.Reply.{Reply}
 use Rattle.cap_model.specs.declared.event.Event.{Event}
-use Rattle.cap_model.specs.Cluster.{Cluster}
-use Rattle.cap_model.specs.Protocol.{Replies}
+use Rattle.cap_model.specs.Flat.{Flat}
+use Rattle.cap_model.specs.Runs.{Replies}
 use Rattle.cap_model.specs.Runs.{Run}
 use Rattle.cap_frames.specs.Stream.{frame_of, Tail, rest, fault, IsStream}
 use Rattle.cap_frames.specs.History.{History, after_feed, after_gift, IsAtRest, IsAtFault, IsReading}
@@ -22,11 +22,11 @@ answers_more {qs} {ds} {more} (replied {payload} {payloads} {id} {call} {calls} 
 answers_more {qs} {ds} {more} (refused {payload} {payloads} {calls} {output} is later) b =
     subst (λ (x : List ℕ). Answers (payload ∷ (payloads ++ qs)) (calls ++ ds) x) (sym (append_assoc (frame_of (fault_reply 41)) output more)) (refused is (answers_more later b))
 
-pub run_more : (es fs : List (Event 2)) (a b c : Cluster) → Run a es b → Run b fs c → Run a (es ++ fs) c
-run_more [] fs a b c e run = subst (λ (x : Cluster). Run x fs c) (sym e) run
+pub run_more : (es fs : List (Event 2)) (a b c : Flat 2) → Run a es b → Run b fs c → Run a (es ++ fs) c
+run_more [] fs a b c e run = subst (λ (x : Flat 2). Run x fs c) (sym e) run
 run_more (e ∷ es) fs a b c run more = (run.0, run.1, run_more es fs run.0 b c run.2 more)
 
-pub serves_none : (by : ℕ) (cluster : Cluster) (events : List (Event 2)) → Serves by [] cluster cluster events events []
+pub serves_none : (by : ℕ) (cluster : Flat 2) (events : List (Event 2)) → Serves by [] cluster cluster events events []
 serves_none by cluster events = record { calls = []; answers = nothing; events = sym (append-nil events); run = refl }
 
 pub serves_more : {by : ℕ} {ps qs : List (List ℕ)} {a b c : Cluster} {before mid after : List (Event 2)} {frames more : List ℕ} → Serves by ps a b before mid frames → Serves by qs b c mid after more → Serves by (ps ++ qs) a c before after (frames ++ more)
@@ -37,7 +37,7 @@ serves_more {by} {a} {b} {c} {before} x y = record {
   run = rw map-append (run_more (as_events by x.calls) (as_events by y.calls) a b c x.run y.run);
 }
 
-pub serves_call : (by id : ℕ) (payload : List ℕ) (request : Request 2) (reply : Reply 2) (from to : Cluster) (before after : List (Event 2)) → IsRequest payload id request → Replies from request reply to → after ≡ before ++ call_event by request reply ∷ []
+pub serves_call : (by id : ℕ) (payload : List ℕ) (request : Request 2) (reply : Reply 2) (from to : Flat 2) (before after : List (Event 2)) → IsRequest payload id request → Replies from request reply to → after ≡ before ++ call_event by request reply ∷ []
     → Serves by (payload ∷ []) from to before after (frame_of (reply_bytes id (kind_of request) reply))
 serves_call by id payload request reply from to before after is replies e = record {
   calls = record { request = request; reply = reply } ∷ [];
@@ -46,7 +46,7 @@ serves_call by id payload request reply from to before after is replies e = reco
   run = (to, replies, refl);
 }
 
-pub serves_fault : (by : ℕ) (payload : List ℕ) (cluster : Cluster) (events : List (Event 2)) → IsNoRequest payload → Serves by (payload ∷ []) cluster cluster events events (frame_of (fault_reply 41))
+pub serves_fault : (by : ℕ) (payload : List ℕ) (cluster : Flat 2) (events : List (Event 2)) → IsNoRequest payload → Serves by (payload ∷ []) cluster cluster events events (frame_of (fault_reply 41))
 serves_fault by payload cluster events is = record {
   calls = [];
   answers = subst (λ (x : List ℕ). Answers (payload ∷ []) [] x) (append-nil (frame_of (fault_reply 41))) (refused is nothing);
@@ -56,7 +56,7 @@ serves_fault by payload cluster events is = record {
 
 -- ---- the frames of a framer
 
-pub served_none : (by : ℕ) (h : History) (cluster : Cluster) (events : List (Event 2)) (output : List ℕ) → h.is_spent ≡ false → HasServed by h h cluster cluster events events output output
+pub served_none : (by : ℕ) (h : History) (cluster : Flat 2) (events : List (Event 2)) (output : List ℕ) → h.is_spent ≡ false → HasServed by h h cluster cluster events events output output
 served_none by h cluster events output ready = record {
   payloads = [];
   frames = [];
@@ -138,7 +138,7 @@ served_fault {by} {old} {mid} {a} {b} {before} {after} {first} {second} standing
 }
 
 -- a payload that is none was answered, where memory was found
-pub fault_served : {T E : Type 0} (r : Result T E) (by : ℕ) (payload : List ℕ) (cluster : Cluster) (events : List (Event 2)) (first second : List ℕ) → IsNoRequest payload → OnOk r (second ≡ first ++ frame_of (fault_reply 41))
+pub fault_served : {T E : Type 0} (r : Result T E) (by : ℕ) (payload : List ℕ) (cluster : Flat 2) (events : List (Event 2)) (first second : List ℕ) → IsNoRequest payload → OnOk r (second ≡ first ++ frame_of (fault_reply 41))
     → OnOk r ((frames : List ℕ) × (second ≡ first ++ frames) × Serves by (payload ∷ []) cluster cluster events events frames)
 fault_served (Ok x) by payload cluster events first second none e = (frame_of (fault_reply 41), e, serves_fault by payload cluster events none)
 fault_served (Err x) by payload cluster events first second none e = tt

@@ -1,7 +1,7 @@
 -- What answering payloads does, and what feeding a connection does.
 use Rattle.std.specs.Prelude.{◌≡◌, ◌⊎◌, ℕ, List, [], ◌∷◌, ◌++◌, false}
 use Rattle.cap_model.specs.declared.event.Event.{Event}
-use Rattle.cap_model.specs.Cluster.{Cluster}
+use Rattle.cap_model.specs.Flat.{Flat}
 use Rattle.cap_model.specs.Runs.{Run}
 use Rattle.cap_frames.specs.Stream.{Tail, rest, fault, IsStream}
 use Rattle.cap_frames.specs.History.{History}
@@ -12,14 +12,14 @@ use Rattle.cap_world.specs.Connection.{Connection, WaitsIfOpen}
 
 -- What it did to answer these payloads of one connection: one call a request, the calls as events, the cluster's run over them, and the
 -- frames of the answers
-pub record Serves (by : ℕ) (payloads : List (List ℕ)) (from to : Cluster) (before after : List (Event 2)) (frames : List ℕ) : Type 0 where
+pub record Serves (by : ℕ) (payloads : List (List ℕ)) (from to : Flat 2) (before after : List (Event 2)) (frames : List ℕ) : Type 0 where
   pub calls : List Call
   pub answers : Answers payloads calls frames
   pub events : after ≡ before ++ as_events by calls
   pub run : Run from (as_events by calls) to
 
 -- the frames that a framer gave since, and their answers
-pub record HasServed (by : ℕ) (old new : History) (from to : Cluster) (before after : List (Event 2)) (output_before output_after : List ℕ) : Type 0 where
+pub record HasServed (by : ℕ) (old new : History) (from to : Flat 2) (before after : List (Event 2)) (output_before output_after : List ℕ) : Type 0 where
   pub payloads : List (List ℕ)
   pub frames : List ℕ
   pub fed : new.fed ≡ old.fed
@@ -38,7 +38,7 @@ StandsAfter standings.Ended bytes payloads more = ⊥
 
 -- What a piece did to an open connection: the payloads before it, those that it completed, with their answers, and how the stream then stands.
 -- All of the piece was taken, or none of it for want of memory.
-pub record Feeds (by : ℕ) (piece : List ℕ) (from to : Cluster) (before after : List (Event 2)) (old new : Connection) : Type 0 where
+pub record Feeds (by : ℕ) (piece : List ℕ) (from to : Flat 2) (before after : List (Event 2)) (old new : Connection) : Type 0 where
   pub earlier : List (List ℕ)
   pub left : List ℕ
   pub stream : IsStream old.taken earlier (rest left)
@@ -51,7 +51,7 @@ pub record Feeds (by : ℕ) (piece : List ℕ) (from to : Cluster) (before after
   pub taken : (new.taken ≡ old.taken ++ piece) ⊎ ((new.taken ≡ old.taken) × (new.standing ≡ standings.Starved) × (payloads ≡ []))
 
 -- The frames that a framer had were answered, as far as they came, and the connection stands so then.
-pub record IsServed (by : ℕ) (standing : Standing) (old new : History) (from to : Cluster) (before after : List (Event 2)) (output_before output_after : List ℕ) : Type 0 where
+pub record IsServed (by : ℕ) (standing : Standing) (old new : History) (from to : Flat 2) (before after : List (Event 2)) (output_before output_after : List ℕ) : Type 0 where
   pub payloads : List (List ℕ)
   pub frames : List ℕ
   pub more : List ℕ

@@ -1,14 +1,14 @@
 -- What each step does to a world.
 use Rattle.std.specs.Prelude.{◌≡◌, ◌≢◌, ℕ, List, [], ◌∷◌, ◌++◌, Some, None, Result, Ok, Err, false, IsSome}
 use Rattle.cap_model.specs.declared.event.Event.{Event}
-use Rattle.cap_model.specs.Cluster.{Cluster}
+use Rattle.cap_model.specs.Flat.{Flat}
 use Rattle.cap_world.specs.declared.session.Standing.{Standing}
 use Rattle.cap_world.specs.declared.session.Standing.TheVariants as standings
 use Rattle.cap_world.specs.declared.step.Step.{Step}
 use Rattle.cap_world.specs.declared.step.Step.TheVariants as steps
 use Rattle.cap_world.specs.declared.step.Did.{Did}
 use Rattle.cap_world.specs.declared.step.Did.TheVariants as dids
-use Rattle.cap_world.specs.declared.step.NoMemory.{NoMemory}
+use Rattle.cap_model.specs.declared.no_memory.NoMemory.{NoMemory}
 use Rattle.cap_world.specs.Connection.{Connection, fresh}
 use Rattle.cap_world.specs.Serving.{Feeds}
 use Rattle.cap_world.specs.World.{Sight, connection_at, is_open, Changes}
@@ -18,7 +18,7 @@ abbrev pub Ended : ℕ → List (ℕ × Connection) → List (ℕ × Connection)
 Ended c old new = (was : Connection) × (connection_at c old ≡ Some was) × (was.standing ≡ standings.Open) × Changes c (record was { standing = standings.Ended }) old new
 
 -- an open connection was fed a piece, and stands so then
-abbrev pub Fed : ℕ → List ℕ → Standing → List (ℕ × Connection) → List (ℕ × Connection) → Cluster → Cluster → List (Event 2) → List (Event 2) → Type 0
+abbrev pub Fed : ℕ → List ℕ → Standing → List (ℕ × Connection) → List (ℕ × Connection) → Flat 2 → Flat 2 → List (Event 2) → List (Event 2) → Type 0
 Fed c piece standing old new from to before after =
     (was is : Connection) × (connection_at c old ≡ Some was) × (was.standing ≡ standings.Open) × Changes c is old new × Feeds c piece from to before after was is × (is.standing ≡ standing)
 

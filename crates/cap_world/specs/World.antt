@@ -4,14 +4,15 @@ use Rattle.std.specs.List.{flat_map}
 use Rattle.std.specs.Map.{lookup}
 use Rattle.std.specs.Global.{Vec}
 use Rattle.cap_model.specs.declared.event.Event.{Event}
-use Rattle.cap_model.specs.Cluster.{Cluster, empty}
+use Rattle.cap_model.specs.Settings.{Settings}
+use Rattle.cap_model.specs.Flat.{Flat, opened}
 use Rattle.cap_model.specs.Runs.{Run}
 use Rattle.cap_world.specs.Answers.{Call, calls_by}
 use Rattle.cap_world.specs.Connection.{Connection, HasAnswers, is_open_standing}
 
 -- what is seen of a world: the cluster, and the connections that were ever opened, by number
 pub record Sight : Type 0 where
-  pub cluster : Cluster
+  pub cluster : Flat 2
   pub connections : List (ℕ × Connection)
 
 -- the connection of a number, if it was ever opened
@@ -44,20 +45,20 @@ HasAnswersAt calls (Some connection) = HasAnswers calls connection
 
 -- The events are a run of the flat cluster from the opening to the cluster, and each connection was answered for the bytes that it took
 -- by its calls among them.
-pub record IsLawful (opening : Cluster) (events : List (Event 2)) (sight : Sight) : Type 0 where
+pub record IsLawful (opening : Flat 2) (events : List (Event 2)) (sight : Sight) : Type 0 where
   pub run : Run opening events sight.cluster
   pub each : (c : ℕ) → HasAnswersAt (calls_by c events) (connection_at c sight.connections)
 
 -- a world, with what it keeps for contracts alone: its opening cluster and its events
 pub record Known : Type 0 where
-  pub opening : Cluster
+  pub opening : Flat 2
   pub events : List (Event 2)
   pub sight : Sight
 
 abbrev pub IsWorld : Known → Type 0
 IsWorld world = IsLawful world.opening world.events world.sight
 
-abbrev pub start : Cluster → Known
+abbrev pub start : Flat 2 → Known
 start opening = record { opening = opening; events = []; sight = record { cluster = opening; connections = [] } }
 
 -- The opening stays, and the same events are added to the world's and to the list that was lent.
@@ -71,7 +72,11 @@ pub record Adds (old new : Known) (before after : List (Event 2)) : Type 0 where
 abbrev pub events_of : List (Vec (Event 2) × ℕ) → List (Event 2)
 events_of entries = flat_map (λ e. drop e.1 e.0.items) entries
 
+-- the settings of nothing
+abbrev pub nothing : Settings
+nothing = record { queues = []; minimum_allocation = []; maximum_allocation = []; application_limit = 0 }
+
 -- the first entry is the opening
-abbrev pub opening_of : List (Cluster × ℕ) → Cluster
-opening_of [] = empty
+abbrev pub opening_of : List (Flat 2 × ℕ) → Flat 2
+opening_of [] = opened nothing
 opening_of (x ∷ xs) = x.0

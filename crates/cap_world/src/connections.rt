@@ -1,14 +1,14 @@
 //! The connections that were ever opened, by number.
 ghost use Rattle.std.specs.Prelude.{◌≡◌, List, Ok, true};
 ghost use Rattle.cap_model.specs.declared.event.Event.{Event};
-ghost use Rattle.cap_model.specs.Cluster.{Cluster};
+ghost use Rattle.cap_model.specs.Flat.{Flat};
 ghost use Rattle.cap_world.specs.World.{connection_at, is_open_connection, output_from};
 ghost use Rattle.cap_world.specs.Steps.{Outcome, Ended, Fed};
 
-use crate::cluster::Cluster;
+use cap_commit::Cluster;
 use crate::session::{Session, Standing};
-use crate::step::{Did, NoMemory, Step};
-use cap_model::Event;
+use crate::step::{Did, Step};
+use cap_model::{Event, NoMemory};
 use indexmap::IndexMap;
 use std::alloc::Global;
 
@@ -40,7 +40,7 @@ pub(crate) fn open(
     connections: &mut Connections,
     number: u32,
 ) -> Result<Did, NoMemory>
-    ensures { (cluster : Cluster) (events : List (Event 2)) → Outcome (Step.Open number) result
+    ensures { (cluster : Flat 2) (events : List (Event 2)) → Outcome (Step.Open number) result
         (record { cluster = cluster; connections = connections.old.entries })
         (record { cluster = cluster; connections = connections.new.entries }) events events }
 {
@@ -58,7 +58,7 @@ pub(crate) fn open(
 
 /// Ends a connection, if it is open.
 pub(crate) fn end(connections: &mut Connections, number: u32) -> Did
-    ensures { (cluster : Cluster) (events : List (Event 2)) → Outcome (Step.End number) (Ok result)
+    ensures { (cluster : Flat 2) (events : List (Event 2)) → Outcome (Step.End number) (Ok result)
         (record { cluster = cluster; connections = connections.old.entries })
         (record { cluster = cluster; connections = connections.new.entries }) events events }
 {
@@ -85,7 +85,7 @@ pub(crate) fn feed(
     connections: &mut Connections,
     number: u32,
     piece: &[u8],
-    cluster: &mut Cluster,
+    cluster: &mut Cluster<2>,
     events: &mut Vec<Event<2>>,
 ) -> Result<Did, NoMemory>
     ensures { Outcome (Step.Bytes number piece.entry) result
@@ -106,7 +106,7 @@ fn feed_open(
     connections: &mut Connections,
     number: u32,
     piece: &[u8],
-    cluster: &mut Cluster,
+    cluster: &mut Cluster<2>,
     events: &mut Vec<Event<2>>,
 ) -> Standing
     requires { is_open_connection (connection_at number connections.old.entries) ≡ true }

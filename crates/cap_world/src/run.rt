@@ -1,10 +1,10 @@
 ghost use Rattle.std.specs.Prelude.{◌≡◌, ◌≤◌, length};
 ghost use Rattle.cap_world.specs.Hearing.{IsHeadline};
 
-use crate::cluster::Cluster;
-use crate::step::{NoMemory, Step};
+use cap_commit::Cluster;
+use crate::step::Step;
 use crate::world::World;
-use cap_model::Event;
+use cap_model::{Event, NoMemory};
 use std::alloc::Global;
 
 /// What a run leaves: the world, the events, and the number of steps before the first that was refused memory.
@@ -17,7 +17,7 @@ pub struct Outcome {
 
 impl World {
     /// Makes the steps in order, up to the first that is refused memory.
-    pub fn run(alloc: Global, opening: Cluster, steps: &[Step]) -> Outcome
+    pub fn run(alloc: Global, opening: Cluster<2>, steps: &[Step]) -> Outcome
         ensures done { result.done ≤ length steps.now }
         ensures opening { result.world.opening ≡ opening }
         ensures events { result.world.events ≡ result.events.items }

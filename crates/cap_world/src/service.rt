@@ -1,16 +1,18 @@
 ghost use Rattle.std.specs.Prelude.{◌≡◌, ◌≤◌, ◌+◌, ◌<◌, [], ◌∷◌, ◌++◌, ℕ, List, OnOk, OnErr, length, vec_len, vec_capacity, false};
 ghost use Rattle.cap_model.specs.declared.reply.Reply.{Reply};
-ghost use Rattle.cap_model.specs.Protocol.{Replies};
+ghost use Rattle.cap_model.specs.Runs.{Replies};
 ghost use Rattle.cap_frames.specs.Stream.{frame_of};
 ghost use Rattle.cap_messages.specs.Spelling.{kind_of, reply_bytes, fault_reply};
 ghost use Rattle.cap_world.specs.Answers.{call_event};
 ghost use Rattle.cap_world.specs.Serving.{Serves, IsServed, Faults};
 
-use crate::cluster::Cluster;
+use cap_commit::Cluster;
 use crate::session::Standing;
 use bytes::BytesMut;
 use cap_frames::{FrameFault, Framer, put_frame};
-use cap_messages::{MessageFault, Out, REPLY_ROOM, kind, read_request, write_fault, write_reply};
+use cap_messages::{
+    MessageFault, Out, REPLY_ROOM, dispatch, kind, read_request, write_fault, write_reply,
+};
 use cap_model::{Event, Request};
 use std::alloc::{AllocError, Global};
 
@@ -24,7 +26,7 @@ pub(crate) fn serve(
     by: u32,
     framer: &mut Framer,
     output: &mut BytesMut,
-    cluster: &mut Cluster,
+    cluster: &mut Cluster<2>,
     events: &mut Vec<Event<2>>,
 ) -> Standing
     requires { framer.old.is_spent ≡ false }
@@ -61,7 +63,7 @@ fn answer(
     by: u32,
     payload: &[u8],
     output: &mut BytesMut,
-    cluster: &mut Cluster,
+    cluster: &mut Cluster<2>,
     events: &mut Vec<Event<2>>,
 ) -> Result<(), AllocError>
     ensures ok { OnOk result ((frames : List ℕ) × (output.new.items ≡ output.old.items ++ frames)
@@ -73,7 +75,7 @@ fn answer(
             let mut room = Out::with_capacity(alloc, REPLY_ROOM)?;
             output.reserve(REPLY_ROOM)?;
             events.reserve(1)?;
-            perform(by, call_id, request, cluster, &mut room, output, events);
+            perform(alloc, by, call_id, request, cluster, &mut room, output, events);
             Ok(())
         }
         Err(MessageFault::Bad) => put_fault(alloc, BAD_MESSAGE, output),
@@ -83,10 +85,11 @@ fn answer(
 
 /// Makes a call and writes its reply. All room has been made.
 fn perform(
+    alloc: Global,
     by: u32,
     call_id: u32,
     request: Request<2>,
-    cluster: &mut Cluster,
+    cluster: &mut Cluster<2>,
     room: &mut Out,
     output: &mut BytesMut,
     events: &mut Vec<Event<2>>,
@@ -100,7 +103,7 @@ fn perform(
         × (events.new.items ≡ events.old.items ++ call_event by request reply ∷ []) }
 {
     let kind = kind(&request);
-    let reply = cluster.answer(&request);
+    let reply = dispatch(alloc, cluster, &request);
     write_reply(call_id, kind, &reply, room);
     let Ok(()) = put_frame(output, room.as_slice()) else {
         unreachable!()

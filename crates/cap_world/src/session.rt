@@ -2,7 +2,7 @@ ghost use Rattle.std.specs.Prelude.{◌≡◌, [], ◌++◌, IfOk, OnOk, OnErr, 
 ghost use Rattle.cap_world.specs.Connection.{Connection, fresh, is_open_standing};
 ghost use Rattle.cap_world.specs.Serving.{Feeds};
 
-use crate::cluster::Cluster;
+use cap_commit::Cluster;
 use crate::service::serve;
 use bytes::BytesMut;
 use cap_frames::{Framer, NoMemory};
@@ -85,7 +85,7 @@ impl Session {
         alloc: Global,
         by: u32,
         piece: &[u8],
-        cluster: &mut Cluster,
+        cluster: &mut Cluster<2>,
         events: &mut Vec<Event<2>>,
     )
         requires { self.old.standing ≡ Standing.Open }

@@ -1,5 +1,3 @@
-use thiserror::Error;
-
 /// A step of the world.
 #[derive(Clone, Copy, Debug)]
 pub enum Step<'a> {
@@ -18,8 +16,3 @@ pub enum Did {
     /// The step did not apply, and nothing changed.
     Idle,
 }
-
-/// No memory was found.
-#[derive(Clone, Copy, Debug, PartialEq, Eq, Error)]
-#[error("out of memory")]
-pub struct NoMemory;

@@ -2,10 +2,10 @@ ghost use Rattle.std.specs.Prelude.{◌≡◌};
 ghost use Rattle.cap_world.specs.World.{Adds, IsWorld, start, is_open, output_of};
 ghost use Rattle.cap_world.specs.Steps.{Outcome};
 
-use crate::cluster::Cluster;
+use cap_commit::Cluster;
 use crate::connections::{self, Connections};
-use crate::step::{Did, NoMemory, Step};
-use cap_model::Event;
+use crate::step::{Did, Step};
+use cap_model::{Event, NoMemory};
 use http_server::Log;
 use std::alloc::Global;
 use std::marker::Model;
@@ -15,10 +15,10 @@ use std::marker::Model;
 #[derive(Drop)]
 pub struct World {
     alloc: Global,
-    cluster: Cluster,
+    cluster: Cluster<2>,
     connections: Connections,
     // These two exist for contracts alone.
-    opening: Log<Cluster, usize>,
+    opening: Log<Cluster<2>, usize>,
     events: Log<Vec<Event<2>>, usize>,
 }
 
@@ -34,7 +34,7 @@ impl Model for World {
 
 impl World {
     /// A world with no connection over the cluster. It takes no memory.
-    pub fn open(alloc: Global, cluster: Cluster) -> World
+    pub fn open(alloc: Global, cluster: Cluster<2>) -> World
         ensures { result ≡ start cluster }
     {
         let opening = Log::new().and(&cluster, &0);
@@ -48,7 +48,7 @@ impl World {
     }
 
     /// The cluster.
-    pub fn cluster(&self) -> &Cluster
+    pub fn cluster(&self) -> &Cluster<2>
         ensures { result.now ≡ self.now.sight.cluster }
     {
         &self.cluster
@@ -93,7 +93,7 @@ impl World {
 /// The step on the parts of a world.
 fn act(
     alloc: Global,
-    cluster: &mut Cluster,
+    cluster: &mut Cluster<2>,
     connections: &mut Connections,
     step: Step,
     events: &mut Vec<Event<2>>,

@@ -1,0 +1,20 @@
+ghost use Rattle.cap_model.specs.Runs.{Replies};
+ghost use Rattle.cap_messages.specs.Spelling.{IsOfKind, kind_of};
+
+use cap_commit::Cluster;
+use cap_model::{Reply, Request};
+use cap_trackers::{cluster_info, queue_info, register_node, set_queue_state};
+use std::alloc::Global;
+
+/// Makes the call that the request names, and answers it. A refusal changes nothing, and neither does want of memory.
+pub fn dispatch(_alloc: Global, cluster: &mut Cluster<2>, request: &Request<2>) -> Reply<2>
+    ensures replies { Replies cluster.old request.now result cluster.new }
+    ensures kind { IsOfKind (kind_of request.now) result }
+{
+    match request {
+        Request::RegisterNode { host, rack, total } => register_node(cluster, host, rack, total),
+        Request::QueueInfo { path } => queue_info(cluster, path),
+        Request::SetQueueState { path, running } => set_queue_state(cluster, path, *running),
+        Request::ClusterInfo => cluster_info(cluster),
+    }
+}
