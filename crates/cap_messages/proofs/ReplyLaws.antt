@@ -64,13 +64,13 @@ maximum_again : (maximum : Option (List ℕ)) → maximum_of (limit_to maximum) 
 maximum_again None = refl
 maximum_again (Some amounts) = refl
 
-no_amount : (k : ℕ) → amount (zeros 2) k ≤ amount_max
-no_amount zero = omega arith
-no_amount (suc zero) = omega arith
-no_amount (suc (suc k)) = omega arith
+zeros_within : (k : ℕ) → amount (zeros 2) k ≤ amount_max
+zeros_within zero = omega arith
+zeros_within (suc zero) = omega arith
+zeros_within (suc (suc k)) = omega arith
 
 limit_fits : (maximum : Option (List ℕ)) → IfSome maximum (IsResource 2) → FitsLimit (limit_to maximum)
-limit_fits None fits = (tt, record { count = refl; within = no_amount })
+limit_fits None fits = (tt, record { count = refl; within = zeros_within })
 limit_fits (Some amounts) fits = (tt, fits)
 
 -- running and leaf, guaranteed, maximum, use and applications
