@@ -1,15 +1,15 @@
 -- Feeding a connection, and what it was answered before and after.
-use Rattle.std.proofs.Common.{◌≡◌, ℕ, Bool, false, List, [], ◌∷◌, ◌++◌, length, All, refl, sym, ap, subst, ◌∙◌, append_assoc, append-nil, inl, inr, ◌⊎◌}
+use Rattle.std.proofs.Common.{◌≡◌, ℕ, List, [], ◌++◌, refl, sym, ap, subst, ◌∙◌, append_assoc, append-nil, inl, inr, ◌⊎◌}
 use Rattle.cap_model.specs.declared.event.Event.{Event}
 use Rattle.cap_model.specs.Flat.{Flat}
-use Rattle.cap_frames.specs.Stream.{frame_of, Tail, rest, fault, IsStream, IsBytes}
+use Rattle.cap_frames.specs.Stream.{rest, fault, IsStream, IsBytes}
 use Rattle.cap_frames.specs.History.{History, after_feed}
 use Rattle.cap_frames.proofs.Streams.{one_reading, stream_goes_on}
 use Rattle.cap_world.specs.declared.session.Standing.{Standing}
 use Rattle.cap_world.specs.declared.session.Standing.TheVariants as standings
-use Rattle.cap_world.specs.Answers.{Answers, Call, tail_answer, IsAnswered}
-use Rattle.cap_world.specs.Connection.{Connection, WaitsIfOpen, AnswersAll, AnswersSome, AnswersAs, HasAnswers}
-use Rattle.cap_world.specs.Serving.{Serves, IsServed, Feeds, StandsAfter}
+use Rattle.cap_world.specs.Answers.{Answers, Call}
+use Rattle.cap_world.specs.Connection.{Connection, WaitsIfOpen, AnswersAs, HasAnswers}
+use Rattle.cap_world.specs.Serving.{IsServed, Feeds, StandsAfter}
 use Rattle.cap_world.proofs.Served.{answers_more, serves_none}
 
 -- a piece that was taken and served

@@ -1,5 +1,5 @@
 -- What each connection heard of the steps that were made, and what it was answered for it.
-use Rattle.std.proofs.Common.{◌≡◌, ◌≢◌, ℕ, ◌+◌, ◌<◌, Bool, true, false, List, [], ◌∷◌, ◌++◌, length, get_or, take, drop, Option, Some, None, slice_get, Result, Ok, Err, IsSome, refl, sym, ap, subst, ◌∙◌, append_assoc, inl, inr, ◌⊎◌}
+use Rattle.std.proofs.Common.{◌≡◌, ◌≢◌, ℕ, ◌+◌, ◌<◌, Bool, true, false, List, [], ◌∷◌, ◌++◌, length, get_or, take, Option, Some, None, Ok, IsSome, refl, sym, ap, subst, ◌∙◌, append_assoc, inl, inr, ◌⊎◌}
 use Rattle.std.specs.Prelude.{◌==◌, if◌then◌else◌, MatchBool}
 use Rattle.std.proofs.lemmas.Bool.{cases_Bool, eqb-true}
 use Rattle.std.proofs.lemmas.List.{take_more}
@@ -7,7 +7,7 @@ use Rattle.std.proofs.lemmas.List.Elements.{All-drop}
 use Rattle.std.proofs.Common.{drop_at}
 use Rattle.cap_model.specs.declared.event.Event.{Event}
 use Rattle.cap_model.specs.Flat.{Flat}
-use Rattle.cap_frames.specs.Stream.{Tail, rest, fault, IsStream, IsBytes}
+use Rattle.cap_frames.specs.Stream.{rest, fault, IsStream, IsBytes}
 use Rattle.cap_frames.proofs.Streams.{stream_goes_on}
 use Rattle.cap_world.specs.declared.session.Standing.{Standing}
 use Rattle.cap_world.specs.declared.session.Standing.TheVariants as standings
@@ -15,7 +15,6 @@ use Rattle.cap_world.specs.declared.step.Step.{Step}
 use Rattle.cap_world.specs.declared.step.Step.TheVariants as steps
 use Rattle.cap_world.specs.declared.step.Did.{Did}
 use Rattle.cap_world.specs.declared.step.Did.TheVariants as dids
-use Rattle.cap_model.specs.declared.no_memory.NoMemory.{NoMemory}
 use Rattle.cap_world.specs.Answers.{Call}
 use Rattle.cap_world.specs.Connection.{Connection, fresh, is_open_standing, AnswersAs, AnswersSome, HasAnswers}
 use Rattle.cap_world.specs.Serving.{Feeds, StandsAfter}

@@ -1,16 +1,15 @@
 -- The headline after some steps.
-use Rattle.std.proofs.Common.{◌≡◌, ℕ, ◌<◌, ◌≤◌, List, ◌++◌, length, get_or, take, Some, None, slice_get, Result, Ok, Err, refl, sym, ap, subst, ◌∙◌, arith}
+use Rattle.std.proofs.Common.{◌≡◌, ℕ, ◌<◌, List, ◌++◌, length, get_or, take, Result, Err, sym, ap, subst, ◌∙◌, arith}
 use Rattle.std.proofs.lemmas.Option.{slice_get_past, slice_get-get_or}
 use Rattle.cap_model.specs.declared.event.Event.{Event}
 use Rattle.cap_model.specs.Flat.{Flat}
-use Rattle.cap_model.specs.Runs.{Run}
 use Rattle.cap_world.specs.declared.step.Step.{Step}
 use Rattle.cap_world.specs.declared.step.Did.{Did}
 use Rattle.cap_model.specs.declared.no_memory.NoMemory.{NoMemory}
 use Rattle.cap_world.specs.Answers.{calls_by}
-use Rattle.cap_world.specs.World.{Sight, Known, IsWorld, IsLawful, connection_at, is_open, output_of, Adds}
+use Rattle.cap_world.specs.World.{Known, IsWorld, IsLawful, connection_at, Adds}
 use Rattle.cap_world.specs.Steps.{Outcome}
-use Rattle.cap_world.specs.Hearing.{IsHeadline, IsHeardBefore}
+use Rattle.cap_world.specs.Hearing.{IsHeadline}
 use Rattle.cap_world.proofs.Heard.{HeardSoFar, is_heard, heard_starved}
 
 -- the opening and the events of a world are those of a run

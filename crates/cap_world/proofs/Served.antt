@@ -1,5 +1,5 @@
 -- Answering one payload, and more after others.
-use Rattle.std.proofs.Common.{◌≡◌, ℕ, Bool, false, Result, Ok, Err, OnOk, List, [], ◌∷◌, ◌++◌, refl, sym, ap, subst, ◌∙◌, append_assoc, append-nil, inl, inr}
+use Rattle.std.proofs.Common.{◌≡◌, ℕ, false, Result, Ok, Err, OnOk, List, [], ◌∷◌, ◌++◌, refl, sym, ap, subst, ◌∙◌, append_assoc, append-nil}
 use Rattle.std.proofs.lemmas.List.{map-append}
 use Rattle.cap_model.specs.declared.request.Request.{Request}
 use Rattle.cap_model.specs.declared.reply.Reply.{Reply}
@@ -7,13 +7,13 @@ use Rattle.cap_model.specs.declared.event.Event.{Event}
 use Rattle.cap_model.specs.Flat.{Flat}
 use Rattle.cap_model.specs.Runs.{Replies}
 use Rattle.cap_model.specs.Runs.{Run}
-use Rattle.cap_frames.specs.Stream.{frame_of, Tail, rest, fault, IsStream}
-use Rattle.cap_frames.specs.History.{History, after_feed, after_gift, IsAtRest, IsAtFault, IsReading}
+use Rattle.cap_frames.specs.Stream.{frame_of, rest, fault, IsStream}
+use Rattle.cap_frames.specs.History.{History, after_gift, IsAtRest, IsAtFault, IsReading}
 use Rattle.cap_messages.specs.Spelling.{IsRequest, IsNoRequest, kind_of, reply_bytes, fault_reply}
 use Rattle.cap_world.specs.declared.session.Standing.{Standing}
 use Rattle.cap_world.specs.declared.session.Standing.TheVariants as standings
 use Rattle.cap_world.specs.Answers.{Answers, nothing, replied, refused, Call, as_events, call_event, tail_answer}
-use Rattle.cap_world.specs.Serving.{Serves, HasServed, IsServed, StandsAfter, Faults}
+use Rattle.cap_world.specs.Serving.{Serves, HasServed, IsServed, Faults}
 
 pub answers_more : {ps qs : List (List ℕ)} {cs ds : List Call} {output more : List ℕ} → Answers ps cs output → Answers qs ds more → Answers (ps ++ qs) (cs ++ ds) (output ++ more)
 answers_more nothing b = b
@@ -29,7 +29,7 @@ run_more (e ∷ es) fs a b c run more = (run.0, run.1, run_more es fs run.0 b c 
 pub serves_none : (by : ℕ) (cluster : Flat 2) (events : List (Event 2)) → Serves by [] cluster cluster events events []
 serves_none by cluster events = record { calls = []; answers = nothing; events = sym (append-nil events); run = refl }
 
-pub serves_more : {by : ℕ} {ps qs : List (List ℕ)} {a b c : Cluster} {before mid after : List (Event 2)} {frames more : List ℕ} → Serves by ps a b before mid frames → Serves by qs b c mid after more → Serves by (ps ++ qs) a c before after (frames ++ more)
+pub serves_more : {by : ℕ} {ps qs : List (List ℕ)} {a b c : Flat 2} {before mid after : List (Event 2)} {frames more : List ℕ} → Serves by ps a b before mid frames → Serves by qs b c mid after more → Serves by (ps ++ qs) a c before after (frames ++ more)
 serves_more {by} {a} {b} {c} {before} x y = record {
   calls = x.calls ++ y.calls;
   answers = answers_more x.answers y.answers;
@@ -67,7 +67,7 @@ served_none by h cluster events output ready = record {
   output = sym (append-nil output);
 }
 
-pub served_more : {by : ℕ} {old mid : History} {a b c : Cluster} {before between after : List (Event 2)} {first second third : List ℕ} (new : History) (payload frames : List ℕ) → HasServed by old mid a b before between first second → new ≡ after_gift mid payload → third ≡ second ++ frames → Serves by (payload ∷ []) b c between after frames
+pub served_more : {by : ℕ} {old mid : History} {a b c : Flat 2} {before between after : List (Event 2)} {first second third : List ℕ} (new : History) (payload frames : List ℕ) → HasServed by old mid a b before between first second → new ≡ after_gift mid payload → third ≡ second ++ frames → Serves by (payload ∷ []) b c between after frames
     → HasServed by old new a c before after first third
 served_more {by} {old} {mid} {a} {b} {c} {before} {between} {after} {first} {second} {third} new payload frames served e o s = record {
   payloads = served.payloads ++ payload ∷ [];
@@ -83,7 +83,7 @@ served_more {by} {old} {mid} {a} {b} {c} {before} {between} {after} {first} {sec
 no_more : (first frames second : List ℕ) → second ≡ first ++ frames → second ≡ first ++ (frames ++ [])
 no_more first frames second e = e ∙ ap (λ (x : List ℕ). first ++ x) (sym (append-nil frames))
 
-pub served_open : {by : ℕ} {old mid : History} {a b : Cluster} {before after : List (Event 2)} {first second : List ℕ} (new : History) → HasServed by old mid a b before after first second → new ≡ mid → IsAtRest mid → IsServed by standings.Open old new a b before after first second
+pub served_open : {by : ℕ} {old mid : History} {a b : Flat 2} {before after : List (Event 2)} {first second : List ℕ} (new : History) → HasServed by old mid a b before after first second → new ≡ mid → IsAtRest mid → IsServed by standings.Open old new a b before after first second
 served_open {by} {old} {mid} {a} {b} {before} {after} {first} {second} new served e at =
     subst (λ (h : History). IsServed by standings.Open old h a b before after first second) (sym e) (record {
       payloads = served.payloads;
@@ -96,7 +96,7 @@ served_open {by} {old} {mid} {a} {b} {before} {after} {first} {second} new serve
       output = no_more first served.frames second served.output;
     })
 
-pub served_starved : {by : ℕ} {old mid : History} {a b : Cluster} {before after : List (Event 2)} {first second : List ℕ} (new : History) (third : List ℕ) (left : List (List ℕ)) → HasServed by old mid a b before after first second → new.fed ≡ mid.fed → new.given ≡ mid.given ++ left → IsReading new → third ≡ second
+pub served_starved : {by : ℕ} {old mid : History} {a b : Flat 2} {before after : List (Event 2)} {first second : List ℕ} (new : History) (third : List ℕ) (left : List (List ℕ)) → HasServed by old mid a b before after first second → new.fed ≡ mid.fed → new.given ≡ mid.given ++ left → IsReading new → third ≡ second
     → IsServed by standings.Starved old new a b before after first third
 served_starved {by} {old} {mid} {a} {b} {before} {after} {first} {second} new third left served f g reading e = record {
   payloads = served.payloads;
@@ -112,7 +112,7 @@ served_starved {by} {old} {mid} {a} {b} {before} {after} {first} {second} new th
   output = no_more first served.frames third (e ∙ served.output);
 }
 
-pub served_fault : {by : ℕ} {old mid : History} {a b : Cluster} {before after : List (Event 2)} {first second : List ℕ} (standing : Standing) (new : History) (third : List ℕ) → Faults standing second third → HasServed by old mid a b before after first second → new.fed ≡ mid.fed → IsAtFault mid
+pub served_fault : {by : ℕ} {old mid : History} {a b : Flat 2} {before after : List (Event 2)} {first second : List ℕ} (standing : Standing) (new : History) (third : List ℕ) → Faults standing second third → HasServed by old mid a b before after first second → new.fed ≡ mid.fed → IsAtFault mid
     → IsServed by standing old new a b before after first third
 served_fault standings.Open new third faults served f at = absurd faults
 served_fault standings.Ended new third faults served f at = absurd faults

@@ -1,5 +1,5 @@
 -- A connection, as far as anybody can see it.
-use Rattle.std.specs.Prelude.{◌≡◌, ◌⊎◌, ℕ, List, [], ◌++◌, Bool, true, false}
+use Rattle.std.specs.Prelude.{◌≡◌, ℕ, List, [], ◌++◌, Bool, true, false}
 use Rattle.cap_frames.specs.Stream.{Tail, rest, fault, IsStream}
 use Rattle.cap_frames.specs.History.{History, IsAtRest}
 use Rattle.cap_world.specs.declared.session.Standing.{Standing}

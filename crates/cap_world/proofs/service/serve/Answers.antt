@@ -1,6 +1,6 @@
-use Rattle.std.proofs.Common.{◌≡◌, ap, refl, sym, append-nil, ◌∷◌, []}
+use Rattle.std.proofs.Common.{◌≡◌, ap, ◌∷◌, []}
 use Rattle.cap_frames.specs.History.{History, after_gift}
-use Rattle.cap_world.proofs.Served.{served_none, served_more, served_open, served_starved, served_fault}
+use Rattle.cap_world.proofs.Served.{served_none, served_more, served_starved, served_fault}
 use Rattle.cap_world.proofs.service.serve.Goals as goal
 
 pub loop-payload-init : goal.loop-payload-init

@@ -1,7 +1,5 @@
 use Rattle.std.proofs.Common.{◌≡◌, ◌++◌, ◌∙◌, ap, sym, length, List, arith}
 use Rattle.cap_model.specs.declared.event.Event.{Event}
-use Rattle.cap_world.specs.declared.step.Step.{Step}
-use Rattle.cap_world.specs.World.{start}
 use Rattle.cap_world.proofs.Heard.{heard_next}
 use Rattle.cap_world.proofs.Running.{headline_all, headline_cut}
 use Rattle.cap_world.proofs.world.World.run.Goals as goal

@@ -1,4 +1,4 @@
-use Rattle.std.proofs.Common.{◌≡◌, ap, refl, length, List}
+use Rattle.std.proofs.Common.{ap, refl, length, List}
 use Rattle.cap_model.specs.declared.event.Event.{Event}
 use Rattle.cap_world.specs.World.{Known, Sight, opening_of}
 use Rattle.cap_world.proofs.Keeping.{lawful_kept, adds_kept}
