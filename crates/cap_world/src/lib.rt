@@ -6,6 +6,8 @@ mod run;
 mod service;
 mod session;
 mod step;
+#[cfg(test)]
+mod tests;
 mod world;
 
 pub use cap_model::NoMemory;
