@@ -1,2 +1,1 @@
-pub mod Dots
 pub mod Marks

@@ -3,15 +3,16 @@ ghost use Rattle.std.specs.List.{list_any};
 ghost use Rattle.cap_model.specs.Limits.{nodes_max};
 ghost use Rattle.cap_model.specs.Flat.{opened, queue_at, is_under};
 ghost use Rattle.cap_model.specs.Uses.{queue_use};
-ghost use Rattle.cap_model.specs.Submit.{has_children, is_running};
+ghost use Rattle.cap_model.specs.Submit.{has_children, is_running, submit_refusal, after_submit};
 ghost use Rattle.cap_model.specs.RegisterNode.{register_node_refusal, after_register_node, total_of_nodes};
 ghost use Rattle.cap_model.specs.QueueCalls.{after_set_queue_state};
 
 use crate::node::{Node, is_taken};
 use crate::queue::Queue;
 use crate::queues::{are_running, find_queue, have_below, set_running};
+use cap_asks::Apps;
 use cap_config::Config;
-use cap_model::{NoMemory, ShortText};
+use cap_model::{NoMemory, PathText, ShortText};
 use cap_vector::{Resource, Sum, checked_add};
 use std::alloc::Global;
 use std::marker::Model;
@@ -24,6 +25,7 @@ pub struct Cluster<const K: usize> {
     minimum_allocation: Resource<K>,
     maximum_allocation: Resource<K>,
     application_limit: u64,
+    apps: Apps,
     nodes: Vec<Node<K>>,
     total: Resource<K>,
     next_node: u64,
@@ -32,7 +34,7 @@ pub struct Cluster<const K: usize> {
 impl<const K: usize> Model for Cluster<K> {
     ghost use Rattle.std.specs.Prelude.{◌≡◌, ◌≤◌, [], length};
     ghost use Rattle.cap_model.specs.Flat.{Flat};
-    ghost use Rattle.cap_model.specs.Limits.{nodes_max};
+    ghost use Rattle.cap_model.specs.Limits.{applications_max, nodes_max};
     ghost use Rattle.cap_model.specs.RegisterNode.{sum_of_totals};
 
     ghost Value = { Flat K };
@@ -43,7 +45,7 @@ impl<const K: usize> Model for Cluster<K> {
       nodes = record { present = c.nodes.items; live = []; reserved = []; next_node = c.next_node; next_container = 1 };
     } };
 
-    ghost invariant = { λ c. (c.total ≡ sum_of_totals K c.nodes.items) × (length c.nodes.items ≤ nodes_max) };
+    ghost invariant = { λ c. (c.total ≡ sum_of_totals K c.nodes.items) × (length c.nodes.items ≤ nodes_max) × (c.application_limit ≤ applications_max) × (length c.apps.active ≤ c.application_limit) };
 }
 
 impl<const K: usize> Cluster<K> {
@@ -62,6 +64,7 @@ impl<const K: usize> Cluster<K> {
             minimum_allocation: config.minimum_allocation(),
             maximum_allocation: config.maximum_allocation(),
             application_limit: config.application_limit(),
+            apps: Apps::new(alloc),
             nodes: Vec::new(alloc),
             total: Resource::zero(),
             next_node: 1,
@@ -96,9 +99,7 @@ impl<const K: usize> Cluster<K> {
         set_running(&mut self.queues, path, running);
     }
 
-    // No call makes an application or a container yet, so nothing is used and none is counted.
-
-    /// What all applications in and under the queue of this path use, in MiB and vcores.
+    /// What all applications in and under the queue of this path use, in MiB and vcores. No call makes a container yet.
     pub fn use_of(&self, path: &[u8]) -> Sum<K>
         ensures { result ≡ queue_use self.now path.now }
     {
@@ -106,28 +107,49 @@ impl<const K: usize> Cluster<K> {
         Sum::zero()
     }
 
+    /// How many containers are live. No call makes one yet.
+    pub fn container_count(&self) -> u32
+        ensures { result ≡ length self.now.nodes.live }
+    {
+        let _ = &self.nodes;
+        0
+    }
+
     /// How many applications are active in and under the queue of this path.
     pub fn applications_under(&self, path: &[u8]) -> u32
         ensures { result ≡ count_by (λ app. is_under path.now app.leaf) self.now.apps.active }
     {
-        let _ = &self.nodes;
-        0
+        self.apps.count_under(path) as u32
     }
 
     /// How many applications are active.
     pub fn application_count(&self) -> u32
         ensures { result ≡ length self.now.apps.active }
     {
-        let _ = &self.nodes;
-        0
+        self.apps.count() as u32
     }
 
-    /// How many containers are live.
-    pub fn container_count(&self) -> u32
-        ensures { result ≡ length self.now.nodes.live }
+    /// How many applications may be active: `yarn.scheduler.capacity.maximum-applications`.
+    pub fn application_limit(&self) -> u64
+        ensures { result ≡ self.now.settings.application_limit }
     {
-        let _ = &self.nodes;
-        0
+        self.application_limit
+    }
+
+    /// The number of the next application.
+    pub fn next_app(&self) -> u64
+        ensures { result ≡ self.now.apps.next }
+    {
+        self.apps.next()
+    }
+
+    /// An application enters the leaf queue of this path for a user, under the next number. `NoMemory` changes nothing.
+    pub fn add_app(&mut self, path: &PathText, user: &ShortText) -> Result<u64, NoMemory>
+        requires { submit_refusal self.old path.now ≡ None }
+        ensures ok { IfOk result (λ number. (number ≡ self.old.apps.next) × (self.new ≡ after_submit self.old path.now user.now)) }
+        ensures err { OnErr result (self.new ≡ self.old) }
+    {
+        self.apps.submit(path, user)
     }
 
     /// Whether a present node has the host.

@@ -5,7 +5,8 @@ ghost use Rattle.cap_commit.specs.Queues.{with_state};
 ghost use Rattle.cap_model.specs.Settings.{QueueRow};
 ghost use Rattle.cap_model.specs.Flat.{is_under};
 
-use crate::queue::{Queue, is_below, is_under};
+use crate::queue::Queue;
+use cap_model::{is_below, is_under};
 
 /// The queue of this path, none where there is none.
 pub(crate) fn find_queue<const K: usize>(queues: &[Queue<K>], path: &[u8]) -> Option<Queue<K>>

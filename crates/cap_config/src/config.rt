@@ -114,7 +114,8 @@ impl<const K: usize> Config<K> {
 
     /// How many applications may be active at once: `yarn.scheduler.capacity.maximum-applications`.
     pub fn application_limit(&self) -> u64
-        ensures { result ≡ self.now.application_limit }
+        ensures value { result ≡ self.now.application_limit }
+        ensures few { result ≤ applications_max }
     {
         self.application_limit
     }

@@ -5,9 +5,9 @@ use Rattle.std.specs.Int.{w32, w64, to_be_bytes}
 use Rattle.cap_vector.specs.Vector.{IsResource, IsSum, amount, amount_max, sum_max, zeros}
 use Rattle.cap_model.specs.Refusals.{status_of}
 use Rattle.cap_model.specs.declared.refusal.Refusal.{Refusal}
-use Rattle.cap_model.specs.declared.refusal.Refusal.TheVariants.{UnknownQueue, HostTaken, TotalTooLarge, TooManyNodes, ZeroResource, NumbersSpent, NoMemory}
+use Rattle.cap_model.specs.declared.refusal.Refusal.TheVariants.{UnknownQueue, NotLeaf, QueueStopped, TooManyApplications, HostTaken, TotalTooLarge, TooManyNodes, ZeroResource, NumbersSpent, NoMemory}
 use Rattle.cap_model.specs.declared.reply.Reply.{Reply}
-use Rattle.cap_model.specs.declared.reply.Reply.TheVariants.{Refused, RegisterNode, QueueInfo, SetQueueState, ClusterInfo}
+use Rattle.cap_model.specs.declared.reply.Reply.TheVariants.{Refused, Submit, RegisterNode, QueueInfo, SetQueueState, ClusterInfo}
 use Rattle.cap_messages.specs.Spelling.{resource, flag, counts, queue_report, reply_body, IsOfKind, FitsReply, IsReply, fault_reply}
 use Rattle.cap_messages.specs.Fields.{◌>>=◌, byte_at, flag_at, number_at, amounts_at, pair_at, all_at}
 use Rattle.cap_messages.specs.Reading.{head_at}
@@ -19,6 +19,9 @@ use Rattle.cap_messages.proofs.RequestLaws.{FitsHead, is_head}
 abbrev refusal_at : ℕ → Option Refusal
 refusal_at status =
     if status == 1 then Some UnknownQueue else
+    if status == 2 then Some NotLeaf else
+    if status == 3 then Some QueueStopped else
+    if status == 4 then Some TooManyApplications else
     if status == 12 then Some HostTaken else
     if status == 13 then Some TotalTooLarge else
     if status == 14 then Some TooManyNodes else
@@ -29,6 +32,9 @@ refusal_at status =
 
 refusal_again : (refusal : Refusal) → refusal_at (status_of refusal) ≡ Some refusal
 refusal_again UnknownQueue = refl
+refusal_again NotLeaf = refl
+refusal_again QueueStopped = refl
+refusal_again TooManyApplications = refl
 refusal_again HostTaken = refl
 refusal_again TotalTooLarge = refl
 refusal_again TooManyNodes = refl
@@ -150,6 +156,9 @@ is_info =
 
 -- ---- what follows the status
 
+abbrev submitted : ℕ → Option (Reply 2)
+submitted application = Some (Submit application)
+
 abbrev registered : ℕ → Option (Reply 2)
 registered node = Some (RegisterNode node)
 
@@ -158,6 +167,7 @@ reported x = Some (QueueInfo x.0.0.0.0.0 x.0.0.0.0.1 x.0.0.0.1 (maximum_of x.0.0
 
 abbrev granted_at : ℕ → List ℕ → Option (Reply 2)
 granted_at kind bytes =
+    if kind == 1 then (all_at (number_at w64) bytes >>= submitted) else
     if kind == 5 then (all_at (number_at w64) bytes >>= registered) else
     if kind == 8 then (all_at report_at bytes >>= reported) else
     if kind == 9 then (if length bytes == 0 then Some SetQueueState else None) else
@@ -171,6 +181,9 @@ reply_body_at kind bytes = do
 
 refused_again : (kind : ℕ) (refusal : Refusal) → reply_body_at kind (status_of refusal ∷ []) ≡ Some (Refused refusal)
 refused_again kind UnknownQueue = refl
+refused_again kind NotLeaf = refl
+refused_again kind QueueStopped = refl
+refused_again kind TooManyApplications = refl
 refused_again kind HostTaken = refl
 refused_again kind TotalTooLarge = refl
 refused_again kind TooManyNodes = refl
@@ -181,6 +194,9 @@ refused_again kind NoMemory = refl
 node_again : (node : ℕ) → node < 2 ^ 64 → granted_at 5 (to_be_bytes w64 node) ≡ Some (RegisterNode node)
 node_again node fits = ap (λ (o : Option ℕ). o >>= registered) (all_again (number_at w64) (to_be_bytes w64) (λ n. n < 2 ^ 64) is_u64 node fits)
 
+application_again : (application : ℕ) → application < 2 ^ 64 → granted_at 1 (to_be_bytes w64 application) ≡ Some (Submit application)
+application_again application fits = ap (λ (o : Option ℕ). o >>= submitted) (all_again (number_at w64) (to_be_bytes w64) (λ n. n < 2 ^ 64) is_u64 application fits)
+
 report_again : (x : Report) → FitsReport x → granted_at 8 (report_of x) ≡ reported x
 report_again x fits = ap (λ (o : Option Report). o >>= reported) (all_again report_at report_of FitsReport is_report x fits)
 
@@ -190,6 +206,7 @@ info_again x fits = rw (all_again info_at info_of FitsInfo is_info x fits) refl
 reply_body_again : (kind : ℕ) (reply : Reply 2) → IsOfKind kind reply → FitsReply reply → reply_body_at kind (reply_body reply) ≡ Some reply
 unfolding queue_report
 reply_body_again kind (Refused refusal) of_kind fits = refused_again kind refusal
+reply_body_again kind (Submit application) of_kind fits = rw of_kind (application_again application fits)
 reply_body_again kind (RegisterNode node) of_kind fits = rw of_kind (node_again node fits)
 reply_body_again kind (QueueInfo running leaf guaranteed maximum used applications) of_kind fits =
     let x : Report = (((((running, leaf), guaranteed), limit_to maximum), used), applications) in

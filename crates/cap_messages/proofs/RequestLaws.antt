@@ -6,12 +6,13 @@ use Rattle.std.proofs.lemmas.Bool.{eqb-true}
 use Rattle.std.proofs.lemmas.List.{nil_from_length}
 use Rattle.cap_vector.specs.Vector.{IsResource, amount_max}
 use Rattle.cap_model.specs.declared.request.Request.{Request}
-use Rattle.cap_model.specs.declared.request.Request.TheVariants.{RegisterNode, QueueInfo, SetQueueState, ClusterInfo}
+use Rattle.cap_model.specs.declared.request.Request.TheVariants.{Submit, RegisterNode, QueueInfo, SetQueueState, ClusterInfo}
 use Rattle.cap_messages.specs.declared.fault.MessageFault.{MessageFault}
 use Rattle.cap_messages.specs.declared.fault.MessageFault.TheVariants as faults
-use Rattle.cap_messages.specs.Texts.{is_host, is_rack, is_path}
+use Rattle.cap_messages.specs.Texts.{is_host, is_rack, is_path, is_user}
 use Rattle.cap_messages.specs.Spelling.{text, resource, flag, kind_of, request_body, FitsRequest, request_bytes, IsRequest, IsNoRequest}
 use Rattle.cap_messages.specs.Fields.{number_at, byte_at, text_at, flag_at, amounts_at, pair_at, passing_at, all_at}
+use Rattle.cap_messages.specs.Submit.{submission_at, submit_at}
 use Rattle.cap_messages.specs.RegisterNode.{registration_at, register_node_at}
 use Rattle.cap_messages.specs.QueueCalls.{path_at, queue_info_at, queue_state_at, set_queue_state_at}
 use Rattle.cap_messages.specs.ClusterInfo.{cluster_info_at}
@@ -23,6 +24,35 @@ pub record IsBody (kind : ℕ) (bytes : List ℕ) (request : Request 2) : Type 0
   pub kind_is : kind_of request ≡ kind
   pub spelled : bytes ≡ request_body request
   pub fits : FitsRequest request
+
+-- ---- Submit
+
+abbrev Submission : Type 0
+Submission = List ℕ × List ℕ
+
+abbrev FitsSubmission : Submission → Type 0
+FitsSubmission x = (is_path x.0 ≡ true) × (is_user x.1 ≡ true)
+
+abbrev submission : Submission → List ℕ
+submission x = text x.0 ++ text x.1
+
+is_submission : IsField submission_at submission FitsSubmission
+is_submission = is_pair (passing_at is_path text_at) text (λ t. is_path t ≡ true) (passing_at is_user text_at) text (λ t. is_user t ≡ true) (is_text_passing is_path) (is_text_passing is_user)
+
+submit_takes : (bytes : List ℕ) (r : Request 2) → AreBytes bytes → submit_at bytes ≡ Some r → IsBody 1 bytes r
+unfolding submit_at
+submit_takes bytes r fits e =
+    let b = bind_some (all_at submission_at bytes) (λ x. Some (Submit x.0 x.1)) r e in
+    let t = all_takes submission_at submission FitsSubmission is_submission bytes b.0 fits b.1 in
+    let made : Request 2 = Submit b.0.0 b.0.1 in
+    let same : made ≡ r = cc (b.2) in
+    subst (λ (q : Request 2). IsBody 1 bytes q) same (record { kind_is = refl; spelled = t.0; fits = (t.1.0, t.1.1) })
+
+submit_again : (path user : List ℕ) → FitsRequest (Submit path user) → submit_at (text path ++ text user) ≡ Some (Submit path user)
+unfolding submit_at
+submit_again path user fits =
+    let x : Submission = (path, user) in
+    rw (all_again submission_at submission FitsSubmission is_submission x (fits.0, fits.1)) refl
 
 -- ---- RegisterNode
 
@@ -129,7 +159,9 @@ IsBody-same kind other bytes r e is = record { kind_is = is.kind_is ∙ sym (eqb
 body_takes : (kind : ℕ) (bytes : List ℕ) (r : Request 2) → AreBytes bytes → body_at kind bytes ≡ Some r → IsBody kind bytes r
 unfolding body_at
 body_takes kind bytes r fits e =
-    elim (chosen (kind == 5) (register_node_at bytes) _ (Some r) e) [
+    elim (chosen (kind == 1) (submit_at bytes) _ (Some r) e) [
+      | inl t ↦ IsBody-same kind 1 bytes r t.0 (submit_takes bytes r fits t.1)
+      | inr not-1 ↦ elim (chosen (kind == 5) (register_node_at bytes) _ (Some r) not-1.1) [
       | inl t ↦ IsBody-same kind 5 bytes r t.0 (register_node_takes bytes r fits t.1)
       | inr not-5 ↦ elim (chosen (kind == 8) (queue_info_at bytes) _ (Some r) not-5.1) [
         | inl t ↦ IsBody-same kind 8 bytes r t.0 (queue_info_takes bytes r fits t.1)
@@ -141,15 +173,18 @@ body_takes kind bytes r fits e =
         ]
       ]
     ]
+    ]
 
 body_again : (r : Request 2) → FitsRequest r → body_at (kind_of r) (request_body r) ≡ Some r
 unfolding body_at
+body_again (Submit path user) fits = submit_again path user fits
 body_again (RegisterNode host rack total) fits = register_node_again host rack total fits
 body_again (QueueInfo path) fits = queue_info_again path fits
 body_again (SetQueueState path running) fits = set_queue_state_again path running fits
 body_again ClusterInfo fits = cluster_info_again
 
 kind_fits : (r : Request 2) → kind_of r < 256
+kind_fits (Submit path user) = omega arith
 kind_fits (RegisterNode host rack total) = omega arith
 kind_fits (QueueInfo path) = omega arith
 kind_fits (SetQueueState path running) = omega arith

@@ -10,7 +10,7 @@ use Rattle.cap_vector.specs.Vector.{zeros}
 use Rattle.cap_model.specs.Texts.{is_graphic, is_text}
 use Rattle.cap_model.specs.Refusals.{status_of}
 use Rattle.cap_model.specs.declared.refusal.Refusal.{Refusal}
-use Rattle.cap_model.specs.declared.refusal.Refusal.TheVariants.{UnknownQueue, HostTaken, TotalTooLarge, TooManyNodes, ZeroResource, NumbersSpent, NoMemory}
+use Rattle.cap_model.specs.declared.refusal.Refusal.TheVariants.{UnknownQueue, NotLeaf, QueueStopped, TooManyApplications, HostTaken, TotalTooLarge, TooManyNodes, ZeroResource, NumbersSpent, NoMemory}
 use Rattle.cap_model.specs.declared.request.Request.{Request}
 use Rattle.cap_model.specs.declared.request.Request.TheVariants as requests
 use Rattle.cap_model.specs.declared.reply.Reply.{Reply}
@@ -88,12 +88,14 @@ report running leaf guaranteed maximum used applications =
     (word applications)
 
 kind_small : (r : Request 2) → kind_of r < 256
+kind_small (requests.Submit path user) = omega arith
 kind_small (requests.RegisterNode host rack total) = omega arith
 kind_small (requests.QueueInfo path) = omega arith
 kind_small (requests.SetQueueState path running) = omega arith
 kind_small requests.ClusterInfo = omega arith
 
 body_bytes : (r : Request 2) → FitsRequest r → IsBytes (request_body r)
+body_bytes (requests.Submit path user) fits = both (text path) (text user) (a_text 255 path (omega arith) fits.0) (a_text 64 user (omega arith) fits.1)
 body_bytes (requests.RegisterNode host rack total) fits =
     both (text host) (text rack ++ resource total) (a_text 64 host (omega arith) (host_is_text host fits.0)) (both (text rack) (resource total) (a_text 64 rack (omega arith) (rack_is_text rack fits.1)) (amounts total))
 body_bytes (requests.QueueInfo path) fits = a_text 255 path (omega arith) fits
@@ -105,6 +107,9 @@ request_is_bytes id r fits = one 1 (kind_of r ∷ to_be_bytes w32 id ++ request_
 
 status_small : (refusal : Refusal) → status_of refusal < 256
 status_small UnknownQueue = omega arith
+status_small NotLeaf = omega arith
+status_small QueueStopped = omega arith
+status_small TooManyApplications = omega arith
 status_small HostTaken = omega arith
 status_small TotalTooLarge = omega arith
 status_small TooManyNodes = omega arith
@@ -114,6 +119,7 @@ status_small NoMemory = omega arith
 
 reply_body_bytes : (r : Reply 2) → IsBytes (reply_body r)
 reply_body_bytes (replies.Refused refusal) = one (status_of refusal) [] (status_small refusal) (All-nil Small)
+reply_body_bytes (replies.Submit application) = one 0 (to_be_bytes w64 application) (omega arith) (long application)
 reply_body_bytes (replies.RegisterNode node) = one 0 (to_be_bytes w64 node) (omega arith) (long node)
 reply_body_bytes (replies.QueueInfo running leaf guaranteed maximum used applications) =
     one 0 (queue_report running leaf guaranteed maximum used applications) (omega arith) (report running leaf guaranteed maximum used applications)

@@ -3,6 +3,7 @@ ghost use Rattle.cap_messages.specs.Spelling.{IsOfKind, kind_of};
 
 use cap_commit::Cluster;
 use cap_model::{Reply, Request};
+use cap_masters::submit;
 use cap_trackers::{cluster_info, queue_info, register_node, set_queue_state};
 use std::alloc::Global;
 
@@ -12,6 +13,7 @@ pub fn dispatch(_alloc: Global, cluster: &mut Cluster<2>, request: &Request<2>) 
     ensures kind { IsOfKind (kind_of request.now) result }
 {
     match request {
+        Request::Submit { path, user } => submit(cluster, path, user),
         Request::RegisterNode { host, rack, total } => register_node(cluster, host, rack, total),
         Request::QueueInfo { path } => queue_info(cluster, path),
         Request::SetQueueState { path, running } => set_queue_state(cluster, path, *running),

@@ -1,4 +1,5 @@
-ghost use Rattle.std.specs.Prelude.{◌≡◌, ◌≤◌, ◌<◌, ◌+◌, ◌++◌, length};
+ghost use Rattle.std.specs.Prelude.{◌≡◌, ◌≤◌, ◌<◌, ◌+◌, ◌++◌, ◌∷◌, length};
+ghost use Rattle.std.specs.Int.{w64, to_be_bytes};
 ghost use Rattle.cap_messages.specs.Spelling.{IsOfKind, FitsReply, IsReply, reply_bytes, reply_body, fault_reply};
 
 use crate::cluster_info::put_counts;
@@ -16,10 +17,8 @@ fn put_reply_body(reply: &Reply<2>, out: &mut Out)
 {
     match reply {
         Reply::Refused(refusal) => out.extend_reserved(&[refusal.status()]),
-        Reply::RegisterNode { node } => {
-            out.extend_reserved(&[0]);
-            out.extend_reserved(&node.to_be_bytes());
-        }
+        Reply::Submit { application } => put_number(*application, out),
+        Reply::RegisterNode { node } => put_number(*node, out),
         Reply::QueueInfo {
             running,
             leaf,
@@ -53,6 +52,16 @@ fn put_reply_body(reply: &Reply<2>, out: &mut Out)
             put_amounts(used, out);
         }
     }
+}
+
+// Success, and the number that the call gives.
+fn put_number(number: u64, out: &mut Out)
+    requires { 9 ≤ out.old.spare }
+    ensures appends { out.new.items ≡ out.old.items ++ 0 ∷ to_be_bytes w64 number }
+    ensures spare { out.new.spare + 9 ≡ out.old.spare }
+{
+    out.extend_reserved(&[0]);
+    out.extend_reserved(&number.to_be_bytes());
 }
 
 /// Appends the one spelling of a reply to a request of this call id and kind: the reply is a refusal or one of the

@@ -7,9 +7,10 @@ ghost use Rattle.cap_messages.specs.Reading.{GivesInMemory, head_at, body_at, re
 use crate::cluster_info::cluster_info_of;
 use crate::fault::MessageFault;
 use crate::fields::{byte_of, u32_of};
-use crate::kinds::{CLUSTER_INFO, QUEUE_INFO, REGISTER_NODE, SET_QUEUE_STATE};
+use crate::kinds::{CLUSTER_INFO, QUEUE_INFO, REGISTER_NODE, SET_QUEUE_STATE, SUBMIT};
 use crate::queue_calls::{queue_info_of, set_queue_state_of};
 use crate::register_node::register_node_of;
+use crate::submit::submit_of;
 use cap_model::Request;
 use std::alloc::Global;
 
@@ -30,6 +31,7 @@ fn body_of(_alloc: Global, kind: u8, bytes: &[u8]) -> Result<Request<2>, Message
     ensures memory { IsErrOf result MessageFault.NoMemory → IsListKind kind }
 {
     match kind {
+        SUBMIT => submit_of(bytes),
         REGISTER_NODE => register_node_of(bytes),
         QUEUE_INFO => queue_info_of(bytes),
         SET_QUEUE_STATE => set_queue_state_of(bytes),

@@ -1,4 +1,4 @@
-ghost use Rattle.cap_messages.specs.Texts.{is_host, is_rack, is_path};
+ghost use Rattle.cap_messages.specs.Texts.{is_host, is_rack, is_path, is_user};
 ghost use Rattle.cap_messages.specs.Fields.{Gives, passing};
 
 use crate::fault::MessageFault;
@@ -38,4 +38,14 @@ pub(crate) fn path_from(bytes: &[u8]) -> Result<PathText, MessageFault>
         return Err(MessageFault::Bad);
     };
     Ok(path)
+}
+
+// The user of an application: any text.
+pub(crate) fn user_from(bytes: &[u8]) -> Result<ShortText, MessageFault>
+    ensures { Gives (λ user. user) result (passing is_user bytes.now) }
+{
+    let Some(user) = ShortText::new(bytes) else {
+        return Err(MessageFault::Bad);
+    };
+    Ok(user)
 }

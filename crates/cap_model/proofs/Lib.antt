@@ -8,4 +8,5 @@ pub mod ContainerNumbers
 pub mod Reasons
 pub mod NodeTotals
 pub mod Registering
+pub mod Dots
 pub mod Padding

@@ -8,3 +8,7 @@ number_end = 4611686018427387904
 -- the greatest number of nodes that are present at once
 abbrev pub nodes_max : ℕ
 nodes_max = 4096
+
+-- the greatest number of applications that settings may allow to be active
+abbrev pub applications_max : ℕ
+applications_max = 1000000

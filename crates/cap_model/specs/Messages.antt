@@ -13,6 +13,9 @@ use Rattle.cap_model.specs.Events.{ClusterEvent}
 
 abbrev pub as_refusal : Refusal → CallRefusal
 as_refusal refusals.UnknownQueue = CallRefusal.unknown_queue
+as_refusal refusals.NotLeaf = CallRefusal.not_leaf
+as_refusal refusals.QueueStopped = CallRefusal.queue_stopped
+as_refusal refusals.TooManyApplications = CallRefusal.too_many_applications
 as_refusal refusals.HostTaken = CallRefusal.host_taken
 as_refusal refusals.TotalTooLarge = CallRefusal.total_too_large
 as_refusal refusals.TooManyNodes = CallRefusal.too_many_nodes
@@ -22,6 +25,7 @@ as_refusal refusals.NoMemory = CallRefusal.no_memory
 
 module _ {K : ℕ} where
   abbrev pub as_call : Request K → CallRequest
+  as_call (requests.Submit path user) = CallRequest.submit path user
   as_call (requests.RegisterNode host rack total) = CallRequest.register_node host rack total
   as_call (requests.QueueInfo path) = CallRequest.queue_info path
   as_call (requests.SetQueueState path running) = CallRequest.set_queue_state path running
@@ -29,6 +33,7 @@ module _ {K : ℕ} where
 
   abbrev pub as_reply : Reply K → CallReply
   as_reply (replies.Refused refusal) = CallReply.refused (as_refusal refusal)
+  as_reply (replies.Submit application) = CallReply.submit application
   as_reply (replies.RegisterNode node) = CallReply.register_node node
   as_reply (replies.QueueInfo running leaf guaranteed maximum used applications) =
       CallReply.queue_info record { running = running; leaf = leaf; guaranteed = guaranteed; maximum = maximum; used = used; applications = applications }

@@ -1,11 +1,14 @@
 -- The refusals of calls, and their numbers.
 use Rattle.std.specs.Prelude.{ℕ}
 use Rattle.cap_model.specs.declared.refusal.Refusal.{Refusal}
-use Rattle.cap_model.specs.declared.refusal.Refusal.TheVariants.{UnknownQueue, HostTaken, TotalTooLarge, TooManyNodes, ZeroResource, NumbersSpent, NoMemory}
+use Rattle.cap_model.specs.declared.refusal.Refusal.TheVariants.{UnknownQueue, NotLeaf, QueueStopped, TooManyApplications, HostTaken, TotalTooLarge, TooManyNodes, ZeroResource, NumbersSpent, NoMemory}
 
 -- the number of a refusal
 abbrev pub status_of : Refusal → ℕ
 status_of UnknownQueue = 1
+status_of NotLeaf = 2
+status_of QueueStopped = 3
+status_of TooManyApplications = 4
 status_of HostTaken = 12
 status_of TotalTooLarge = 13
 status_of TooManyNodes = 14

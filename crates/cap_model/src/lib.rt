@@ -1,11 +1,12 @@
 //! The vocabulary of the allocation engine and what it means: the plain data that travels between the crates, and in
-//! `specs/` the flat cluster, the reply to each request, and runs. There is no engine code here.
+//! `specs/` the flat cluster, the reply to each request, and runs. There is no engine code here, but for tests of texts and of refusals that several crates need.
 #![tactic(auto)]
 
 mod event;
 pub mod examples;
 pub mod laws;
 mod no_memory;
+mod path;
 mod refusal;
 mod reply;
 mod request;
@@ -15,6 +16,7 @@ mod text;
 
 pub use event::Event;
 pub use no_memory::NoMemory;
+pub use path::{is_below, is_under};
 pub use refusal::{Refusal, first_refusal};
 pub use reply::Reply;
 pub use request::Request;

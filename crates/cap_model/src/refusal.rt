@@ -7,6 +7,12 @@ ghost use Rattle.cap_model.specs.Cascade.{earliest};
 pub enum Refusal {
     /// No queue has this path.
     UnknownQueue = 1,
+    /// An application is submitted to a queue with children.
+    NotLeaf = 2,
+    /// An application is submitted to a queue that is STOPPED, or under one that is.
+    QueueStopped = 3,
+    /// As many applications are active as `yarn.scheduler.capacity.maximum-applications` allows.
+    TooManyApplications = 4,
     /// A present node has this host.
     HostTaken = 12,
     /// The sum of all nodes' totals would pass 2^40 in some resource.

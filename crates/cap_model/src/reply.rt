@@ -5,6 +5,9 @@ use cap_vector::{Resource, Sum};
 #[derive(Clone, Copy, Debug, PartialEq, Eq)]
 pub enum Reply<const K: usize> {
     Refused(Refusal),
+    Submit {
+        application: u64,
+    },
     RegisterNode {
         node: u64,
     },

@@ -4,6 +4,11 @@ use cap_vector::Resource;
 /// A call of an application master, a node manager or an operator.
 #[derive(Debug, Drop)]
 pub enum Request<const K: usize> {
+    /// An application enters a leaf queue for a user.
+    Submit {
+        path: PathText,
+        user: ShortText,
+    },
     /// A node manager joins the cluster.
     RegisterNode {
         host: ShortText,

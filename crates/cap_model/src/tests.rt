@@ -18,6 +18,9 @@ fn texts_are_graphic_and_bounded(rt: HostRuntime) -> Result<(), Fail> {
 #[test]
 fn refusals_have_their_numbers(rt: HostRuntime) {
     assert_eq!(rt; Refusal::UnknownQueue.status(), 1);
+    assert_eq!(rt; Refusal::NotLeaf.status(), 2);
+    assert_eq!(rt; Refusal::QueueStopped.status(), 3);
+    assert_eq!(rt; Refusal::TooManyApplications.status(), 4);
     assert_eq!(rt; Refusal::HostTaken.status(), 12);
     assert_eq!(rt; Refusal::TotalTooLarge.status(), 13);
     assert_eq!(rt; Refusal::TooManyNodes.status(), 14);

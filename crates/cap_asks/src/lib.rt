@@ -1,0 +1,10 @@
+//! Applications, and what they ask for.
+#![tactic(auto)]
+
+mod app;
+mod apps;
+#[cfg(test)]
+mod tests;
+
+pub use app::App;
+pub use apps::Apps;

@@ -1,0 +1,2 @@
+//! One module for each call.
+pub mod submit;

@@ -1,0 +1,43 @@
+ghost use Rattle.std.specs.Prelude.{◌≡◌, option_map};
+ghost use Rattle.cap_model.specs.declared.request.Request.TheVariants.{Submit};
+ghost use Rattle.cap_model.specs.Messages.{as_refusal};
+ghost use Rattle.cap_model.specs.Submit.{submit_refusal};
+ghost use Rattle.cap_model.specs.Runs.{Replies};
+
+use cap_commit::Cluster;
+use cap_model::{NUMBER_END, NoMemory, PathText, Refusal, Reply, ShortText, first_refusal};
+
+/// An application enters the leaf queue of this path for a user; the reply gives its number. Refused with `UnknownQueue`,
+/// `NotLeaf`, `QueueStopped`, `TooManyApplications` or `NumbersSpent`, or for want of memory; a refusal changes nothing.
+pub fn submit<const K: usize>(
+    cluster: &mut Cluster<K>,
+    path: &PathText,
+    user: &ShortText,
+) -> Reply<K>
+    ensures { Replies cluster.old (Submit path.now user.now) result cluster.new }
+{
+    match refusal(cluster, path) {
+        Some(refusal) => Reply::Refused(refusal),
+        None => match cluster.add_app(path, user) {
+            Ok(application) => Reply::Submit { application },
+            Err(NoMemory) => Reply::Refused(Refusal::NoMemory),
+        },
+    }
+}
+
+/// The first refusal that holds for such an application, memory aside.
+fn refusal<const K: usize>(cluster: &Cluster<K>, path: &PathText) -> Option<Refusal>
+    ensures { option_map as_refusal result ≡ submit_refusal cluster.now path.now }
+{
+    let bytes = path.as_bytes();
+    first_refusal(&[
+        (cluster.queue(bytes).is_none(), Refusal::UnknownQueue),
+        (cluster.has_children(bytes), Refusal::NotLeaf),
+        (!cluster.is_running(bytes), Refusal::QueueStopped),
+        (
+            cluster.application_limit() <= cluster.application_count() as u64,
+            Refusal::TooManyApplications,
+        ),
+        (cluster.next_app() >= NUMBER_END, Refusal::NumbersSpent),
+    ])
+}
