@@ -1,16 +1,13 @@
 ghost use Rattle.std.specs.Prelude.{◌≡◌, ◌++◌, IfOk, OnOk};
-ghost use Rattle.std.specs.Option.{option_copied};
 ghost use Rattle.cap_config.specs.Index.{IsIndex};
-ghost use Rattle.cap_config.specs.Rows.{row_of, rows_under, settings_of, names_below, names_or_none};
+ghost use Rattle.cap_config.specs.Rows.{row_of, rows_under, settings_of};
 
-use crate::entry::Entry;
-use crate::index::{Index, child_bytes, entry_at};
+use crate::index::{Index, child_bytes};
 use crate::key::ROOT;
-use crate::queues::{LEVELS_MAX, factor, guaranteed, is_running, maximum, number_or};
+use crate::queues::{LEVELS_MAX, factor, guaranteed, is_running, maximum, names_below, number_or};
 use crate::second_pass::cluster_entry;
 use crate::setting::Setting;
-use crate::value::Value;
-use cap_model::{PathText, ShortText};
+use cap_model::PathText;
 use cap_vector::Resource;
 use std::alloc::{AllocError, Global};
 use std::marker::Model;
@@ -179,26 +176,6 @@ fn add_queues(
         add_queues(alloc, index, child, levels - 1, queues)?;
     }
     Ok(())
-}
-
-/// The names that a queue lists.
-fn names_below<'e>(index: &Index<'e>, path: &[u8]) -> &'e [ShortText]
-    requires { IsIndex index.now }
-    ensures { result.now ≡ names_below index.now.entries.now path.now }
-{
-    names_or_none(entry_at(&index.queues, path))
-}
-
-fn names_or_none(entry: Option<&Entry>) -> &[ShortText]
-    ensures { result.now ≡ names_or_none (option_copied entry.entry) }
-{
-    match entry {
-        Some(entry) => match &entry.value {
-            Value::Names(names) => names.names(),
-            _ => &[],
-        },
-        None => &[],
-    }
 }
 
 #[tactic(auto, unfolding(crate::specs::Rows::row_of))]
