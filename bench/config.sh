@@ -1,7 +1,8 @@
 #!/usr/bin/env bash
-# Times the reading of property lines, each text beside one of twice its length: 100,000 lines (the keys of 1,024 queues, and comments), one line of
-# 10 MB, and one list of 10 MB with two million names. Each time is the best of three runs. The first text of each kind answers within its bound, and the
-# ratio of the two times is at most 2.4, where the work is in proportion to the text (times the logarithm of the names of a list).
+# Times the reading of property lines, each text beside one of twice its length: 100,000 lines (the keys of 1,024 queues, and comments), 100,000 lines
+# that set properties, one line of 10 MB, and one list of 10 MB with two million names. Each time is the best of three runs. The first text of each kind
+# answers within a second, the list within two, and the ratio of the two times is at most 2.4, or 3.2 for the list, where the work is in proportion to the
+# text times the logarithm of its lines and names.
 set -euo pipefail
 top=$(cd "$(dirname "${BASH_SOURCE[0]}")/.." && pwd)
 (cd "$top/crates/config_check" && rt run) >/dev/null 2>&1 || { echo "config_check is not built" >&2; exit 1; }
@@ -37,6 +38,15 @@ queues() {
     }'
 }
 
+# n lines: root has one queue, and the others are for queues that it does not list
+properties() {
+  awk -v n="$1" 'BEGIN {
+    root = "yarn.scheduler.capacity.root"
+    print root ".queues=a"
+    for (i = 1; i < n; i++) print root ".a" i ".capacity=[memory=1024,vcores=1]"
+  }'
+}
+
 # one comment of n bytes
 comment() { printf '#'; head -c "$(($1 - 2))" /dev/zero | tr '\0' x; echo; }
 
@@ -68,7 +78,7 @@ measure() {
 }
 
 broken=0
-# compare KIND SIZE UNIT ANSWER BOUND: a text of a size and one of twice the size
+# compare KIND SIZE UNIT ANSWER BOUND RATIO: a text of a size and one of twice the size
 compare() {
   times=()
   for size in "$2" $((2 * $2)); do
@@ -77,14 +87,15 @@ compare() {
     echo "$1 of $size $3: $best ms"
     times+=("$best")
   done
-  awk -v a="${times[0]}" -v b="${times[1]}" -v most="$5" 'BEGIN {
+  awk -v a="${times[0]}" -v b="${times[1]}" -v most="$5" -v ratio="$6" 'BEGIN {
     r = b / (a > 0 ? a : 1)
-    printf "ratio of the times: %.2f (at most 2.4); the first at most %d ms\n", r, most
-    exit !(r <= 2.4 && a <= most)
+    printf "ratio of the times: %.2f (at most %s); the first at most %d ms\n", r, ratio, most
+    exit !(r <= ratio && a <= most)
   }' || broken=1
 }
 
-compare queues 100000 lines ok 1000
-compare comment 10000000 bytes "config 0 10" 1000
-compare list 10000000 bytes "config 1 8" 5000
+compare queues 100000 lines ok 1000 2.4
+compare properties 100000 lines "config 2 5" 1000 2.4
+compare comment 10000000 bytes "config 0 10" 1000 2.4
+compare list 10000000 bytes "config 1 8" 2000 3.2
 exit "$broken"
