@@ -1,19 +1,26 @@
 -- What is known of the entry that is found for a queue.
-use Rattle.std.proofs.Common.{◌≡◌, ℕ, List, [], ◌∷◌, Bool, true, false, cond, not, eqb, Option, Some, None, refl, subst, ap}
+use Rattle.std.proofs.Common.{◌≡◌, ℕ, List, [], ◌∷◌, Bool, true, false, cond, not, eqb, Option, Some, None, refl, subst, ap, suc, ◌∙◌, ◌+◌, ◌<◌, ◌≤◌, length, length-append, get_or, ltb, leb, arith}
 use Rattle.std.specs.Prelude.{find, ◌&&◌, ◌||◌}
 use Rattle.std.specs.List.{list_all}
 use Rattle.std.specs.Str.{bytes_eq}
 use Rattle.std.proofs.lemmas.Option.{same_Some}
 use Rattle.std.proofs.lemmas.Slice.Eq.{bytes_eq-Decides}
+use Rattle.std.proofs.lemmas.Bool.Decides.{nat_tests}
+use Rattle.std.proofs.lemmas.List.Folds.{list_all-append}
+use Rattle.std.proofs.lemmas.List.Sums.{AllPass-from_list_all}
+use Rattle.cap_vector.specs.Vector.{amount_max}
+use Rattle.cap_model.specs.Texts.{is_text, is_graphic}
 use Rattle.cap_config.specs.declared.entry.Entry.{Entry}
 use Rattle.cap_config.specs.declared.value.Value.{Value}
 use Rattle.cap_config.specs.declared.value.Value.TheVariants.{Names, Amounts, Number, Running}
 use Rattle.cap_config.specs.declared.setting.Setting.TheVariants.{Queues}
+use Rattle.cap_config.specs.declared.setting.Setting.{Setting}
 use Rattle.cap_config.specs.Values.{is_name_under}
 use Rattle.cap_config.specs.Seen.{is_among}
-use Rattle.cap_config.specs.Queues.{entry_for, is_for, is_path_at, same_setting, names_below, names_or_none, names_in_value}
-use Rattle.cap_config.specs.Tests.{line_where, too_deep_line, lists_deep, is_deep, level}
+use Rattle.cap_config.specs.Queues.{child, entry_for, is_for, is_path_at, same_setting, names_below, names_or_none, names_in_value}
+use Rattle.cap_config.specs.Tests.{cluster_entry, number_or, number_in, line_where, too_deep_line, lists_deep, is_deep, level}
 use Rattle.cap_config.specs.Bounds.{is_kept, is_bounded, are_bounded, are_under}
+use Rattle.cap_config.proofs.Steps.{not_true}
 
 pub same_bytes : (a b : List ℕ) → bytes_eq a b ≡ true → a ≡ b
 same_bytes a b h = (bytes_eq-Decides a b).0 h
@@ -82,10 +89,6 @@ nowhere_all test (e ∷ entries) h =
     let parts = nowhere_by test e (test e) (line_where test entries) refl h in
     rw (parts.0, nowhere_all test entries parts.1) refl
 
-not_true : (b : Bool) → not b ≡ true → b ≡ false
-not_true true h = absurd (cc h)
-not_true false h = refl
-
 deep_in : (value : Value) (queue : Option (List ℕ)) (path name : List ℕ) → queue ≡ Some path → not (is_deep queue value) ≡ true → is_among (names_in_value value) name ≡ true → eqb (level path) 16 ≡ false
 deep_in (Names names) queue path name e h in_list =
     let no : not (is_deep (Some path) (Names names)) ≡ true = subst (λ (q : Option (List ℕ)). not (is_deep q (Names names)) ≡ true) e h in
@@ -104,3 +107,45 @@ deep_at entries path name None is none in_list = absurd (cc in_list)
 -- where no line lists queues too deep, a queue that lists one is not on the last level
 pub not_deepest : (entries : List Entry) (path name : List ℕ) → too_deep_line entries ≡ None → is_among (names_below entries path) name ≡ true → eqb (level path) 16 ≡ false
 not_deepest entries path name none in_list = deep_at entries path name (entry_for entries Queues path) refl none in_list
+
+number_in_kept : (value : Value) (queue : Option (List ℕ)) (default : ℕ) → is_kept value queue ≡ true → default ≤ amount_max → number_in default value ≤ amount_max
+number_in_kept (Names names) queue default kept small = small
+number_in_kept (Amounts amounts) queue default kept small = small
+number_in_kept (Number n) queue default kept small = grind (arith, nat_tests)
+number_in_kept (Running running) queue default kept small = small
+
+number_at : (entries : List Entry) (setting : Setting) (default : ℕ) (o : Option Entry) → cluster_entry entries setting ≡ o → are_bounded entries ≡ true → default ≤ amount_max → number_or o default ≤ amount_max
+number_at entries setting default (Some entry) is all small =
+    number_in_kept entry.value entry.queue default (found_has (λ e. same_setting e.setting setting) is_bounded entries entry is all).1 small
+number_at entries setting default None is all small = small
+
+-- a number that a line sets is at most the greatest amount, where the one that stands else is
+pub number_small : (entries : List Entry) (setting : Setting) (default n : ℕ) → are_bounded entries ≡ true → default ≤ amount_max → n ≡ number_or (cluster_entry entries setting) default → n ≤ amount_max
+number_small entries setting default n all small e =
+    let within : number_or (cluster_entry entries setting) default ≤ amount_max = number_at entries setting default (cluster_entry entries setting) refl all small in
+    rw e within
+
+graphic_child : (path name : List ℕ) → list_all is_graphic path ≡ true → list_all is_graphic name ≡ true → list_all is_graphic (child path name) ≡ true
+graphic_child path name p n = rw (list_all-append is_graphic path (46 ∷ name), p, n) refl
+
+length_child : (path name : List ℕ) → length (child path name) ≡ length path + 1 + length name
+length_child path name = length-append path (46 ∷ name) ∙ (let e : length path + suc (length name) ≡ length path + 1 + length name = omega arith in e)
+
+fits_more : (p n : ℕ) → leb (p + 1 + n) 255 ≡ true → (ltb 0 (p + 1 + n) && leb (p + 1 + n) 255) ≡ true
+fits_more p n h = grind (arith, nat_tests)
+
+-- the path of a queue below another is a path
+pub child_is_text : (path name : List ℕ) → is_text 255 path ≡ true → is_name_under path name ≡ true → is_text 255 (child path name) ≡ true
+child_is_text path name p under =
+    let named = both _ (leb (length path + 1 + length name) 255) under in
+    let graphic : list_all is_graphic (child path name) ≡ true = graphic_child path name (both _ _ p).1 (both _ _ (both _ _ named.0).0).1 in
+    let long : (ltb 0 (length (child path name)) && leb (length (child path name)) 255) ≡ true = rw (length_child path name) (fits_more (length path) (length name) named.1) in
+    rw (long, graphic) refl
+
+-- so is that of each name that a queue lists
+pub path_below : (entries : List Entry) (path : List ℕ) (names : List (List ℕ)) (name : List ℕ) (i : ℕ) → are_bounded entries ≡ true → is_text 255 path ≡ true → names_below entries path ≡ names →
+    i < length names → name ≡ get_or names i name → is_text 255 (child path name) ≡ true
+path_below entries path names name i all p here h is =
+    let under : list_all (is_name_under path) names ≡ true = subst (λ (ns : List (List ℕ)). list_all (is_name_under path) ns ≡ true) here (under_path entries path all) in
+    let this : is_name_under path name ≡ true = ap (is_name_under path) is ∙ AllPass-from_list_all (is_name_under path) names under i name h in
+    child_is_text path name p this

@@ -63,8 +63,7 @@ root_is entries = refl
 pub least_tree : (text : List ℕ) (entries : List Entry) → read_lines (lines text) ≡ Ok entries →
     IsTree entries (is_queue entries) × ((has : List ℕ → Bool) → IsTree entries has → (path : List ℕ) → is_queue entries path ≡ true → has path ≡ true)
 least_tree text entries is =
-    let all = lines_kept (lines text) entries is in
-    (
+    let all = lines_kept (lines text) entries is in (
       record { top = root_is entries; below = λ path name h in_list. listed_is entries path name all h in_list },
       λ has tree path h. of_queues entries (λ p. has p ≡ true) tree.top (λ p name q in_list cut here. tree.below p name here in_list) path h,
     )
