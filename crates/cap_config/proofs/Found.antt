@@ -15,7 +15,7 @@ use Rattle.cap_config.specs.declared.value.Value.{Value}
 use Rattle.cap_config.specs.declared.value.Value.TheVariants.{Names, Amounts, Number, Running}
 use Rattle.cap_config.specs.declared.setting.Setting.TheVariants.{Queues}
 use Rattle.cap_config.specs.declared.setting.Setting.{Setting}
-use Rattle.cap_config.specs.Values.{is_name_under}
+use Rattle.cap_config.specs.Values.{is_name_under, are_new}
 use Rattle.cap_config.specs.Seen.{is_among}
 use Rattle.cap_config.specs.Queues.{child, entry_for, is_for, is_path_at, same_setting, names_below, names_or_none, names_in_value}
 use Rattle.cap_config.specs.Tests.{cluster_entry, number_or, number_in, line_where, too_deep_line, lists_deep, is_deep, level}
@@ -49,13 +49,15 @@ names_at true (Some p) path h = ap Some (same_bytes p path h)
 names_at true None path h = absurd (cc h)
 names_at false queue path h = absurd (cc h)
 
-under_in : (value : Value) (queue : Option (List ℕ)) (path : List ℕ) → queue ≡ Some path → is_kept value queue ≡ true → list_all (is_name_under path) (names_in_value value) ≡ true
+under_in : (value : Value) (queue : Option (List ℕ)) (path : List ℕ) → queue ≡ Some path → is_kept value queue ≡ true →
+    (list_all (is_name_under path) (names_in_value value) && are_new [] (names_in_value value)) ≡ true
 under_in (Names names) queue path e h = subst (λ (q : Option (List ℕ)). are_under q names ≡ true) e h
 under_in (Amounts amounts) queue path e h = refl
 under_in (Number n) queue path e h = refl
 under_in (Running running) queue path e h = refl
 
-under_at : (entries : List Entry) (path : List ℕ) (o : Option Entry) → entry_for entries Queues path ≡ o → are_bounded entries ≡ true → list_all (is_name_under path) (names_or_none o) ≡ true
+under_at : (entries : List Entry) (path : List ℕ) (o : Option Entry) → entry_for entries Queues path ≡ o → are_bounded entries ≡ true →
+    (list_all (is_name_under path) (names_or_none o) && are_new [] (names_or_none o)) ≡ true
 unfolding entry_for
 under_at entries path (Some entry) is all =
     let has = found_has (is_for Queues path) is_bounded entries entry is all in
@@ -64,7 +66,11 @@ under_at entries path None is all = refl
 
 -- the names that a queue lists make paths below it
 pub under_path : (entries : List Entry) (path : List ℕ) → are_bounded entries ≡ true → list_all (is_name_under path) (names_below entries path) ≡ true
-under_path entries path all = under_at entries path (entry_for entries Queues path) refl all
+under_path entries path all = (both _ (are_new [] (names_below entries path)) (under_at entries path (entry_for entries Queues path) refl all)).0
+
+-- each of them once
+pub names_once : (entries : List Entry) (path : List ℕ) → are_bounded entries ≡ true → are_new [] (names_below entries path) ≡ true
+names_once entries path all = (both (list_all (is_name_under path) (names_below entries path)) _ (under_at entries path (entry_for entries Queues path) refl all)).1
 
 among_by : (p : List ℕ → Bool) (n name : List ℕ) (here rest : Bool) → bytes_eq n name ≡ here → p n ≡ true → (rest ≡ true → p name ≡ true) → (here || rest) ≡ true → p name ≡ true
 among_by p n name true rest is passes later h = subst (λ (x : List ℕ). p x ≡ true) (same_bytes n name is) passes

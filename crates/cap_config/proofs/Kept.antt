@@ -23,11 +23,10 @@ use Rattle.cap_config.specs.Bounds.{is_kept, is_bounded, are_bounded}
 kept_as : (queue : Option (List ℕ)) (value v : Value) → value ≡ v → is_kept value queue ≡ true → is_kept v queue ≡ true
 kept_as queue value v e h = subst (λ (x : Value). is_kept x queue ≡ true) e h
 
-names_kept : (path : List ℕ) (under new : Bool) (names : List (List ℕ)) (v : Value) → under ≡ list_all (is_name_under path) names →
-    as_names (cond (under && new) (Some names) None) ≡ Some v → is_kept v (Some path) ≡ true
-names_kept path true true names v u h = kept_as (Some path) (Names names) v (same_Some _ _ h) (sym u)
-names_kept path true false names v u h = absurd (cc h)
-names_kept path false new names v u h = absurd (cc h)
+names_kept : (path : List ℕ) (test : Bool) (names : List (List ℕ)) (v : Value) → test ≡ (list_all (is_name_under path) names && are_new [] names) →
+    as_names (cond test (Some names) None) ≡ Some v → is_kept v (Some path) ≡ true
+names_kept path true names v u h = kept_as (Some path) (Names names) v (same_Some _ _ h) (sym u)
+names_kept path false names v u h = absurd (cc h)
 
 amounts_kept : (queue : Option (List ℕ)) (r : Option (List ℕ)) (v : Value) → as_amounts r ≡ Some v → is_kept v queue ≡ true
 amounts_kept queue (Some amounts) v h = kept_as queue (Amounts amounts) v (same_Some _ _ h) refl
@@ -49,7 +48,7 @@ state_kept queue false false v h = absurd (cc h)
 
 value_kept : (queue : Option (List ℕ)) (setting : Setting) (bytes : List ℕ) (v : Value) → value_at queue setting bytes ≡ Some v → is_kept v queue ≡ true
 unfolding value_at number_within state_of names_for
-value_kept (Some path) Queues bytes v h = names_kept path (list_all (is_name_under path) (names_of bytes)) (are_new [] (names_of bytes)) (names_of bytes) v refl h
+value_kept (Some path) Queues bytes v h = names_kept path (list_all (is_name_under path) (names_of bytes) && are_new [] (names_of bytes)) (names_of bytes) v refl h
 value_kept None Queues bytes v h = absurd (cc h)
 value_kept queue Capacity bytes v h = amounts_kept queue (amounts_of bytes) v h
 value_kept queue MaximumCapacity bytes v h = amounts_kept queue (amounts_of bytes) v h

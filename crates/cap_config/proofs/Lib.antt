@@ -20,3 +20,4 @@ pub mod Children
 pub mod Answered
 pub mod Least
 pub mod RowPaths
+pub mod RowCounts

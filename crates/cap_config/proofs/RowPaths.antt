@@ -26,7 +26,7 @@ abbrev pub paths_of : List QueueRow → List (List ℕ)
 paths_of rows = map (λ row. row.path) rows
 
 -- in one of two lists
-either : (C : Type 0) (a b : Bool) → (a || b) ≡ true → (a ≡ true → C) → (b ≡ true → C) → C
+pub either : (C : Type 0) (a b : Bool) → (a || b) ≡ true → (a ≡ true → C) → (b ≡ true → C) → C
 either C true b h left right = left refl
 either C false b h left right = right h
 
@@ -50,7 +50,7 @@ paths_append [] ys path = refl
 paths_append (x ∷ xs) ys path = ap (λ b. bytes_eq x.path path || b) (paths_append xs ys path) ∙ or_assoc (bytes_eq x.path path) (is_among (paths_of xs) path) (is_among (paths_of ys) path)
 
 -- a path in the rows of many lists is in one of them
-in_some : (C : Type 0) (f : List ℕ → List QueueRow) (names : List (List ℕ)) (path : List ℕ) → is_among (paths_of (flat_map f names)) path ≡ true →
+pub in_some : (C : Type 0) (f : List ℕ → List QueueRow) (names : List (List ℕ)) (path : List ℕ) → is_among (paths_of (flat_map f names)) path ≡ true →
     ((name : List ℕ) → is_among names name ≡ true → is_among (paths_of (f name)) path ≡ true → C) → C
 in_some C f [] path h found = absurd (cc h)
 in_some C f (n ∷ names) path h found =
@@ -66,12 +66,12 @@ in_all f (n ∷ names) name path in_list here =
     (λ same. first_of_two (is_among (paths_of (f n)) path) (is_among (paths_of (flat_map f names)) path) (subst (λ (x : List ℕ). is_among (paths_of (f x)) path ≡ true) (sym (same_bytes n name same)) here))
     (λ later. second_of_two (is_among (paths_of (f n)) path) (is_among (paths_of (flat_map f names)) path) (in_all f names name path later here))
 
-paths_more : (n : ℕ) (entries : List Entry) (p path : List ℕ) →
+pub paths_more : (n : ℕ) (entries : List Entry) (p path : List ℕ) →
     is_among (paths_of (rows_under (suc n) entries p)) path ≡ (bytes_eq p path || is_among (paths_of (flat_map (λ name. rows_under n entries (child p name)) (names_below entries p))) path)
 unfolding rows_under row_of
 paths_more n entries p path = refl
 
-none_under : (C : Type 0) (entries : List Entry) (p path : List ℕ) → is_among (paths_of (rows_under zero entries p)) path ≡ true → C
+pub none_under : (C : Type 0) (entries : List Entry) (p path : List ℕ) → is_among (paths_of (rows_under zero entries p)) path ≡ true → C
 unfolding rows_under
 none_under C entries p path h = absurd (cc h)
 

@@ -1,5 +1,6 @@
 -- Laws of the definitions: what they say of every text.
-use Rattle.std.specs.Prelude.{◌≡◌, ◌↔◌, ◌≤◌, ℕ, List, None, Ok, Bool, true, IsSome, map}
+use Rattle.std.specs.Prelude.{◌≡◌, ◌↔◌, ◌≤◌, ℕ, List, None, Ok, Bool, true, IsSome, count_by, if◌then◌else◌}
+use Rattle.std.specs.Str.{bytes_eq}
 use Rattle.std.specs.Str.Lines.{lines}
 use Rattle.cap_config.specs.declared.entry.Entry.{Entry}
 use Rattle.cap_config.specs.Keys.{root}
@@ -30,8 +31,8 @@ abbrev pub QueuesAreNotTooDeep : Type 0
 QueuesAreNotTooDeep =
     (text : List ℕ) (entries : List Entry) → read_lines (lines text) ≡ Ok entries → whole_fault entries ≡ None → (path : List ℕ) → is_queue entries path ≡ true → level path ≤ 16
 
--- its settings have a row for each queue, and for no other path
+-- its settings have one row for each queue, and none for another path
 abbrev pub RowsAreQueues : Type 0
 RowsAreQueues =
     (text : List ℕ) (entries : List Entry) → read_lines (lines text) ≡ Ok entries → whole_fault entries ≡ None →
-    (path : List ℕ) → is_among (map (λ row. row.path) (settings_of entries).queues) path ≡ is_queue entries path
+    (path : List ℕ) → count_by (λ row. bytes_eq row.path path) (settings_of entries).queues ≡ (if is_queue entries path then 1 else 0)

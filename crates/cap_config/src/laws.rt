@@ -11,7 +11,7 @@ pub fn queues_are_the_least_tree()
     ensures { QueuesAreLeast }
 {}
 
-/// The settings of a text without a fault have a row for each queue and for no other path, and no queue is too deep.
+/// The settings of a text without a fault have one row for each queue and none for another path, and no queue is too deep.
 pub fn rows_are_the_queues()
     ensures levels { QueuesAreNotTooDeep }
     ensures rows { RowsAreQueues }
