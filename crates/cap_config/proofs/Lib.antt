@@ -21,3 +21,4 @@ pub mod Answered
 pub mod Least
 pub mod RowPaths
 pub mod RowCounts
+pub mod RowBounds

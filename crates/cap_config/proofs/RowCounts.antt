@@ -96,7 +96,7 @@ count_one : (b : Bool) (n : ℕ) → b ≡ true → cond b 1 0 + n ≡ 1 + n
 count_one true n h = refl
 count_one false n h = absurd (cc h)
 
-count_no : (b : Bool) (n : ℕ) → b ≡ false → cond b 1 0 + n ≡ n
+pub count_no : (b : Bool) (n : ℕ) → b ≡ false → cond b 1 0 + n ≡ n
 count_no true n h = absurd (cc h)
 count_no false n h = omega arith
 
@@ -207,7 +207,7 @@ no_longer : (b : Bool) → (b ≡ true → ⊥) → b ≡ false
 no_longer true h = absurd (h refl)
 no_longer false h = refl
 
-rows_at_most : (entries : List Entry) → are_bounded entries ≡ true → (n : ℕ) (p path : List ℕ) → rows_for (rows_under n entries p) path ≤ 1
+pub rows_at_most : (entries : List Entry) → are_bounded entries ≡ true → (n : ℕ) (p path : List ℕ) → rows_for (rows_under n entries p) path ≤ 1
 rows_at_most entries all zero p path = no_rows entries p path
 rows_at_most entries all (suc n) p path =
     let f = λ (name : List ℕ). rows_under n entries (child p name) in
@@ -228,7 +228,7 @@ exactly_one : (b : Bool) (n : ℕ) → n ≤ 1 → (b ≡ true → 1 ≤ n) → 
 exactly_one true n most some none = let l = some refl in omega (arith, l, most)
 exactly_one false n most some none = none refl
 
-rows_of_settings : (entries : List Entry) → (settings_of entries).queues ≡ rows_under 16 entries root
+pub rows_of_settings : (entries : List Entry) → (settings_of entries).queues ≡ rows_under 16 entries root
 unfolding settings_of
 rows_of_settings entries = refl
 

@@ -123,7 +123,7 @@ row_of_queue entries path h =
     (λ p name q in_list cut above. below_at entries p name (level (child p name)) (level p) (level_below (child p name) p name cut) in_list above)
     path h
 
-same_bools : (a b : Bool) → (a ≡ true → b ≡ true) → (b ≡ true → a ≡ true) → a ≡ b
+pub same_bools : (a b : Bool) → (a ≡ true → b ≡ true) → (b ≡ true → a ≡ true) → a ≡ b
 same_bools true true f g = refl
 same_bools true false f g = sym (f refl)
 same_bools false true f g = g refl
@@ -137,7 +137,7 @@ no_shape : (a b : Option ConfigFault) → or_fault a b ≡ None → a ≡ None
 no_shape None b h = refl
 no_shape a b h = absurd (cc h)
 
-shape_is_none : (entries : List Entry) → whole_fault entries ≡ None → shape_fault entries ≡ None
+pub shape_is_none : (entries : List Entry) → whole_fault entries ≡ None → shape_fault entries ≡ None
 unfolding whole_fault
 shape_is_none entries h = no_shape (shape_fault entries) _ h
 
@@ -153,6 +153,20 @@ deep_is_none entries h =
     let after_children = (no_other (no_child_line entries) NoChild astray after_bounds).1 in
     let after_queues = (no_other (no_such_queue_line entries) NoSuchQueue deep after_children).1 in
     (no_other (too_deep_line entries) TooDeep many after_queues).0
+
+pub many_is_none : (entries : List Entry) → shape_fault entries ≡ None → too_many_line entries ≡ None
+unfolding shape_fault
+many_is_none entries h =
+    let over = or_else (over_maximum_line entries) GuaranteeOverMaximum None in
+    let many = or_else (too_many_line entries) TooManyQueues over in
+    let deep = or_else (too_deep_line entries) TooDeep many in
+    let astray = or_else (no_such_queue_line entries) NoSuchQueue deep in
+    let childless = or_else (no_child_line entries) NoChild astray in
+    let after_bounds = (no_other (allocation_line entries) BadValue childless h).1 in
+    let after_children = (no_other (no_child_line entries) NoChild astray after_bounds).1 in
+    let after_queues = (no_other (no_such_queue_line entries) NoSuchQueue deep after_children).1 in
+    let after_levels = (no_other (too_deep_line entries) TooDeep many after_queues).1 in
+    (no_other (too_many_line entries) TooManyQueues over after_levels).0
 
 pub levels_are_few : (text : List ℕ) (entries : List Entry) → read_lines (lines text) ≡ Ok entries → whole_fault entries ≡ None → (path : List ℕ) → is_queue entries path ≡ true → level path ≤ 16
 levels_are_few text entries is none path h = level_small entries (deep_is_none entries (shape_is_none entries none)) path h

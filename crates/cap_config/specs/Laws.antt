@@ -1,5 +1,5 @@
 -- Laws of the definitions: what they say of every text.
-use Rattle.std.specs.Prelude.{◌≡◌, ◌↔◌, ◌≤◌, ℕ, List, None, Ok, Bool, true, IsSome, count_by, if◌then◌else◌}
+use Rattle.std.specs.Prelude.{◌≡◌, ◌↔◌, ◌≤◌, ℕ, List, None, Ok, Bool, true, IsSome, count_by, length, if◌then◌else◌}
 use Rattle.std.specs.Str.{bytes_eq}
 use Rattle.std.specs.Str.Lines.{lines}
 use Rattle.cap_config.specs.declared.entry.Entry.{Entry}
@@ -36,3 +36,7 @@ abbrev pub RowsAreQueues : Type 0
 RowsAreQueues =
     (text : List ℕ) (entries : List Entry) → read_lines (lines text) ≡ Ok entries → whole_fault entries ≡ None →
     (path : List ℕ) → count_by (λ row. bytes_eq row.path path) (settings_of entries).queues ≡ (if is_queue entries path then 1 else 0)
+
+-- there are at most 1,024 rows
+abbrev pub RowsAreFew : Type 0
+RowsAreFew = (text : List ℕ) (entries : List Entry) → read_lines (lines text) ≡ Ok entries → whole_fault entries ≡ None → length (settings_of entries).queues ≤ 1024

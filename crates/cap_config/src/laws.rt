@@ -1,5 +1,5 @@
 //! Laws of the definitions in `specs/`, for callers to cite. The functions do nothing.
-ghost use Rattle.cap_config.specs.Laws.{HasOneAnswer, QueuesAreLeast, QueuesAreNotTooDeep, RowsAreQueues};
+ghost use Rattle.cap_config.specs.Laws.{HasOneAnswer, QueuesAreLeast, QueuesAreNotTooDeep, RowsAreQueues, RowsAreFew};
 
 /// A text has a first fault or settings, and never both.
 pub fn text_has_one_answer()
@@ -11,8 +11,10 @@ pub fn queues_are_the_least_tree()
     ensures { QueuesAreLeast }
 {}
 
-/// The settings of a text without a fault have one row for each queue and none for another path, and no queue is too deep.
+/// The settings of a text without a fault have one row for each queue and none for another path, no queue is too deep, and
+/// there are at most 1,024.
 pub fn rows_are_the_queues()
     ensures levels { QueuesAreNotTooDeep }
     ensures rows { RowsAreQueues }
+    ensures few { RowsAreFew }
 {}
