@@ -11,7 +11,7 @@ use Rattle.cap_config.specs.Entries.{read_lines}
 use Rattle.cap_model.specs.Settings.{Settings}
 use Rattle.cap_config.specs.Tests.{or_else, shape_fault, allocation_line, no_child_line, no_such_queue_line, too_deep_line, too_many_line, over_maximum_line, over_parent_line, whole_fault}
 use Rattle.cap_config.specs.Rows.{settings_of}
-use Rattle.cap_config.specs.First.{fault_after, first_fault, AnswersFault, settings_in, settings_after}
+use Rattle.cap_config.specs.First.{fault_after, first_fault, AnswersFault, settings_in, settings_after, unless_fault}
 use Rattle.cap_config.proofs.Steps.{fails_after}
 
 pub early_by_line : (text : List ℕ) (fault : ConfigFault) → read_lines (lines text) ≡ Err fault → first_fault text ≡ Some fault
@@ -22,7 +22,7 @@ pub early_by_shape : (text : List ℕ) (entries : List Entry) → read_lines (li
 unfolding first_fault
 early_by_shape text entries is = ap fault_after is
 
-pub settings_are : (text : List ℕ) (entries : List Entry) → read_lines (lines text) ≡ Ok entries → settings_in text ≡ Some (settings_of entries)
+pub settings_are : (text : List ℕ) (entries : List Entry) → read_lines (lines text) ≡ Ok entries → settings_in text ≡ unless_fault (whole_fault entries) (settings_of entries)
 unfolding settings_in
 settings_are text entries is = ap settings_after is
 
@@ -111,5 +111,9 @@ shape_passes X Y text entries seen y x is same h =
     subst (λ (o : Option ConfigFault). AnswersFault {X = X} o (Ok x)) early tt
 
 -- the settings of the entries that the index sees
-pub settings_answer : (text : List ℕ) (entries seen : List Entry) (settings : Settings) → read_lines (lines text) ≡ Ok entries → seen ≡ entries → settings ≡ settings_of seen → settings_in text ≡ Some settings
-settings_answer text entries seen settings is same e = settings_are text entries is ∙ ap Some (sym (e ∙ ap settings_of same))
+pub settings_answer : (Y : Type 0) (text : List ℕ) (entries seen : List Entry) (y : Y) (settings : Settings) → read_lines (lines text) ≡ Ok entries → seen ≡ entries →
+    AnswersFault {X = Y} (whole_fault seen) (Ok y) → settings ≡ settings_of seen → settings_in text ≡ Some settings
+settings_answer Y text entries seen y settings is same passes e =
+    settings_are text entries is
+    ∙ ap (λ (f : Option ConfigFault). unless_fault f (settings_of entries)) (ap whole_fault (sym same) ∙ no_fault Y (whole_fault seen) y passes)
+    ∙ ap Some (sym (e ∙ ap settings_of same))

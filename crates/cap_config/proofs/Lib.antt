@@ -14,3 +14,11 @@ pub mod FirstLines
 pub mod RowLists
 pub mod Firsts
 pub mod Spending
+pub mod Kept
+pub mod Found
+pub mod Children
+pub mod Answered
+pub mod Least
+pub mod RowPaths
+pub mod RowCounts
+pub mod RowBounds

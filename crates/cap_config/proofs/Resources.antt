@@ -11,6 +11,9 @@ two_within m v hm hv zero = hm
 two_within m v hm hv (suc zero) = hv
 two_within m v hm hv (suc (suc k)) = omega arith
 
+pub two_are_vector : (m v : ℕ) → m ≤ amount_max → v ≤ amount_max → IsVector 2 amount_max (m ∷ v ∷ [])
+two_are_vector m v hm hv = record { count = refl; within = two_within m v hm hv }
+
 -- two amounts are a resource where each is within the bound
 are_vector : (m v : ℕ) → (nat_le m amount_max && nat_le v amount_max) ≡ true → IsVector 2 amount_max (m ∷ v ∷ [])
 are_vector m v h = record { count = refl; within = two_within m v (grind (arith, nat_tests)) (grind (arith, nat_tests)) }

@@ -24,10 +24,14 @@ AnswersFault None (Err given) = FailsBy given.kind given {Y = Unit {0}} (Ok tt)
 AnswersFault (Some fault) (Ok x) = ⊥
 AnswersFault {X} (Some fault) (Err given) = FailsBy given.kind given {Y = X} (Err fault)
 
+abbrev pub unless_fault : Option ConfigFault → Settings → Option Settings
+unless_fault (Some fault) settings = None
+unless_fault None settings = Some settings
+
 abbrev pub settings_after : Result (List Entry) ConfigFault → Option Settings
-settings_after (Ok entries) = Some (settings_of entries)
+settings_after (Ok entries) = unless_fault (whole_fault entries) (settings_of entries)
 settings_after (Err fault) = None
 
--- the settings that the lines of a text make
+-- the settings that the lines of a text make, where the text has no fault
 unfoldable pub settings_in : List ℕ → Option Settings
 settings_in text = settings_after (read_lines (lines text))

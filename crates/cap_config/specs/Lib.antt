@@ -6,7 +6,9 @@ pub mod Seen
 pub mod Values
 pub mod Entries
 pub mod Queues
+pub mod Bounds
 pub mod Index
 pub mod Tests
 pub mod Rows
 pub mod First
+pub mod Laws

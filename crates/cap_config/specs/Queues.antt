@@ -1,6 +1,5 @@
 -- The queues that entries set up, and what is set for each.
 use Rattle.std.specs.Prelude.{◌≡◌, ℕ, List, [], ◌∷◌, ◌++◌, map, find, Option, Some, None, Bool, true, false, ◌&&◌, ◌==◌, if◌then◌else◌}
-use Rattle.std.specs.List.{flat_map}
 use Rattle.std.specs.Str.{bytes_eq}
 use Rattle.std.specs.BTreeMap.{BTreeMap, get_by}
 use Rattle.std.specs.Cmp.Lexicographic.{slice_cmp}
@@ -12,7 +11,7 @@ use Rattle.cap_config.specs.declared.value.Value.{Value}
 use Rattle.cap_config.specs.declared.value.Value.TheVariants.{Names, Amounts, Number, Running}
 use Rattle.cap_config.specs.declared.setting.Setting.{Setting}
 use Rattle.cap_config.specs.declared.setting.Setting.TheVariants.{Queues, Capacity, MaximumCapacity, UserLimitFactor, State, MaximumApplications, MinimumMemory, MinimumVcores, MaximumMemory, MaximumVcores}
-use Rattle.cap_config.specs.Keys.{root, is_dot}
+use Rattle.cap_config.specs.Keys.{root, is_dot, parts_at_last_dot}
 use Rattle.cap_config.specs.Seen.{is_among}
 
 abbrev pub setting_number : Setting → ℕ
@@ -61,19 +60,19 @@ FindsAll places setting entries = (q : List ℕ) → found places q ≡ find (is
 abbrev pub child : List ℕ → List ℕ → List ℕ
 child path name = path ++ 46 ∷ name
 
--- the paths of the queues that an entry lists
-abbrev pub paths_below : Option (List ℕ) → Value → List (List ℕ)
-paths_below (Some path) (Names names) = map (child path) names
-paths_below (Some path) (Amounts amounts) = []
-paths_below (Some path) (Number n) = []
-paths_below (Some path) (Running running) = []
-paths_below None value = []
+-- the names that a queue lists
+abbrev pub names_in_value : Value → List (List ℕ)
+names_in_value (Names names) = names
+names_in_value (Amounts amounts) = []
+names_in_value (Number n) = []
+names_in_value (Running running) = []
 
-abbrev pub paths_listed : Entry → List (List ℕ)
-paths_listed entry = paths_below entry.queue entry.value
+abbrev pub names_or_none : Option Entry → List (List ℕ)
+names_or_none (Some entry) = names_in_value entry.value
+names_or_none None = []
 
-unfoldable pub all_listed : List Entry → List (List ℕ)
-all_listed entries = flat_map paths_listed entries
+abbrev pub names_below : List Entry → List ℕ → List (List ℕ)
+names_below entries path = names_or_none (entry_for entries Queues path)
 
 -- the paths above a path, the nearest first: what stands before each of its dots
 abbrev pub dot_ends : Bool → List (List ℕ)
@@ -84,14 +83,19 @@ unfoldable pub above : List ℕ → List (List ℕ)
 above [] = []
 above (b ∷ bytes) = map (λ path. b ∷ path) (above bytes) ++ dot_ends (is_dot b)
 
--- whether each path but the last is listed, and the last is `root`
-abbrev pub leads_to_root : List (List ℕ) → List ℕ → List (List ℕ) → Bool
-leads_to_root listed path [] = bytes_eq path root
-leads_to_root listed path (parent ∷ more) = is_among listed path && leads_to_root listed parent more
+-- whether the queue above a path, cut at its last dot, lists the name after the dot
+abbrev pub is_below : List Entry → Option (List ℕ × List ℕ) → Bool
+is_below entries (Some parts) = is_among (names_below entries parts.0) parts.1
+is_below entries None = false
+
+-- whether each path but the last is listed by the queue above it, and the last is `root`
+abbrev pub leads_to_root : List Entry → List ℕ → List (List ℕ) → Bool
+leads_to_root entries path [] = bytes_eq path root
+leads_to_root entries path (parent ∷ more) = is_below entries (parts_at_last_dot path) && leads_to_root entries parent more
 
 -- whether a path is a queue of the tree: `root`, or listed by a queue of the tree
 abbrev pub is_queue : List Entry → List ℕ → Bool
-is_queue entries path = leads_to_root (all_listed entries) path (above path)
+is_queue entries path = leads_to_root entries path (above path)
 
 -- what an entry has, where there is one
 abbrev pub amounts_or : Option (List ℕ) → Value → Option (List ℕ)

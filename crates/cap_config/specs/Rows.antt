@@ -5,9 +5,9 @@ use Rattle.cap_model.specs.Settings.{QueueRow, Settings}
 use Rattle.cap_config.specs.declared.entry.Entry.{Entry}
 use Rattle.cap_config.specs.declared.value.Value.{Value}
 use Rattle.cap_config.specs.declared.value.Value.TheVariants.{Names, Amounts, Number, Running}
-use Rattle.cap_config.specs.declared.setting.Setting.TheVariants.{Queues, UserLimitFactor, State, MaximumApplications, MinimumMemory, MinimumVcores, MaximumMemory, MaximumVcores}
+use Rattle.cap_config.specs.declared.setting.Setting.TheVariants.{UserLimitFactor, State, MaximumApplications, MinimumMemory, MinimumVcores, MaximumMemory, MaximumVcores}
 use Rattle.cap_config.specs.Keys.{root}
-use Rattle.cap_config.specs.Queues.{entry_for, guaranteed, maximum, child}
+use Rattle.cap_config.specs.Queues.{entry_for, guaranteed, maximum, child, names_below}
 use Rattle.cap_config.specs.Tests.{number_or, cluster_entry}
 
 -- the user limit factor of a queue
@@ -37,20 +37,6 @@ row_of entries path = record {
   factor = factor entries path;
   running = is_running entries path;
 }
-
--- the names that a queue lists
-abbrev pub names_in_value : Value → List (List ℕ)
-names_in_value (Names names) = names
-names_in_value (Amounts amounts) = []
-names_in_value (Number n) = []
-names_in_value (Running running) = []
-
-abbrev pub names_or_none : Option Entry → List (List ℕ)
-names_or_none (Some entry) = names_in_value entry.value
-names_or_none None = []
-
-abbrev pub names_below : List Entry → List ℕ → List (List ℕ)
-names_below entries path = names_or_none (entry_for entries Queues path)
 
 -- a queue and those under it on so many levels, each before those under it, siblings in the order of their list
 unfoldable pub rows_under : ℕ → List Entry → List ℕ → List QueueRow

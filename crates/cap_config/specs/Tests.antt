@@ -1,5 +1,6 @@
 -- The tests over the whole text: each finds its least line.
-use Rattle.std.specs.Prelude.{ℕ, ◌+◌, ◌-◌, List, [], ◌∷◌, length, find, Option, Some, None, Bool, true, false, not, ◌&&◌, ◌||◌, ◌==◌, slice_index, nat_lt, max, min, if◌then◌else◌, is_none}
+use Rattle.std.specs.Prelude.{ℕ, ◌+◌, List, [], ◌∷◌, length, find, Option, Some, None, Bool, true, false, not, ◌&&◌, ◌||◌, ◌==◌, slice_index, nat_lt, max, min, if◌then◌else◌, is_none}
+use Rattle.std.specs.List.{sum_by}
 use Rattle.std.specs.Str.{bytes_eq}
 use Rattle.cap_config.specs.declared.entry.Entry.{Entry}
 use Rattle.cap_config.specs.declared.value.Value.{Value}
@@ -139,21 +140,16 @@ abbrev pub is_over_parts : List Entry → List ℕ → Option (List ℕ × List 
 is_over_parts entries amounts (Some parts) = exceeds_limit amounts (maximum entries parts.0)
 is_over_parts entries amounts None = false
 
--- what is left of two amounts
-abbrev pub left_of : List ℕ → List ℕ → List ℕ
-left_of a b = (slice_index a 0 - slice_index b 0) ∷ (slice_index a 1 - slice_index b 1) ∷ []
+-- the sum of an amount of the capacities of the queues with these names
+abbrev pub sum_below : List Entry → List ℕ → List (List ℕ) → ℕ → ℕ
+sum_below entries path names k = sum_by (λ name. slice_index (guaranteed entries (child path name)) k) names
 
--- whether the queues of these names are guaranteed more than is left, one after the other
-unfoldable pub overspends : List Entry → List ℕ → List ℕ → List (List ℕ) → Bool
-overspends entries path left [] = false
-overspends entries path left (name ∷ names) =
-    if exceeds (guaranteed entries (child path name)) left
-    then true
-    else overspends entries path (left_of left (guaranteed entries (child path name))) names
+abbrev pub guaranteed_below : List Entry → List ℕ → List (List ℕ) → List ℕ
+guaranteed_below entries path names = sum_below entries path names 0 ∷ sum_below entries path names 1 ∷ []
 
 -- under a queue other than root, capacities that add up to more than the queue's own
 abbrev pub is_overspent : List Entry → List ℕ → List (List ℕ) → Bool
-is_overspent entries path names = not (bytes_eq path root) && overspends entries path (guaranteed entries path) names
+is_overspent entries path names = not (bytes_eq path root) && exceeds (guaranteed_below entries path names) (guaranteed entries path)
 
 abbrev pub is_over_above : List Entry → Bool → Option (List ℕ) → Value → Bool
 is_over_above entries of_maximum (Some path) (Amounts amounts) = of_maximum && is_over_parts entries amounts (parts_at_last_dot path)

@@ -1,16 +1,17 @@
-ghost use Rattle.std.specs.Prelude.{◌≡◌, ◌++◌, IfOk, OnOk};
-ghost use Rattle.std.specs.Option.{option_copied};
+ghost use Rattle.std.specs.Prelude.{◌≡◌, ◌≤◌, ◌++◌, ◌∷◌, [], IfOk, OnOk, true};
+ghost use Rattle.cap_vector.specs.Vector.{amount_max};
+ghost use Rattle.cap_config.specs.Bounds.{are_bounded};
+ghost use Rattle.cap_config.specs.Tests.{cluster_entry, number_or};
 ghost use Rattle.cap_config.specs.Index.{IsIndex};
-ghost use Rattle.cap_config.specs.Rows.{row_of, rows_under, settings_of, names_below, names_or_none};
+ghost use Rattle.cap_config.specs.Rows.{row_of, rows_under, settings_of};
 
 use crate::entry::Entry;
-use crate::index::{Index, child_bytes, entry_at};
+use crate::index::{Index, child_bytes};
 use crate::key::ROOT;
-use crate::queues::{LEVELS_MAX, factor, guaranteed, is_running, maximum, number_or};
+use crate::queues::{LEVELS_MAX, factor, guaranteed, is_running, maximum, names_below, number_or};
 use crate::second_pass::cluster_entry;
 use crate::setting::Setting;
-use crate::value::Value;
-use cap_model::{PathText, ShortText};
+use cap_model::PathText;
 use cap_vector::Resource;
 use std::alloc::{AllocError, Global};
 use std::marker::Model;
@@ -121,40 +122,53 @@ impl<const K: usize> Config<K> {
     }
 }
 
-/// The settings that the lines make. No path is too long and no number too large once the lines are tested, so that only
-/// want of memory is an error.
+/// The settings that the lines make. Only want of memory is an error.
 #[tactic(auto, unfolding(crate::specs::Rows::settings_of, crate::specs::Keys::root))]
 pub fn config_of(alloc: Global, index: &Index) -> Result<Config<2>, AllocError>
-    requires { IsIndex index.now }
+    requires index { IsIndex index.now }
+    requires bounded { are_bounded index.now.entries.now ≡ true }
     ensures { IfOk result (λ config. config ≡ settings_of index.now.entries.now) }
 {
     let mut queues = Vec::new(alloc);
     let Some(root) = PathText::new(ROOT) else {
-        return Err(AllocError);
+        unreachable!()
     };
     add_queues(alloc, index, root, LEVELS_MAX, &mut queues)?;
     let entries = index.entries;
-    let least = Resource::new([
-        number_or(cluster_entry(entries, Setting::MinimumMemory), 1024),
-        number_or(cluster_entry(entries, Setting::MinimumVcores), 1),
-    ]);
-    let most = Resource::new([
-        number_or(cluster_entry(entries, Setting::MaximumMemory), 8192),
-        number_or(cluster_entry(entries, Setting::MaximumVcores), 4),
-    ]);
-    let Some(minimum_allocation) = least else {
-        return Err(AllocError);
-    };
-    let Some(maximum_allocation) = most else {
-        return Err(AllocError);
-    };
-    let application_limit = number_or(cluster_entry(entries, Setting::MaximumApplications), 10_000);
     Ok(Config {
         queues,
-        minimum_allocation,
-        maximum_allocation,
-        application_limit,
+        minimum_allocation: allocation(
+            cluster_number(entries, Setting::MinimumMemory, 1024),
+            cluster_number(entries, Setting::MinimumVcores, 1),
+        ),
+        maximum_allocation: allocation(
+            cluster_number(entries, Setting::MaximumMemory, 8192),
+            cluster_number(entries, Setting::MaximumVcores, 4),
+        ),
+        application_limit: cluster_number(entries, Setting::MaximumApplications, 10_000),
     })
+}
+
+/// The number that a property of the cluster sets, or the one that stands where no line sets it.
+fn cluster_number(entries: &[Entry], setting: Setting, default: u64) -> u64
+    requires bounded { are_bounded entries.now ≡ true }
+    requires default { default ≤ amount_max }
+    ensures value { result ≡ number_or (cluster_entry entries.now setting) default }
+    ensures small { result ≤ amount_max }
+{
+    number_or(cluster_entry(entries, setting), default)
+}
+
+/// These amounts as a resource.
+fn allocation(memory: u64, vcores: u64) -> Resource<2>
+    requires memory { memory ≤ amount_max }
+    requires vcores { vcores ≤ amount_max }
+    ensures { result ≡ memory ∷ vcores ∷ [] }
+{
+    let Some(allocation) = Resource::new([memory, vcores]) else {
+        unreachable!()
+    };
+    allocation
 }
 
 /// Adds a queue and those under it, on at most so many levels.
@@ -165,7 +179,8 @@ fn add_queues(
     levels: usize,
     queues: &mut Vec<QueueRow<2>>,
 ) -> Result<(), AllocError>
-    requires { IsIndex index.now }
+    requires index { IsIndex index.now }
+    requires bounded { are_bounded index.now.entries.now ≡ true }
     ensures { OnOk result (queues.new.items ≡ queues.old.items ++ rows_under levels index.now.entries.now path) }
 {
     if levels == 0 {
@@ -175,31 +190,11 @@ fn add_queues(
     for name in names_below(index, path.as_bytes()) {
         let child = child_bytes(alloc, path.as_bytes(), name.as_bytes())?;
         let Some(child) = PathText::new(&child) else {
-            return Err(AllocError);
+            unreachable!()
         };
         add_queues(alloc, index, child, levels - 1, queues)?;
     }
     Ok(())
-}
-
-/// The names that a queue lists.
-fn names_below<'e>(index: &Index<'e>, path: &[u8]) -> &'e [ShortText]
-    requires { IsIndex index.now }
-    ensures { result.now ≡ names_below index.now.entries.now path.now }
-{
-    names_or_none(entry_at(&index.queues, path))
-}
-
-fn names_or_none(entry: Option<&Entry>) -> &[ShortText]
-    ensures { result.now ≡ names_or_none (option_copied entry.entry) }
-{
-    match entry {
-        Some(entry) => match &entry.value {
-            Value::Names(names) => names.names(),
-            _ => &[],
-        },
-        None => &[],
-    }
 }
 
 #[tactic(auto, unfolding(crate::specs::Rows::row_of))]

@@ -17,7 +17,7 @@ use std::alloc::Global;
 use std::collections::BTreeMap;
 
 /// The lines that set a property, in order. The first line with a fault of its own is the error.
-pub fn read_lines(alloc: Global, text: &[u8]) -> Result<Vec<Entry>, ConfigFault>
+pub fn read_lines<'t>(alloc: Global, text: &'t [u8]) -> Result<Vec<Entry<'t>>, ConfigFault>
     ensures { Gives (λ entries. entries.items) result (read_lines (lines text.now)) }
 {
     let mut entries = Vec::new(alloc);
@@ -52,7 +52,7 @@ fn entry_of<'a>(
     keys: &mut BTreeMap<&'a [u8], ()>,
     line: usize,
     bytes: &'a [u8],
-) -> Result<Entry, ConfigFault>
+) -> Result<Entry<'a>, ConfigFault>
     ensures entry { (before : List (List ℕ)) → HasAll keys.old before → Gives (λ entry. entry) result (entry_of before line bytes.now) }
     ensures keys { (before : List (List ℕ)) → HasAll keys.old before → OnOk result (HasAll keys.new (before ++ key_text bytes.now ∷ [])) }
 {

@@ -1,6 +1,6 @@
 ghost use Rattle.std.specs.Prelude.{◌≡◌, IfOk};
 ghost use Rattle.cap_config.specs.Index.{IsIndex};
-ghost use Rattle.cap_config.specs.Tests.{exceeds, exceeds_limit, is_over_limit, is_over_maximum, over_maximum_line, is_over_parts, overspends, is_overspent, is_over_parent, over_parent_line};
+ghost use Rattle.cap_config.specs.Tests.{exceeds, exceeds_limit, is_over_limit, is_over_maximum, over_maximum_line, is_over_parts, guaranteed_below, is_overspent, is_over_parent, over_parent_line};
 ghost use Rattle.cap_config.specs.Keys.{parts_at_last_dot};
 
 use crate::entry::Entry;
@@ -116,7 +116,7 @@ fn is_overspent(
     overspends(alloc, index, path, guaranteed(index, path).amounts(), names)
 }
 
-/// Whether the queues of these names are guaranteed more than is left.
+/// Whether the queues of these names are guaranteed more together than `most`.
 fn overspends(
     alloc: Global,
     index: &Index,
@@ -125,7 +125,7 @@ fn overspends(
     names: &[ShortText],
 ) -> Result<bool, AllocError>
     requires { IsIndex index.now }
-    ensures { IfOk result (λ over. over ≡ overspends index.now.entries.now path.now most names.now) }
+    ensures { IfOk result (λ over. over ≡ exceeds (guaranteed_below index.now.entries.now path.now names.now) most) }
 {
     let mut left = most;
     for name in names {

@@ -1,35 +1,29 @@
-ghost use Rattle.std.specs.Prelude.{◌≡◌, ◌++◌, ◌∷◌, IfOk, OnOk, ℕ, List, map};
+ghost use Rattle.std.specs.Prelude.{◌≡◌, IfOk};
 ghost use Rattle.std.specs.Option.{option_map, option_copied};
-ghost use Rattle.cap_config.specs.Seen.{HasAll, has};
-ghost use Rattle.cap_config.specs.Queues.{FindsAll, found, path_for, all_listed, child, paths_listed};
+ghost use Rattle.cap_config.specs.Queues.{FindsAll, found, path_for, child};
 ghost use Rattle.cap_config.specs.Index.{IsIndex};
 
 use crate::entry::Entry;
-use crate::seen::add_new;
 use crate::setting::Setting;
-use crate::value::Value;
 use std::alloc::{AllocError, Global};
 use std::collections::BTreeMap;
 
 /// The entries of all lines, and where to find those of a queue by its path.
 #[derive(Drop)]
-pub struct Index<'e> {
-    pub entries: &'e [Entry],
-    pub queues: BTreeMap<&'e [u8], &'e Entry>,
-    pub capacity: BTreeMap<&'e [u8], &'e Entry>,
-    pub maximum_capacity: BTreeMap<&'e [u8], &'e Entry>,
-    pub user_limit_factor: BTreeMap<&'e [u8], &'e Entry>,
-    pub state: BTreeMap<&'e [u8], &'e Entry>,
-    pub listed: BTreeMap<&'e [u8], ()>,
+pub struct Index<'e, 't> {
+    pub entries: &'e [Entry<'t>],
+    pub queues: BTreeMap<&'e [u8], &'e Entry<'t>>,
+    pub capacity: BTreeMap<&'e [u8], &'e Entry<'t>>,
+    pub maximum_capacity: BTreeMap<&'e [u8], &'e Entry<'t>>,
+    pub user_limit_factor: BTreeMap<&'e [u8], &'e Entry<'t>>,
+    pub state: BTreeMap<&'e [u8], &'e Entry<'t>>,
 }
 
-/// The index of these entries. `paths` are those of the queues that they list.
-pub fn index_of<'e>(
+/// The index of these entries.
+pub fn index_of<'e, 't>(
     alloc: Global,
-    entries: &'e [Entry],
-    paths: &'e [Vec<u8>],
-) -> Result<Index<'e>, AllocError>
-    requires { map (λ path. path.items) paths.now ≡ all_listed entries.now }
+    entries: &'e [Entry<'t>],
+) -> Result<Index<'e, 't>, AllocError>
     ensures { IfOk result (λ index. IsIndex index × (index.entries.now ≡ entries.now)) }
 {
     Ok(Index {
@@ -39,16 +33,15 @@ pub fn index_of<'e>(
         maximum_capacity: places_of(alloc, entries, Setting::MaximumCapacity)?,
         user_limit_factor: places_of(alloc, entries, Setting::UserLimitFactor)?,
         state: places_of(alloc, entries, Setting::State)?,
-        listed: set_of(alloc, paths)?,
     })
 }
 
 /// The entries of a property, by the paths of their queues.
-fn places_of<'e>(
+fn places_of<'e, 't>(
     alloc: Global,
-    entries: &'e [Entry],
+    entries: &'e [Entry<'t>],
     setting: Setting,
-) -> Result<BTreeMap<&'e [u8], &'e Entry>, AllocError>
+) -> Result<BTreeMap<&'e [u8], &'e Entry<'t>>, AllocError>
     ensures { IfOk result (λ places. FindsAll places setting entries.now) }
 {
     let mut places = BTreeMap::new(alloc);
@@ -64,7 +57,7 @@ fn places_of<'e>(
 }
 
 /// The path of the queue for which an entry sets this property.
-fn path_for(entry: &Entry, setting: Setting) -> Option<&[u8]>
+fn path_for<'e, 't>(entry: &'e Entry<'t>, setting: Setting) -> Option<&'e [u8]>
     ensures { option_map (λ path. path.now) result ≡ path_for setting entry.now }
 {
     if !entry.setting.is(setting) {
@@ -77,56 +70,16 @@ fn path_for(entry: &Entry, setting: Setting) -> Option<&[u8]>
 }
 
 /// The entry for the queue at `path`. None where no line sets the property there.
-pub fn entry_at<'e>(places: &BTreeMap<&'e [u8], &'e Entry>, path: &[u8]) -> Option<&'e Entry>
+pub fn entry_at<'e, 't>(
+    places: &BTreeMap<&'e [u8], &'e Entry<'t>>,
+    path: &[u8],
+) -> Option<&'e Entry<'t>>
     ensures { option_copied result ≡ found places.now path.now }
 {
     match places.get(path) {
         Some(entry) => Some(*entry),
         None => None,
     }
-}
-
-/// The set of these paths.
-fn set_of(alloc: Global, paths: &[Vec<u8>]) -> Result<BTreeMap<&[u8], ()>, AllocError>
-    ensures { IfOk result (λ set. HasAll set (map (λ path. path.items) paths.now)) }
-{
-    let mut set = BTreeMap::new(alloc);
-    for path in paths {
-        let _ = add_new(&mut set, path.as_slice())?;
-    }
-    Ok(set)
-}
-
-/// Whether the queue above lists the queue of this path.
-pub fn is_listed(listed: &BTreeMap<&[u8], ()>, path: &[u8]) -> bool
-    ensures { result ≡ has listed.now path.now }
-{
-    listed.contains_key(path)
-}
-
-/// The paths of the queues that entries list.
-#[tactic(auto, unfolding(crate::specs::Queues::all_listed))]
-pub fn listed_paths(alloc: Global, entries: &[Entry]) -> Result<Vec<Vec<u8>>, AllocError>
-    ensures { IfOk result (λ paths. map (λ path. path.items) paths.items ≡ all_listed entries.now) }
-{
-    let mut paths = Vec::new(alloc);
-    for entry in entries {
-        add_paths(alloc, entry, &mut paths)?;
-    }
-    Ok(paths)
-}
-
-/// Adds the paths of the queues that an entry lists.
-fn add_paths(alloc: Global, entry: &Entry, paths: &mut Vec<Vec<u8>>) -> Result<(), AllocError>
-    ensures { OnOk result (map (λ path. path.items) paths.new.items ≡ map (λ path. path.items) paths.old.items ++ paths_listed entry.now) }
-{
-    let (Value::Names(names), Some(path)) = (&entry.value, &entry.queue) else {
-        return Ok(());
-    };
-    for name in names.names() {
-        paths.push(child_bytes(alloc, path.as_bytes(), name.as_bytes())?)?;
-    }
-    Ok(())
 }
 
 /// The path of the queue with this name below another.

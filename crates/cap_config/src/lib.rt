@@ -8,6 +8,7 @@ mod first_pass;
 mod guarantees;
 mod index;
 mod key;
+pub mod laws;
 mod lines;
 mod names;
 mod number;

@@ -4,7 +4,7 @@ ghost use Rattle.cap_config.specs.Values.{names_for, is_next, name_under};
 
 use crate::key::is_name;
 use crate::lines::split_once;
-use crate::seen::add_new;
+use crate::seen::{add_new, was_seen};
 use crate::trim::trimmed;
 use cap_model::{PathText, ShortText};
 use std::alloc::{AllocError, Global};
@@ -16,49 +16,67 @@ const PATH_MAX: usize = 255;
 
 /// The names of the queues below a queue, in the order of its list. Contracts see it as that list.
 #[derive(Debug, Drop)]
-pub struct Names {
+pub struct Names<'t> {
     names: Vec<ShortText>,
+    /// The same names, to look one up.
+    set: BTreeMap<&'t [u8], ()>,
 }
 
-impl Model for Names {
+impl<'t> Model for Names<'t> {
     ghost use Rattle.std.specs.Prelude.{List, ℕ};
+    ghost use Rattle.cap_config.specs.Seen.{HasAll};
 
     ghost Value = { List (List ℕ) };
 
     ghost view = { λ n. n.names.items };
+
+    ghost invariant = { λ n. HasAll n.set n.names.items };
 }
 
-impl Names {
+impl<'t> Names<'t> {
+    ghost use Rattle.cap_config.specs.Seen.{is_among};
+
     /// The names, each once.
     pub fn names(&self) -> &[ShortText]
         ensures { result.now ≡ self.now }
     {
         &self.names
     }
+
+    /// Whether this name is among them.
+    pub fn has(&self, name: &[u8]) -> bool
+        ensures { result ≡ is_among self.now name.now }
+    {
+        was_seen(&self.set, name)
+    }
 }
 
 /// The names that a list for the queue at `path` has. None where a part is no name, a path would pass 255 bytes, or a
 /// name stands twice. An empty list has none.
 #[tactic(auto, unfolding(crate::specs::Values::names_for, crate::specs::Values::names_of))]
-pub fn names_for(alloc: Global, path: &[u8], bytes: &[u8]) -> Result<Option<Names>, AllocError>
+pub fn names_for<'t>(
+    alloc: Global,
+    path: &[u8],
+    bytes: &'t [u8],
+) -> Result<Option<Names<'t>>, AllocError>
     ensures { IfOk result (λ names. names ≡ names_for path.now bytes.now) }
 {
     let mut names = Vec::new(alloc);
+    let mut set = BTreeMap::new(alloc);
     if bytes.is_empty() {
-        return Ok(Some(Names { names }));
+        return Ok(Some(Names { names, set }));
     }
-    let mut seen = BTreeMap::new(alloc);
     let mut rest = bytes;
     while let Some((part, after)) = split_once(rest, b',') {
-        if !add_name(path, trimmed(part), &mut names, &mut seen)? {
+        if !add_name(path, trimmed(part), &mut names, &mut set)? {
             return Ok(None);
         }
         rest = after;
     }
-    if !add_name(path, trimmed(rest), &mut names, &mut seen)? {
+    if !add_name(path, trimmed(rest), &mut names, &mut set)? {
         return Ok(None);
     }
-    Ok(Some(Names { names }))
+    Ok(Some(Names { names, set }))
 }
 
 /// Adds a name of a list. False where it is no name or was seen before.

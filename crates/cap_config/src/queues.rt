@@ -5,12 +5,14 @@ ghost use Rattle.cap_config.specs.Keys.{root, is_dot};
 ghost use Rattle.cap_config.specs.Index.{IsIndex};
 ghost use Rattle.cap_config.specs.Rows.{factor, is_running, running_or};
 ghost use Rattle.cap_config.specs.Tests.{level, number_or};
-ghost use Rattle.cap_config.specs.Queues.{is_queue, amounts_at, guaranteed, maximum};
+ghost use Rattle.cap_config.specs.Queues.{is_queue, names_below, names_or_none, amounts_at, guaranteed, maximum};
+ghost use Rattle.cap_config.specs.Seen.{is_among};
 
 use crate::entry::Entry;
-use crate::index::{Index, entry_at, is_listed};
+use crate::index::{Index, entry_at};
 use crate::key::{ROOT, split_last_dot};
 use crate::value::Value;
+use cap_model::ShortText;
 use cap_vector::Resource;
 
 /// How many levels of queues there may be, root's being the first.
@@ -22,13 +24,53 @@ pub fn is_queue(index: &Index, path: &[u8]) -> bool
     ensures { result ≡ is_queue index.now.entries.now path.now }
 {
     let mut rest = path;
-    while let Some((parent, _)) = split_last_dot(rest) {
-        if !is_listed(&index.listed, rest) {
+    while let Some((parent, name)) = split_last_dot(rest) {
+        if !lists(index, parent, name) {
             return false;
         }
         rest = parent;
     }
     is_root(rest)
+}
+
+/// Whether a queue lists this name.
+fn lists(index: &Index, path: &[u8], name: &[u8]) -> bool
+    requires { IsIndex index.now }
+    ensures { result ≡ is_among (names_below index.now.entries.now path.now) name.now }
+{
+    has_name(entry_at(&index.queues, path), name)
+}
+
+fn has_name(entry: Option<&Entry>, name: &[u8]) -> bool
+    ensures { result ≡ is_among (names_or_none (option_copied entry.entry)) name.now }
+{
+    match entry {
+        Some(entry) => match &entry.value {
+            Value::Names(names) => names.has(name),
+            _ => false,
+        },
+        None => false,
+    }
+}
+
+/// The names that a queue lists.
+pub fn names_below<'e, 't>(index: &Index<'e, 't>, path: &[u8]) -> &'e [ShortText]
+    requires { IsIndex index.now }
+    ensures { result.now ≡ names_below index.now.entries.now path.now }
+{
+    names_or_none(entry_at(&index.queues, path))
+}
+
+fn names_or_none<'e, 't>(entry: Option<&'e Entry<'t>>) -> &'e [ShortText]
+    ensures { result.now ≡ names_or_none (option_copied entry.entry) }
+{
+    match entry {
+        Some(entry) => match &entry.value {
+            Value::Names(names) => names.names(),
+            _ => &[],
+        },
+        None => &[],
+    }
 }
 
 /// Whether this is the path of `root`.

@@ -4,7 +4,7 @@ ghost use Rattle.cap_config.specs.First.{AnswersFault, first_fault, settings_in}
 use crate::config::{Config, config_of};
 use crate::fault::ConfigFault;
 use crate::first_pass::read_lines;
-use crate::index::{index_of, listed_paths};
+use crate::index::index_of;
 use crate::second_pass::check;
 use std::alloc::Global;
 
@@ -20,8 +20,7 @@ pub fn read_config(alloc: Global, text: &[u8]) -> Result<Config<2>, ConfigFault>
     ensures settings { IfOk result (λ config. settings_in text.now ≡ Some config) }
 {
     let entries = read_lines(alloc, text)?;
-    let paths = listed_paths(alloc, &entries)?;
-    let index = index_of(alloc, &entries, &paths)?;
+    let index = index_of(alloc, &entries)?;
     check(alloc, &index)?;
     Ok(config_of(alloc, &index)?)
 }

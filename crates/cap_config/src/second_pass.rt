@@ -110,7 +110,7 @@ fn lesser(a: Option<usize>, b: Option<usize>) -> Option<usize>
 }
 
 /// The entry of a property of the whole cluster.
-pub fn cluster_entry(entries: &[Entry], setting: Setting) -> Option<&Entry>
+pub fn cluster_entry<'e, 't>(entries: &'e [Entry<'t>], setting: Setting) -> Option<&'e Entry<'t>>
     ensures { option_copied result ≡ cluster_entry entries.now setting }
 {
     entries.iter().find(|entry| entry.setting.is(setting))

@@ -13,3 +13,10 @@ pub fn add_new<'a>(seen: &mut BTreeMap<&'a [u8], ()>, bytes: &'a [u8]) -> Result
     let old = seen.insert(bytes, ())?;
     Ok(old.is_none())
 }
+
+/// Whether these bytes are among those that were seen.
+pub fn was_seen(seen: &BTreeMap<&[u8], ()>, bytes: &[u8]) -> bool
+    ensures { result ≡ has seen.now bytes.now }
+{
+    seen.contains_key(bytes)
+}

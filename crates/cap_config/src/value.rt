@@ -20,9 +20,9 @@ const APPLICATIONS_MAX: u64 = 1_000_000;
 
 /// What a line sets its property to.
 #[derive(Debug, Drop)]
-pub enum Value {
+pub enum Value<'t> {
     /// The names of the queues below.
-    Names(Names),
+    Names(Names<'t>),
     /// Memory in MiB, and vcores.
     Amounts(Resource<2>),
     Number(u64),
@@ -32,7 +32,11 @@ pub enum Value {
 
 /// The value that these bytes give a key. None where they have another form or range.
 #[tactic(auto, unfolding(crate::specs::Values::value_at))]
-pub fn value_of(alloc: Global, key: &Key, bytes: &[u8]) -> Result<Option<Value>, AllocError>
+pub fn value_of<'t>(
+    alloc: Global,
+    key: &Key,
+    bytes: &'t [u8],
+) -> Result<Option<Value<'t>>, AllocError>
     ensures { IfOk result (λ value. value ≡ value_of key.now bytes.now) }
 {
     match key.setting {
@@ -49,11 +53,11 @@ pub fn value_of(alloc: Global, key: &Key, bytes: &[u8]) -> Result<Option<Value>,
 }
 
 /// The names that a queue's list has.
-fn listed(
+fn listed<'t>(
     alloc: Global,
     queue: &Option<PathText>,
-    bytes: &[u8],
-) -> Result<Option<Value>, AllocError>
+    bytes: &'t [u8],
+) -> Result<Option<Value<'t>>, AllocError>
     ensures { IfOk result (λ value. value ≡ listed queue.now bytes.now) }
 {
     let Some(path) = queue else {
@@ -65,7 +69,7 @@ fn listed(
     }
 }
 
-fn as_amounts(amounts: Option<Resource<2>>) -> Option<Value>
+fn as_amounts<'t>(amounts: Option<Resource<2>>) -> Option<Value<'t>>
     ensures { result ≡ as_amounts amounts }
 {
     match amounts {
@@ -76,7 +80,7 @@ fn as_amounts(amounts: Option<Resource<2>>) -> Option<Value>
 
 /// A number from 1 to `most`.
 #[tactic(auto, unfolding(crate::specs::Values::number_within))]
-fn number_within(bytes: &[u8], most: u64) -> Option<Value>
+fn number_within<'t>(bytes: &[u8], most: u64) -> Option<Value<'t>>
     ensures { result ≡ number_within most bytes.now }
 {
     match number_of(bytes) {
@@ -86,7 +90,7 @@ fn number_within(bytes: &[u8], most: u64) -> Option<Value>
 }
 
 #[tactic(auto, unfolding(crate::specs::Values::state_of))]
-fn state_of(bytes: &[u8]) -> Option<Value>
+fn state_of<'t>(bytes: &[u8]) -> Option<Value<'t>>
     ensures { result ≡ state_of bytes.now }
 {
     if bytes == b"RUNNING".as_slice() {

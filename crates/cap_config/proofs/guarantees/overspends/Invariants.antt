@@ -1,5 +1,5 @@
 use Rattle.std.proofs.Common.{◌≡◌, drop}
-use Rattle.cap_config.specs.Tests.{overspends}
+use Rattle.cap_config.proofs.Spending.{overspends}
 use Rattle.cap_config.proofs.guarantees.overspends.Given as goal
 
 -- what is left for the names that are left

@@ -7,7 +7,7 @@ use Rattle.cap_config.proofs.names.names_for.Given as goal
 -- the names so far, and then those of the rest
 abbrev pub invariant-loop-part : goal.invariant-loop-part
 invariant-loop-part l = record {
-  seen : HasAll l.seen l.names.items;
+  seen : HasAll l.set l.names.items;
   so_far : names_from l.path [] (slice_split (λ b. eqb b 44) l.bytes) ≡ names_from l.path l.names.items (slice_split (λ b. eqb b 44) l.rest);
 }
 

@@ -1,16 +1,15 @@
 use Rattle.std.proofs.Common.{◌≡◌, sym, ◌∙◌, true, false}
 use Rattle.cap_config.specs.Seen.{is_among}
-use Rattle.cap_config.specs.Queues.{all_listed}
+use Rattle.cap_config.specs.Queues.{names_below}
 use Rattle.cap_config.proofs.Above.{parent_is, no_parent}
 use Rattle.cap_config.proofs.Trees.{queue_not_listed, queue_listed, queue_at_top}
 use Rattle.cap_config.proofs.queues.is_queue.Goals as goal
 
-pub returns-then-not-is_listed : goal.returns-then-not-is_listed
-returns-then-not-is_listed c =
+pub returns-then-not-lists : goal.returns-then-not-lists
+returns-then-not-lists c =
     let entries = c.args.index.now.entries.now in
-    let rest = c.loop-parent.rest.now in
-    let out : is_among (all_listed entries) rest ≡ false = sym (c.requires.listed rest) ∙ sym c.is_listed.ensures ∙ c.if-not-is_listed.true in
-    sym (c.loop-parent.invariant ∙ queue_not_listed entries rest c.in-Some.parent.now (parent_is rest c.in-Some.parent.now _ (sym c.in-Some.ensures)) out)
+    let out : is_among (names_below entries c.in-Some.parent.now) c.in-Some.name.now ≡ false = sym c.lists.ensures ∙ c.if-not-lists.true in
+    sym (c.loop-parent.invariant ∙ queue_not_listed entries c.loop-parent.rest.now c.in-Some.parent.now c.in-Some.name.now (sym c.in-Some.ensures) out)
 
 pub loop-parent-smaller : goal.loop-parent-smaller
 loop-parent-smaller c = (parent_is c.loop-parent.rest.now c.in-Some.parent.now _ (sym c.in-Some.ensures)).shorter
@@ -18,9 +17,8 @@ loop-parent-smaller c = (parent_is c.loop-parent.rest.now c.in-Some.parent.now _
 pub loop-parent-preserved : goal.loop-parent-preserved
 loop-parent-preserved c =
     let entries = c.args.index.now.entries.now in
-    let rest = c.loop-parent.rest.now in
-    let inside : is_among (all_listed entries) rest ≡ true = sym (c.requires.listed rest) ∙ sym c.is_listed.ensures ∙ c.if-not-is_listed.false in
-    c.loop-parent.invariant ∙ queue_listed entries rest c.in-Some.parent.now (parent_is rest c.in-Some.parent.now _ (sym c.in-Some.ensures)) inside
+    let inside : is_among (names_below entries c.in-Some.parent.now) c.in-Some.name.now ≡ true = sym c.lists.ensures ∙ c.if-not-lists.false in
+    c.loop-parent.invariant ∙ queue_listed entries c.loop-parent.rest.now c.in-Some.parent.now c.in-Some.name.now (sym c.in-Some.ensures) inside
 
 pub returns : goal.returns
 returns c =

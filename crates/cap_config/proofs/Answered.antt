@@ -1,0 +1,23 @@
+-- Each text has one answer.
+use Rattle.std.proofs.Common.{◌≡◌, ℕ, List, Option, Some, None, Result, Ok, Err, refl}
+use Rattle.std.specs.Prelude.{◌↔◌, IsSome}
+use Rattle.std.specs.Str.Lines.{lines}
+use Rattle.cap_model.specs.Settings.{Settings}
+use Rattle.cap_config.specs.declared.entry.Entry.{Entry}
+use Rattle.cap_config.specs.declared.fault.ConfigFault.{ConfigFault}
+use Rattle.cap_config.specs.Entries.{read_lines}
+use Rattle.cap_config.specs.Tests.{whole_fault}
+use Rattle.cap_config.specs.Rows.{settings_of}
+use Rattle.cap_config.specs.First.{first_fault, fault_after, settings_in, settings_after, unless_fault}
+
+one_of : (fault : Option ConfigFault) (settings : Settings) → (fault ≡ None) ↔ IsSome (unless_fault fault settings)
+one_of (Some fault) settings = (λ h. absurd (cc h), λ h. absurd (cc h))
+one_of None settings = (λ _. refl, λ _. refl)
+
+one_after : (r : Result (List Entry) ConfigFault) → (fault_after r ≡ None) ↔ IsSome (settings_after r)
+one_after (Ok entries) = one_of (whole_fault entries) (settings_of entries)
+one_after (Err fault) = (λ h. absurd (cc h), λ h. absurd (cc h))
+
+pub one_answer : (text : List ℕ) → (first_fault text ≡ None) ↔ IsSome (settings_in text)
+unfolding first_fault settings_in
+one_answer text = one_after (read_lines (lines text))

@@ -1,0 +1,242 @@
+-- One row for each queue.
+use Rattle.std.proofs.Common.{◌≡◌, ℕ, zero, suc, ◌+◌, ◌≤◌, List, [], ◌∷◌, ◌++◌, append_assoc, length, length-append, drop, Bool, true, false, cond, not, Option, Some, None, Ok, refl, sym, ap, ◌∙◌, arith, subst}
+use Rattle.std.specs.Prelude.{◌||◌, count_by}
+use Rattle.std.specs.List.{flat_map, list_all, sum_by}
+use Rattle.std.specs.Str.{bytes_eq}
+use Rattle.std.specs.Str.Lines.{lines}
+use Rattle.std.proofs.lemmas.List.Sums.{sum_by-cons, sum_by-append}
+use Rattle.std.proofs.lemmas.List.Folds.{list_any-append}
+use Rattle.std.proofs.lemmas.Slice.Eq.{bytes_eq-Decides}
+use Rattle.cap_model.specs.Settings.{QueueRow}
+use Rattle.cap_config.specs.declared.entry.Entry.{Entry}
+use Rattle.cap_config.specs.Keys.{root, last_dot, is_dot, dot_or}
+use Rattle.cap_config.specs.Seen.{is_among}
+use Rattle.cap_config.specs.Values.{are_new, is_name_under}
+use Rattle.cap_config.specs.Queues.{is_queue, names_below, child}
+use Rattle.cap_config.specs.Tests.{whole_fault}
+use Rattle.cap_config.specs.Entries.{read_lines}
+use Rattle.cap_config.specs.Rows.{rows_under, row_of, settings_of}
+use Rattle.cap_config.specs.Bounds.{are_bounded}
+use Rattle.cap_config.proofs.Steps.{not_true}
+use Rattle.cap_config.proofs.Kept.{lines_kept}
+use Rattle.cap_config.proofs.Found.{both, same_bytes, names_once, under_path}
+use Rattle.cap_config.proofs.Children.{name_no_dot}
+use Rattle.cap_config.proofs.RowPaths.{paths_of, either, in_some, paths_more, none_under, rows_are_queues}
+
+-- how many rows a path has
+abbrev pub rows_for : List QueueRow → List ℕ → ℕ
+rows_for rows path = count_by (λ row. bytes_eq row.path path) rows
+
+-- a rest of a path after a queue: nothing, or a dot and more
+abbrev starts_dot : List ℕ → Bool
+starts_dot [] = true
+starts_dot (b ∷ bytes) = is_dot b
+
+record IsBelow (p path : List ℕ) : Type 0 where
+  rest : List ℕ
+  whole : path ≡ p ++ rest
+  starts : starts_dot rest ≡ true
+
+append_none : (xs : List ℕ) → xs ++ [] ≡ xs
+append_none [] = refl
+append_none (x ∷ xs) = ap (λ (ys : List ℕ). x ∷ ys) (append_none xs)
+
+neither : (a b : Bool) → (a || b) ≡ false → (a ≡ false) × (b ≡ false)
+neither true b h = absurd (cc h)
+neither false b h = (refl, h)
+
+-- the paths of the rows under a queue are its own and those below it
+row_below_is : (entries : List Entry) (n : ℕ) (p path : List ℕ) → is_among (paths_of (rows_under n entries p)) path ≡ true → IsBelow p path
+row_below_is entries zero p path h = none_under (IsBelow p path) entries p path h
+row_below_is entries (suc n) p path h =
+    either (IsBelow p path) (bytes_eq p path) (is_among (paths_of (flat_map (λ name. rows_under n entries (child p name)) (names_below entries p))) path) (sym (paths_more n entries p path) ∙ h)
+    (λ same. record { rest = []; whole = sym (same_bytes p path same) ∙ sym (append_none p); starts = refl })
+    (λ later. in_some (IsBelow p path) (λ name. rows_under n entries (child p name)) (names_below entries p) path later
+    (λ name in_list here.
+    let below = row_below_is entries n (child p name) path here in
+    record { rest = 46 ∷ name ++ below.rest; whole = below.whole ∙ append_assoc p (46 ∷ name) below.rest; starts = refl }))
+
+-- the first name of a path
+abbrev front : List ℕ → List ℕ
+front [] = []
+front (b ∷ bytes) = cond (is_dot b) [] (b ∷ front bytes)
+
+dotless_cons : (first : Bool) (r : Option ℕ) → dot_or first r ≡ None → (first ≡ false) × (r ≡ None)
+dotless_cons first (Some i) h = absurd (cc h)
+dotless_cons true None h = absurd (cc h)
+dotless_cons false None h = (refl, refl)
+
+front_none : (rest : List ℕ) → starts_dot rest ≡ true → front rest ≡ []
+front_none [] h = refl
+front_none (b ∷ rest) h = rw h refl
+
+front_is : (name rest : List ℕ) → last_dot name ≡ None → starts_dot rest ≡ true → front (name ++ rest) ≡ name
+front_is [] rest none h = front_none rest h
+front_is (b ∷ name) rest none h =
+    let parts = dotless_cons (is_dot b) (last_dot name) none in
+    rw (parts.0, front_is name rest parts.1 h) refl
+
+after_dot : (p name rest : List ℕ) → drop (length p + 1) (child p name ++ rest) ≡ name ++ rest
+after_dot [] name rest = refl
+after_dot (b ∷ p) name rest =
+    ap (λ n. drop n (child (b ∷ p) name ++ rest)) (let e : suc (length p) + 1 ≡ suc (length p + 1) = omega arith in e) ∙ after_dot p name rest
+
+-- which of the names a path below goes on with
+which : (p name path : List ℕ) → last_dot name ≡ None → IsBelow (child p name) path → front (drop (length p + 1) path) ≡ name
+which p name path none below = ap (λ (x : List ℕ). front (drop (length p + 1) x)) below.whole ∙ ap front (after_dot p name below.rest) ∙ front_is name below.rest none below.starts
+
+longer : (p name path : List ℕ) → IsBelow (child p name) path → p ≡ path → ⊥
+longer p name path below e =
+    let l : length path ≡ length p + suc (length name) + length below.rest =
+    ap length below.whole ∙ length-append (child p name) below.rest ∙ ap (λ n. n + length below.rest) (length-append p (46 ∷ name)) in
+    let m : length p ≡ length path = ap length e in
+    omega (arith, l, m)
+
+count_one : (b : Bool) (n : ℕ) → b ≡ true → cond b 1 0 + n ≡ 1 + n
+count_one true n h = refl
+count_one false n h = absurd (cc h)
+
+pub count_no : (b : Bool) (n : ℕ) → b ≡ false → cond b 1 0 + n ≡ n
+count_no true n h = absurd (cc h)
+count_no false n h = omega arith
+
+-- a path among none of the rows has none, and one among them has some
+none_for : (rows : List QueueRow) (path : List ℕ) → is_among (paths_of rows) path ≡ false → rows_for rows path ≡ 0
+none_for [] path h = refl
+none_for (row ∷ rows) path h =
+    let parts = neither (bytes_eq row.path path) (is_among (paths_of rows) path) h in
+    sum_by-cons _ row rows ∙ count_no (bytes_eq row.path path) (rows_for rows path) parts.0 ∙ none_for rows path parts.1
+
+some_by : (b : Bool) (n : ℕ) (among : Bool) → (b || among) ≡ true → (among ≡ true → 1 ≤ n) → 1 ≤ cond b 1 0 + n
+some_by true n among h later = omega arith
+some_by false n among h later = let l = later h in omega (arith, l)
+
+some_for : (rows : List QueueRow) (path : List ℕ) → is_among (paths_of rows) path ≡ true → 1 ≤ rows_for rows path
+some_for [] path h = absurd (cc h)
+some_for (row ∷ rows) path h =
+    let l = some_by (bytes_eq row.path path) (rows_for rows path) (is_among (paths_of rows) path) h (some_for rows path) in
+    rw (sum_by-cons (λ (r : QueueRow). cond (bytes_eq r.path path) 1 0) row rows) l
+
+-- the rows of many lists, list by list
+rows_of_all : (f : List ℕ → List QueueRow) (names : List (List ℕ)) (path : List ℕ) → rows_for (flat_map f names) path ≡ sum_by (λ name. rows_for (f name) path) names
+rows_of_all f [] path = refl
+rows_of_all f (name ∷ names) path =
+    sum_by-append _ (f name) (flat_map f names) ∙ ap (λ n. rows_for (f name) path + n) (rows_of_all f names path) ∙ sym (sum_by-cons (λ (m : List ℕ). rows_for (f m) path) name names)
+
+-- a sum, name by name, that is at most how often one name stands
+sum_at_most : (f : List ℕ → ℕ) (p : List ℕ → Bool) (x : List ℕ) (names : List (List ℕ)) → list_all p names ≡ true → ((name : List ℕ) → p name ≡ true → f name ≤ cond (bytes_eq name x) 1 0) →
+    sum_by f names ≤ count_by (λ name. bytes_eq name x) names
+sum_at_most f p x [] all each = omega arith
+sum_at_most f p x (name ∷ names) all each =
+    let parts = both (p name) (list_all p names) all in
+    let here = each name parts.0 in
+    let later = sum_at_most f p x names parts.1 each in
+    rw (sum_by-cons f name names, sum_by-cons (λ (m : List ℕ). cond (bytes_eq m x) 1 0) name names) (omega (arith, here, later))
+
+other_name : (b : Bool) (before : List (List ℕ)) (name x : List ℕ) → bytes_eq name x ≡ b → is_among before name ≡ false → is_among before x ≡ true → b ≡ false
+other_name true before name x is out within = absurd (cc (sym out ∙ ap (is_among before) (same_bytes name x is) ∙ within))
+other_name false before name x is out within = refl
+
+either_yes : (a b : Bool) → a ≡ true → (a || b) ≡ true
+either_yes true b h = refl
+either_yes false b h = absurd (cc h)
+
+other_yes : (a b : Bool) → b ≡ true → (a || b) ≡ true
+other_yes true b h = refl
+other_yes false b h = h
+
+still_among : (before : List (List ℕ)) (name x : List ℕ) → is_among before x ≡ true → is_among (before ++ name ∷ []) x ≡ true
+still_among before name x h = list_any-append _ before (name ∷ []) ∙ either_yes (is_among before x) _ h
+
+last_among : (before : List (List ℕ)) (name x : List ℕ) → bytes_eq name x ≡ true → is_among (before ++ name ∷ []) x ≡ true
+last_among before name x h = list_any-append _ before (name ∷ []) ∙ other_yes (is_among before x) _ (either_yes (bytes_eq name x) false h)
+
+-- no name stands twice
+not_before : (before : List (List ℕ)) (x : List ℕ) (names : List (List ℕ)) → are_new before names ≡ true → is_among before x ≡ true → count_by (λ name. bytes_eq name x) names ≡ 0
+not_before before x [] new h = refl
+not_before before x (name ∷ names) new h =
+    let parts = both (not (is_among before name)) (are_new (before ++ name ∷ []) names) new in
+    let other : bytes_eq name x ≡ false = other_name (bytes_eq name x) before name x refl (not_true (is_among before name) parts.0) h in
+    sum_by-cons _ name names ∙ count_no (bytes_eq name x) _ other ∙ not_before (before ++ name ∷ []) x names parts.1 (still_among before name x h)
+
+once_by : (b : Bool) (n : ℕ) → (b ≡ true → n ≡ 0) → n ≤ 1 → cond b 1 0 + n ≤ 1
+once_by true n none most = let e = none refl in omega (arith, e)
+once_by false n none most = omega (arith, most)
+
+names_stand_once : (before : List (List ℕ)) (x : List ℕ) (names : List (List ℕ)) → are_new before names ≡ true → count_by (λ name. bytes_eq name x) names ≤ 1
+names_stand_once before x [] new = omega arith
+names_stand_once before x (name ∷ names) new =
+    let parts = both (not (is_among before name)) (are_new (before ++ name ∷ []) names) new in
+    let l = once_by (bytes_eq name x) (count_by (λ m. bytes_eq m x) names) (λ same. not_before (before ++ name ∷ []) x names parts.1 (last_among before name x same)) (names_stand_once (before ++ name ∷ []) x names parts.1) in
+    rw (sum_by-cons (λ (m : List ℕ). cond (bytes_eq m x) 1 0) name names) l
+
+-- where the path is the queue's own, none of the queues below it has it
+below_by : (b : Bool) (m : ℕ) → (b ≡ true → m ≡ 0) → (b ≡ false → m ≤ 1) → cond b 1 0 + m ≤ 1
+below_by true m own other = let e = own refl in omega (arith, e)
+below_by false m own other = let l = other refl in omega (arith, l)
+
+sum_of_none : (f : List ℕ → ℕ) (names : List (List ℕ)) → ((name : List ℕ) → f name ≡ 0) → sum_by f names ≡ 0
+sum_of_none f [] each = refl
+sum_of_none f (name ∷ names) each = sum_by-cons f name names ∙ (let a = each name in let b = sum_of_none f names each in let e : f name + sum_by f names ≡ 0 = omega (arith, a, b) in e)
+
+among_or : (C : Type 0) (b : Bool) → (b ≡ true → C) → (b ≡ false → C) → C
+among_or C true there not_there = there refl
+among_or C false there not_there = not_there refl
+
+no_rows : (entries : List Entry) (p path : List ℕ) → rows_for (rows_under zero entries p) path ≤ 1
+unfolding rows_under
+no_rows entries p path = omega arith
+
+rows_first : (n : ℕ) (entries : List Entry) (p path : List ℕ) →
+    rows_for (rows_under (suc n) entries p) path ≡ cond (bytes_eq p path) 1 0 + rows_for (flat_map (λ name. rows_under n entries (child p name)) (names_below entries p)) path
+unfolding rows_under row_of
+rows_first n entries p path = sum_by-cons _ (row_of entries p) (flat_map (λ name. rows_under n entries (child p name)) (names_below entries p))
+
+one_of : (b : Bool) (n : ℕ) → b ≡ true → n ≤ 1 → n ≤ cond b 1 0
+one_of true n h most = most
+one_of false n h most = absurd (cc h)
+
+zero_of : (b : Bool) (n : ℕ) → n ≡ 0 → n ≤ cond b 1 0
+zero_of true n h = omega (arith, h)
+zero_of false n h = omega (arith, h)
+
+under_one : {a b : ℕ} → a ≤ b → b ≤ 1 → a ≤ 1
+under_one h k = omega (arith, h, k)
+
+no_longer : (b : Bool) → (b ≡ true → ⊥) → b ≡ false
+no_longer true h = absurd (h refl)
+no_longer false h = refl
+
+pub rows_at_most : (entries : List Entry) → are_bounded entries ≡ true → (n : ℕ) (p path : List ℕ) → rows_for (rows_under n entries p) path ≤ 1
+rows_at_most entries all zero p path = no_rows entries p path
+rows_at_most entries all (suc n) p path =
+    let f = λ (name : List ℕ). rows_under n entries (child p name) in
+    let names = names_below entries p in
+    let x = front (drop (length p + 1) path) in
+    let each : (name : List ℕ) → is_name_under p name ≡ true → rows_for (f name) path ≤ cond (bytes_eq name x) 1 0 =
+    λ name under. among_or (rows_for (f name) path ≤ cond (bytes_eq name x) 1 0) (is_among (paths_of (f name)) path)
+    (λ there. one_of (bytes_eq name x) (rows_for (f name) path) ((bytes_eq-Decides name x).1 (sym (which p name path (name_no_dot p name under) (row_below_is entries n (child p name) path there)))) (rows_at_most entries all n (child p name) path))
+    (λ not_there. zero_of (bytes_eq name x) (rows_for (f name) path) (none_for (f name) path not_there)) in
+    let below : sum_by (λ name. rows_for (f name) path) names ≤ 1 =
+    under_one (sum_at_most (λ name. rows_for (f name) path) (is_name_under p) x names (under_path entries p all) each) (names_stand_once [] x names (names_once entries p all)) in
+    let own : bytes_eq p path ≡ true → sum_by (λ name. rows_for (f name) path) names ≡ 0 =
+    λ same. sum_of_none (λ name. rows_for (f name) path) names
+    (λ name. none_for (f name) path (no_longer (is_among (paths_of (f name)) path) (λ there. longer p name path (row_below_is entries n (child p name) path there) (same_bytes p path same)))) in
+    rw (rows_first n entries p path, rows_of_all f names path) (below_by (bytes_eq p path) (sum_by (λ name. rows_for (f name) path) names) own (λ _. below))
+
+exactly_one : (b : Bool) (n : ℕ) → n ≤ 1 → (b ≡ true → 1 ≤ n) → (b ≡ false → n ≡ 0) → n ≡ cond b 1 0
+exactly_one true n most some none = let l = some refl in omega (arith, l, most)
+exactly_one false n most some none = none refl
+
+pub rows_of_settings : (entries : List Entry) → (settings_of entries).queues ≡ rows_under 16 entries root
+unfolding settings_of
+rows_of_settings entries = refl
+
+-- each queue has one row, and no other path has one
+pub one_row_each : (text : List ℕ) (entries : List Entry) → read_lines (lines text) ≡ Ok entries → whole_fault entries ≡ None → (path : List ℕ) →
+    count_by (λ row. bytes_eq row.path path) (settings_of entries).queues ≡ cond (is_queue entries path) 1 0
+one_row_each text entries is none path =
+    let rows = (settings_of entries).queues in
+    let most : rows_for rows path ≤ 1 = subst (λ (rs : List QueueRow). rows_for rs path ≤ 1) (sym (rows_of_settings entries)) (rows_at_most entries (lines_kept (lines text) entries is) 16 root path) in
+    let there : is_among (paths_of rows) path ≡ is_queue entries path = rows_are_queues text entries is none path in
+    exactly_one (is_queue entries path) (rows_for rows path) most (λ q. some_for rows path (there ∙ q)) (λ q. none_for rows path (there ∙ q))

@@ -1,0 +1,42 @@
+-- Laws of the definitions: what they say of every text.
+use Rattle.std.specs.Prelude.{◌≡◌, ◌↔◌, ◌≤◌, ℕ, List, None, Ok, Bool, true, IsSome, count_by, length, if◌then◌else◌}
+use Rattle.std.specs.Str.{bytes_eq}
+use Rattle.std.specs.Str.Lines.{lines}
+use Rattle.cap_config.specs.declared.entry.Entry.{Entry}
+use Rattle.cap_config.specs.Keys.{root}
+use Rattle.cap_config.specs.Seen.{is_among}
+use Rattle.cap_config.specs.Queues.{is_queue, names_below, child}
+use Rattle.cap_config.specs.Entries.{read_lines}
+use Rattle.cap_config.specs.Tests.{whole_fault, level}
+use Rattle.cap_config.specs.Rows.{settings_of}
+use Rattle.cap_config.specs.First.{first_fault, settings_in}
+
+-- a text has settings exactly where it has no fault: each has one of the two, and not both
+abbrev pub HasOneAnswer : Type 0
+HasOneAnswer = (text : List ℕ) → (first_fault text ≡ None) ↔ IsSome (settings_in text)
+
+-- a set of paths has `root`, and the queues that its members list
+pub record IsTree (entries : List Entry) (has : List ℕ → Bool) : Type 0 where
+  pub top : has root ≡ true
+  pub below : (path name : List ℕ) → has path ≡ true → is_among (names_below entries path) name ≡ true → has (child path name) ≡ true
+
+-- the queues that the lines of a text set up are such a set, and are in each such set
+abbrev pub QueuesAreLeast : Type 0
+QueuesAreLeast =
+    (text : List ℕ) (entries : List Entry) → read_lines (lines text) ≡ Ok entries →
+    IsTree entries (is_queue entries) × ((has : List ℕ → Bool) → IsTree entries has → (path : List ℕ) → is_queue entries path ≡ true → has path ≡ true)
+
+-- in a text with no fault no queue is below level 16, that of `root` being 1
+abbrev pub QueuesAreNotTooDeep : Type 0
+QueuesAreNotTooDeep =
+    (text : List ℕ) (entries : List Entry) → read_lines (lines text) ≡ Ok entries → whole_fault entries ≡ None → (path : List ℕ) → is_queue entries path ≡ true → level path ≤ 16
+
+-- its settings have one row for each queue, and none for another path
+abbrev pub RowsAreQueues : Type 0
+RowsAreQueues =
+    (text : List ℕ) (entries : List Entry) → read_lines (lines text) ≡ Ok entries → whole_fault entries ≡ None →
+    (path : List ℕ) → count_by (λ row. bytes_eq row.path path) (settings_of entries).queues ≡ (if is_queue entries path then 1 else 0)
+
+-- there are at most 1,024 rows
+abbrev pub RowsAreFew : Type 0
+RowsAreFew = (text : List ℕ) (entries : List Entry) → read_lines (lines text) ≡ Ok entries → whole_fault entries ≡ None → length (settings_of entries).queues ≤ 1024
