@@ -6,9 +6,10 @@ use Rattle.cap_model.specs.Flat.{App, AppTable}
 abbrev pub none : AppTable
 none = record { active = []; next = 1 }
 
--- with one more, of the next number, not yet registered
+-- an application that enters, of the next number, not yet registered
+abbrev pub entering : List ℕ → List ℕ → AppTable → App
+entering leaf user table = record { number = table.next; leaf = leaf; user = user; registered = false; response = 0; kept = None; asks = []; grants = []; ends = [] }
+
+-- with one more
 abbrev pub with_app : List ℕ → List ℕ → AppTable → AppTable
-with_app leaf user table = record {
-  active = table.active ++ record { number = table.next; leaf = leaf; user = user; registered = false; response = 0; kept = None; asks = []; grants = []; ends = [] } ∷ [];
-  next = table.next + 1;
-}
+with_app leaf user table = record { active = table.active ++ entering leaf user table ∷ []; next = table.next + 1 }

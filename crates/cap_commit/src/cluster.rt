@@ -41,7 +41,7 @@ impl<const K: usize> Model for Cluster<K> {
 
     ghost view = { λ c. record {
       settings = record { queues = c.queues.items; minimum_allocation = c.minimum_allocation; maximum_allocation = c.maximum_allocation; application_limit = c.application_limit };
-      apps = record { active = []; next = 1 };
+      apps = c.apps;
       nodes = record { present = c.nodes.items; live = []; reserved = []; next_node = c.next_node; next_container = 1 };
     } };
 

@@ -1,6 +1,6 @@
 -- What is known of the entry that is found for a queue.
 use Rattle.std.proofs.Common.{◌≡◌, ℕ, List, [], ◌∷◌, Bool, true, false, cond, not, eqb, Option, Some, None, refl, subst, ap, suc, ◌∙◌, ◌+◌, ◌<◌, ◌≤◌, length, length-append, get_or, ltb, leb, arith}
-use Rattle.std.specs.Prelude.{find, ◌&&◌, ◌||◌}
+use Rattle.std.specs.Prelude.{find, ◌&&◌, ◌||◌, if◌then◌else◌, ◌==◌}
 use Rattle.std.specs.List.{list_all}
 use Rattle.std.specs.Str.{bytes_eq}
 use Rattle.std.proofs.lemmas.Option.{same_Some}
@@ -8,18 +8,20 @@ use Rattle.std.proofs.lemmas.Slice.Eq.{bytes_eq-Decides}
 use Rattle.std.proofs.lemmas.Bool.Decides.{nat_tests}
 use Rattle.std.proofs.lemmas.List.Folds.{list_all-append}
 use Rattle.std.proofs.lemmas.List.Sums.{AllPass-from_list_all}
+use Rattle.std.proofs.lemmas.Bool.{eqb-true}
 use Rattle.cap_vector.specs.Vector.{amount_max}
+use Rattle.cap_model.specs.Limits.{applications_max}
 use Rattle.cap_model.specs.Texts.{is_text, is_graphic}
 use Rattle.cap_config.specs.declared.entry.Entry.{Entry}
 use Rattle.cap_config.specs.declared.value.Value.{Value}
 use Rattle.cap_config.specs.declared.value.Value.TheVariants.{Names, Amounts, Number, Running}
-use Rattle.cap_config.specs.declared.setting.Setting.TheVariants.{Queues}
+use Rattle.cap_config.specs.declared.setting.Setting.TheVariants.{Queues, MaximumApplications}
 use Rattle.cap_config.specs.declared.setting.Setting.{Setting}
 use Rattle.cap_config.specs.Values.{is_name_under, are_new}
 use Rattle.cap_config.specs.Seen.{is_among}
-use Rattle.cap_config.specs.Queues.{child, entry_for, is_for, is_path_at, same_setting, names_below, names_or_none, names_in_value}
+use Rattle.cap_config.specs.Queues.{setting_number, child, entry_for, is_for, is_path_at, same_setting, names_below, names_or_none, names_in_value}
 use Rattle.cap_config.specs.Tests.{cluster_entry, number_or, number_in, line_where, too_deep_line, lists_deep, is_deep, level}
-use Rattle.cap_config.specs.Bounds.{is_kept, is_bounded, are_bounded, are_under}
+use Rattle.cap_config.specs.Bounds.{most_of, is_kept, is_bounded, are_bounded, are_under}
 use Rattle.cap_config.proofs.Steps.{not_true}
 
 pub same_bytes : (a b : List ℕ) → bytes_eq a b ≡ true → a ≡ b
@@ -49,19 +51,19 @@ names_at true (Some p) path h = ap Some (same_bytes p path h)
 names_at true None path h = absurd (cc h)
 names_at false queue path h = absurd (cc h)
 
-under_in : (value : Value) (queue : Option (List ℕ)) (path : List ℕ) → queue ≡ Some path → is_kept value queue ≡ true →
+under_in : (most : ℕ) (value : Value) (queue : Option (List ℕ)) (path : List ℕ) → queue ≡ Some path → is_kept most value queue ≡ true →
     (list_all (is_name_under path) (names_in_value value) && are_new [] (names_in_value value)) ≡ true
-under_in (Names names) queue path e h = subst (λ (q : Option (List ℕ)). are_under q names ≡ true) e h
-under_in (Amounts amounts) queue path e h = refl
-under_in (Number n) queue path e h = refl
-under_in (Running running) queue path e h = refl
+under_in most (Names names) queue path e h = subst (λ (q : Option (List ℕ)). are_under q names ≡ true) e h
+under_in most (Amounts amounts) queue path e h = refl
+under_in most (Number n) queue path e h = refl
+under_in most (Running running) queue path e h = refl
 
 under_at : (entries : List Entry) (path : List ℕ) (o : Option Entry) → entry_for entries Queues path ≡ o → are_bounded entries ≡ true →
     (list_all (is_name_under path) (names_or_none o) && are_new [] (names_or_none o)) ≡ true
 unfolding entry_for
 under_at entries path (Some entry) is all =
     let has = found_has (is_for Queues path) is_bounded entries entry is all in
-    under_in entry.value entry.queue path (names_at (same_setting entry.setting Queues) entry.queue path has.0) has.1
+    under_in (most_of entry.setting) entry.value entry.queue path (names_at (same_setting entry.setting Queues) entry.queue path has.0) has.1
 under_at entries path None is all = refl
 
 -- the names that a queue lists make paths below it
@@ -114,21 +116,23 @@ deep_at entries path name None is none in_list = absurd (cc in_list)
 pub not_deepest : (entries : List Entry) (path name : List ℕ) → too_deep_line entries ≡ None → is_among (names_below entries path) name ≡ true → eqb (level path) 16 ≡ false
 not_deepest entries path name none in_list = deep_at entries path name (entry_for entries Queues path) refl none in_list
 
-number_in_kept : (value : Value) (queue : Option (List ℕ)) (default : ℕ) → is_kept value queue ≡ true → default ≤ amount_max → number_in default value ≤ amount_max
-number_in_kept (Names names) queue default kept small = small
-number_in_kept (Amounts amounts) queue default kept small = small
-number_in_kept (Number n) queue default kept small = grind (arith, nat_tests)
-number_in_kept (Running running) queue default kept small = small
+number_in_kept : (most : ℕ) (value : Value) (queue : Option (List ℕ)) (default : ℕ) → is_kept most value queue ≡ true → default ≤ most → number_in default value ≤ most
+number_in_kept most (Names names) queue default kept small = small
+number_in_kept most (Amounts amounts) queue default kept small = small
+number_in_kept most (Number n) queue default kept small = grind (arith, nat_tests)
+number_in_kept most (Running running) queue default kept small = small
 
-number_at : (entries : List Entry) (setting : Setting) (default : ℕ) (o : Option Entry) → cluster_entry entries setting ≡ o → are_bounded entries ≡ true → default ≤ amount_max → number_or o default ≤ amount_max
+number_at : (entries : List Entry) (setting : Setting) (default : ℕ) (o : Option Entry) → cluster_entry entries setting ≡ o → are_bounded entries ≡ true → default ≤ most_of setting → number_or o default ≤ most_of setting
 number_at entries setting default (Some entry) is all small =
-    number_in_kept entry.value entry.queue default (found_has (λ e. same_setting e.setting setting) is_bounded entries entry is all).1 small
+    let has = found_has (λ e. same_setting e.setting setting) is_bounded entries entry is all in
+    let same : most_of entry.setting ≡ most_of setting = ap (λ n. if n == setting_number MaximumApplications then applications_max else amount_max) (eqb-true (setting_number entry.setting) (setting_number setting) has.0) in
+    number_in_kept (most_of setting) entry.value entry.queue default (subst (λ (most : ℕ). is_kept most entry.value entry.queue ≡ true) same has.1) small
 number_at entries setting default None is all small = small
 
--- a number that a line sets is at most the greatest amount, where the one that stands else is
-pub number_small : (entries : List Entry) (setting : Setting) (default n : ℕ) → are_bounded entries ≡ true → default ≤ amount_max → n ≡ number_or (cluster_entry entries setting) default → n ≤ amount_max
+-- a number that a line sets is at most the greatest for its setting, where the one that stands else is
+pub number_small : (entries : List Entry) (setting : Setting) (default n : ℕ) → are_bounded entries ≡ true → default ≤ most_of setting → n ≡ number_or (cluster_entry entries setting) default → n ≤ most_of setting
 number_small entries setting default n all small e =
-    let within : number_or (cluster_entry entries setting) default ≤ amount_max = number_at entries setting default (cluster_entry entries setting) refl all small in
+    let within : number_or (cluster_entry entries setting) default ≤ most_of setting = number_at entries setting default (cluster_entry entries setting) refl all small in
     rw e within
 
 graphic_child : (path name : List ℕ) → list_all is_graphic path ≡ true → list_all is_graphic name ≡ true → list_all is_graphic (child path name) ≡ true

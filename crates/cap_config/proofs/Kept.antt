@@ -6,6 +6,7 @@ use Rattle.std.proofs.lemmas.Option.{same_Some}
 use Rattle.std.proofs.lemmas.List.Folds.{list_all-append}
 use Rattle.std.proofs.lemmas.Bool.Decides.{nat_tests}
 use Rattle.cap_vector.specs.Vector.{amount_max}
+use Rattle.cap_model.specs.Limits.{applications_max}
 use Rattle.cap_config.specs.declared.entry.Entry.{Entry}
 use Rattle.cap_config.specs.declared.key.Key.{Key}
 use Rattle.cap_config.specs.declared.value.Value.{Value}
@@ -18,47 +19,47 @@ use Rattle.cap_config.specs.Seen.{is_among}
 use Rattle.cap_config.specs.Values.{value_at, value_of, is_name_under, as_names, as_amounts, number_within, state_of, names_for, names_of, are_new, amounts_of}
 use Rattle.cap_config.specs.Numbers.{number_of}
 use Rattle.cap_config.specs.Entries.{entry_of, with_value, with_key, with_parts, line_parts, read_after, read_lines, and_then, is_passed_over, key_text}
-use Rattle.cap_config.specs.Bounds.{is_kept, is_bounded, are_bounded}
+use Rattle.cap_config.specs.Bounds.{most_of, is_kept, is_bounded, are_bounded}
 
-kept_as : (queue : Option (List ℕ)) (value v : Value) → value ≡ v → is_kept value queue ≡ true → is_kept v queue ≡ true
-kept_as queue value v e h = subst (λ (x : Value). is_kept x queue ≡ true) e h
+kept_as : (most : ℕ) (queue : Option (List ℕ)) (value v : Value) → value ≡ v → is_kept most value queue ≡ true → is_kept most v queue ≡ true
+kept_as most queue value v e h = subst (λ (x : Value). is_kept most x queue ≡ true) e h
 
-names_kept : (path : List ℕ) (test : Bool) (names : List (List ℕ)) (v : Value) → test ≡ (list_all (is_name_under path) names && are_new [] names) →
-    as_names (cond test (Some names) None) ≡ Some v → is_kept v (Some path) ≡ true
-names_kept path true names v u h = kept_as (Some path) (Names names) v (same_Some _ _ h) (sym u)
-names_kept path false names v u h = absurd (cc h)
+names_kept : (most : ℕ) (path : List ℕ) (test : Bool) (names : List (List ℕ)) (v : Value) → test ≡ (list_all (is_name_under path) names && are_new [] names) →
+    as_names (cond test (Some names) None) ≡ Some v → is_kept most v (Some path) ≡ true
+names_kept most path true names v u h = kept_as most (Some path) (Names names) v (same_Some _ _ h) (sym u)
+names_kept most path false names v u h = absurd (cc h)
 
-amounts_kept : (queue : Option (List ℕ)) (r : Option (List ℕ)) (v : Value) → as_amounts r ≡ Some v → is_kept v queue ≡ true
-amounts_kept queue (Some amounts) v h = kept_as queue (Amounts amounts) v (same_Some _ _ h) refl
-amounts_kept queue None v h = absurd (cc h)
+amounts_kept : (most : ℕ) (queue : Option (List ℕ)) (r : Option (List ℕ)) (v : Value) → as_amounts r ≡ Some v → is_kept most v queue ≡ true
+amounts_kept most queue (Some amounts) v h = kept_as most queue (Amounts amounts) v (same_Some _ _ h) refl
+amounts_kept most queue None v h = absurd (cc h)
 
-number_by : (queue : Option (List ℕ)) (test : Bool) (n : ℕ) (v : Value) → (test ≡ true → leb n amount_max ≡ true) → cond test (Some (Number n)) None ≡ Some v → is_kept v queue ≡ true
-number_by queue true n v small h = kept_as queue (Number n) v (same_Some _ _ h) (small refl)
-number_by queue false n v small h = absurd (cc h)
+number_by : (most : ℕ) (queue : Option (List ℕ)) (test : Bool) (n : ℕ) (v : Value) → (test ≡ true → leb n most ≡ true) → cond test (Some (Number n)) None ≡ Some v → is_kept most v queue ≡ true
+number_by most queue true n v small h = kept_as most queue (Number n) v (same_Some _ _ h) (small refl)
+number_by most queue false n v small h = absurd (cc h)
 
-number_kept : (queue : Option (List ℕ)) (most : ℕ) (r : Option ℕ) (v : Value) → most ≤ amount_max →
-    option_and_then (λ n. cond (leb 1 n && leb n most) (Some (Number n)) None) r ≡ Some v → is_kept v queue ≡ true
-number_kept queue most (Some n) v within h = number_by queue (leb 1 n && leb n most) n v (λ t. grind (arith, nat_tests)) h
-number_kept queue most None v within h = absurd (cc h)
+number_kept : (bound : ℕ) (queue : Option (List ℕ)) (most : ℕ) (r : Option ℕ) (v : Value) → most ≤ bound →
+    option_and_then (λ n. cond (leb 1 n && leb n most) (Some (Number n)) None) r ≡ Some v → is_kept bound v queue ≡ true
+number_kept bound queue most (Some n) v within h = number_by bound queue (leb 1 n && leb n most) n v (λ t. grind (arith, nat_tests)) h
+number_kept bound queue most None v within h = absurd (cc h)
 
-state_kept : (queue : Option (List ℕ)) (a b : Bool) (v : Value) → cond a (Some (Running true)) (cond b (Some (Running false)) None) ≡ Some v → is_kept v queue ≡ true
-state_kept queue true b v h = kept_as queue (Running true) v (same_Some _ _ h) refl
-state_kept queue false true v h = kept_as queue (Running false) v (same_Some _ _ h) refl
-state_kept queue false false v h = absurd (cc h)
+state_kept : (most : ℕ) (queue : Option (List ℕ)) (a b : Bool) (v : Value) → cond a (Some (Running true)) (cond b (Some (Running false)) None) ≡ Some v → is_kept most v queue ≡ true
+state_kept most queue true b v h = kept_as most queue (Running true) v (same_Some _ _ h) refl
+state_kept most queue false true v h = kept_as most queue (Running false) v (same_Some _ _ h) refl
+state_kept most queue false false v h = absurd (cc h)
 
-value_kept : (queue : Option (List ℕ)) (setting : Setting) (bytes : List ℕ) (v : Value) → value_at queue setting bytes ≡ Some v → is_kept v queue ≡ true
+value_kept : (queue : Option (List ℕ)) (setting : Setting) (bytes : List ℕ) (v : Value) → value_at queue setting bytes ≡ Some v → is_kept (most_of setting) v queue ≡ true
 unfolding value_at number_within state_of names_for
-value_kept (Some path) Queues bytes v h = names_kept path (list_all (is_name_under path) (names_of bytes) && are_new [] (names_of bytes)) (names_of bytes) v refl h
+value_kept (Some path) Queues bytes v h = names_kept amount_max path (list_all (is_name_under path) (names_of bytes) && are_new [] (names_of bytes)) (names_of bytes) v refl h
 value_kept None Queues bytes v h = absurd (cc h)
-value_kept queue Capacity bytes v h = amounts_kept queue (amounts_of bytes) v h
-value_kept queue MaximumCapacity bytes v h = amounts_kept queue (amounts_of bytes) v h
-value_kept queue UserLimitFactor bytes v h = number_kept queue 1000 (number_of bytes) v (omega arith) h
-value_kept queue State bytes v h = state_kept queue _ _ v h
-value_kept queue MaximumApplications bytes v h = number_kept queue 1000000 (number_of bytes) v (omega arith) h
-value_kept queue MinimumMemory bytes v h = number_kept queue amount_max (number_of bytes) v (omega arith) h
-value_kept queue MinimumVcores bytes v h = number_kept queue amount_max (number_of bytes) v (omega arith) h
-value_kept queue MaximumMemory bytes v h = number_kept queue amount_max (number_of bytes) v (omega arith) h
-value_kept queue MaximumVcores bytes v h = number_kept queue amount_max (number_of bytes) v (omega arith) h
+value_kept queue Capacity bytes v h = amounts_kept amount_max queue (amounts_of bytes) v h
+value_kept queue MaximumCapacity bytes v h = amounts_kept amount_max queue (amounts_of bytes) v h
+value_kept queue UserLimitFactor bytes v h = number_kept amount_max queue 1000 (number_of bytes) v (omega arith) h
+value_kept queue State bytes v h = state_kept amount_max queue _ _ v h
+value_kept queue MaximumApplications bytes v h = number_kept applications_max queue 1000000 (number_of bytes) v (omega arith) h
+value_kept queue MinimumMemory bytes v h = number_kept amount_max queue amount_max (number_of bytes) v (omega arith) h
+value_kept queue MinimumVcores bytes v h = number_kept amount_max queue amount_max (number_of bytes) v (omega arith) h
+value_kept queue MaximumMemory bytes v h = number_kept amount_max queue amount_max (number_of bytes) v (omega arith) h
+value_kept queue MaximumVcores bytes v h = number_kept amount_max queue amount_max (number_of bytes) v (omega arith) h
 
 same_ok : {X : Type 0} (x y : X) → (let r : Result X ConfigFault = Ok x in r) ≡ Ok y → x ≡ y
 same_ok x y h = cc h

@@ -1,6 +1,7 @@
 ghost use Rattle.std.specs.Prelude.{◌≡◌, ◌≤◌, ◌++◌, ◌∷◌, [], IfOk, OnOk, true};
 ghost use Rattle.cap_vector.specs.Vector.{amount_max};
-ghost use Rattle.cap_config.specs.Bounds.{are_bounded};
+ghost use Rattle.cap_model.specs.Limits.{applications_max};
+ghost use Rattle.cap_config.specs.Bounds.{are_bounded, most_of};
 ghost use Rattle.cap_config.specs.Tests.{cluster_entry, number_or};
 ghost use Rattle.cap_config.specs.Index.{IsIndex};
 ghost use Rattle.cap_config.specs.Rows.{row_of, rows_under, settings_of};
@@ -84,11 +85,15 @@ pub struct Config<const K: usize> {
 }
 
 impl<const K: usize> Model for Config<K> {
+    ghost use Rattle.std.specs.Prelude.{◌≤◌};
+    ghost use Rattle.cap_model.specs.Limits.{applications_max};
     ghost use Rattle.cap_model.specs.Settings.{Settings};
 
     ghost Value = { Settings };
 
     ghost view = { λ c. record { queues = c.queues.items; minimum_allocation = c.minimum_allocation; maximum_allocation = c.maximum_allocation; application_limit = c.application_limit } };
+
+    ghost invariant = { λ c. c.application_limit ≤ applications_max };
 }
 
 impl<const K: usize> Config<K> {
@@ -152,9 +157,9 @@ pub fn config_of(alloc: Global, index: &Index) -> Result<Config<2>, AllocError>
 /// The number that a property of the cluster sets, or the one that stands where no line sets it.
 fn cluster_number(entries: &[Entry], setting: Setting, default: u64) -> u64
     requires bounded { are_bounded entries.now ≡ true }
-    requires default { default ≤ amount_max }
+    requires default { default ≤ most_of setting }
     ensures value { result ≡ number_or (cluster_entry entries.now setting) default }
-    ensures small { result ≤ amount_max }
+    ensures small { result ≤ most_of setting }
 {
     number_or(cluster_entry(entries, setting), default)
 }

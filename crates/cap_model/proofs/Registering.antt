@@ -1,13 +1,14 @@
 -- What is known of a node that is not refused.
 use Rattle.std.proofs.Common.{◌≡◌, ℕ, ◌<◌, Bool, true, false, List, [], ◌∷◌, length, map, Option, Some, None, refl, sym, inl, inr}
-use Rattle.std.specs.Prelude.{not, nat_le, bytes_eq, IsSome, is_some, ◌↔◌, option_map}
+use Rattle.std.specs.Prelude.{not, nat_le, bytes_eq, is_none, IsSome, is_some, ◌↔◌, option_map}
 use Rattle.std.specs.List.{list_any}
 use Rattle.std.proofs.lemmas.Bool.{cases_Bool, not-false, not-true, leb-false}
 use Rattle.cap_vector.specs.Vector.{amount_max, plus, is_within, IsWithin, IsVector, is_zero}
 use Rattle.cap_vector.proofs.AmountLemmas.{within_from_test, test_from_within}
 use Rattle.cap_model.specs.Limits.{nodes_max, number_end}
 use Rattle.cap_model.specs.Cascade.{earliest}
-use Rattle.cap_model.specs.Flat.{Flat}
+use Rattle.cap_model.specs.Flat.{Flat, queue_at}
+use Rattle.cap_model.specs.Submit.{submit_refusal, has_children, is_running}
 use Rattle.cap_model.specs.RegisterNode.{register_node_refusal, total_of_nodes}
 
 -- no test holds
@@ -47,3 +48,25 @@ pub earliest-as : {A B : Type 0} (f : A → B) (tests : List (Bool × A)) → op
 earliest-as f [] = refl
 earliest-as f ((true, a) ∷ tests) = refl
 earliest-as f ((false, a) ∷ tests) = earliest-as f tests
+
+-- no test holds
+none_of_submit : {A : Type 0} (a b c d e : Bool) (p q r s t : A) → earliest ((a, p) ∷ (b, q) ∷ (c, r) ∷ (d, s) ∷ (e, t) ∷ []) ≡ None → (d ≡ false) × (e ≡ false)
+none_of_submit true b c d e p q r s t h = absurd cc
+none_of_submit false true c d e p q r s t h = absurd cc
+none_of_submit false false true d e p q r s t h = absurd cc
+none_of_submit false false false true e p q r s t h = absurd cc
+none_of_submit false false false false true p q r s t h = absurd cc
+none_of_submit false false false false false p q r s t h = (refl, refl)
+
+-- what is known of an application that is not refused
+pub record MayEnter {K : ℕ} (cluster : Flat K) : Type 0 where
+  pub few : length cluster.apps.active < cluster.settings.application_limit
+  pub numbered : cluster.apps.next < number_end
+
+pub may_enter : {K : ℕ} (cluster : Flat K) (path : List ℕ) → submit_refusal cluster path ≡ None → MayEnter cluster
+may_enter cluster path h =
+    let n = none_of_submit (is_none (queue_at cluster path)) (has_children cluster path) (not (is_running cluster path)) (nat_le cluster.settings.application_limit (length cluster.apps.active)) (nat_le number_end cluster.apps.next) _ _ _ _ _ h in
+    record {
+      few = leb-false cluster.settings.application_limit (length cluster.apps.active) n.0;
+      numbered = leb-false number_end cluster.apps.next n.1;
+    }

@@ -27,4 +27,4 @@ invariant_of-self-2 g c =
     let same : c.new.result.total ≡ c.args.total.now = ap (λ (n : ClusterNode). n.total) c.new.ensures in
     let push : sum_of_totals g.row.K (c.self.inside.nodes.items ++ c.new.result ∷ []) ≡ plus (sum_of_totals g.row.K c.self.inside.nodes.items) c.new.result.total = totals-push g.row.K c.self.inside.nodes.items c.new.result (rw same count) in
     let is : c.in-Some.sum ≡ sum_of_totals g.row.K (c.self.inside.nodes.items ++ c.new.result ∷ []) = c.in-Some.ensures.some ∙ ap (λ v. plus v c.args.total.now) c.self.invariant.0 ∙ ap (λ v. plus (sum_of_totals g.row.K c.self.inside.nodes.items) v) (sym same) ∙ sym push in
-    rw c.in-Ok.ensures.items (is, omega (arith, few, length-append c.self.inside.nodes.items (c.new.result ∷ [])))
+    rw c.in-Ok.ensures.items (is, omega (arith, few, length-append c.self.inside.nodes.items (c.new.result ∷ [])), c.self.invariant.2, c.self.invariant.3)
