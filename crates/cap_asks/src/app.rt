@@ -19,8 +19,15 @@ impl Model for App {
     ghost Value = { Row };
 
     ghost view = { λ a. record {
-        number = a.number; leaf = a.leaf; user = a.user; registered = false; response = 0; kept = None;
-        asks = []; grants = []; ends = [];
+      number = a.number;
+      leaf = a.leaf;
+      user = a.user;
+      registered = false;
+      response = 0;
+      kept = None;
+      asks = [];
+      grants = [];
+      ends = [];
     } };
 }
 
@@ -30,8 +37,15 @@ impl App {
     /// An application of this number that entered the leaf queue just now.
     pub(crate) fn new(number: u64, leaf: &PathText, user: &ShortText) -> App
         ensures { result ≡ record {
-            number = number; leaf = leaf.now; user = user.now; registered = false; response = 0; kept = None;
-            asks = []; grants = []; ends = [];
+          number = number;
+          leaf = leaf.now;
+          user = user.now;
+          registered = false;
+          response = 0;
+          kept = None;
+          asks = [];
+          grants = [];
+          ends = [];
         } }
     {
         App {

@@ -1,5 +1,5 @@
 -- An application that enters, as the cluster sees it.
-use Rattle.std.proofs.Common.{◌≡◌, ℕ, ◌<◌, ◌≤◌, List, [], ◌∷◌, ◌++◌, length, length-append, ap, arith}
+use Rattle.std.proofs.Common.{◌≡◌, ℕ, ◌<◌, ◌≤◌, List, [], ◌∷◌, length, length-append, ap, arith}
 use Rattle.std.specs.Prelude.{Result, Ok, Err, IfOk, OnErr}
 use Rattle.cap_model.specs.declared.no_memory.NoMemory.{NoMemory}
 use Rattle.cap_model.specs.Flat.{Flat, AppTable}

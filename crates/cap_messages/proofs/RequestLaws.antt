@@ -162,17 +162,17 @@ body_takes kind bytes r fits e =
     elim (chosen (kind == 1) (submit_at bytes) _ (Some r) e) [
       | inl t ↦ IsBody-same kind 1 bytes r t.0 (submit_takes bytes r fits t.1)
       | inr not-1 ↦ elim (chosen (kind == 5) (register_node_at bytes) _ (Some r) not-1.1) [
-      | inl t ↦ IsBody-same kind 5 bytes r t.0 (register_node_takes bytes r fits t.1)
-      | inr not-5 ↦ elim (chosen (kind == 8) (queue_info_at bytes) _ (Some r) not-5.1) [
-        | inl t ↦ IsBody-same kind 8 bytes r t.0 (queue_info_takes bytes r fits t.1)
-        | inr not-8 ↦ elim (chosen (kind == 9) (set_queue_state_at bytes) _ (Some r) not-8.1) [
-          | inl t ↦ IsBody-same kind 9 bytes r t.0 (set_queue_state_takes bytes r fits t.1)
-          | inr not-9 ↦
-              let g = guard_then (kind == 10) (cluster_info_at bytes) r not-9.1 in
-              IsBody-same kind 10 bytes r g.0 (cluster_info_takes bytes r g.1)
+        | inl t ↦ IsBody-same kind 5 bytes r t.0 (register_node_takes bytes r fits t.1)
+        | inr not-5 ↦ elim (chosen (kind == 8) (queue_info_at bytes) _ (Some r) not-5.1) [
+          | inl t ↦ IsBody-same kind 8 bytes r t.0 (queue_info_takes bytes r fits t.1)
+          | inr not-8 ↦ elim (chosen (kind == 9) (set_queue_state_at bytes) _ (Some r) not-8.1) [
+            | inl t ↦ IsBody-same kind 9 bytes r t.0 (set_queue_state_takes bytes r fits t.1)
+            | inr not-9 ↦
+                let g = guard_then (kind == 10) (cluster_info_at bytes) r not-9.1 in
+                IsBody-same kind 10 bytes r g.0 (cluster_info_takes bytes r g.1)
+          ]
         ]
       ]
-    ]
     ]
 
 body_again : (r : Request 2) → FitsRequest r → body_at (kind_of r) (request_body r) ≡ Some r

@@ -2,8 +2,8 @@ ghost use Rattle.cap_model.specs.Runs.{Replies};
 ghost use Rattle.cap_messages.specs.Spelling.{IsOfKind, kind_of};
 
 use cap_commit::Cluster;
-use cap_model::{Reply, Request};
 use cap_masters::submit;
+use cap_model::{Reply, Request};
 use cap_trackers::{cluster_info, queue_info, register_node, set_queue_state};
 use std::alloc::Global;
 

@@ -1,4 +1,3 @@
-use Rattle.std.proofs.Common.{◌≡◌, ap}
 use Rattle.cap_model.proofs.Registering.{may_enter}
 use Rattle.cap_commit.proofs.Entering.{few_after, entered}
 use Rattle.cap_commit.proofs.cluster.Cluster.add_app.Goals as goal
