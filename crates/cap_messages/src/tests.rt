@@ -21,6 +21,11 @@ const QUEUE_INFO: &[u8] = &[1, 8, 0, 0, 0, 9, 6, 0x72, 0x6f, 0x6f, 0x74, 0x2e, 0
 // Call id 1, path root.a, STOPPED.
 const SET_QUEUE_STATE: &[u8] = &[1, 9, 0, 0, 0, 1, 6, 0x72, 0x6f, 0x6f, 0x74, 0x2e, 0x61, 0];
 
+/// Submit to `root.a` by `u1` with call id 1.
+const SUBMIT: &[u8] = &[
+    1, 1, 0, 0, 0, 1, 6, 0x72, 0x6f, 0x6f, 0x74, 0x2e, 0x61, 2, 0x75, 0x31,
+];
+
 const CLUSTER_INFO_REPLY: &[u8] = &[
     1, 0x0a, 0, 0, 0, 3, 0, 0, 0, 0, 1, 0, 0, 0, 0, 0, 0, 0, 0, 0, 0, 0, 0, 0, 0, 0x20, 0, 0, 0, 0,
     0, 0, 0, 0, 8, 0, 0, 0, 0, 0, 0, 0, 0, 0, 0, 0, 0, 0, 0, 0, 0,
@@ -165,6 +170,36 @@ fn queue_calls_are_read(rt: HostRuntime) -> Result<(), Fail> {
     let start = queue_call(rt.alloc(), 9, b"root.a", &[1])?;
     let (_, request) = read_request(rt.alloc(), &start)?;
     assert!(rt; matches!(request, Request::SetQueueState { running: true, .. }));
+    Ok(())
+}
+
+#[test]
+fn submits_are_read(rt: HostRuntime) -> Result<(), Fail> {
+    let (call_id, request) = read_request(rt.alloc(), SUBMIT)?;
+    assert_eq!(rt; call_id, 1);
+    assert_eq!(rt; kind(&request), 1);
+    let Request::Submit { path, user } = request else {
+        return Err("another kind".into());
+    };
+    assert_eq!(rt; path.as_bytes(), b"root.a".as_slice());
+    assert_eq!(rt; user.as_bytes(), b"u1".as_slice());
+    assert!(rt; is_bad(rt.alloc(), &SUBMIT[..15]));
+    assert!(rt; is_bad(rt.alloc(), &SUBMIT[..13]));
+    assert!(rt; is_bad(rt.alloc(), &[1, 1, 0, 0, 0, 1, 1, b'a', 1, b'u', 0]));
+    assert!(rt; is_bad(rt.alloc(), &[1, 1, 0, 0, 0, 1, 1, b'a', 0]));
+    assert!(rt; is_bad(rt.alloc(), &[1, 1, 0, 0, 0, 1, 1, b'a', 1, 0x20]));
+    Ok(())
+}
+
+#[test]
+fn submit_replies_are_written(rt: HostRuntime) -> Result<(), Fail> {
+    let mut out = Out::with_capacity(rt.alloc(), REPLY_ROOM)?;
+    write_reply(1, 1, &Reply::Submit { application: 1 }, &mut out);
+    let entered: &[u8] = &[1, 1, 0, 0, 0, 1, 0, 0, 0, 0, 0, 0, 0, 0, 1];
+    assert_eq!(rt; out.as_slice(), entered);
+    let mut out = Out::with_capacity(rt.alloc(), REPLY_ROOM)?;
+    write_reply(2, 1, &Reply::Refused(Refusal::NotLeaf), &mut out);
+    assert_eq!(rt; out.as_slice(), [1, 1, 0, 0, 0, 2, 2].as_slice());
     Ok(())
 }
 
