@@ -1,3 +1,4 @@
+pub mod Balance
 pub mod TellingEnds
 pub mod Telling
 pub mod Parents

@@ -1,5 +1,5 @@
 -- Laws of the definitions.
-use Rattle.std.specs.Prelude.{◌≡◌, ◌↔◌, ℕ, List, Some, None, [], ◌∷◌, ◌++◌, map, filter, count_by, IsSome, not, ◌==◌, ◌&&◌, if◌then◌else◌}
+use Rattle.std.specs.Prelude.{◌≡◌, ◌↔◌, ℕ, ◌+◌, ◌≤◌, Bool, List, Some, None, [], ◌∷◌, ◌++◌, map, filter, count_by, IsSome, not, ◌==◌, ◌&&◌, if◌then◌else◌}
 use Rattle.std.specs.Option.{option_map_or}
 use Rattle.cap_model.specs.Calls.{Cause, GrantedContainer, EndedContainer, CallRequest, CallReply}
 use Rattle.cap_model.specs.Allocate.{is_repeated_allocate, released_by}
@@ -11,7 +11,8 @@ use Rattle.cap_model.specs.Admission.{NodeProposal, IsAdmissible, reason_of}
 use Rattle.cap_model.specs.Choice.{rank_cmp, rank_of, IsNodeChoice, IsChoiceFrom}
 use Rattle.cap_model.specs.Candidates.{choice_on, choice_from}
 use Rattle.std.specs.declared.cmp.Ordering.TheVariants.{Equal}
-use Rattle.cap_model.specs.Events.{ClusterEvent, Step, Run, ever_granted, news_of}
+use Rattle.cap_model.specs.Ending.{is_among}
+use Rattle.cap_model.specs.Events.{ClusterEvent, Step, Run, after_event, ever_granted, ever_ended, news_of}
 use Rattle.cap_model.specs.Bounds.{IsRising, IsSumOfChildren}
 
 -- a proposal has no reason to be rejected exactly where it is admissible
@@ -34,6 +35,28 @@ NumbersStayDistinct = (K : ℕ) (old new : Flat K) (event : ClusterEvent) → Ha
 abbrev pub GrantedOnce : Type 0
 GrantedOnce =
     (K : ℕ) (events : List ClusterEvent) (old new : Flat K) → Run old events new → IsRising old.nodes.next_container (numbers_of (ever_granted events)) new.nodes.next_container
+
+-- the cluster after a step is determined by the event
+abbrev pub StepIsDetermined : Type 0
+StepIsDetermined = (K : ℕ) (old new : Flat K) (event : ClusterEvent) → Step old event new → new ≡ after_event old event
+
+-- of the containers that pass any test, those live at the close and those ever ended are as many as those live at the opening and those
+-- ever granted: none is lost, none is doubled
+abbrev pub ContainersBalance : Type 0
+ContainersBalance =
+    (K : ℕ) (events : List ClusterEvent) (old new : Flat K) → HasDistinctNumbers old → Run old events new → (test : Container → Bool) →
+    count_by test new.nodes.live + count_by test (ever_ended old events) ≡ count_by test old.nodes.live + count_by test (ever_granted events)
+
+-- no container is ended twice in a run
+abbrev pub EndedOnce : Type 0
+EndedOnce =
+    (K : ℕ) (events : List ClusterEvent) (old new : Flat K) → HasDistinctNumbers old → Run old events new → (n : ℕ) → count_by (λ c. c.number == n) (ever_ended old events) ≤ 1
+
+-- the closing live containers are the opening ones with the granted, without the ended, in this order
+abbrev pub LiveIsWhatWasNotEnded : Type 0
+LiveIsWhatWasNotEnded =
+    (K : ℕ) (events : List ClusterEvent) (old new : Flat K) → HasDistinctNumbers old → Run old events new →
+    new.nodes.live ≡ filter (λ c. not (is_among (ever_ended old events) c)) (old.nodes.live ++ ever_granted events)
 
 -- two admissible proposals of one node are never of one rank
 abbrev pub OneOfEachRank : Type 0

@@ -1,5 +1,5 @@
 //! Laws of the definitions in `specs/`, for callers to cite. The functions do nothing.
-ghost use Rattle.cap_model.specs.EngineLaws.{RejectedExactly, NumbersStayDistinct, GrantedOnce, OneOfEachRank, ChoiceIsComputed, ChoiceFromIsComputed, ParentUsesChildren, GrantsAreToldInOrder, EndsAreToldInOrder};
+ghost use Rattle.cap_model.specs.EngineLaws.{RejectedExactly, NumbersStayDistinct, GrantedOnce, StepIsDetermined, ContainersBalance, EndedOnce, OneOfEachRank, ChoiceIsComputed, ChoiceFromIsComputed, ParentUsesChildren, GrantsAreToldInOrder, EndsAreToldInOrder};
 
 /// A proposal has no reason to be rejected exactly where it is admissible.
 pub fn reason_says_why()
@@ -10,6 +10,17 @@ pub fn reason_says_why()
 pub fn container_numbers_are_used_once()
     ensures live { NumbersStayDistinct }
     ensures granted { GrantedOnce }
+{}
+
+/// The cluster after a step is determined by the event.
+pub fn steps_are_determined()
+    ensures { StepIsDetermined }
+{}
+
+/// No container ends twice in a run, and what is live or has ended at its close was live at its opening or was granted.
+pub fn containers_end_once()
+    ensures balance { ContainersBalance }
+    ensures ended { EndedOnce }
 {}
 
 /// Of the admissible proposals on a node exactly one is served first, and it is the least of all that are written out.

@@ -1,0 +1,8 @@
+use Rattle.cap_model.proofs.Balance.{containers_balance, ended_once}
+use Rattle.cap_model.proofs.laws.containers_end_once.Goals as goal
+
+pub returns-clause-balance : goal.returns-clause-balance
+returns-clause-balance c = containers_balance
+
+pub returns-clause-ended : goal.returns-clause-ended
+returns-clause-ended c = ended_once
