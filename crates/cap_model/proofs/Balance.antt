@@ -4,7 +4,9 @@ use Rattle.std.specs.Prelude.{Option, Some, None, cond, not, ◌||◌, ◌==◌,
 use Rattle.std.specs.List.{sum_by}
 use Rattle.std.proofs.lemmas.Bool.Decides.{nat_tests}
 use Rattle.std.proofs.lemmas.List.Sums.{sum_by-cons, sum_by-append}
+use Rattle.std.proofs.lemmas.List.{append_assoc, append-nil}
 use Rattle.std.proofs.lemmas.List.Elements.{filter-append}
+use Rattle.std.proofs.lemmas.List.Folds.{list_any-append}
 use Rattle.cap_model.specs.Calls.{CallRequest, CallReply, CallRefusal}
 use Rattle.cap_model.specs.Flat.{Flat, Container}
 use Rattle.cap_model.specs.Ending.{is_among}
@@ -189,7 +191,7 @@ module _ {K : ℕ} where
   step_balance old new (ClusterEvent.reserve reservation) r (admissible, after) test =
       let same : new.nodes.live ≡ old.nodes.live = ap (λ (x : Flat K). x.nodes.live) after in
       let live : count_by test new.nodes.live ≡ count_by test old.nodes.live = ap (count_by test) same in
-      let ended : count_by test (ended_between old new) ≡ 0 = ap (count_by test) (none_ended old new [] (same ∙ sym (Rattle.std.proofs.lemmas.List.append-nil old.nodes.live))) in
+      let ended : count_by test (ended_between old new) ≡ 0 = ap (count_by test) (none_ended old new [] (same ∙ sym (append-nil old.nodes.live))) in
       omega (arith, live, ended)
 
   run_balance : (events : List ClusterEvent) (old new : Flat K) → HasDistinctNumbers old → Run old events new → (test : Container → Bool) →
@@ -217,3 +219,82 @@ ended_once K events old new r run n =
     rising_append 1 old.nodes.next_container old.nodes.live (ever_granted events) new.nodes.next_container r (granted_once K events old new run) in
     let few = (count_rising n 1 (old.nodes.live ++ ever_granted events) new.nodes.next_container all).0 in
     omega (arith, balance, few, count_append (is_numbered n) old.nodes.live (ever_granted events))
+
+-- the closing live containers themselves
+
+-- two filters are one
+filter_twice : {A : Type 0} (f g h : A → Bool) (xs : List A) → ((x : A) → h x ≡ cond (g x) (f x) false) → filter f (filter g xs) ≡ filter h xs
+filter_twice f g h [] e = refl
+filter_twice f g h (x ∷ xs) e = by (g x) (e x) (filter_twice f g h xs e)
+  where
+    by : (b : Bool) → h x ≡ cond b (f x) false → filter f (filter g xs) ≡ filter h xs → filter f (cond b (x ∷ filter g xs) (filter g xs)) ≡ cond (h x) (x ∷ filter h xs) (filter h xs)
+    by true t r = λ i. cond (sym t i) (x ∷ r i) (r i)
+    by false t r = r ∙ sym (ap (λ b. cond b (x ∷ filter h xs) (filter h xs)) t)
+
+neither : (a b c : Bool) → c ≡ a || b → not c ≡ cond (not a) (not b) false
+neither true b c e = ap not e
+neither false b c e = ap not e
+
+-- a container whose number is above all is not among some of them
+among_earlier : (t : Container → Bool) (low : ℕ) (cs : List Container) (high : ℕ) (c : Container) → IsRising low (numbers_of cs) high → high ≤ c.number → is_among (filter t cs) c ≡ false
+among_earlier t low [] high c r h = refl
+among_earlier t low (d ∷ cs) high c r h = by (t d) (among_earlier t (d.number + 1) cs high c r.1 h)
+  where
+    below : d.number < high
+    below = omega (arith, bounds_meet (d.number + 1) (numbers_of cs) high r.1)
+    by : (b : Bool) → is_among (filter t cs) c ≡ false → is_among (cond b (d ∷ filter t cs) (filter t cs)) c ≡ false
+    by true e = let other : d.number == c.number ≡ false = grind (arith, nat_tests, h, below) in ap (λ x. x || is_among (filter t cs) c) other ∙ e
+    by false e = e
+
+twice_not : (b : Bool) → not (not b) ≡ b
+twice_not true = refl
+twice_not false = refl
+
+module _ {K : ℕ} where
+  -- after a step what lives is what lived and was granted, without what ended
+  step_live : (old new : Flat K) (event : ClusterEvent) → HasDistinctNumbers old → Step old event new →
+      new.nodes.live ≡ filter (λ c. not (is_among (ended_between old new) c)) (old.nodes.live ++ granted_by event)
+  step_live old new (ClusterEvent.call by request reply) r s =
+      let t = reply_thins old new request reply s in
+      let ended = ended_by_thinning old new r t in
+      t.live
+      ∙ sym (filter_same (λ c. not (is_among (filter (λ d. not (t.test d)) old.nodes.live) c)) t.test old.nodes.live
+      (λ c m. ap not (among_some (λ d. not (t.test d)) 1 old.nodes.live old.nodes.next_container c r m) ∙ twice_not (t.test c)))
+      ∙ (λ i. filter (λ c. not (is_among (sym ended i) c)) (sym (append-nil old.nodes.live) i))
+  step_live old new (ClusterEvent.grant c) r (admissible, number, after) =
+      let same : new.nodes.live ≡ old.nodes.live ++ c ∷ [] = ap (λ (x : Flat K). x.nodes.live) after in
+      same ∙ sym (filter_whole (λ d. not (is_among [] d)) (old.nodes.live ++ c ∷ []) (λ d m. refl))
+      ∙ ap (λ es. filter (λ d. not (is_among es d)) (old.nodes.live ++ c ∷ [])) (sym (none_ended old new (c ∷ []) same))
+  step_live old new (ClusterEvent.reserve reservation) r (admissible, after) =
+      let same : new.nodes.live ≡ old.nodes.live ++ [] = ap (λ (x : Flat K). x.nodes.live) after ∙ sym (append-nil old.nodes.live) in
+      same ∙ sym (filter_whole (λ d. not (is_among [] d)) (old.nodes.live ++ []) (λ d m. refl))
+      ∙ ap (λ es. filter (λ d. not (is_among es d)) (old.nodes.live ++ [])) (sym (none_ended old new [] same))
+
+  run_live : (events : List ClusterEvent) (old new : Flat K) → HasDistinctNumbers old → Run old events new →
+      new.nodes.live ≡ filter (λ c. not (is_among (ever_ended old events) c)) (old.nodes.live ++ ever_granted events)
+  run_live [] old new r e =
+      ap (λ (x : Flat K). x.nodes.live) (sym e) ∙ sym (append-nil old.nodes.live) ∙ sym (filter_whole (λ c. not (is_among [] c)) (old.nodes.live ++ []) (λ c m. refl))
+  run_live (event ∷ events) old new r (mid, step, run) =
+      let at : mid ≡ after_event old event = determined old mid event step in
+      let distinct = numbers_stay_distinct K old mid event r step in
+      let granted = ever_granted events in
+      let first_ended : Container → Bool = λ c. not (is_among (ended_between old mid) c) in
+      let then_ended : Container → Bool = λ c. not (is_among (ever_ended mid events) c) in
+      let ever : Container → Bool = λ c. not (is_among (ended_between old mid ++ ever_ended mid events) c) in
+      let forward : old.nodes.next_container ≤ mid.nodes.next_container =
+      bounds_meet old.nodes.next_container (numbers_of (ever_granted (event ∷ []))) mid.nodes.next_container (granted_once K (event ∷ []) old mid (mid, step, refl)) in
+      let later : filter first_ended granted ≡ granted =
+      filter_whole first_ended granted
+      (λ c m. ap not (among_earlier (λ d. not (is_among mid.nodes.live d)) 1 old.nodes.live old.nodes.next_container c r
+      (omega (arith, forward, in_above mid.nodes.next_container granted new.nodes.next_container c (granted_once K events mid new run) m)))) in
+      run_live events mid new distinct run
+      ∙ ap (λ cs. filter then_ended (cs ++ granted)) (step_live old mid event r step)
+      ∙ ap (λ cs. filter then_ended (filter first_ended (old.nodes.live ++ granted_by event) ++ cs)) (sym later)
+      ∙ ap (λ cs. filter then_ended cs) (sym (filter-append first_ended (old.nodes.live ++ granted_by event) granted))
+      ∙ filter_twice then_ended first_ended ever ((old.nodes.live ++ granted_by event) ++ granted)
+      (λ c. neither (is_among (ended_between old mid) c) (is_among (ever_ended mid events) c) (is_among (ended_between old mid ++ ever_ended mid events) c)
+      (list_any-append (λ d. d.number == c.number) (ended_between old mid) (ever_ended mid events)))
+      ∙ (λ i. filter (λ c. not (is_among (ended_between old (at i) ++ ever_ended (at i) events) c)) (append_assoc old.nodes.live (granted_by event) granted i))
+
+pub live_is_what_was_not_ended : LiveIsWhatWasNotEnded
+live_is_what_was_not_ended K events old new r run = run_live events old new r run

@@ -1,5 +1,5 @@
 //! Laws of the definitions in `specs/`, for callers to cite. The functions do nothing.
-ghost use Rattle.cap_model.specs.EngineLaws.{RejectedExactly, NumbersStayDistinct, GrantedOnce, StepIsDetermined, ContainersBalance, EndedOnce, OneOfEachRank, ChoiceIsComputed, ChoiceFromIsComputed, ParentUsesChildren, GrantsAreToldInOrder, EndsAreToldInOrder};
+ghost use Rattle.cap_model.specs.EngineLaws.{RejectedExactly, NumbersStayDistinct, GrantedOnce, StepIsDetermined, ContainersBalance, EndedOnce, LiveIsWhatWasNotEnded, OneOfEachRank, ChoiceIsComputed, ChoiceFromIsComputed, ParentUsesChildren, GrantsAreToldInOrder, EndsAreToldInOrder};
 
 /// A proposal has no reason to be rejected exactly where it is admissible.
 pub fn reason_says_why()
@@ -21,6 +21,7 @@ pub fn steps_are_determined()
 pub fn containers_end_once()
     ensures balance { ContainersBalance }
     ensures ended { EndedOnce }
+    ensures live { LiveIsWhatWasNotEnded }
 {}
 
 /// Of the admissible proposals on a node exactly one is served first, and it is the least of all that are written out.
