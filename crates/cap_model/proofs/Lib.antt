@@ -1,3 +1,6 @@
+pub mod ToldRuns
+pub mod Moves
+pub mod Members
 pub mod Balance
 pub mod TellingEnds
 pub mod Telling

@@ -102,6 +102,37 @@ abbrev pub GrantsAreToldInOrder : Type 0
 GrantsAreToldInOrder =
     (K : ℕ) (old new : Flat K) (n : ℕ) (event : ClusterEvent) → Step old event new → IsSome (app_at new n) → told_grants old n event ++ untold_grants new n ≡ untold_grants old n ++ new_grants old n event
 
+-- what the events of a run tell an application of grants, and what they add for it
+abbrev pub ever_told_grants : {K : ℕ} → Flat K → ℕ → List ClusterEvent → List GrantedContainer
+ever_told_grants old n [] = []
+ever_told_grants old n (event ∷ events) = told_grants old n event ++ ever_told_grants (after_event old event) n events
+
+abbrev pub ever_new_grants : {K : ℕ} → Flat K → ℕ → List ClusterEvent → List GrantedContainer
+ever_new_grants old n [] = []
+ever_new_grants old n (event ∷ events) = new_grants old n event ++ ever_new_grants (after_event old event) n events
+
+-- the active applications have rising numbers below the next
+abbrev pub HasAppNumbers : {K : ℕ} → Flat K → Type 0
+HasAppNumbers cluster = IsRising 1 (map (λ app. app.number) cluster.apps.active) cluster.apps.next
+
+-- a step keeps the numbers of applications distinct and below the next
+abbrev pub AppNumbersStayDistinct : Type 0
+AppNumbersStayDistinct = (K : ℕ) (old new : Flat K) (event : ClusterEvent) → HasAppNumbers old → Step old event new → HasAppNumbers new
+
+-- what a run tells an application of grants is a beginning of those untold at its opening followed by those that it adds; where the
+-- application is there at the close, what is left of them is what it was not yet told
+abbrev pub GrantsAreToldOverRuns : Type 0
+GrantsAreToldOverRuns =
+    (K : ℕ) (events : List ClusterEvent) (old new : Flat K) (n : ℕ) → HasAppNumbers old → Run old events new →
+    (left : List GrantedContainer)
+    × (ever_told_grants old n events ++ left ≡ untold_grants old n ++ ever_new_grants old n events)
+    × (IsSome (app_at new n) → left ≡ untold_grants new n)
+
+-- the grants that a run adds for an application are its containers among those that the run granted
+abbrev pub NewGrantsAreOfTheGranted : Type 0
+NewGrantsAreOfTheGranted =
+    (K : ℕ) (events : List ClusterEvent) (old : Flat K) (n : ℕ) → map (λ g. g.container) (ever_new_grants old n events) ≡ numbers_of (filter (λ c. c.app == n) (ever_granted events))
+
 -- the ends that an application was not yet told
 abbrev pub untold_ends : {K : ℕ} → Flat K → ℕ → List EndedContainer
 untold_ends cluster n = option_map_or (λ app. app.ends) (app_at cluster n) []

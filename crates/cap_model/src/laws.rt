@@ -1,5 +1,5 @@
 //! Laws of the definitions in `specs/`, for callers to cite. The functions do nothing.
-ghost use Rattle.cap_model.specs.EngineLaws.{RejectedExactly, NumbersStayDistinct, GrantedOnce, StepIsDetermined, ContainersBalance, EndedOnce, LiveIsWhatWasNotEnded, OneOfEachRank, ChoiceIsComputed, ChoiceFromIsComputed, ParentUsesChildren, GrantsAreToldInOrder, EndsAreToldInOrder};
+ghost use Rattle.cap_model.specs.EngineLaws.{RejectedExactly, NumbersStayDistinct, GrantedOnce, StepIsDetermined, ContainersBalance, EndedOnce, LiveIsWhatWasNotEnded, OneOfEachRank, ChoiceIsComputed, ChoiceFromIsComputed, ParentUsesChildren, GrantsAreToldInOrder, EndsAreToldInOrder, AppNumbersStayDistinct, GrantsAreToldOverRuns, NewGrantsAreOfTheGranted};
 
 /// A proposal has no reason to be rejected exactly where it is admissible.
 pub fn reason_says_why()
@@ -40,4 +40,15 @@ pub fn parents_use_what_their_children_use()
 pub fn news_is_told_in_order()
     ensures grants { GrantsAreToldInOrder }
     ensures ends { EndsAreToldInOrder }
+{}
+
+/// No application number is used twice.
+pub fn application_numbers_are_used_once()
+    ensures { AppNumbersStayDistinct }
+{}
+
+/// Over a whole run an application is told its grants in the order in which they came, of each once.
+pub fn grants_are_told_over_runs()
+    ensures told { GrantsAreToldOverRuns }
+    ensures added { NewGrantsAreOfTheGranted }
 {}
