@@ -52,15 +52,15 @@ module _ {K : ℕ} (old : Flat K) where
 
 -- members of lists in order
 
-filter_same : {A : Type 0} (f g : A → Bool) (xs : List A) → ((x : A) → IsIn x xs → f x ≡ g x) → filter f xs ≡ filter g xs
+pub filter_same : {A : Type 0} (f g : A → Bool) (xs : List A) → ((x : A) → IsIn x xs → f x ≡ g x) → filter f xs ≡ filter g xs
 filter_same f g [] e = refl
 filter_same f g (x ∷ xs) e = λ i. cond (e x (inl refl) i) (x ∷ filter_same f g xs (λ y m. e y (inr m)) i) (filter_same f g xs (λ y m. e y (inr m)) i)
 
-filter_none : {A : Type 0} (f : A → Bool) (xs : List A) → ((x : A) → IsIn x xs → f x ≡ false) → filter f xs ≡ []
+pub filter_none : {A : Type 0} (f : A → Bool) (xs : List A) → ((x : A) → IsIn x xs → f x ≡ false) → filter f xs ≡ []
 filter_none f [] e = refl
 filter_none f (x ∷ xs) e = ap (λ b. cond b (x ∷ filter f xs) (filter f xs)) (e x (inl refl)) ∙ filter_none f xs (λ y m. e y (inr m))
 
-filter_whole : {A : Type 0} (f : A → Bool) (xs : List A) → ((x : A) → IsIn x xs → f x ≡ true) → filter f xs ≡ xs
+pub filter_whole : {A : Type 0} (f : A → Bool) (xs : List A) → ((x : A) → IsIn x xs → f x ≡ true) → filter f xs ≡ xs
 filter_whole f [] e = refl
 filter_whole f (x ∷ xs) e = ap (λ b. cond b (x ∷ filter f xs) (filter f xs)) (e x (inl refl)) ∙ ap (λ ys. x ∷ ys) (filter_whole f xs (λ y m. e y (inr m)))
 
@@ -105,7 +105,7 @@ among_some t low (d ∷ cs) high c r (inr m) = by (t d) (among_some t (d.number 
     by true e = let other : d.number == c.number ≡ false = grind (arith, nat_tests, above) in ap (λ x. x || is_among (filter t cs) c) other ∙ e
     by false e = e
 
-among_itself : (cs : List Container) (c : Container) → IsIn c cs → is_among cs c ≡ true
+pub among_itself : (cs : List Container) (c : Container) → IsIn c cs → is_among cs c ≡ true
 among_itself [] c m = absurd m
 among_itself (d ∷ cs) c (inl e) = let same : d.number == c.number ≡ true = grind (arith, nat_tests, ap (λ (x : Container). x.number) e) in ap (λ x. x || is_among cs c) same
 among_itself (d ∷ cs) c (inr m) = by (d.number == c.number) (among_itself cs c m)

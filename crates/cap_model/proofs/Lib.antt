@@ -1,3 +1,4 @@
+pub mod Lessening
 pub mod ToldRuns
 pub mod Moves
 pub mod Members

@@ -1,6 +1,8 @@
 -- Lists: members, parts of a list, and numbers in order.
 use Rattle.std.proofs.Common.{◌≡◌, ℕ, ◌+◌, ◌≤◌, ◌<◌, Bool, true, false, List, [], ◌∷◌, ◌++◌, refl, sym, ◌∙◌, ap, subst, inl, inr, arith}
-use Rattle.std.specs.Prelude.{◌⊎◌, Option, Some, None, is_some, cond, not, ◌==◌, filter, find, map}
+use Rattle.std.specs.Prelude.{◌⊎◌, Option, Some, None, IsSome, option_map, cond, not, ◌==◌, filter, find, map}
+use Rattle.std.specs.Option.{option_or}
+use Rattle.std.proofs.lemmas.List.Folds.{find-append}
 use Rattle.std.specs.List.{All, AllByRecursion, sum_by, count_by}
 use Rattle.std.proofs.lemmas.Bool.Decides.{nat_tests}
 use Rattle.std.proofs.lemmas.List.Elements.{All-from_recursion, recursion_from_All}
@@ -126,3 +128,54 @@ module _ {A : Type 0} (num : A → ℕ) where
 pub map_twice : {A B C : Type 0} (f : B → C) (g : A → B) (xs : List A) → map f (map g xs) ≡ map (λ x. f (g x)) xs
 map_twice f g [] = refl
 map_twice f g (x ∷ xs) = ap (λ ys. f (g x) ∷ ys) (map_twice f g xs)
+
+pub part_of_part : {A : Type 0} (xs ys zs : List A) → IsPart xs ys → IsPart ys zs → IsPart xs zs
+part_of_part {A} [] ys zs p q = subst (λ (l : List A). IsPart l zs) p q
+part_of_part {A} (x ∷ xs) ys zs (inl p) q = inl (part_of_part xs ys zs p q)
+part_of_part {A} (x ∷ xs) ys zs (inr (ws, e, p)) q =
+    elim (subst (λ (l : List A). IsPart l zs) e q) [
+      | inl h ↦ inl (part_of_part xs ws zs p h)
+      | inr h ↦ inr (h.0, h.1, part_of_part xs ws (h.0) p (h.2))
+    ]
+
+pub sum_by_agree : {A : Type 0} (f g : A → ℕ) (xs : List A) → ((x : A) → IsIn x xs → f x ≡ g x) → sum_by f xs ≡ sum_by g xs
+sum_by_agree f g [] e = refl
+sum_by_agree f g (x ∷ xs) e =
+    sum_by-cons f x xs ∙ (λ i. e x (inl refl) i + sum_by_agree f g xs (λ y m. e y (inr m)) i) ∙ sym (sum_by-cons g x xs)
+
+pub sum_by_map : {A B : Type 0} (g : A → B) (f : B → ℕ) (xs : List A) → sum_by f (map g xs) ≡ sum_by (λ x. f (g x)) xs
+sum_by_map g f [] = refl
+sum_by_map g f (x ∷ xs) = sum_by-cons f (g x) (map g xs) ∙ ap (λ n. f (g x) + n) (sum_by_map g f xs) ∙ sym (sum_by-cons (λ y. f (g y)) x xs)
+
+pub sum_of_zeros : {A : Type 0} (f : A → ℕ) (xs : List A) → ((x : A) → IsIn x xs → f x ≡ 0) → sum_by f xs ≡ 0
+sum_of_zeros f [] e = refl
+sum_of_zeros f (x ∷ xs) e = sum_by-cons f x xs ∙ omega (arith, e x (inl refl), sum_of_zeros f xs (λ y m. e y (inr m)))
+
+-- looking a number up after a change that keeps numbers, and where others go
+module _ {A : Type 0} (num : A → ℕ) where
+  mapped_find : (f : A → A) (b : Bool) (x : A) (o p : Option A) → p ≡ option_map f o → cond b (Some (f x)) p ≡ option_map f (cond b (Some x) o)
+  mapped_find f true x o p e = refl
+  mapped_find f false x o p e = e
+
+  pub find_changed : (f : A → A) → ((x : A) → num (f x) ≡ num x) → (n : ℕ) (xs : List A) → find (λ y. num y == n) (map f xs) ≡ option_map f (find (λ y. num y == n) xs)
+  find_changed f same n [] = refl
+  find_changed f same n (x ∷ xs) =
+      (λ i. cond (same x i == n) (Some (f x)) (find (λ y. num y == n) (map f xs)))
+      ∙ mapped_find f (num x == n) x (find (λ y. num y == n) xs) (find (λ y. num y == n) (map f xs)) (find_changed f same n xs)
+
+  pub find_others : (m n : ℕ) → m == n ≡ false → (xs : List A) → find (λ y. num y == n) (filter (λ y. not (num y == m)) xs) ≡ find (λ y. num y == n) xs
+  find_others m n e [] = refl
+  find_others m n e (x ∷ xs) = by (num x == m) refl (find_others m n e xs)
+    where
+      by : (c : Bool) → num x == m ≡ c → find (λ y. num y == n) (filter (λ y. not (num y == m)) xs) ≡ find (λ y. num y == n) xs →
+          find (λ y. num y == n) (cond (not c) (x ∷ filter (λ y. not (num y == m)) xs) (filter (λ y. not (num y == m)) xs)) ≡ cond (num x == n) (Some x) (find (λ y. num y == n) xs)
+      by true c r = let other : num x == n ≡ false = grind (arith, nat_tests, c, e) in r ∙ sym (ap (λ b. cond b (Some x) (find (λ y. num y == n) xs)) other)
+      by false c r = ap (λ o. cond (num x == n) (Some x) o) r
+
+  -- one that is there stays found where one more comes
+  kept_found : (o p : Option A) → IsSome o → option_or o p ≡ o
+  kept_found None p h = absurd (cc h)
+  kept_found (Some x) p h = refl
+
+  pub find_with_more : (n : ℕ) (xs ys : List A) → IsSome (find (λ y. num y == n) xs) → find (λ y. num y == n) (xs ++ ys) ≡ find (λ y. num y == n) xs
+  find_with_more n xs ys h = find-append (λ y. num y == n) xs ys ∙ kept_found (find (λ y. num y == n) xs) (find (λ y. num y == n) ys) h

@@ -58,10 +58,10 @@ module _ {K : ℕ} where
     goes : AppGoes old new → AppsMove old new
     comes : AppComes old new → AppsMove old new
 
-  no_change : (old new : Flat K) → new.apps.active ≡ old.apps.active → new.apps.next ≡ old.apps.next → AppsChange old new
+  pub no_change : (old new : Flat K) → new.apps.active ≡ old.apps.active → new.apps.next ≡ old.apps.next → AppsChange old new
   no_change old new e n = record { change = λ a. a; keeps = record { number = λ a. refl; leaf = λ a. refl; user = λ a. refl }; active = e ∙ sym (map-id old.apps.active); next = n }
 
-  one_change : (m : ℕ) (f : App → App) → KeepsApp f → (old : Flat K) → AppsChange old (with_app m f old)
+  pub one_change : (m : ℕ) (f : App → App) → KeepsApp f → (old : Flat K) → AppsChange old (with_app m f old)
   one_change m f k old = record { change = λ app. if app.number == m then f app else app; keeps = only_app m f k; active = refl; next = refl }
 
   two_changes : (a b c : Flat K) → AppsChange a b → AppsChange b c → AppsChange a c
@@ -76,7 +76,7 @@ module _ {K : ℕ} where
     next = q.next ∙ p.next;
   }
 
-  asks_change : (n : ℕ) (asks : List Ask) (old : Flat K) → AppsChange old (after_asks n asks old)
+  pub asks_change : (n : ℕ) (asks : List Ask) (old : Flat K) → AppsChange old (after_asks n asks old)
   asks_change n [] old = no_change old old refl refl
   asks_change n (ask ∷ asks) old =
       two_changes old (after_ask n old (rounded K old.settings ask)) (after_asks n asks (after_ask n old (rounded K old.settings ask)))
@@ -88,10 +88,10 @@ module _ {K : ℕ} where
       })
       (asks_change n asks (after_ask n old (rounded K old.settings ask)))
 
-  ends_change : (cause : Cause) (gone : List Container) (old new : Flat K) → new.apps.active ≡ map (with_ends cause gone) old.apps.active → new.apps.next ≡ old.apps.next → AppsChange old new
+  pub ends_change : (cause : Cause) (gone : List Container) (old new : Flat K) → new.apps.active ≡ map (with_ends cause gone) old.apps.active → new.apps.next ≡ old.apps.next → AppsChange old new
   ends_change cause gone old new e n = record { change = with_ends cause gone; keeps = record { number = λ a. refl; leaf = λ a. refl; user = λ a. refl }; active = e; next = n }
 
-  allocate_change : (old : Flat K) (n id : ℕ) (asks : List Ask) (releases : List ℕ) → AppsChange old (after_processed_allocate old n id asks releases)
+  pub allocate_change : (old : Flat K) (n id : ℕ) (asks : List Ask) (releases : List ℕ) → AppsChange old (after_processed_allocate old n id asks releases)
   allocate_change old n id asks releases =
       let w = after_wishes old n asks releases in
       let x = after_asks n asks old in

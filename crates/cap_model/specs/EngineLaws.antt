@@ -13,7 +13,7 @@ use Rattle.cap_model.specs.Candidates.{choice_on, choice_from}
 use Rattle.std.specs.declared.cmp.Ordering.TheVariants.{Equal}
 use Rattle.cap_model.specs.Ending.{is_among}
 use Rattle.cap_model.specs.Events.{ClusterEvent, Step, Run, after_event, ever_granted, ever_ended, news_of}
-use Rattle.cap_model.specs.Bounds.{IsRising, IsSumOfChildren}
+use Rattle.cap_model.specs.Bounds.{IsRising, IsSumOfChildren, IsWellFormed, IsBounded}
 
 -- a proposal has no reason to be rejected exactly where it is admissible
 abbrev pub RejectedExactly : Type 0
@@ -160,3 +160,7 @@ new_ends old n _ = []
 abbrev pub EndsAreToldInOrder : Type 0
 EndsAreToldInOrder =
     (K : ℕ) (old new : Flat K) (n : ℕ) (event : ClusterEvent) → Step old event new → IsSome (app_at new n) → told_ends old n event ++ untold_ends new n ≡ untold_ends old n ++ new_ends old n event
+
+-- a step from a bounded cluster leaves a well-formed one
+abbrev pub StepStaysWellFormed : Type 0
+StepStaysWellFormed = (K : ℕ) (old new : Flat K) (event : ClusterEvent) → IsWellFormed old → Step old event new → IsWellFormed new
