@@ -1,3 +1,5 @@
+pub mod CallBounds
+pub mod Measures
 pub mod Lessening
 pub mod ToldRuns
 pub mod Moves

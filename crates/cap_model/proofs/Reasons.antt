@@ -29,15 +29,15 @@ pub holds_none : {A : Type 0} (ts : List (Bool × A)) → NoneHolds ts → earli
 holds_none [] h = refl
 holds_none (t ∷ ts) h = none_first t.0 t.1 (earliest ts) h.0 (holds_none ts h.1)
 
-or_left : (a b : Bool) → a || b ≡ false → a ≡ false
+pub or_left : (a b : Bool) → a || b ≡ false → a ≡ false
 or_left true b h = absurd (cc h)
 or_left false b h = refl
 
-or_right : (a b : Bool) → a || b ≡ false → b ≡ false
+pub or_right : (a b : Bool) → a || b ≡ false → b ≡ false
 or_right true b h = absurd (cc h)
 or_right false b h = h
 
-or_both : (a b : Bool) → a ≡ false → b ≡ false → a || b ≡ false
+pub or_both : (a b : Bool) → a ≡ false → b ≡ false → a || b ≡ false
 or_both true b h g = absurd (cc h)
 or_both false b h g = g
 
