@@ -1,3 +1,4 @@
+pub mod Proposers
 pub mod CallBounds
 pub mod Measures
 pub mod Lessening
