@@ -30,7 +30,7 @@ none_in t [] x h m = absurd m
 none_in t (y ∷ xs) x h (inl e) = ap t (sym e) ∙ or_left (t y) (list_any t xs) h
 none_in t (y ∷ xs) x h (inr m) = none_in t xs x (or_right (t y) (list_any t xs) h) m
 
-true_or_false : (b : Bool) → (b ≡ true) ⊎ (b ≡ false)
+pub true_or_false : (b : Bool) → (b ≡ true) ⊎ (b ≡ false)
 true_or_false true = inl refl
 true_or_false false = inr refl
 
