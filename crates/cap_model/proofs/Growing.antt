@@ -12,6 +12,7 @@ use Rattle.cap_vector.proofs.AmountLemmas.{amount-plus, amount-less}
 use Rattle.cap_model.specs.Settings.{QueueRow}
 use Rattle.cap_model.specs.Cascade.{holds_of}
 use Rattle.cap_model.specs.Amounts.{fits, times}
+use Rattle.cap_model.specs.Calls.{same_key}
 use Rattle.cap_model.specs.Flat.{Flat, App, ClusterNode, Container, Reservation, app_at, node_at, is_under, is_for}
 use Rattle.cap_model.specs.Uses.{use_of, queue_use, user_use, node_held, node_free}
 use Rattle.cap_model.specs.Sight.{sight_of, app_sight, node_sight, queue_sight, seen_app, seen_node, seen_queue, QueueSight, NodeSight}
@@ -26,7 +27,7 @@ use Rattle.cap_model.proofs.Measures.{fits_amounts, amounts_fit, counts, same_co
 use Rattle.cap_model.proofs.Proposers.{IsSeen, seen_is, IsSeenNode, node_seen, IsReplaced, replaced_is, maximum_stays, leaf_seen, true_or_false}
 
 -- a term is at most a sum that has it
-in_sum : {A : Type 0} (f : A → ℕ) (xs : List A) (x : A) → IsIn x xs → f x ≤ sum_by f xs
+pub in_sum : {A : Type 0} (f : A → ℕ) (xs : List A) (x : A) → IsIn x xs → f x ≤ sum_by f xs
 in_sum f [] x m = absurd m
 in_sum f (y ∷ xs) x (inl e) = let s : f y ≡ f x = ap f e in omega (arith, s, sum_by-cons f y xs)
 in_sum f (y ∷ xs) x (inr m) = omega (arith, in_sum f xs x m, sum_by-cons f y xs)
@@ -146,11 +147,13 @@ module _ {K : ℕ} (old : Flat K) where
       by (IsReplaced.nothing e) =
           let none : counted old test k c.app (replaced (sight_of old) (grant_proposal c)) ≡ 0 = ap (counted old test k c.app) e ∙ counted_nothing test k c.app in
           omega (arith, parts, none)
-      by (IsReplaced.reservation r m node for e) =
+      by (IsReplaced.reservation g e) =
+          let r = g.reservation in
+          let node = g.node in
           let at : r.node == c.node ≡ true = grind (arith, nat_tests, node) in
-          let app : r.app ≡ c.app = (let t = (and_both (r.app == c.app) (Rattle.cap_model.specs.Calls.same_key r.key c.key) for).0 in grind (arith, nat_tests, t)) in
+          let app : r.app ≡ c.app = (let t = (and_both (r.app == c.app) (same_key r.key c.key) g.for).0 in grind (arith, nat_tests, t)) in
           let this : counted old test k c.app (replaced (sight_of old) (grant_proposal c)) ≡ weight r = λ i. counted old test k (sym app i) (e i) in
-          let some = in_sum weight (filter here old.nodes.reserved) r (in_filter here old.nodes.reserved r m at) in
+          let some = in_sum weight (filter here old.nodes.reserved) r (in_filter here old.nodes.reserved r g.among at) in
           omega (arith, parts, this, some)
 
   pub grant_grows : (c : Container) → IsGrown old (after_grant old c) (grant_proposal c)

@@ -28,7 +28,7 @@ abbrev pub capacity : Option ClusterNode → Option (List ℕ)
 capacity o = option_map (λ node. node.total) o
 
 -- what stays of reservations where only the first of some are kept
-part_keep_first : {A : Type 0} (t : A → Bool) (n : ℕ) (xs : List A) → IsPart xs (keep_first t n xs)
+pub part_keep_first : {A : Type 0} (t : A → Bool) (n : ℕ) (xs : List A) → IsPart xs (keep_first t n xs)
 part_keep_first t n [] = refl
 part_keep_first {A} t n (x ∷ xs) = by (t x && n == 0) (part_keep_first t (if t x then n - 1 else n) xs)
   where

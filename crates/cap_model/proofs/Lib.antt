@@ -1,3 +1,4 @@
+pub mod Reserving
 pub mod KeptAsks
 pub mod Growing
 pub mod Proposers

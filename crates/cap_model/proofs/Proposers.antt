@@ -99,32 +99,46 @@ module _ {K : ℕ} (old : Flat K) where
           let f = found (λ (y : ClusterNode). y.number == n) old.nodes.present x a in
           record { node = x; present = f.0; number = (let t = f.1 in grind (arith, nat_tests, t)); at = a; seen = e }
 
+  -- the reservation on a proposal's node, for its application and key
+  pub record IsHeldFor (p : NodeProposal) : Type 0 where
+    pub reservation : Reservation
+    pub among : IsIn reservation old.nodes.reserved
+    pub node : reservation.node ≡ p.node
+    pub for : is_for p.app p.key reservation ≡ true
+    pub held : node_reservation (sight_of old) p ≡ Some reservation
+
+  on_node : (o : Option NodeSight) (r : Reservation) → option_and_then (λ node. node.reservation) o ≡ Some r → IsSome o
+  on_node None r g = absurd (cc g)
+  on_node (Some s) r g = refl
+
+  pub held_for : (p : NodeProposal) → is_reserved_for (sight_of old) p ≡ true → IsHeldFor p
+  held_for p h = by (node_reservation (sight_of old) p) refl h
+    where
+      by : (o : Option Reservation) → node_reservation (sight_of old) p ≡ o → holds_of (is_for p.app p.key) o ≡ true → IsHeldFor p
+      by None e g = absurd (cc g)
+      by (Some r) e g =
+          let s = node_seen p.node (on_node (seen_node (sight_of old) p.node) r e) in
+          let here : reservation_on old s.node.number ≡ Some r = ap (λ o. option_and_then (λ (node : NodeSight). node.reservation) o) (sym s.seen) ∙ e in
+          let f = found (λ (x : Reservation). x.node == s.node.number) old.nodes.reserved r here in
+          let at : r.node ≡ s.node.number = (let t = f.1 in grind (arith, nat_tests, t)) in
+          record { reservation = r; among = f.0; node = at ∙ s.number; for = g; held = e }
+
   -- what a proposal takes back: nothing, or the reservation on its node, for its application
   pub data IsReplaced (p : NodeProposal) : Type 0 where
     nothing : replaced (sight_of old) p ≡ [] → IsReplaced p
-    reservation : (r : Reservation) → IsIn r old.nodes.reserved → r.node ≡ p.node → is_for p.app p.key r ≡ true → replaced (sight_of old) p ≡ r.resource → IsReplaced p
+    reservation : (h : IsHeldFor p) → replaced (sight_of old) p ≡ h.reservation.resource → IsReplaced p
 
   pub replaced_is : (p : NodeProposal) → IsReplaced p
   replaced_is p = by (is_grant p.kind) (is_reserved_for (sight_of old) p) refl refl
     where
-      held : (o : Option Reservation) → node_reservation (sight_of old) p ≡ o → holds_of (is_for p.app p.key) o ≡ true → replaced (sight_of old) p ≡ unwrap_or (option_map (λ r. r.resource) o) [] → IsReplaced p
-      held None e h w = absurd (cc h)
-      held (Some r) e h w = on (node_seen p.node)
-        where
-          on_node : (o : Option NodeSight) → option_and_then (λ node. node.reservation) o ≡ Some r → IsSome o
-          on_node None g = absurd (cc g)
-          on_node (Some s) g = refl
-          on : (IsSome (seen_node (sight_of old) p.node) → IsSeenNode p.node) → IsReplaced p
-          on f =
-              let s = f (on_node (seen_node (sight_of old) p.node) e) in
-              let here : reservation_on old s.node.number ≡ Some r = ap (λ o. option_and_then (λ (node : NodeSight). node.reservation) o) (sym s.seen) ∙ e in
-              let g = found (λ (x : Reservation). x.node == s.node.number) old.nodes.reserved r here in
-              IsReplaced.reservation r (g.0) ((let t = g.1 in let n : r.node ≡ s.node.number = grind (arith, nat_tests, t) in n) ∙ s.number) h w
+      back : List ℕ
+      back = unwrap_or (option_map (λ (r : Reservation). r.resource) (node_reservation (sight_of old) p)) []
       by : (g i : Bool) → is_grant p.kind ≡ g → is_reserved_for (sight_of old) p ≡ i → IsReplaced p
       by true true e f =
-          held (node_reservation (sight_of old) p) refl f (λ j. cond (e j && f j) (unwrap_or (option_map (λ (r : Reservation). r.resource) (node_reservation (sight_of old) p)) []) [])
-      by true false e f = IsReplaced.nothing (λ j. cond (e j && f j) (unwrap_or (option_map (λ (r : Reservation). r.resource) (node_reservation (sight_of old) p)) []) [])
-      by false i e f = IsReplaced.nothing (λ j. cond (e j && is_reserved_for (sight_of old) p) (unwrap_or (option_map (λ (r : Reservation). r.resource) (node_reservation (sight_of old) p)) []) [])
+          let h = held_for p f in
+          IsReplaced.reservation h ((λ j. cond (e j && f j) back []) ∙ ap (λ o. unwrap_or (option_map (λ (r : Reservation). r.resource) o) []) h.held)
+      by true false e f = IsReplaced.nothing (λ j. cond (e j && f j) back [])
+      by false i e f = IsReplaced.nothing (λ j. cond (e j && is_reserved_for (sight_of old) p) back [])
 
   -- a queue from the root down to the proposal's leaf stays within its maximum
   pub maximum_stays : (p : NodeProposal) (app : App) → leaf_path (sight_of old) p ≡ app.leaf → stays_in_maxima (sight_of old) p ≡ true → (q : QueueRow) → IsIn q old.settings.queues → is_under q.path app.leaf ≡ true →
