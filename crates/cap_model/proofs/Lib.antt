@@ -1,3 +1,4 @@
+pub mod Wanting
 pub mod Reserving
 pub mod KeptAsks
 pub mod Growing

@@ -87,7 +87,7 @@ same_capacity resource (Some x) None e = absurd (cc e)
 same_capacity resource (Some x) (Some y) e = ap (λ o. fits resource (Rattle.std.specs.Prelude.unwrap_or o [])) e
 
 
-same_key_other : (a b : Key) → same_key a b ≡ false → same_key b a ≡ false
+pub same_key_other : (a b : Key) → same_key a b ≡ false → same_key b a ≡ false
 same_key_other a b e = by (true_or_false (same_key b a))
   where
     by : ((same_key b a ≡ true) ⊎ (same_key b a ≡ false)) → same_key b a ≡ false
