@@ -9,7 +9,7 @@ use Rattle.cap_model.specs.Calls.{Ask, Cause, CallRequest, CallReply, CallRefusa
 use Rattle.cap_model.specs.Flat.{Flat, App, Container, app_at, with_app}
 use Rattle.cap_model.specs.Asking.{after_asks, after_ask, rounded, put_ask}
 use Rattle.cap_model.specs.Ending.{with_ends}
-use Rattle.cap_model.specs.Submit.{new_app}
+use Rattle.cap_model.specs.Submit.{new_app, submit_refusal}
 use Rattle.cap_model.specs.Allocate.{after_telling, after_wishes, after_processed_allocate, is_repeated_allocate, released_by}
 use Rattle.cap_model.specs.Heartbeat.{after_processed_heartbeat, is_repeated_heartbeat, ended_by, containers_on}
 use Rattle.cap_model.specs.Replies.{refused_or, refusal_of, granted_cluster, Replies}
@@ -49,6 +49,7 @@ module _ {K : ℕ} where
   pub record AppComes (old new : Flat K) : Type 0 where
     pub app : App
     pub number : app.number ≡ old.apps.next
+    pub unrefused : submit_refusal old app.leaf ≡ None
     pub active : new.apps.active ≡ old.apps.active ++ app ∷ []
     pub next : new.apps.next ≡ old.apps.next + 1
 
@@ -103,27 +104,27 @@ module _ {K : ℕ} where
   either true old new t = no_change old old refl refl
   either false old new t = t
 
-  call_moves : (old : Flat K) (request : CallRequest) → AppsMove old (granted_cluster old request)
-  call_moves old (CallRequest.submit path user) = AppsMove.comes (record { app = new_app old path user; number = refl; active = refl; next = refl })
-  call_moves old (CallRequest.register_master app) = AppsMove.change (one_change app (λ a. record a { registered = true }) (record { number = λ a. refl; leaf = λ a. refl; user = λ a. refl }) old)
-  call_moves old (CallRequest.allocate app id asks releases) =
+  pub call_moves : (old : Flat K) (request : CallRequest) → refusal_of old request ≡ None → AppsMove old (granted_cluster old request)
+  call_moves old (CallRequest.submit path user) o = AppsMove.comes (record { app = new_app old path user; number = refl; unrefused = o; active = refl; next = refl })
+  call_moves old (CallRequest.register_master app) o = AppsMove.change (one_change app (λ a. record a { registered = true }) (record { number = λ a. refl; leaf = λ a. refl; user = λ a. refl }) old)
+  call_moves old (CallRequest.allocate app id asks releases) o =
       AppsMove.change (either (is_repeated_allocate old app id) old (after_processed_allocate old app id asks releases) (allocate_change old app id asks releases))
-  call_moves old (CallRequest.finish_master app) = AppsMove.goes (record { number = app; active = refl; next = refl })
-  call_moves old (CallRequest.register_node host rack total) = AppsMove.change (no_change old (granted_cluster old (CallRequest.register_node host rack total)) refl refl)
-  call_moves old (CallRequest.heartbeat node id ended) =
+  call_moves old (CallRequest.finish_master app) o = AppsMove.goes (record { number = app; active = refl; next = refl })
+  call_moves old (CallRequest.register_node host rack total) o = AppsMove.change (no_change old (granted_cluster old (CallRequest.register_node host rack total)) refl refl)
+  call_moves old (CallRequest.heartbeat node id ended) o =
       AppsMove.change (either (is_repeated_heartbeat old node id) old (after_processed_heartbeat old node id ended)
       (ends_change Cause.ended_on_node (ended_by old node ended) old (after_processed_heartbeat old node id ended) refl refl))
-  call_moves old (CallRequest.node_gone node) = AppsMove.change (ends_change Cause.node_lost (containers_on old node) old (granted_cluster old (CallRequest.node_gone node)) refl refl)
-  call_moves old (CallRequest.queue_info path) = AppsMove.change (no_change old old refl refl)
-  call_moves old (CallRequest.set_queue_state path running) = AppsMove.change (no_change old (granted_cluster old (CallRequest.set_queue_state path running)) refl refl)
-  call_moves old CallRequest.cluster_info = AppsMove.change (no_change old old refl refl)
+  call_moves old (CallRequest.node_gone node) o = AppsMove.change (ends_change Cause.node_lost (containers_on old node) old (granted_cluster old (CallRequest.node_gone node)) refl refl)
+  call_moves old (CallRequest.queue_info path) o = AppsMove.change (no_change old old refl refl)
+  call_moves old (CallRequest.set_queue_state path running) o = AppsMove.change (no_change old (granted_cluster old (CallRequest.set_queue_state path running)) refl refl)
+  call_moves old CallRequest.cluster_info o = AppsMove.change (no_change old old refl refl)
 
-  unless_refused : (o : Option CallRefusal) (old new : Flat K) → AppsMove old new → AppsMove old (refused_or o (λ refusal. old) new)
-  unless_refused None old new t = t
-  unless_refused (Some refusal) old new t = AppsMove.change (no_change old old refl refl)
+  unless_refused : (o : Option CallRefusal) (old : Flat K) (request : CallRequest) → refusal_of old request ≡ o → AppsMove old (refused_or o (λ refusal. old) (granted_cluster old request))
+  unless_refused None old request e = call_moves old request e
+  unless_refused (Some refusal) old request e = AppsMove.change (no_change old old refl refl)
 
   reply_moves : (old new : Flat K) (request : CallRequest) (reply : CallReply) → Replies old request reply new → AppsMove old new
-  reply_moves old new request reply (inl r) = subst (λ c. AppsMove old c) (sym (r.1)) (unless_refused (refusal_of old request) old (granted_cluster old request) (call_moves old request))
+  reply_moves old new request reply (inl r) = subst (λ c. AppsMove old c) (sym (r.1)) (unless_refused (refusal_of old request) old request refl)
   reply_moves old new request reply (inr r) = subst (λ c. AppsMove old c) (sym (r.1)) (AppsMove.change (no_change old old refl refl))
 
   -- an allocate and a grant change applications, and let none go or come
