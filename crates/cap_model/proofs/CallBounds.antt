@@ -16,7 +16,7 @@ use Rattle.cap_model.proofs.Members.{IsPart, part_filter, part_in, part_sum, eac
 use Rattle.cap_model.proofs.Lessening.{IsLessened, IsSite, IsOldNode, HasPlaces, standing, capacity, site_before}
 use Rattle.cap_model.proofs.Measures.{fits_amounts, amounts_fit, counts, same_counts, counted, live_part, reserved_part, use_amount, use_past, held_amount, held_past}
 
-some_kept : {A B : Type 0} (f : A → B) (o p : Option A) → option_map f o ≡ option_map f p → IsSome p → IsSome o
+pub some_kept : {A B : Type 0} (f : A → B) (o p : Option A) → option_map f o ≡ option_map f p → IsSome p → IsSome o
 some_kept f None None e h = h
 some_kept f None (Some x) e h = absurd (cc e)
 some_kept f (Some x) p e h = refl

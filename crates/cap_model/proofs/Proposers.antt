@@ -50,7 +50,7 @@ found_by_path (r ∷ qs) q d (inr m) = by (true_or_false (bytes_eq r.path q.path
         absurd (cc (twice, no))
     by (inr e) f = ap (λ b. cond b (Some r) (find (λ x. bytes_eq x.path q.path) qs)) e ∙ f
 
-find_mapped_at : {A B : Type 0} (g : A → B) (t : B → Bool) (xs : List A) → find t (map g xs) ≡ option_map g (find (λ x. t (g x)) xs)
+pub find_mapped_at : {A B : Type 0} (g : A → B) (t : B → Bool) (xs : List A) → find t (map g xs) ≡ option_map g (find (λ x. t (g x)) xs)
 find_mapped_at g t [] = refl
 find_mapped_at g t (x ∷ xs) = by (t (g x)) (find_mapped_at g t xs)
   where

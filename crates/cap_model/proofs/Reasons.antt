@@ -41,10 +41,10 @@ pub or_both : (a b : Bool) → a ≡ false → b ≡ false → a || b ≡ false
 or_both true b h g = absurd (cc h)
 or_both false b h g = g
 
-true_of_none : {A : Type 0} (o : Option A) → is_none o ≡ false → is_some o ≡ true
+pub true_of_none : {A : Type 0} (o : Option A) → is_none o ≡ false → is_some o ≡ true
 true_of_none o h = not-false (is_some o) h
 
-none_of_true : (b : Bool) → b ≡ true → not b ≡ false
+pub none_of_true : (b : Bool) → b ≡ true → not b ≡ false
 none_of_true true h = refl
 none_of_true false h = absurd (cc h)
 
