@@ -141,7 +141,7 @@ module _ {K : ℕ} where
       only_apps old (after_processed_allocate old n id asks releases) (allocate_change old n id asks releases) (processed_allocate_thins old n id asks releases) a.reserved a.present
 
   -- where an application goes, nothing of it stays
-  gone_app : (old : Flat K) (m app node : ℕ) → IsSite (granted_cluster old (CallRequest.finish_master m)) app node → m == app ≡ false
+  pub gone_app : (old : Flat K) (m app node : ℕ) → IsSite (granted_cluster old (CallRequest.finish_master m)) app node → m == app ≡ false
   gone_app old m app node (inl (c, g, a, e)) = let other : c.app == m ≡ false = not_among (λ (d : Container). d.app == m) old.nodes.live c g in grind (arith, nat_tests, other, a)
   gone_app old m app node (inr (r, g, a, e)) =
       let other : r.app == m ≡ false = not_true (r.app == m) (of_filter (λ (x : Reservation). not (x.app == m)) old.nodes.reserved r g).0 in grind (arith, nat_tests, other, a)

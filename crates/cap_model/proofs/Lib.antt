@@ -1,3 +1,4 @@
+pub mod StepBounds
 pub mod Formed
 pub mod ReservedAfter
 pub mod Wanting

@@ -1,6 +1,7 @@
 -- Laws of the definitions.
 use Rattle.std.specs.Prelude.{◌≡◌, ◌↔◌, ℕ, ◌+◌, ◌≤◌, Bool, List, Some, None, [], ◌∷◌, ◌++◌, map, filter, count_by, IsSome, not, ◌==◌, ◌&&◌, if◌then◌else◌}
 use Rattle.std.specs.Option.{option_map_or}
+use Rattle.std.specs.List.{All}
 use Rattle.cap_model.specs.Calls.{Cause, GrantedContainer, EndedContainer, CallRequest, CallReply}
 use Rattle.cap_model.specs.Allocate.{is_repeated_allocate, released_by}
 use Rattle.cap_model.specs.Heartbeat.{is_repeated_heartbeat, ended_by, containers_on}
@@ -13,7 +14,7 @@ use Rattle.cap_model.specs.Candidates.{choice_on, choice_from}
 use Rattle.std.specs.declared.cmp.Ordering.TheVariants.{Equal}
 use Rattle.cap_model.specs.Ending.{is_among}
 use Rattle.cap_model.specs.Events.{ClusterEvent, Step, Run, after_event, ever_granted, ever_ended, news_of}
-use Rattle.cap_model.specs.Bounds.{IsRising, IsSumOfChildren, IsWellFormed, IsBounded}
+use Rattle.cap_model.specs.Bounds.{IsRising, AreApart, IsQueueBounded, IsNodeBounded, IsReservationBounded, IsSumOfChildren, IsWellFormed, IsBounded}
 
 -- a proposal has no reason to be rejected exactly where it is admissible
 abbrev pub RejectedExactly : Type 0
@@ -161,6 +162,22 @@ abbrev pub EndsAreToldInOrder : Type 0
 EndsAreToldInOrder =
     (K : ℕ) (old new : Flat K) (n : ℕ) (event : ClusterEvent) → Step old event new → IsSome (app_at new n) → told_ends old n event ++ untold_ends new n ≡ untold_ends old n ++ new_ends old n event
 
--- a step from a bounded cluster leaves a well-formed one
+-- a step from a well-formed cluster leaves a well-formed one
 abbrev pub StepStaysWellFormed : Type 0
 StepStaysWellFormed = (K : ℕ) (old new : Flat K) (event : ClusterEvent) → IsWellFormed old → Step old event new → IsWellFormed new
+
+-- a step from a bounded cluster keeps each queue within its maximum and each user within the user limit
+abbrev pub QueuesStayBounded : Type 0
+QueuesStayBounded = (K : ℕ) (old new : Flat K) (event : ClusterEvent) → IsBounded old → Step old event new → All (IsQueueBounded new) new.settings.queues
+
+-- it keeps what runs on each node within the node's total
+abbrev pub NodesStayBounded : Type 0
+NodesStayBounded = (K : ℕ) (old new : Flat K) (event : ClusterEvent) → IsBounded old → Step old event new → All (IsNodeBounded new) new.nodes.present
+
+-- it keeps reservations on different nodes
+abbrev pub ReservationsStayApart : Type 0
+ReservationsStayApart = (K : ℕ) (old new : Flat K) (event : ClusterEvent) → IsBounded old → Step old event new → AreApart new.nodes.reserved
+
+-- it keeps each reservation on a node that it fits, and for an ask that counts at least as many as room is reserved for
+abbrev pub ReservationsStayBounded : Type 0
+ReservationsStayBounded = (K : ℕ) (old new : Flat K) (event : ClusterEvent) → IsBounded old → Step old event new → All (IsReservationBounded new) new.nodes.reserved
