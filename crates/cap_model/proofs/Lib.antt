@@ -1,3 +1,5 @@
+pub mod TreeSums
+pub mod Paths
 pub mod StepBounds
 pub mod Formed
 pub mod ReservedAfter

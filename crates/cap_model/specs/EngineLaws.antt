@@ -1,5 +1,5 @@
 -- Laws of the definitions.
-use Rattle.std.specs.Prelude.{◌≡◌, ◌↔◌, ℕ, ◌+◌, ◌≤◌, Bool, List, Some, None, [], ◌∷◌, ◌++◌, map, filter, count_by, IsSome, not, ◌==◌, ◌&&◌, if◌then◌else◌}
+use Rattle.std.specs.Prelude.{◌≡◌, ◌↔◌, ◌⊎◌, ℕ, ◌+◌, ◌≤◌, Bool, true, List, Some, None, [], ◌∷◌, ◌++◌, map, filter, count_by, IsSome, not, ◌==◌, ◌&&◌, if◌then◌else◌}
 use Rattle.std.specs.Option.{option_map_or}
 use Rattle.std.specs.List.{All}
 use Rattle.cap_model.specs.Calls.{Cause, GrantedContainer, EndedContainer, CallRequest, CallReply}
@@ -181,3 +181,11 @@ ReservationsStayApart = (K : ℕ) (old new : Flat K) (event : ClusterEvent) → 
 -- it keeps each reservation on a node that it fits, and for an ask that counts at least as many as room is reserved for
 abbrev pub ReservationsStayBounded : Type 0
 ReservationsStayBounded = (K : ℕ) (old new : Flat K) (event : ClusterEvent) → IsBounded old → Step old event new → All (IsReservationBounded new) new.nodes.reserved
+
+-- a queue is in or under another exactly where it has the other's path or a path that begins with it and a dot
+abbrev pub UnderByPath : Type 0
+UnderByPath = (path queue : List ℕ) → (is_under path queue ≡ true) ↔ ((queue ≡ path) ⊎ ((rest : List ℕ) × (queue ≡ path ++ 46 ∷ rest)))
+
+-- in a well-formed cluster each parent queue uses what its children use together
+abbrev pub TreesAddUp : Type 0
+TreesAddUp = (K : ℕ) (cluster : Flat K) → IsWellFormed cluster → All (IsSumOfChildren cluster) cluster.settings.queues
