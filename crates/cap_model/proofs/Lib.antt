@@ -1,3 +1,4 @@
+pub mod BoundedRuns
 pub mod TreeSums
 pub mod Paths
 pub mod StepBounds

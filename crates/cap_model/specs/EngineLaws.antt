@@ -5,8 +5,8 @@ use Rattle.std.specs.List.{All}
 use Rattle.cap_model.specs.Calls.{Cause, GrantedContainer, EndedContainer, CallRequest, CallReply}
 use Rattle.cap_model.specs.Allocate.{is_repeated_allocate, released_by}
 use Rattle.cap_model.specs.Heartbeat.{is_repeated_heartbeat, ended_by, containers_on}
-use Rattle.cap_model.specs.Flat.{Flat, App, Container, app_at, is_under, is_child_of}
-use Rattle.cap_model.specs.Settings.{QueueRow}
+use Rattle.cap_model.specs.Flat.{Flat, App, Container, opened, app_at, is_under, is_child_of}
+use Rattle.cap_model.specs.Settings.{Settings, QueueRow}
 use Rattle.cap_model.specs.Sight.{Sight}
 use Rattle.cap_model.specs.Admission.{NodeProposal, IsAdmissible, reason_of}
 use Rattle.cap_model.specs.Choice.{rank_cmp, rank_of, IsNodeChoice, IsChoiceFrom}
@@ -14,7 +14,7 @@ use Rattle.cap_model.specs.Candidates.{choice_on, choice_from}
 use Rattle.std.specs.declared.cmp.Ordering.TheVariants.{Equal}
 use Rattle.cap_model.specs.Ending.{is_among}
 use Rattle.cap_model.specs.Events.{ClusterEvent, Step, Run, after_event, ever_granted, ever_ended, news_of}
-use Rattle.cap_model.specs.Bounds.{IsRising, AreApart, IsQueueBounded, IsNodeBounded, IsReservationBounded, IsSumOfChildren, IsWellFormed, IsBounded}
+use Rattle.cap_model.specs.Bounds.{IsRising, AreApart, IsQueueBounded, IsNodeBounded, IsReservationBounded, IsSumOfChildren, IsTree, IsWellFormed, IsBounded}
 
 -- a proposal has no reason to be rejected exactly where it is admissible
 abbrev pub RejectedExactly : Type 0
@@ -189,3 +189,17 @@ UnderByPath = (path queue : List ℕ) → (is_under path queue ≡ true) ↔ ((q
 -- in a well-formed cluster each parent queue uses what its children use together
 abbrev pub TreesAddUp : Type 0
 TreesAddUp = (K : ℕ) (cluster : Flat K) → IsWellFormed cluster → All (IsSumOfChildren cluster) cluster.settings.queues
+
+-- a step from a bounded cluster leaves a bounded one
+abbrev pub StepStaysBounded : Type 0
+StepStaysBounded = (K : ℕ) (old new : Flat K) (event : ClusterEvent) → IsBounded old → Step old event new → IsBounded new
+
+-- every state of a run from a bounded cluster is bounded: the one after each beginning of its events, and so the closing one
+abbrev pub RunsStayBounded : Type 0
+RunsStayBounded =
+    (K : ℕ) (first rest : List ClusterEvent) (old new : Flat K) → IsBounded old → Run old (first ++ rest) new →
+    (mid : Flat K) × Run old first mid × Run mid rest new × IsBounded mid × IsBounded new
+
+-- a cluster that was opened just now over a tree of queues is bounded
+abbrev pub OpenedIsBounded : Type 0
+OpenedIsBounded = (K : ℕ) (settings : Settings) → IsTree settings.queues → IsBounded (opened {K = K} settings)

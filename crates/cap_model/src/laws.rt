@@ -1,5 +1,5 @@
 //! Laws of the definitions in `specs/`, for callers to cite. The functions do nothing.
-ghost use Rattle.cap_model.specs.EngineLaws.{RejectedExactly, NumbersStayDistinct, GrantedOnce, StepIsDetermined, ContainersBalance, EndedOnce, LiveIsWhatWasNotEnded, OneOfEachRank, ChoiceIsComputed, ChoiceFromIsComputed, ParentUsesChildren, GrantsAreToldInOrder, EndsAreToldInOrder, AppNumbersStayDistinct, GrantsAreToldOverRuns, NewGrantsAreOfTheGranted};
+ghost use Rattle.cap_model.specs.EngineLaws.{RejectedExactly, NumbersStayDistinct, GrantedOnce, StepIsDetermined, ContainersBalance, EndedOnce, LiveIsWhatWasNotEnded, OneOfEachRank, ChoiceIsComputed, ChoiceFromIsComputed, ParentUsesChildren, GrantsAreToldInOrder, EndsAreToldInOrder, AppNumbersStayDistinct, GrantsAreToldOverRuns, NewGrantsAreOfTheGranted, StepStaysWellFormed, QueuesStayBounded, NodesStayBounded, ReservationsStayApart, ReservationsStayBounded, UnderByPath, TreesAddUp, StepStaysBounded, RunsStayBounded, OpenedIsBounded};
 
 /// A proposal has no reason to be rejected exactly where it is admissible.
 pub fn reason_says_why()
@@ -51,4 +51,43 @@ pub fn application_numbers_are_used_once()
 pub fn grants_are_told_over_runs()
     ensures told { GrantsAreToldOverRuns }
     ensures added { NewGrantsAreOfTheGranted }
+{}
+
+/// A step keeps a cluster well-formed: applications in leaf queues, distinct numbers, and an application and a node for
+/// each live container and each reservation.
+pub fn steps_keep_clusters_well_formed()
+    ensures { StepStaysWellFormed }
+{}
+
+/// A step keeps queues within their maxima and users within the user limit.
+pub fn steps_keep_queues_within_limits()
+    ensures { QueuesStayBounded }
+{}
+
+/// A step keeps what runs on a node within the node's total.
+pub fn steps_keep_nodes_within_totals()
+    ensures { NodesStayBounded }
+{}
+
+/// A step keeps reservations on different nodes, each where it fits and for an ask that wants it.
+pub fn steps_keep_reservations_within_asks()
+    ensures apart { ReservationsStayApart }
+    ensures bounded { ReservationsStayBounded }
+{}
+
+/// What is under a queue is told by dotted paths, and in a tree a parent uses what its children use together.
+pub fn trees_add_up()
+    ensures under { UnderByPath }
+    ensures sums { TreesAddUp }
+{}
+
+/// A step from a bounded cluster leaves a bounded one.
+pub fn steps_keep_bounds()
+    ensures { StepStaysBounded }
+{}
+
+/// A cluster that was opened just now is bounded, and so is every state of a run from a bounded one.
+pub fn runs_stay_bounded()
+    ensures opened { OpenedIsBounded }
+    ensures runs { RunsStayBounded }
 {}
