@@ -1,3 +1,4 @@
+pub mod ToldEnds
 pub mod BoundedRuns
 pub mod TreeSums
 pub mod Paths

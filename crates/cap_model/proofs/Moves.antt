@@ -127,14 +127,30 @@ module _ {K : ℕ} where
   reply_moves old new request reply (inl r) = subst (λ c. AppsMove old c) (sym (r.1)) (unless_refused (refusal_of old request) old request refl)
   reply_moves old new request reply (inr r) = subst (λ c. AppsMove old c) (sym (r.1)) (AppsMove.change (no_change old old refl refl))
 
-  -- an allocate and a grant change applications, and let none go or come
-  pub allocate_changes : (old new : Flat K) (n id : ℕ) (asks : List Ask) (releases : List ℕ) (reply : CallReply) → Replies old (CallRequest.allocate n id asks releases) reply new → AppsChange old new
-  allocate_changes old new n id asks releases reply (inl r) = subst (λ c. AppsChange old c) (sym (r.1)) (by (refusal_of old (CallRequest.allocate n id asks releases)))
+  -- an allocate, a heartbeat, a lost node and a grant change applications, and let none go or come
+  reply_changes : (old new : Flat K) (request : CallRequest) (reply : CallReply) → AppsChange old (granted_cluster old request) → Replies old request reply new → AppsChange old new
+  reply_changes old new request reply c (inl r) = subst (λ x. AppsChange old x) (sym (r.1)) (by (refusal_of old request))
     where
-      by : (o : Option CallRefusal) → AppsChange old (refused_or o (λ refusal. old) (granted_cluster old (CallRequest.allocate n id asks releases)))
-      by None = either (is_repeated_allocate old n id) old (after_processed_allocate old n id asks releases) (allocate_change old n id asks releases)
+      by : (o : Option CallRefusal) → AppsChange old (refused_or o (λ refusal. old) (granted_cluster old request))
+      by None = c
       by (Some refusal) = no_change old old refl refl
-  allocate_changes old new n id asks releases reply (inr r) = subst (λ c. AppsChange old c) (sym (r.1)) (no_change old old refl refl)
+  reply_changes old new request reply c (inr r) = subst (λ x. AppsChange old x) (sym (r.1)) (no_change old old refl refl)
+
+  pub allocate_changes : (old new : Flat K) (n id : ℕ) (asks : List Ask) (releases : List ℕ) (reply : CallReply) → Replies old (CallRequest.allocate n id asks releases) reply new → AppsChange old new
+  allocate_changes old new n id asks releases reply r =
+      reply_changes old new (CallRequest.allocate n id asks releases) reply
+      (either (is_repeated_allocate old n id) old (after_processed_allocate old n id asks releases) (allocate_change old n id asks releases)) r
+
+  pub beat_changes : (old new : Flat K) (node id : ℕ) (ended : List ℕ) (reply : CallReply) → Replies old (CallRequest.heartbeat node id ended) reply new → AppsChange old new
+  beat_changes old new node id ended reply r =
+      reply_changes old new (CallRequest.heartbeat node id ended) reply
+      (either (is_repeated_heartbeat old node id) old (after_processed_heartbeat old node id ended)
+      (ends_change Cause.ended_on_node (ended_by old node ended) old (after_processed_heartbeat old node id ended) refl refl)) r
+
+  pub lost_changes : (old new : Flat K) (node : ℕ) (reply : CallReply) → Replies old (CallRequest.node_gone node) reply new → AppsChange old new
+  lost_changes old new node reply r =
+      reply_changes old new (CallRequest.node_gone node) reply
+      (ends_change Cause.node_lost (containers_on old node) old (granted_cluster old (CallRequest.node_gone node)) refl refl) r
 
   pub grant_change : (old : Flat K) (c : Container) → AppsChange old (after_grant old c)
   grant_change old c = record {

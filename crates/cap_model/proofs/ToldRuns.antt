@@ -23,11 +23,11 @@ use Rattle.cap_model.proofs.Telling.{is_number, find_mapped, found_at, others_st
 abbrev number_of : App → ℕ
 number_of app = app.number
 
-some_of : {A : Type 0} (o : Option A) (x : A) → o ≡ Some x → IsSome o
+pub some_of : {A : Type 0} (o : Option A) (x : A) → o ≡ Some x → IsSome o
 some_of None x e = absurd (cc e)
 some_of (Some y) x e = refl
 
-there_or_not : {A : Type 0} (o : Option A) → IsSome o ⊎ (o ≡ None)
+pub there_or_not : {A : Type 0} (o : Option A) → IsSome o ⊎ (o ≡ None)
 there_or_not None = inr refl
 there_or_not (Some x) = inl refl
 
@@ -54,16 +54,16 @@ unseen n (x ∷ xs) e = by (x.number == n) x.registered refl e (unseen n xs)
 abbrev untold_in : Option App → List GrantedContainer
 untold_in o = option_map_or (λ app. app.grants) o []
 
-mapped_none : (f : App → App) (o : Option App) → option_map f o ≡ None → o ≡ None
+pub mapped_none : (f : App → App) (o : Option App) → option_map f o ≡ None → o ≡ None
 mapped_none f None e = refl
 mapped_none f (Some a) e = absurd (cc e)
 
 -- a first step and the rest, put together
-told_joined : {A : Type 0} (told rest left before after new more : List A) → told ++ after ≡ before ++ new → rest ++ left ≡ after ++ more → (told ++ rest) ++ left ≡ before ++ (new ++ more)
+pub told_joined : {A : Type 0} (told rest left before after new more : List A) → told ++ after ≡ before ++ new → rest ++ left ≡ after ++ more → (told ++ rest) ++ left ≡ before ++ (new ++ more)
 told_joined told rest left before after new more first tail =
     append_assoc told rest left ∙ ap (λ xs. told ++ xs) tail ∙ sym (append_assoc told after more) ∙ ap (λ xs. xs ++ more) first ∙ append_assoc before new more
 
-where_true : {A : Type 0} (b : Bool) (x y : A) → b ≡ true → cond b x y ≡ x
+pub where_true : {A : Type 0} (b : Bool) (x y : A) → b ≡ true → cond b x y ≡ x
 where_true true x y e = refl
 where_true false x y e = absurd (cc e)
 
@@ -98,14 +98,14 @@ module _ {K : ℕ} where
       )
 
   -- who is there was of a used number, and next numbers only rise
-  used : (old : Flat K) (n : ℕ) → HasAppNumbers old → IsSome (app_at old n) → n < old.apps.next
+  pub used : (old : Flat K) (n : ℕ) → HasAppNumbers old → IsSome (app_at old n) → n < old.apps.next
   used old n r h = by (Rattle.std.proofs.lemmas.Bool.cases_lt n old.apps.next)
     where
       by : (n < old.apps.next) ⊎ (old.apps.next ≤ n) → n < old.apps.next
       by (inl b) = b
       by (inr b) = absurd (not_none (app_at old n) (none_from_high number_of 1 old.apps.active old.apps.next n r b) h)
 
-  next_rises : (old new : Flat K) → AppsMove old new → old.apps.next ≤ new.apps.next
+  pub next_rises : (old new : Flat K) → AppsMove old new → old.apps.next ≤ new.apps.next
   next_rises old new (AppsMove.change m) = let next = m.next in omega (arith, next)
   next_rises old new (AppsMove.goes m) = let next = m.next in omega (arith, next)
   next_rises old new (AppsMove.comes m) = let next = m.next in omega (arith, next)
@@ -113,7 +113,7 @@ module _ {K : ℕ} where
   -- who is not there is told nothing and granted nothing
 
   module _ (old : Flat K) (n : ℕ) (missing : app_at old n ≡ None) where
-    unknown : (app id : ℕ) (asks : List Ask) → app == n ≡ true → allocate_refusal old app id asks ≡ Some CallRefusal.unknown_application
+    pub unknown : (app id : ℕ) (asks : List Ask) → app == n ≡ true → allocate_refusal old app id asks ≡ Some CallRefusal.unknown_application
     unknown app id asks e =
         let same : app ≡ n = grind (arith, nat_tests, e) in
         let gone : app_at old app ≡ None = ap (app_at old) same ∙ missing in
@@ -122,7 +122,7 @@ module _ {K : ℕ} where
     refused_nothing : (by : ℕ) (request : CallRequest) (reply : CallReply) (refusal : CallRefusal) → reply ≡ CallReply.refused refusal → told_grants old n (ClusterEvent.call by request reply) ≡ []
     refused_nothing by request reply refusal e = ap (λ r. told_grants old n (ClusterEvent.call by request r)) e ∙ refused_tells old n by request refusal
 
-    reply_is_refused : (app id : ℕ) (asks : List Ask) (releases : List ℕ) → app == n ≡ true → reply_to old (CallRequest.allocate app id asks releases) ≡ CallReply.refused CallRefusal.unknown_application
+    pub reply_is_refused : (app id : ℕ) (asks : List Ask) (releases : List ℕ) → app == n ≡ true → reply_to old (CallRequest.allocate app id asks releases) ≡ CallReply.refused CallRefusal.unknown_application
     reply_is_refused app id asks releases e = ap (λ o. refused_or o (λ refusal. CallReply.refused refusal) (granted_reply old (CallRequest.allocate app id asks releases))) (unknown app id asks e)
 
     elsewhere_nothing : (by app id : ℕ) (asks : List Ask) (releases : List ℕ) (reply : CallReply) → app == n ≡ false → told_grants old n (ClusterEvent.call by (CallRequest.allocate app id asks releases) reply) ≡ []
@@ -179,7 +179,7 @@ module _ {K : ℕ} where
         rest.2,
       )
 
-  kept_change : (old new : Flat K) → AppsChange old new → (n : ℕ) → IsSome (app_at old n) → app_at new n ≡ None → ⊥
+  pub kept_change : (old new : Flat K) → AppsChange old new → (n : ℕ) → IsSome (app_at old n) → app_at new n ≡ None → ⊥
   kept_change old new m n h e =
       not_none (app_at old n) (mapped_none m.change (app_at old n) (sym (ap (find (is_number n)) m.active ∙ find_mapped m.change m.keeps.number n old.apps.active) ∙ e)) h
 

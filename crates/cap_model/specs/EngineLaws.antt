@@ -203,3 +203,20 @@ RunsStayBounded =
 -- a cluster that was opened just now over a tree of queues is bounded
 abbrev pub OpenedIsBounded : Type 0
 OpenedIsBounded = (K : ℕ) (settings : Settings) → IsTree settings.queues → IsBounded (opened {K = K} settings)
+
+-- what the events of a run tell an application of ends, and what they add for it
+abbrev pub ever_told_ends : {K : ℕ} → Flat K → ℕ → List ClusterEvent → List EndedContainer
+ever_told_ends old n [] = []
+ever_told_ends old n (event ∷ events) = told_ends old n event ++ ever_told_ends (after_event old event) n events
+
+abbrev pub ever_new_ends : {K : ℕ} → Flat K → ℕ → List ClusterEvent → List EndedContainer
+ever_new_ends old n [] = []
+ever_new_ends old n (event ∷ events) = new_ends old n event ++ ever_new_ends (after_event old event) n events
+
+-- the same of ends over a run: told in order, each once, none lost
+abbrev pub EndsAreToldOverRuns : Type 0
+EndsAreToldOverRuns =
+    (K : ℕ) (events : List ClusterEvent) (old new : Flat K) (n : ℕ) → IsWellFormed old → Run old events new →
+    (left : List EndedContainer)
+    × (ever_told_ends old n events ++ left ≡ untold_ends old n ++ ever_new_ends old n events)
+    × (IsSome (app_at new n) → left ≡ untold_ends new n)
