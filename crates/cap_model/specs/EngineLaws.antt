@@ -1,14 +1,15 @@
 -- Laws of the definitions.
 use Rattle.std.specs.Prelude.{◌≡◌, ◌↔◌, ◌⊎◌, ℕ, ◌+◌, ◌≤◌, Bool, true, List, Some, None, [], ◌∷◌, ◌++◌, map, filter, count_by, IsSome, not, ◌==◌, ◌&&◌, if◌then◌else◌}
 use Rattle.std.specs.Option.{option_map_or}
-use Rattle.std.specs.List.{All}
-use Rattle.cap_model.specs.Calls.{Cause, GrantedContainer, EndedContainer, CallRequest, CallReply}
+use Rattle.std.specs.List.{All, range_with_len}
+use Rattle.cap_model.specs.Calls.{Ask, Cause, GrantedContainer, EndedContainer, CallRequest, CallReply}
 use Rattle.cap_model.specs.Allocate.{is_repeated_allocate, released_by}
 use Rattle.cap_model.specs.Heartbeat.{is_repeated_heartbeat, ended_by, containers_on}
 use Rattle.cap_model.specs.Flat.{Flat, App, Container, opened, app_at, is_under, is_child_of}
 use Rattle.cap_model.specs.Settings.{Settings, QueueRow}
-use Rattle.cap_model.specs.Sight.{Sight}
-use Rattle.cap_model.specs.Admission.{NodeProposal, IsAdmissible, reason_of}
+use Rattle.cap_model.specs.Uses.{wanted}
+use Rattle.cap_model.specs.Sight.{Sight, sight_of, still_wanted}
+use Rattle.cap_model.specs.Admission.{NodeProposal, IsAdmissible, reason_number, reasons, reason_of}
 use Rattle.cap_model.specs.Choice.{rank_cmp, rank_of, IsNodeChoice, IsChoiceFrom}
 use Rattle.cap_model.specs.Candidates.{choice_on, choice_from}
 use Rattle.std.specs.declared.cmp.Ordering.TheVariants.{Equal}
@@ -19,6 +20,14 @@ use Rattle.cap_model.specs.Bounds.{IsRising, AreApart, IsQueueBounded, IsNodeBou
 -- a proposal has no reason to be rejected exactly where it is admissible
 abbrev pub RejectedExactly : Type 0
 RejectedExactly = (K : ℕ) (sight : Sight K) (p : NodeProposal) → (reason_of sight p ≡ None) ↔ IsAdmissible sight p
+
+-- the tests of a proposal stand in the order of the numbers of their reasons, so that of several that hold the smallest number is answered
+abbrev pub ReasonsAreInOrder : Type 0
+ReasonsAreInOrder = (K : ℕ) (sight : Sight K) (p : NodeProposal) → map (λ test. reason_number test.1) (reasons sight p) ≡ range_with_len 1 13
+
+-- what a sight shows as still wanted is the ask's count less the reservations for it
+abbrev pub WantedIsSeen : Type 0
+WantedIsSeen = (K : ℕ) (cluster : Flat K) (app : ℕ) (ask : Ask) → IsBounded cluster → still_wanted (sight_of cluster) app ask ≡ wanted cluster app ask
 
 -- the numbers of containers
 abbrev pub numbers_of : List Container → List ℕ

@@ -1,9 +1,10 @@
 //! Laws of the definitions in `specs/`, for callers to cite. The functions do nothing.
-ghost use Rattle.cap_model.specs.EngineLaws.{RejectedExactly, NumbersStayDistinct, GrantedOnce, StepIsDetermined, ContainersBalance, EndedOnce, LiveIsWhatWasNotEnded, OneOfEachRank, ChoiceIsComputed, ChoiceFromIsComputed, ParentUsesChildren, GrantsAreToldInOrder, EndsAreToldInOrder, AppNumbersStayDistinct, GrantsAreToldOverRuns, NewGrantsAreOfTheGranted, StepStaysWellFormed, QueuesStayBounded, NodesStayBounded, ReservationsStayApart, ReservationsStayBounded, UnderByPath, TreesAddUp, StepStaysBounded, RunsStayBounded, OpenedIsBounded, EndsAreToldOverRuns};
+ghost use Rattle.cap_model.specs.EngineLaws.{RejectedExactly, NumbersStayDistinct, GrantedOnce, StepIsDetermined, ContainersBalance, EndedOnce, LiveIsWhatWasNotEnded, OneOfEachRank, ChoiceIsComputed, ChoiceFromIsComputed, ParentUsesChildren, GrantsAreToldInOrder, EndsAreToldInOrder, AppNumbersStayDistinct, GrantsAreToldOverRuns, NewGrantsAreOfTheGranted, StepStaysWellFormed, QueuesStayBounded, NodesStayBounded, ReservationsStayApart, ReservationsStayBounded, UnderByPath, TreesAddUp, StepStaysBounded, RunsStayBounded, OpenedIsBounded, EndsAreToldOverRuns, ReasonsAreInOrder, WantedIsSeen};
 
-/// A proposal has no reason to be rejected exactly where it is admissible.
+/// A proposal has no reason to be rejected exactly where it is admissible, and of several the one of the smallest number.
 pub fn reason_says_why()
-    ensures { RejectedExactly }
+    ensures exact { RejectedExactly }
+    ensures order { ReasonsAreInOrder }
 {}
 
 /// No container number is live twice or granted twice.
@@ -95,4 +96,9 @@ pub fn steps_keep_bounds()
 pub fn runs_stay_bounded()
     ensures opened { OpenedIsBounded }
     ensures runs { RunsStayBounded }
+{}
+
+/// What a sight shows as still wanted is the ask's count less the reservations for it.
+pub fn sights_show_what_is_wanted()
+    ensures { WantedIsSeen }
 {}
