@@ -90,7 +90,7 @@ among_later t low (d ∷ cs) high c r h = by (t d) (among_later t (d.number + 1)
     by false e = e
 
 -- of a list in order, a container is among those that pass a test exactly where it passes
-among_some : (t : Container → Bool) (low : ℕ) (cs : List Container) (high : ℕ) (c : Container) → IsRising low (numbers_of cs) high → IsIn c cs → is_among (filter t cs) c ≡ t c
+pub among_some : (t : Container → Bool) (low : ℕ) (cs : List Container) (high : ℕ) (c : Container) → IsRising low (numbers_of cs) high → IsIn c cs → is_among (filter t cs) c ≡ t c
 among_some t low [] high c r m = absurd m
 among_some t low (d ∷ cs) high c r (inl e) = subst (λ x. is_among (filter t (d ∷ cs)) x ≡ t x) e (by (t d) refl)
   where
@@ -116,7 +116,7 @@ among_itself (d ∷ cs) c (inr m) = by (d.number == c.number) (among_itself cs c
 
 -- counting
 
-count_cons : {A : Type 0} (f : A → Bool) (x : A) (xs : List A) → count_by f (x ∷ xs) ≡ cond (f x) 1 0 + count_by f xs
+pub count_cons : {A : Type 0} (f : A → Bool) (x : A) (xs : List A) → count_by f (x ∷ xs) ≡ cond (f x) 1 0 + count_by f xs
 count_cons f x xs = sum_by-cons (λ y. cond (f y) 1 0) x xs
 
 pub count_append : {A : Type 0} (f : A → Bool) (xs ys : List A) → count_by f (xs ++ ys) ≡ count_by f xs + count_by f ys
@@ -163,14 +163,14 @@ rising_append low mid (c ∷ cs) ds high r s = (r.0, rising_append (c.number + 1
 -- one step
 
 module _ {K : ℕ} where
-  ended_by_thinning : (old new : Flat K) → HasDistinctNumbers old → (t : IsThinned old new) → ended_between old new ≡ filter (λ c. not (t.test c)) old.nodes.live
+  pub ended_by_thinning : (old new : Flat K) → HasDistinctNumbers old → (t : IsThinned old new) → ended_between old new ≡ filter (λ c. not (t.test c)) old.nodes.live
   ended_by_thinning old new r t =
       ap (λ cs. filter (λ c. not (is_among cs c)) old.nodes.live) t.live
       ∙ filter_same (λ c. not (is_among (filter t.test old.nodes.live) c)) (λ c. not (t.test c)) old.nodes.live
       (λ c m. ap not (among_some t.test 1 old.nodes.live old.nodes.next_container c r m))
 
   -- where no live container goes, none ends
-  none_ended : (old new : Flat K) (more : List Container) → new.nodes.live ≡ old.nodes.live ++ more → ended_between old new ≡ []
+  pub none_ended : (old new : Flat K) (more : List Container) → new.nodes.live ≡ old.nodes.live ++ more → ended_between old new ≡ []
   none_ended old new more e =
       ap (λ cs. filter (λ c. not (is_among cs c)) old.nodes.live) e
       ∙ filter_none (λ c. not (is_among (old.nodes.live ++ more) c)) old.nodes.live
@@ -223,7 +223,7 @@ ended_once K events old new r run n =
 -- the closing live containers themselves
 
 -- two filters are one
-filter_twice : {A : Type 0} (f g h : A → Bool) (xs : List A) → ((x : A) → h x ≡ cond (g x) (f x) false) → filter f (filter g xs) ≡ filter h xs
+pub filter_twice : {A : Type 0} (f g h : A → Bool) (xs : List A) → ((x : A) → h x ≡ cond (g x) (f x) false) → filter f (filter g xs) ≡ filter h xs
 filter_twice f g h [] e = refl
 filter_twice f g h (x ∷ xs) e = by (g x) (e x) (filter_twice f g h xs e)
   where
@@ -246,7 +246,7 @@ among_earlier t low (d ∷ cs) high c r h = by (t d) (among_earlier t (d.number 
     by true e = let other : d.number == c.number ≡ false = grind (arith, nat_tests, h, below) in ap (λ x. x || is_among (filter t cs) c) other ∙ e
     by false e = e
 
-twice_not : (b : Bool) → not (not b) ≡ b
+pub twice_not : (b : Bool) → not (not b) ≡ b
 twice_not true = refl
 twice_not false = refl
 

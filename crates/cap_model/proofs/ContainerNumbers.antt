@@ -50,7 +50,7 @@ module _ {K : ℕ} where
   pub thinned_same : (old new : Flat K) → HasSameContainers old new → IsThinned old new
   thinned_same old new s = record { test = λ c. true; live = s.live ∙ sym (filter_all old.nodes.live); next = s.next }
 
-  asks_keep : (n : ℕ) (asks : List Ask) (cluster : Flat K) → HasSameContainers cluster (after_asks n asks cluster)
+  pub asks_keep : (n : ℕ) (asks : List Ask) (cluster : Flat K) → HasSameContainers cluster (after_asks n asks cluster)
   asks_keep n [] cluster = record { live = refl; next = refl }
   asks_keep n (ask ∷ asks) cluster =
       let r = asks_keep n asks (after_ask n cluster (rounded K cluster.settings ask)) in record { live = r.live; next = r.next }

@@ -1,3 +1,5 @@
+pub mod EndsOfEnded
+pub mod NamedEnds
 pub mod ToldEnds
 pub mod BoundedRuns
 pub mod TreeSums

@@ -42,13 +42,27 @@ named_in (n ∷ ns) live c m =
 none_of : (cause : Cause) (n : ℕ) (gone : List Container) → ((c : Container) → IsIn c gone → c.app == n ≡ false) → ends_of cause n gone ≡ []
 none_of cause n gone f = ap (map (λ c. record { container = c.number; cause = cause })) (filter_none (λ (c : Container). c.app == n) gone f)
 
+-- a refused call tells nothing, and ends nothing
+pub refused_ends : {K : ℕ} (old : Flat K) (n : ℕ) (by : ℕ) (request : CallRequest) (refusal : CallRefusal) →
+    (told_ends old n (ClusterEvent.call by request (CallReply.refused refusal)) ≡ []) × (new_ends old n (ClusterEvent.call by request (CallReply.refused refusal)) ≡ [])
+refused_ends old n by (CallRequest.submit path user) refusal = (refl, refl)
+refused_ends old n by (CallRequest.register_master app) refusal = (refl, refl)
+refused_ends old n by (CallRequest.allocate app id asks releases) refusal = (refl, refl)
+refused_ends old n by (CallRequest.finish_master app) refusal = (refl, refl)
+refused_ends old n by (CallRequest.register_node host rack total) refusal = (refl, refl)
+refused_ends old n by (CallRequest.heartbeat node id ended) refusal = (refl, refl)
+refused_ends old n by (CallRequest.node_gone node) refusal = (refl, refl)
+refused_ends old n by (CallRequest.queue_info path) refusal = (refl, refl)
+refused_ends old n by (CallRequest.set_queue_state path running) refusal = (refl, refl)
+refused_ends old n by CallRequest.cluster_info refusal = (refl, refl)
+
 abbrev untold_in : Option App → List EndedContainer
 untold_in o = option_map_or (λ app. app.ends) o []
 
 module _ {K : ℕ} where
   module _ (old : Flat K) (n : ℕ) (missing : app_at old n ≡ None) (w : IsWellFormed old) where
     -- a live container is not an application's that is not there
-    not_live : (c : Container) → IsIn c old.nodes.live → c.app == n ≡ false
+    pub not_live : (c : Container) → IsIn c old.nodes.live → c.app == n ≡ false
     not_live c m = by (c.app == n) refl
       where
         by : (b : Bool) → c.app == n ≡ b → b ≡ false
@@ -56,20 +70,6 @@ module _ {K : ℕ} where
             let same : c.app ≡ n = grind (arith, nat_tests, e) in
             absurd (not_none (app_at old c.app) (ap (app_at old) same ∙ missing) (each_of (λ (x : Container). IsPlaced old x.app x.node) old.nodes.live w.live c m).0)
         by false e = refl
-
-    -- a refused call tells nothing, and ends nothing
-    refused_ends : (by : ℕ) (request : CallRequest) (refusal : CallRefusal) →
-        (told_ends old n (ClusterEvent.call by request (CallReply.refused refusal)) ≡ []) × (new_ends old n (ClusterEvent.call by request (CallReply.refused refusal)) ≡ [])
-    refused_ends by (CallRequest.submit path user) refusal = (refl, refl)
-    refused_ends by (CallRequest.register_master app) refusal = (refl, refl)
-    refused_ends by (CallRequest.allocate app id asks releases) refusal = (refl, refl)
-    refused_ends by (CallRequest.finish_master app) refusal = (refl, refl)
-    refused_ends by (CallRequest.register_node host rack total) refusal = (refl, refl)
-    refused_ends by (CallRequest.heartbeat node id ended) refusal = (refl, refl)
-    refused_ends by (CallRequest.node_gone node) refusal = (refl, refl)
-    refused_ends by (CallRequest.queue_info path) refusal = (refl, refl)
-    refused_ends by (CallRequest.set_queue_state path running) refusal = (refl, refl)
-    refused_ends by CallRequest.cluster_info refusal = (refl, refl)
 
     abbrev IsQuiet : ClusterEvent → Type 0
     IsQuiet event = (told_ends old n event ≡ []) × (new_ends old n event ≡ [])
@@ -94,7 +94,7 @@ module _ {K : ℕ} where
         IsQuiet (ClusterEvent.call by (CallRequest.allocate app id asks releases) reply)
     allocate_quiet by app id asks releases reply r true e =
         subst (λ x. IsQuiet (ClusterEvent.call by (CallRequest.allocate app id asks releases) x)) (sym (r ∙ reply_is_refused old n missing app id asks releases e))
-        (refused_ends by (CallRequest.allocate app id asks releases) CallRefusal.unknown_application)
+        (refused_ends old n by (CallRequest.allocate app id asks releases) CallRefusal.unknown_application)
     allocate_quiet by app id asks releases reply r false e = released_elsewhere by app id asks releases reply e
 
     beat_quiet : (by node id : ℕ) (ended : List ℕ) (reply : CallReply) → IsQuiet (ClusterEvent.call by (CallRequest.heartbeat node id ended) reply)
@@ -124,13 +124,13 @@ module _ {K : ℕ} where
     call_quiet by CallRequest.cluster_info reply r = (refl, refl)
 
     -- who is not there is told nothing, and nothing of it ends
-    step_quiet : (new : Flat K) (event : ClusterEvent) → Step old event new → IsQuiet event
+    pub step_quiet : (new : Flat K) (event : ClusterEvent) → Step old event new → IsQuiet event
     step_quiet new (ClusterEvent.call by request reply) (inl r) = call_quiet by request reply (r.0)
-    step_quiet new (ClusterEvent.call by request reply) (inr r) = subst (λ x. IsQuiet (ClusterEvent.call by request x)) (sym (r.0.reply_is)) (refused_ends by request CallRefusal.no_memory)
+    step_quiet new (ClusterEvent.call by request reply) (inr r) = subst (λ x. IsQuiet (ClusterEvent.call by request x)) (sym (r.0.reply_is)) (refused_ends old n by request CallRefusal.no_memory)
     step_quiet new (ClusterEvent.grant c) s = (refl, refl)
     step_quiet new (ClusterEvent.reserve r) s = (refl, refl)
 
-  never_told : (events : List ClusterEvent) (old new : Flat K) (n : ℕ) → app_at old n ≡ None → n < old.apps.next → IsWellFormed old → Run old events new →
+  pub never_told : (events : List ClusterEvent) (old new : Flat K) (n : ℕ) → app_at old n ≡ None → n < old.apps.next → IsWellFormed old → Run old events new →
       (ever_told_ends old n events ≡ []) × (ever_new_ends old n events ≡ []) × (app_at new n ≡ None)
   never_told [] old new n e h w run = (refl, refl, ap (λ (c : Flat K). app_at c n) (sym run) ∙ e)
   never_told (event ∷ events) old new n e h w (mid, step, run) =

@@ -229,3 +229,9 @@ EndsAreToldOverRuns =
     (left : List EndedContainer)
     × (ever_told_ends old n events ++ left ≡ untold_ends old n ++ ever_new_ends old n events)
     × (IsSome (app_at new n) → left ≡ untold_ends new n)
+
+-- the ends that a run adds for an application that is there at its close are those of its containers that the run ended: of each number as many
+abbrev pub NewEndsAreOfTheEnded : Type 0
+NewEndsAreOfTheEnded =
+    (K : ℕ) (events : List ClusterEvent) (old new : Flat K) (n : ℕ) → IsBounded old → Run old events new → IsSome (app_at new n) → (number : ℕ) →
+    count_by (λ e. e.container == number) (ever_new_ends old n events) ≡ count_by (λ c. c.number == number) (filter (λ c. c.app == n) (ever_ended old events))

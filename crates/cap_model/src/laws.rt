@@ -1,5 +1,5 @@
 //! Laws of the definitions in `specs/`, for callers to cite. The functions do nothing.
-ghost use Rattle.cap_model.specs.EngineLaws.{RejectedExactly, NumbersStayDistinct, GrantedOnce, StepIsDetermined, ContainersBalance, EndedOnce, LiveIsWhatWasNotEnded, OneOfEachRank, ChoiceIsComputed, ChoiceFromIsComputed, ParentUsesChildren, GrantsAreToldInOrder, EndsAreToldInOrder, AppNumbersStayDistinct, GrantsAreToldOverRuns, NewGrantsAreOfTheGranted, StepStaysWellFormed, QueuesStayBounded, NodesStayBounded, ReservationsStayApart, ReservationsStayBounded, UnderByPath, TreesAddUp, StepStaysBounded, RunsStayBounded, OpenedIsBounded, EndsAreToldOverRuns, ReasonsAreInOrder, WantedIsSeen};
+ghost use Rattle.cap_model.specs.EngineLaws.{RejectedExactly, NumbersStayDistinct, GrantedOnce, StepIsDetermined, ContainersBalance, EndedOnce, LiveIsWhatWasNotEnded, OneOfEachRank, ChoiceIsComputed, ChoiceFromIsComputed, ParentUsesChildren, GrantsAreToldInOrder, EndsAreToldInOrder, AppNumbersStayDistinct, GrantsAreToldOverRuns, NewGrantsAreOfTheGranted, StepStaysWellFormed, QueuesStayBounded, NodesStayBounded, ReservationsStayApart, ReservationsStayBounded, UnderByPath, TreesAddUp, StepStaysBounded, RunsStayBounded, OpenedIsBounded, EndsAreToldOverRuns, NewEndsAreOfTheEnded, ReasonsAreInOrder, WantedIsSeen};
 
 /// A proposal has no reason to be rejected exactly where it is admissible, and of several the one of the smallest number.
 pub fn reason_says_why()
@@ -56,7 +56,8 @@ pub fn grants_are_told_over_runs()
 
 /// Over a whole run an application is told of the ends of its containers in the order in which they came, of each once.
 pub fn ends_are_told_over_runs()
-    ensures { EndsAreToldOverRuns }
+    ensures told { EndsAreToldOverRuns }
+    ensures added { NewEndsAreOfTheEnded }
 {}
 
 /// A step keeps a cluster well-formed: applications in leaf queues, distinct numbers, and an application and a node for
