@@ -1,3 +1,4 @@
+pub mod UseSums
 pub mod EndsOfEnded
 pub mod NamedEnds
 pub mod ToldEnds

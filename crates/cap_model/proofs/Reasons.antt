@@ -4,9 +4,10 @@ use Rattle.std.specs.Prelude.{◌⊎◌, not, ◌&&◌, ◌||◌, Option, Some, 
 use Rattle.std.proofs.lemmas.Bool.{not-false}
 use Rattle.std.proofs.lemmas.Bool.Decides.{nat_tests}
 use Rattle.cap_model.specs.Cascade.{earliest}
-use Rattle.cap_model.specs.Sight.{Sight, seen_app, seen_node}
+use Rattle.cap_model.specs.Events.{grant_proposal, reserve_proposal}
+use Rattle.cap_model.specs.Sight.{Sight, sight_of, seen_app, seen_node}
 use Rattle.cap_model.specs.Admission.{NodeProposal, ProposalKind, is_grant, IsAdmissible, NeedsOf, reasons, proposed_ask, asks_resource, suits_place, fits_free, fits_total, is_wanted, is_reserved_for, node_reservation, stays_in_maxima, stays_in_user_limit}
-use Rattle.cap_model.specs.EngineLaws.{RejectedExactly}
+use Rattle.cap_model.specs.EngineLaws.{RejectedExactly, PassedIsStep}
 
 -- no test of a list holds
 abbrev pub NoneHolds : {A : Type 0} → List (Bool × A) → Type 0
@@ -172,3 +173,9 @@ module _ {K : ℕ} (sight : Sight K) (p : NodeProposal) where
 
 pub rejected_exactly : RejectedExactly
 rejected_exactly K sight p = ((λ h. admitted sight p (none_holds (reasons sight p) h)), (λ a. holds_none (reasons sight p) (untested sight p a)))
+
+pub passed_is_step : PassedIsStep
+passed_is_step K old = (
+  λ c number none. ((rejected_exactly K (sight_of old) (grant_proposal c)).0 none, number, refl),
+  λ r none. ((rejected_exactly K (sight_of old) (reserve_proposal r)).0 none, refl),
+)

@@ -34,7 +34,7 @@ same_sums : {A : Type 0} (f g : A → ℕ) (xs : List A) → ((x : A) → f x �
 same_sums f g xs e = λ i. sum_by (λ x. e x i) xs
 
 -- nobody else is on the node of one of them
-none_there : (n m : ℕ) (rs : List Reservation) → list_any (λ (s : Reservation). n == s.node) rs ≡ false → n == m ≡ true → find (λ (s : Reservation). s.node == m) rs ≡ None
+pub none_there : (n m : ℕ) (rs : List Reservation) → list_any (λ (s : Reservation). n == s.node) rs ≡ false → n == m ≡ true → find (λ (s : Reservation). s.node == m) rs ≡ None
 none_there n m [] h e = refl
 none_there n m (r ∷ rs) h e =
     let away = or_left (n == r.node) (list_any (λ (s : Reservation). n == s.node) rs) h in

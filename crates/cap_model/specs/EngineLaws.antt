@@ -5,16 +5,18 @@ use Rattle.std.specs.List.{All, range_with_len}
 use Rattle.cap_model.specs.Calls.{Ask, Cause, GrantedContainer, EndedContainer, CallRequest, CallReply}
 use Rattle.cap_model.specs.Allocate.{is_repeated_allocate, released_by}
 use Rattle.cap_model.specs.Heartbeat.{is_repeated_heartbeat, ended_by, containers_on}
-use Rattle.cap_model.specs.Flat.{Flat, App, Container, opened, app_at, is_under, is_child_of}
+use Rattle.cap_model.specs.Flat.{Flat, App, Container, Reservation, opened, app_at, is_under, is_child_of}
 use Rattle.cap_model.specs.Settings.{Settings, QueueRow}
-use Rattle.cap_model.specs.Uses.{wanted}
+use Rattle.cap_vector.specs.Vector.{amount_max, IsWithin, IsSum}
+use Rattle.cap_model.specs.RegisterNode.{total_of_nodes}
+use Rattle.cap_model.specs.Uses.{wanted, queue_use}
 use Rattle.cap_model.specs.Sight.{Sight, sight_of, still_wanted}
 use Rattle.cap_model.specs.Admission.{NodeProposal, IsAdmissible, reason_number, reasons, reason_of}
 use Rattle.cap_model.specs.Choice.{rank_cmp, rank_of, IsNodeChoice, IsChoiceFrom}
 use Rattle.cap_model.specs.Candidates.{choice_on, choice_from}
 use Rattle.std.specs.declared.cmp.Ordering.TheVariants.{Equal}
 use Rattle.cap_model.specs.Ending.{is_among}
-use Rattle.cap_model.specs.Events.{ClusterEvent, Step, Run, after_event, ever_granted, ever_ended, news_of}
+use Rattle.cap_model.specs.Events.{ClusterEvent, Step, Run, grant_proposal, reserve_proposal, after_grant, after_reserve, after_event, ever_granted, ever_ended, news_of}
 use Rattle.cap_model.specs.Bounds.{IsRising, AreApart, IsQueueBounded, IsNodeBounded, IsReservationBounded, IsSumOfChildren, IsTree, IsWellFormed, IsBounded}
 
 -- a proposal has no reason to be rejected exactly where it is admissible
@@ -235,3 +237,15 @@ abbrev pub NewEndsAreOfTheEnded : Type 0
 NewEndsAreOfTheEnded =
     (K : ℕ) (events : List ClusterEvent) (old new : Flat K) (n : ℕ) → IsBounded old → Run old events new → IsSome (app_at new n) → (number : ℕ) →
     count_by (λ e. e.container == number) (ever_new_ends old n events) ≡ count_by (λ c. c.number == number) (filter (λ c. c.app == n) (ever_ended old events))
+
+-- where the nodes have together at most the greatest amount of each resource, each queue's use is a sum of use: at most twice as much,
+-- once for what runs and once for what is reserved
+abbrev pub UsesAreSums : Type 0
+UsesAreSums = (K : ℕ) (cluster : Flat K) → IsBounded cluster → IsWithin amount_max (total_of_nodes cluster) → (path : List ℕ) → IsSum K (queue_use cluster path)
+
+-- a proposal that has no reason to be rejected is a step: a grant takes the next container number
+abbrev pub PassedIsStep : Type 0
+PassedIsStep =
+    (K : ℕ) (old : Flat K)
+    → ((c : Container) → c.number ≡ old.nodes.next_container → reason_of (sight_of old) (grant_proposal c) ≡ None → Step old (ClusterEvent.grant c) (after_grant old c))
+    × ((r : Reservation) → reason_of (sight_of old) (reserve_proposal r) ≡ None → Step old (ClusterEvent.reserve r) (after_reserve old r))

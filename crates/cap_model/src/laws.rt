@@ -1,10 +1,11 @@
 //! Laws of the definitions in `specs/`, for callers to cite. The functions do nothing.
-ghost use Rattle.cap_model.specs.EngineLaws.{RejectedExactly, NumbersStayDistinct, GrantedOnce, StepIsDetermined, ContainersBalance, EndedOnce, LiveIsWhatWasNotEnded, OneOfEachRank, ChoiceIsComputed, ChoiceFromIsComputed, ParentUsesChildren, GrantsAreToldInOrder, EndsAreToldInOrder, AppNumbersStayDistinct, GrantsAreToldOverRuns, NewGrantsAreOfTheGranted, StepStaysWellFormed, QueuesStayBounded, NodesStayBounded, ReservationsStayApart, ReservationsStayBounded, UnderByPath, TreesAddUp, StepStaysBounded, RunsStayBounded, OpenedIsBounded, EndsAreToldOverRuns, NewEndsAreOfTheEnded, ReasonsAreInOrder, WantedIsSeen};
+ghost use Rattle.cap_model.specs.EngineLaws.{RejectedExactly, NumbersStayDistinct, GrantedOnce, StepIsDetermined, ContainersBalance, EndedOnce, LiveIsWhatWasNotEnded, OneOfEachRank, ChoiceIsComputed, ChoiceFromIsComputed, ParentUsesChildren, GrantsAreToldInOrder, EndsAreToldInOrder, AppNumbersStayDistinct, GrantsAreToldOverRuns, NewGrantsAreOfTheGranted, StepStaysWellFormed, QueuesStayBounded, NodesStayBounded, ReservationsStayApart, ReservationsStayBounded, UnderByPath, TreesAddUp, StepStaysBounded, RunsStayBounded, OpenedIsBounded, EndsAreToldOverRuns, NewEndsAreOfTheEnded, ReasonsAreInOrder, WantedIsSeen, UsesAreSums, PassedIsStep};
 
 /// A proposal has no reason to be rejected exactly where it is admissible, and of several the one of the smallest number.
 pub fn reason_says_why()
     ensures exact { RejectedExactly }
     ensures order { ReasonsAreInOrder }
+    ensures steps { PassedIsStep }
 {}
 
 /// No container number is live twice or granted twice.
@@ -102,4 +103,9 @@ pub fn runs_stay_bounded()
 /// What a sight shows as still wanted is the ask's count less the reservations for it.
 pub fn sights_show_what_is_wanted()
     ensures { WantedIsSeen }
+{}
+
+/// Each queue's use is a sum of use.
+pub fn uses_are_sums()
+    ensures { UsesAreSums }
 {}
