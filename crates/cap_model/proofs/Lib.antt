@@ -1,3 +1,4 @@
+pub mod Sizes
 pub mod UseSums
 pub mod EndsOfEnded
 pub mod NamedEnds

@@ -6,7 +6,7 @@ use Rattle.std.proofs.lemmas.Bool.{cases_lt}
 use Rattle.std.proofs.lemmas.Bool.Decides.{nat_tests}
 use Rattle.std.proofs.lemmas.List.FromFn.{length-map-range_with_len}
 use Rattle.std.proofs.lemmas.List.Sums.{sum_by-cons, sum_by-le-sum_by}
-use Rattle.cap_vector.specs.Vector.{amount, amount_max, IsWithin, IsSum}
+use Rattle.cap_vector.specs.Vector.{amount, IsSum}
 use Rattle.cap_model.specs.Cascade.{holds_of}
 use Rattle.cap_model.specs.Amounts.{fits, part}
 use Rattle.cap_model.specs.Flat.{Flat, App, ClusterNode, Container, Reservation, app_at, node_at, is_under}
@@ -133,10 +133,10 @@ module _ {K : ℕ} (cluster : Flat K) (b : IsBounded cluster) where
       omega (arith, whole, live, reserved, a, c)
 
 pub uses_are_sums : UsesAreSums
-uses_are_sums K cluster b within path = record {
+uses_are_sums K cluster b sizes path = record {
   count = length-map-range_with_len (part (λ (h : Holding). holds_of (λ (a : App). is_under path a.leaf) (app_at cluster h.app)) (λ h. h.resource) (holdings cluster)) 0 K;
   within = λ k. elim (cases_lt k K) [
-    | inl h ↦ (let u = use_within cluster b (λ leaf user. is_under path leaf) k h in let t = within k in omega (arith, u, t))
+    | inl h ↦ (let u = use_within cluster b (λ leaf user. is_under path leaf) k h in let t = sizes.totals k in omega (arith, u, t))
     | inr p ↦ omega (arith, use_past cluster (λ leaf user. is_under path leaf) k p)
   ];
 }

@@ -1,12 +1,16 @@
 -- The bounds that hold in every state of a run.
 use Rattle.std.specs.Prelude.{◌≡◌, ℕ, ◌+◌, ◌≤◌, Bool, true, false, List, [], ◌∷◌, ◌++◌, Option, Some, None, IsSome, map, find, filter, length, ◌==◌, nat_le, bytes_eq}
 use Rattle.std.specs.List.{All, list_any}
+use Rattle.cap_vector.specs.Vector.{amount_max, IsWithin}
 use Rattle.cap_model.specs.Cascade.{holds_of}
 use Rattle.cap_model.specs.Amounts.{fits, times, sum_where}
 use Rattle.cap_model.specs.Settings.{QueueRow}
 use Rattle.cap_model.specs.Calls.{Key}
 use Rattle.cap_model.specs.Flat.{Flat, App, ClusterNode, Container, Reservation, is_for, ask_at, app_at, node_at, queue_at, is_child_of}
+use Rattle.cap_model.specs.Cluster.{number_end, nodes_max}
+use Rattle.cap_model.specs.Admission.{live_max}
 use Rattle.cap_model.specs.Submit.{has_children}
+use Rattle.cap_model.specs.RegisterNode.{total_of_nodes}
 use Rattle.cap_model.specs.Uses.{queue_use, user_use, node_held}
 
 -- numbers that rise, each at least the lower bound and below the upper one
@@ -87,3 +91,13 @@ module _ {K : ℕ} where
     pub reservations : All (IsReservationBounded cluster) cluster.nodes.reserved
     pub apart : AreApart cluster.nodes.reserved
     pub numbers : IsRising 1 (map (λ c. c.number) cluster.nodes.live) cluster.nodes.next_container
+
+  -- how far a cluster goes: the nodes have together at most the greatest amount of each resource, at most so many nodes are present and
+  -- so many containers live, and no next number is past the end of numbers
+  pub record IsWithinSizes (cluster : Flat K) : Type 0 where
+    pub totals : IsWithin amount_max (total_of_nodes cluster)
+    pub nodes : length cluster.nodes.present ≤ nodes_max
+    pub live : length cluster.nodes.live ≤ live_max
+    pub app_numbers : cluster.apps.next ≤ number_end
+    pub node_numbers : cluster.nodes.next_node ≤ number_end
+    pub container_numbers : cluster.nodes.next_container ≤ number_end

@@ -7,8 +7,7 @@ use Rattle.cap_model.specs.Allocate.{is_repeated_allocate, released_by}
 use Rattle.cap_model.specs.Heartbeat.{is_repeated_heartbeat, ended_by, containers_on}
 use Rattle.cap_model.specs.Flat.{Flat, App, Container, Reservation, opened, app_at, is_under, is_child_of}
 use Rattle.cap_model.specs.Settings.{Settings, QueueRow}
-use Rattle.cap_vector.specs.Vector.{amount_max, IsWithin, IsSum}
-use Rattle.cap_model.specs.RegisterNode.{total_of_nodes}
+use Rattle.cap_vector.specs.Vector.{IsSum}
 use Rattle.cap_model.specs.Uses.{wanted, queue_use}
 use Rattle.cap_model.specs.Sight.{Sight, sight_of, still_wanted}
 use Rattle.cap_model.specs.Admission.{NodeProposal, IsAdmissible, reason_number, reasons, reason_of}
@@ -17,7 +16,7 @@ use Rattle.cap_model.specs.Candidates.{choice_on, choice_from}
 use Rattle.std.specs.declared.cmp.Ordering.TheVariants.{Equal}
 use Rattle.cap_model.specs.Ending.{is_among}
 use Rattle.cap_model.specs.Events.{ClusterEvent, Step, Run, grant_proposal, reserve_proposal, after_grant, after_reserve, after_event, ever_granted, ever_ended, news_of}
-use Rattle.cap_model.specs.Bounds.{IsRising, AreApart, IsQueueBounded, IsNodeBounded, IsReservationBounded, IsSumOfChildren, IsTree, IsWellFormed, IsBounded}
+use Rattle.cap_model.specs.Bounds.{IsRising, AreApart, IsQueueBounded, IsNodeBounded, IsReservationBounded, IsSumOfChildren, IsTree, IsWellFormed, IsBounded, IsWithinSizes}
 
 -- a proposal has no reason to be rejected exactly where it is admissible
 abbrev pub RejectedExactly : Type 0
@@ -238,10 +237,16 @@ NewEndsAreOfTheEnded =
     (K : ℕ) (events : List ClusterEvent) (old new : Flat K) (n : ℕ) → IsBounded old → Run old events new → IsSome (app_at new n) → (number : ℕ) →
     count_by (λ e. e.container == number) (ever_new_ends old n events) ≡ count_by (λ c. c.number == number) (filter (λ c. c.app == n) (ever_ended old events))
 
--- where the nodes have together at most the greatest amount of each resource, each queue's use is a sum of use: at most twice as much,
--- once for what runs and once for what is reserved
+-- each queue's use is a sum of use: at most twice what the nodes have together, once for what runs and once for what is reserved
 abbrev pub UsesAreSums : Type 0
-UsesAreSums = (K : ℕ) (cluster : Flat K) → IsBounded cluster → IsWithin amount_max (total_of_nodes cluster) → (path : List ℕ) → IsSum K (queue_use cluster path)
+UsesAreSums = (K : ℕ) (cluster : Flat K) → IsBounded cluster → IsWithinSizes cluster → (path : List ℕ) → IsSum K (queue_use cluster path)
+
+-- a step leaves a cluster within its sizes, and one that was opened just now is within them
+abbrev pub SizesStay : Type 0
+SizesStay = (K : ℕ) (old new : Flat K) (event : ClusterEvent) → IsWithinSizes old → Step old event new → IsWithinSizes new
+
+abbrev pub OpenedIsWithinSizes : Type 0
+OpenedIsWithinSizes = (K : ℕ) (settings : Settings) → IsWithinSizes (opened {K = K} settings)
 
 -- a proposal that has no reason to be rejected is a step: a grant takes the next container number
 abbrev pub PassedIsStep : Type 0

@@ -1,5 +1,5 @@
 //! Laws of the definitions in `specs/`, for callers to cite. The functions do nothing.
-ghost use Rattle.cap_model.specs.EngineLaws.{RejectedExactly, NumbersStayDistinct, GrantedOnce, StepIsDetermined, ContainersBalance, EndedOnce, LiveIsWhatWasNotEnded, OneOfEachRank, ChoiceIsComputed, ChoiceFromIsComputed, ParentUsesChildren, GrantsAreToldInOrder, EndsAreToldInOrder, AppNumbersStayDistinct, GrantsAreToldOverRuns, NewGrantsAreOfTheGranted, StepStaysWellFormed, QueuesStayBounded, NodesStayBounded, ReservationsStayApart, ReservationsStayBounded, UnderByPath, TreesAddUp, StepStaysBounded, RunsStayBounded, OpenedIsBounded, EndsAreToldOverRuns, NewEndsAreOfTheEnded, ReasonsAreInOrder, WantedIsSeen, UsesAreSums, PassedIsStep};
+ghost use Rattle.cap_model.specs.EngineLaws.{RejectedExactly, NumbersStayDistinct, GrantedOnce, StepIsDetermined, ContainersBalance, EndedOnce, LiveIsWhatWasNotEnded, OneOfEachRank, ChoiceIsComputed, ChoiceFromIsComputed, ParentUsesChildren, GrantsAreToldInOrder, EndsAreToldInOrder, AppNumbersStayDistinct, GrantsAreToldOverRuns, NewGrantsAreOfTheGranted, StepStaysWellFormed, QueuesStayBounded, NodesStayBounded, ReservationsStayApart, ReservationsStayBounded, UnderByPath, TreesAddUp, StepStaysBounded, RunsStayBounded, OpenedIsBounded, EndsAreToldOverRuns, NewEndsAreOfTheEnded, ReasonsAreInOrder, WantedIsSeen, UsesAreSums, PassedIsStep, SizesStay, OpenedIsWithinSizes};
 
 /// A proposal has no reason to be rejected exactly where it is admissible, and of several the one of the smallest number.
 pub fn reason_says_why()
@@ -108,4 +108,10 @@ pub fn sights_show_what_is_wanted()
 /// Each queue's use is a sum of use.
 pub fn uses_are_sums()
     ensures { UsesAreSums }
+{}
+
+/// Numbers, the nodes' totals, and how many nodes and containers there are stay within their bounds.
+pub fn sizes_stay_bounded()
+    ensures opened { OpenedIsWithinSizes }
+    ensures steps { SizesStay }
 {}
