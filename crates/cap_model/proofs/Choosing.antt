@@ -20,16 +20,16 @@ abbrev pub IsIn : {A : Type 0} → A → List A → Type 0
 IsIn x [] = ⊥
 IsIn x (y ∷ ys) = (y ≡ x) ⊎ IsIn x ys
 
-in_left : {A : Type 0} (x : A) (xs ys : List A) → IsIn x xs → IsIn x (xs ++ ys)
+pub in_left : {A : Type 0} (x : A) (xs ys : List A) → IsIn x xs → IsIn x (xs ++ ys)
 in_left x [] ys m = absurd m
 in_left x (z ∷ xs) ys (inl e) = inl e
 in_left x (z ∷ xs) ys (inr m) = inr (in_left x xs ys m)
 
-in_right : {A : Type 0} (x : A) (xs ys : List A) → IsIn x ys → IsIn x (xs ++ ys)
+pub in_right : {A : Type 0} (x : A) (xs ys : List A) → IsIn x ys → IsIn x (xs ++ ys)
 in_right x [] ys m = m
 in_right x (z ∷ xs) ys m = inr (in_right x xs ys m)
 
-in_either : {A : Type 0} (x : A) (xs ys : List A) → IsIn x (xs ++ ys) → IsIn x xs ⊎ IsIn x ys
+pub in_either : {A : Type 0} (x : A) (xs ys : List A) → IsIn x (xs ++ ys) → IsIn x xs ⊎ IsIn x ys
 in_either x [] ys m = inr m
 in_either x (z ∷ xs) ys (inl e) = inl (inl e)
 in_either x (z ∷ xs) ys (inr m) = elim (in_either x xs ys m) [ inl a ↦ inl (inr a) | inr b ↦ inr b ]
@@ -49,7 +49,7 @@ in_kept true x y rest f (inr e) = inl e
 in_kept false x y rest f (inl m) = m
 in_kept false x y rest f (inr e) = absurd (cc (f e))
 
-in_filter : {A : Type 0} (test : A → Bool) (xs : List A) (x : A) → IsIn x xs → test x ≡ true → IsIn x (filter test xs)
+pub in_filter : {A : Type 0} (test : A → Bool) (xs : List A) (x : A) → IsIn x xs → test x ≡ true → IsIn x (filter test xs)
 in_filter test [] x m t = absurd m
 in_filter test (y ∷ xs) x (inl e) t = in_kept (test y) x y (filter test xs) (λ e. ap test e ∙ t) (inr e)
 in_filter test (y ∷ xs) x (inr m) t = in_kept (test y) x y (filter test xs) (λ e. ap test e ∙ t) (inl (in_filter test xs x m t))
@@ -59,7 +59,7 @@ of_kept true x y rest (inl e) = inl (e, refl)
 of_kept true x y rest (inr m) = inr m
 of_kept false x y rest m = inr m
 
-of_filter : {A : Type 0} (test : A → Bool) (xs : List A) (x : A) → IsIn x (filter test xs) → (test x ≡ true) × IsIn x xs
+pub of_filter : {A : Type 0} (test : A → Bool) (xs : List A) (x : A) → IsIn x (filter test xs) → (test x ≡ true) × IsIn x xs
 of_filter test [] x m = absurd m
 of_filter test (y ∷ xs) x m =
     elim (of_kept (test y) x y (filter test xs) m) [
@@ -76,7 +76,7 @@ pub found : {A : Type 0} (test : A → Bool) (xs : List A) (x : A) → find test
 found test [] x e = absurd (cc e)
 found test (y ∷ ys) x e = found_here test y x ys (find test ys) (test y) refl e (found test ys x)
 
-and_both : (a b : Bool) → a && b ≡ true → (a ≡ true) × (b ≡ true)
+pub and_both : (a b : Bool) → a && b ≡ true → (a ≡ true) × (b ≡ true)
 and_both true b e = (refl, e)
 and_both false b e = absurd (cc e)
 

@@ -47,10 +47,10 @@ module _ {K : ℕ} where
     pub live : new.nodes.live ≡ old.nodes.live
     pub next : new.nodes.next_container ≡ old.nodes.next_container
 
-  thinned_same : (old new : Flat K) → HasSameContainers old new → IsThinned old new
+  pub thinned_same : (old new : Flat K) → HasSameContainers old new → IsThinned old new
   thinned_same old new s = record { test = λ c. true; live = s.live ∙ sym (filter_all old.nodes.live); next = s.next }
 
-  asks_keep : (n : ℕ) (asks : List Ask) (cluster : Flat K) → HasSameContainers cluster (after_asks n asks cluster)
+  pub asks_keep : (n : ℕ) (asks : List Ask) (cluster : Flat K) → HasSameContainers cluster (after_asks n asks cluster)
   asks_keep n [] cluster = record { live = refl; next = refl }
   asks_keep n (ask ∷ asks) cluster =
       let r = asks_keep n asks (after_ask n cluster (rounded K cluster.settings ask)) in record { live = r.live; next = r.next }
@@ -59,7 +59,7 @@ module _ {K : ℕ} where
   either true old new t = thinned_same old old (record { live = refl; next = refl })
   either false old new t = t
 
-  processed_allocate_thins : (old : Flat K) (n id : ℕ) (asks : List Ask) (releases : List ℕ) → IsThinned old (after_processed_allocate old n id asks releases)
+  pub processed_allocate_thins : (old : Flat K) (n id : ℕ) (asks : List Ask) (releases : List ℕ) → IsThinned old (after_processed_allocate old n id asks releases)
   processed_allocate_thins old n id asks releases =
       let s = asks_keep n asks old in
       let gone = released_by old n releases in

@@ -4,9 +4,10 @@ use Rattle.std.specs.Prelude.{◌⊎◌, not, ◌&&◌, ◌||◌, Option, Some, 
 use Rattle.std.proofs.lemmas.Bool.{not-false}
 use Rattle.std.proofs.lemmas.Bool.Decides.{nat_tests}
 use Rattle.cap_model.specs.Cascade.{earliest}
-use Rattle.cap_model.specs.Sight.{Sight, seen_app, seen_node}
+use Rattle.cap_model.specs.Events.{grant_proposal, reserve_proposal}
+use Rattle.cap_model.specs.Sight.{Sight, sight_of, seen_app, seen_node}
 use Rattle.cap_model.specs.Admission.{NodeProposal, ProposalKind, is_grant, IsAdmissible, NeedsOf, reasons, proposed_ask, asks_resource, suits_place, fits_free, fits_total, is_wanted, is_reserved_for, node_reservation, stays_in_maxima, stays_in_user_limit}
-use Rattle.cap_model.specs.EngineLaws.{RejectedExactly}
+use Rattle.cap_model.specs.EngineLaws.{RejectedExactly, PassedIsStep}
 
 -- no test of a list holds
 abbrev pub NoneHolds : {A : Type 0} → List (Bool × A) → Type 0
@@ -29,22 +30,22 @@ pub holds_none : {A : Type 0} (ts : List (Bool × A)) → NoneHolds ts → earli
 holds_none [] h = refl
 holds_none (t ∷ ts) h = none_first t.0 t.1 (earliest ts) h.0 (holds_none ts h.1)
 
-or_left : (a b : Bool) → a || b ≡ false → a ≡ false
+pub or_left : (a b : Bool) → a || b ≡ false → a ≡ false
 or_left true b h = absurd (cc h)
 or_left false b h = refl
 
-or_right : (a b : Bool) → a || b ≡ false → b ≡ false
+pub or_right : (a b : Bool) → a || b ≡ false → b ≡ false
 or_right true b h = absurd (cc h)
 or_right false b h = h
 
-or_both : (a b : Bool) → a ≡ false → b ≡ false → a || b ≡ false
+pub or_both : (a b : Bool) → a ≡ false → b ≡ false → a || b ≡ false
 or_both true b h g = absurd (cc h)
 or_both false b h g = g
 
-true_of_none : {A : Type 0} (o : Option A) → is_none o ≡ false → is_some o ≡ true
+pub true_of_none : {A : Type 0} (o : Option A) → is_none o ≡ false → is_some o ≡ true
 true_of_none o h = not-false (is_some o) h
 
-none_of_true : (b : Bool) → b ≡ true → not b ≡ false
+pub none_of_true : (b : Bool) → b ≡ true → not b ≡ false
 none_of_true true h = refl
 none_of_true false h = absurd (cc h)
 
@@ -172,3 +173,9 @@ module _ {K : ℕ} (sight : Sight K) (p : NodeProposal) where
 
 pub rejected_exactly : RejectedExactly
 rejected_exactly K sight p = ((λ h. admitted sight p (none_holds (reasons sight p) h)), (λ a. holds_none (reasons sight p) (untested sight p a)))
+
+pub passed_is_step : PassedIsStep
+passed_is_step K old = (
+  λ c number none. ((rejected_exactly K (sight_of old) (grant_proposal c)).0 none, number, refl),
+  λ r none. ((rejected_exactly K (sight_of old) (reserve_proposal r)).0 none, refl),
+)

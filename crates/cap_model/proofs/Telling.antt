@@ -197,7 +197,7 @@ module _ {K : ℕ} (old : Flat K) (n : ℕ) where
   call_tells by (CallRequest.set_queue_state path running) h = as_before refl
   call_tells by CallRequest.cluster_info h = as_before refl
 
-  refused_tells : (by : ℕ) (request : CallRequest) (refusal : CallRefusal) → told_grants old n (ClusterEvent.call by request (CallReply.refused refusal)) ≡ []
+  pub refused_tells : (by : ℕ) (request : CallRequest) (refusal : CallRefusal) → told_grants old n (ClusterEvent.call by request (CallReply.refused refusal)) ≡ []
   refused_tells by (CallRequest.submit path user) refusal = refl
   refused_tells by (CallRequest.register_master app) refusal = refl
   refused_tells by (CallRequest.allocate app id asks releases) refusal = refl

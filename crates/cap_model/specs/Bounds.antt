@@ -1,12 +1,16 @@
 -- The bounds that hold in every state of a run.
-use Rattle.std.specs.Prelude.{◌≡◌, ℕ, ◌+◌, ◌≤◌, Bool, true, List, [], ◌∷◌, Option, Some, None, map, filter, length, ◌==◌, nat_le}
+use Rattle.std.specs.Prelude.{◌≡◌, ℕ, ◌+◌, ◌≤◌, Bool, true, false, List, [], ◌∷◌, ◌++◌, Option, Some, None, IsSome, map, find, filter, length, ◌==◌, nat_le, bytes_eq}
 use Rattle.std.specs.List.{All, list_any}
+use Rattle.cap_vector.specs.Vector.{amount_max, IsWithin}
 use Rattle.cap_model.specs.Cascade.{holds_of}
 use Rattle.cap_model.specs.Amounts.{fits, times, sum_where}
 use Rattle.cap_model.specs.Settings.{QueueRow}
 use Rattle.cap_model.specs.Calls.{Key}
-use Rattle.cap_model.specs.Flat.{Flat, ClusterNode, Reservation, is_for, ask_at, app_at, node_at, is_child_of}
+use Rattle.cap_model.specs.Flat.{Flat, App, ClusterNode, Container, Reservation, is_for, ask_at, app_at, node_at, queue_at, is_child_of}
+use Rattle.cap_model.specs.Cluster.{number_end, nodes_max}
+use Rattle.cap_model.specs.Admission.{live_max}
 use Rattle.cap_model.specs.Submit.{has_children}
+use Rattle.cap_model.specs.RegisterNode.{total_of_nodes}
 use Rattle.cap_model.specs.Uses.{queue_use, user_use, node_held}
 
 -- numbers that rise, each at least the lower bound and below the upper one
@@ -24,7 +28,36 @@ abbrev pub AreApart : List Reservation → Type 0
 AreApart [] = Unit {0}
 AreApart (r ∷ rs) = (list_any (λ s. r.node == s.node) rs ≡ Bool.false) × AreApart rs
 
+-- no path stands in a list of queues twice
+abbrev pub HasDistinctPaths : List QueueRow → Type 0
+HasDistinctPaths [] = Unit {0}
+HasDistinctPaths (q ∷ queues) = (list_any (λ r. bytes_eq r.path q.path) queues ≡ false) × HasDistinctPaths queues
+
+-- queues that are a tree: no path stands there twice, and where a path is there, so is each beginning of it that ends before a dot
+pub record IsTree (queues : List QueueRow) : Type 0 where
+  pub distinct : HasDistinctPaths queues
+  pub above : All (λ q. (front rest : List ℕ) → q.path ≡ front ++ 46 ∷ rest → IsSome (find (λ r. bytes_eq r.path front) queues)) queues
+
 module _ {K : ℕ} where
+  -- a queue without children
+  pub record IsLeaf (cluster : Flat K) (path : List ℕ) : Type 0 where
+    pub present : IsSome (queue_at cluster path)
+    pub childless : has_children cluster path ≡ false
+
+  -- an application that is active, and a node that is present
+  abbrev pub IsPlaced : Flat K → ℕ → ℕ → Type 0
+  IsPlaced cluster app node = IsSome (app_at cluster app) × IsSome (node_at cluster node)
+
+  -- what holds of every cluster beside its bounds: the queues are a tree, applications are in leaf queues, applications and nodes have
+  -- distinct numbers below the next, and each live container and each reservation has its application and its node
+  pub record IsWellFormed (cluster : Flat K) : Type 0 where
+    pub tree : IsTree cluster.settings.queues
+    pub leaves : All (λ app. IsLeaf cluster app.leaf) cluster.apps.active
+    pub apps : IsRising 1 (map (λ app. app.number) cluster.apps.active) cluster.apps.next
+    pub nodes : IsRising 1 (map (λ node. node.number) cluster.nodes.present) cluster.nodes.next_node
+    pub live : All (λ c. IsPlaced cluster c.app c.node) cluster.nodes.live
+    pub reserved : All (λ r. IsPlaced cluster r.app r.node) cluster.nodes.reserved
+
   -- a queue's use is within its maximum, and each user's use there within the user limit
   pub record IsQueueBounded (cluster : Flat K) (q : QueueRow) : Type 0 where
     pub maximum : FitsMaximum (queue_use cluster q.path) q.maximum
@@ -51,9 +84,20 @@ module _ {K : ℕ} where
   -- the bounds of a cluster: no queue over its maximum, no user over the limit, each queue the sum of its children, no node over its
   -- total, at most one reservation a node, which fits there and is asked for, and no container number twice
   pub record IsBounded (cluster : Flat K) : Type 0 where
+    pub formed : IsWellFormed cluster
     pub queues : All (IsQueueBounded cluster) cluster.settings.queues
     pub parents : All (IsSumOfChildren cluster) cluster.settings.queues
     pub nodes : All (IsNodeBounded cluster) cluster.nodes.present
     pub reservations : All (IsReservationBounded cluster) cluster.nodes.reserved
     pub apart : AreApart cluster.nodes.reserved
     pub numbers : IsRising 1 (map (λ c. c.number) cluster.nodes.live) cluster.nodes.next_container
+
+  -- how far a cluster goes: the nodes have together at most the greatest amount of each resource, at most so many nodes are present and
+  -- so many containers live, and no next number is past the end of numbers
+  pub record IsWithinSizes (cluster : Flat K) : Type 0 where
+    pub totals : IsWithin amount_max (total_of_nodes cluster)
+    pub nodes : length cluster.nodes.present ≤ nodes_max
+    pub live : length cluster.nodes.live ≤ live_max
+    pub app_numbers : cluster.apps.next ≤ number_end
+    pub node_numbers : cluster.nodes.next_node ≤ number_end
+    pub container_numbers : cluster.nodes.next_container ≤ number_end

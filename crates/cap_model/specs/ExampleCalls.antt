@@ -1,8 +1,9 @@
 -- Worked examples: calls, their refusals and their replies.
-use Rattle.std.specs.Prelude.{◌≡◌, ℕ, true, false, List, [], ◌∷◌, Some, None, codes, map}
+use Rattle.std.specs.Prelude.{◌≡◌, ℕ, ◌+◌, true, false, List, [], ◌∷◌, Some, None, codes, map}
 use Rattle.std.specs.List.{range_with_len}
-use Rattle.cap_model.specs.Calls.{Ask, Cause, GrantedContainer, CallRefusal, CallRequest, CallReply}
+use Rattle.cap_model.specs.Calls.{Ask, Cause, GrantedContainer, CallRefusal, refusal_number, CallRequest, CallReply}
 use Rattle.cap_model.specs.Flat.{Flat, opened, app_at, with_app}
+use Rattle.cap_model.specs.Submit.{new_app}
 use Rattle.cap_model.specs.Replies.{reply_to, after_request}
 use Rattle.cap_model.specs.ExampleClusters.{mb_and_vcores, key, ask_anywhere, two_queues, after_calls, small, asks_of, granted, container}
 
@@ -10,9 +11,32 @@ use Rattle.cap_model.specs.ExampleClusters.{mb_and_vcores, key, ask_anywhere, tw
 abbrev pub told_nothing : ℕ → ℕ → CallReply
 told_nothing response ignored = CallReply.allocate (record { response = response; ignored = ignored; grants = []; ends = [] })
 
--- a cluster of two queues in which root.a is STOPPED and at most two applications may be active
+-- a cluster of two queues in which root.a is STOPPED
 abbrev pub stopped : Flat 2
-stopped = after_calls (record small { settings = record small.settings { application_limit = 2 } }) (CallRequest.set_queue_state (codes "root.a") false ∷ [])
+stopped = after_calls small (CallRequest.set_queue_state (codes "root.a") false ∷ [])
+
+-- the same with so many applications active
+abbrev pub with_active : ℕ → Flat 2
+with_active count = record stopped {
+  apps = record {
+    active = map (λ n. record (new_app stopped (codes "root.b") (codes "u1")) { number = n }) (range_with_len 1 count);
+    next = count + 1;
+  };
+}
+
+-- the status of a reply: the number of its refusal, and 0 where it is none
+abbrev pub status_of_reply : CallReply → ℕ
+status_of_reply (CallReply.refused refusal) = refusal_number refusal
+status_of_reply _ = 0
+
+-- the statuses of submits to a queue that is not there, to a parent, to a queue that is STOPPED, at the limit of 10,000, and below it
+abbrev pub SubmitStatuses : Type 0
+SubmitStatuses =
+    (status_of_reply (reply_to (with_active 10000) (CallRequest.submit (codes "root.c") (codes "u1"))) ≡ 1)
+    × (status_of_reply (reply_to (with_active 10000) (CallRequest.submit (codes "root") (codes "u1"))) ≡ 2)
+    × (status_of_reply (reply_to (with_active 10000) (CallRequest.submit (codes "root.a") (codes "u1"))) ≡ 3)
+    × (status_of_reply (reply_to (with_active 10000) (CallRequest.submit (codes "root.b") (codes "u1"))) ≡ 4)
+    × (status_of_reply (reply_to (with_active 9999) (CallRequest.submit (codes "root.b") (codes "u1"))) ≡ 0)
 
 -- no such queue; not a leaf; the queue is stopped; the limit is reached; and of several the smallest number
 abbrev pub SubmitRefusals : Type 0
@@ -20,7 +44,7 @@ SubmitRefusals =
     (reply_to small (CallRequest.submit (codes "root.c") (codes "u1")) ≡ CallReply.refused CallRefusal.unknown_queue)
     × (reply_to small (CallRequest.submit (codes "root") (codes "u1")) ≡ CallReply.refused CallRefusal.not_leaf)
     × (reply_to stopped (CallRequest.submit (codes "root.a") (codes "u1")) ≡ CallReply.refused CallRefusal.queue_stopped)
-    × (reply_to stopped (CallRequest.submit (codes "root.b") (codes "u1")) ≡ CallReply.refused CallRefusal.too_many_applications)
+    × (reply_to (with_active 10000) (CallRequest.submit (codes "root.b") (codes "u1")) ≡ CallReply.refused CallRefusal.too_many_applications)
     × (reply_to (after_request stopped (CallRequest.set_queue_state (codes "root") false)) (CallRequest.submit (codes "root") (codes "u1")) ≡ CallReply.refused CallRefusal.not_leaf)
     × (reply_to small (CallRequest.submit (codes "root.b") (codes "u1")) ≡ CallReply.submit 3)
 

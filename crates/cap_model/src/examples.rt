@@ -2,7 +2,7 @@
 //! its contract what small clusters and calls give.
 ghost use Rattle.cap_model.specs.ExampleShares.{DominantShares, ShareOfNothing, ThreeShares, LessFullQueueFirst, EqualQueuesByName, AsksByPriority, AsksAreRounded};
 ghost use Rattle.cap_model.specs.ExampleProposals.{MiddleMaximum, RoomIsReserved, ReservationKeepsOthersOut, ReservationIsConverted, SmallerAskDropsNewest, ChangedAskDropsAll, UserLimit, SecondProposalRejected, ReplacedAskRejected, ReturnedNodeIsAnother, NodeFillsUp, OtherReasons, RingFromTheStart};
-ghost use Rattle.cap_model.specs.ExampleCalls.{SubmitRefusals, MasterComesAndGoes, GrantIsTold, HeartbeatEnds, ReleasedOnce, ResponseIds, ResponseIdsWrap, NewsInTwoReplies, LargeAsks, KeptAsks, TotalsStayBounded, NodeRefusals, OperatorSees};
+ghost use Rattle.cap_model.specs.ExampleCalls.{SubmitRefusals, SubmitStatuses, MasterComesAndGoes, GrantIsTold, HeartbeatEnds, ReleasedOnce, ResponseIds, ResponseIdsWrap, NewsInTwoReplies, LargeAsks, KeptAsks, TotalsStayBounded, NodeRefusals, OperatorSees};
 
 /// Fullness compares the greatest share first, and then the next greatest.
 pub fn shares_compare_as_in_the_examples()
@@ -58,7 +58,8 @@ pub fn nodes_are_a_ring_as_in_the_example()
 
 /// The refusals of a submit, and of several that hold the smallest number.
 pub fn submits_are_refused_as_in_the_examples()
-    ensures { SubmitRefusals }
+    ensures replies { SubmitRefusals }
+    ensures statuses { SubmitStatuses }
 {}
 
 /// A master registers once and finishes once.

@@ -1,15 +1,29 @@
 //! Laws of the definitions in `specs/`, for callers to cite. The functions do nothing.
-ghost use Rattle.cap_model.specs.EngineLaws.{RejectedExactly, NumbersStayDistinct, GrantedOnce, OneOfEachRank, ChoiceIsComputed, ChoiceFromIsComputed, ParentUsesChildren, GrantsAreToldInOrder, EndsAreToldInOrder};
+ghost use Rattle.cap_model.specs.EngineLaws.{RejectedExactly, NumbersStayDistinct, GrantedOnce, StepIsDetermined, ContainersBalance, EndedOnce, LiveIsWhatWasNotEnded, OneOfEachRank, ChoiceIsComputed, ChoiceFromIsComputed, ParentUsesChildren, GrantsAreToldInOrder, EndsAreToldInOrder, AppNumbersStayDistinct, GrantsAreToldOverRuns, NewGrantsAreOfTheGranted, StepStaysWellFormed, QueuesStayBounded, NodesStayBounded, ReservationsStayApart, ReservationsStayBounded, UnderByPath, TreesAddUp, StepStaysBounded, RunsStayBounded, OpenedIsBounded, EndsAreToldOverRuns, NewEndsAreOfTheEnded, ReasonsAreInOrder, WantedIsSeen, UsesAreSums, PassedIsStep, SizesStay, OpenedIsWithinSizes};
 
-/// A proposal has no reason to be rejected exactly where it is admissible.
+/// A proposal has no reason to be rejected exactly where it is admissible, and of several the one of the smallest number.
 pub fn reason_says_why()
-    ensures { RejectedExactly }
+    ensures exact { RejectedExactly }
+    ensures order { ReasonsAreInOrder }
+    ensures steps { PassedIsStep }
 {}
 
 /// No container number is live twice or granted twice.
 pub fn container_numbers_are_used_once()
     ensures live { NumbersStayDistinct }
     ensures granted { GrantedOnce }
+{}
+
+/// The cluster after a step is determined by the event.
+pub fn steps_are_determined()
+    ensures { StepIsDetermined }
+{}
+
+/// No container ends twice in a run, and what is live or has ended at its close was live at its opening or was granted.
+pub fn containers_end_once()
+    ensures balance { ContainersBalance }
+    ensures ended { EndedOnce }
+    ensures live { LiveIsWhatWasNotEnded }
 {}
 
 /// Of the admissible proposals on a node exactly one is served first, and it is the least of all that are written out.
@@ -28,4 +42,76 @@ pub fn parents_use_what_their_children_use()
 pub fn news_is_told_in_order()
     ensures grants { GrantsAreToldInOrder }
     ensures ends { EndsAreToldInOrder }
+{}
+
+/// No application number is used twice.
+pub fn application_numbers_are_used_once()
+    ensures { AppNumbersStayDistinct }
+{}
+
+/// Over a whole run an application is told its grants in the order in which they came, of each once.
+pub fn grants_are_told_over_runs()
+    ensures told { GrantsAreToldOverRuns }
+    ensures added { NewGrantsAreOfTheGranted }
+{}
+
+/// Over a whole run an application is told of the ends of its containers in the order in which they came, of each once.
+pub fn ends_are_told_over_runs()
+    ensures told { EndsAreToldOverRuns }
+    ensures added { NewEndsAreOfTheEnded }
+{}
+
+/// A step keeps a cluster well-formed: applications in leaf queues, distinct numbers, and an application and a node for
+/// each live container and each reservation.
+pub fn steps_keep_clusters_well_formed()
+    ensures { StepStaysWellFormed }
+{}
+
+/// A step keeps queues within their maxima and users within the user limit.
+pub fn steps_keep_queues_within_limits()
+    ensures { QueuesStayBounded }
+{}
+
+/// A step keeps what runs on a node within the node's total.
+pub fn steps_keep_nodes_within_totals()
+    ensures { NodesStayBounded }
+{}
+
+/// A step keeps reservations on different nodes, each where it fits and for an ask that wants it.
+pub fn steps_keep_reservations_within_asks()
+    ensures apart { ReservationsStayApart }
+    ensures bounded { ReservationsStayBounded }
+{}
+
+/// What is under a queue is told by dotted paths, and in a tree a parent uses what its children use together.
+pub fn trees_add_up()
+    ensures under { UnderByPath }
+    ensures sums { TreesAddUp }
+{}
+
+/// A step from a bounded cluster leaves a bounded one.
+pub fn steps_keep_bounds()
+    ensures { StepStaysBounded }
+{}
+
+/// A cluster that was opened just now is bounded, and so is every state of a run from a bounded one.
+pub fn runs_stay_bounded()
+    ensures opened { OpenedIsBounded }
+    ensures runs { RunsStayBounded }
+{}
+
+/// What a sight shows as still wanted is the ask's count less the reservations for it.
+pub fn sights_show_what_is_wanted()
+    ensures { WantedIsSeen }
+{}
+
+/// Each queue's use is a sum of use.
+pub fn uses_are_sums()
+    ensures { UsesAreSums }
+{}
+
+/// Numbers, the nodes' totals, and how many nodes and containers there are stay within their bounds.
+pub fn sizes_stay_bounded()
+    ensures opened { OpenedIsWithinSizes }
+    ensures steps { SizesStay }
 {}

@@ -1,0 +1,5 @@
+use Rattle.cap_model.proofs.Wanting.{wanted_is_seen}
+use Rattle.cap_model.proofs.laws.sights_show_what_is_wanted.Goals as goal
+
+pub returns : goal.returns
+returns c = wanted_is_seen

@@ -1,0 +1,8 @@
+use Rattle.cap_model.proofs.Sizes.{sizes_stay, opened_is_within_sizes}
+use Rattle.cap_model.proofs.laws.sizes_stay_bounded.Goals as goal
+
+pub returns-clause-opened : goal.returns-clause-opened
+returns-clause-opened c = opened_is_within_sizes
+
+pub returns-clause-steps : goal.returns-clause-steps
+returns-clause-steps c = sizes_stay

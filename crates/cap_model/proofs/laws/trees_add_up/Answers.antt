@@ -1,0 +1,9 @@
+use Rattle.cap_model.proofs.Paths.{under_by_path}
+use Rattle.cap_model.proofs.TreeSums.{trees_add_up}
+use Rattle.cap_model.proofs.laws.trees_add_up.Goals as goal
+
+pub returns-clause-under : goal.returns-clause-under
+returns-clause-under c = under_by_path
+
+pub returns-clause-sums : goal.returns-clause-sums
+returns-clause-sums c = trees_add_up
