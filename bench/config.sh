@@ -5,7 +5,7 @@
 # text times the logarithm of its lines and names.
 set -euo pipefail
 top=$(cd "$(dirname "${BASH_SOURCE[0]}")/.." && pwd)
-(cd "$top/crates/config_check" && rt run) >/dev/null 2>&1 || { echo "config_check is not built" >&2; exit 1; }
+(cd "$top/crates/config_check" && rt run <stdin) >/dev/null 2>&1 || { echo "config_check is not built" >&2; exit 1; }
 program=$top/crates/config_check/out/config_check
 work=$(mktemp -d)
 trap 'rm -rf "$work"' EXIT
