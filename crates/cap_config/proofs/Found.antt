@@ -46,7 +46,7 @@ found_has test p (e ∷ entries) entry h all =
     (λ later. found_has test p entries entry later parts.1)
 
 -- a list that is found for a path is in an entry for it
-names_at : (same : Bool) (queue : Option (List ℕ)) (path : List ℕ) → is_path_at (cond same queue None) path ≡ true → queue ≡ Some path
+pub names_at : (same : Bool) (queue : Option (List ℕ)) (path : List ℕ) → is_path_at (cond same queue None) path ≡ true → queue ≡ Some path
 names_at true (Some p) path h = ap Some (same_bytes p path h)
 names_at true None path h = absurd (cc h)
 names_at false queue path h = absurd (cc h)
@@ -90,7 +90,7 @@ nowhere_by test e true rest is h = absurd (cc h)
 nowhere_by test e false rest is h = (ap not is, h)
 
 -- no entry passes a test that finds no line
-nowhere_all : (test : Entry → Bool) (entries : List Entry) → line_where test entries ≡ None → list_all (λ e. not (test e)) entries ≡ true
+pub nowhere_all : (test : Entry → Bool) (entries : List Entry) → line_where test entries ≡ None → list_all (λ e. not (test e)) entries ≡ true
 unfolding line_where
 nowhere_all test [] h = refl
 nowhere_all test (e ∷ entries) h =

@@ -22,3 +22,5 @@ pub mod Least
 pub mod RowPaths
 pub mod RowCounts
 pub mod RowBounds
+pub mod Fitting
+pub mod Fitted

@@ -129,7 +129,7 @@ same_bools true false f g = sym (f refl)
 same_bools false true f g = g refl
 same_bools false false f g = refl
 
-no_other : (line : Option ℕ) (kind : ConfigFaultKind) (other : Option ConfigFault) → or_else line kind other ≡ None → (line ≡ None) × (other ≡ None)
+pub no_other : (line : Option ℕ) (kind : ConfigFaultKind) (other : Option ConfigFault) → or_else line kind other ≡ None → (line ≡ None) × (other ≡ None)
 no_other None kind other h = (refl, h)
 no_other line kind other h = absurd (cc h)
 

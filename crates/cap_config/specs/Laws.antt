@@ -1,13 +1,13 @@
 -- Laws of the definitions: what they say of every text.
-use Rattle.std.specs.Prelude.{◌≡◌, ◌↔◌, ◌≤◌, ℕ, List, None, Ok, Bool, true, IsSome, count_by, length, if◌then◌else◌}
+use Rattle.std.specs.Prelude.{◌≡◌, ◌↔◌, ◌≤◌, ℕ, List, None, Some, Ok, Bool, true, false, IsSome, count_by, length, if◌then◌else◌}
 use Rattle.std.specs.Str.{bytes_eq}
 use Rattle.std.specs.Str.Lines.{lines}
 use Rattle.cap_config.specs.declared.entry.Entry.{Entry}
 use Rattle.cap_config.specs.Keys.{root}
 use Rattle.cap_config.specs.Seen.{is_among}
-use Rattle.cap_config.specs.Queues.{is_queue, names_below, child}
+use Rattle.cap_config.specs.Queues.{is_queue, names_below, child, guaranteed, maximum}
 use Rattle.cap_config.specs.Entries.{read_lines}
-use Rattle.cap_config.specs.Tests.{whole_fault, level}
+use Rattle.cap_config.specs.Tests.{whole_fault, level, exceeds, exceeds_limit, guaranteed_below}
 use Rattle.cap_config.specs.Rows.{settings_of}
 use Rattle.cap_config.specs.First.{first_fault, settings_in}
 
@@ -40,3 +40,20 @@ RowsAreQueues =
 -- there are at most 1,024 rows
 abbrev pub RowsAreFew : Type 0
 RowsAreFew = (text : List ℕ) (entries : List Entry) → read_lines (lines text) ≡ Ok entries → whole_fault entries ≡ None → length (settings_of entries).queues ≤ 1024
+
+-- each queue's capacity fits its maximum, own or inherited
+abbrev pub GuaranteeFitsMaximum : Type 0
+GuaranteeFitsMaximum =
+    (text : List ℕ) (entries : List Entry) → read_lines (lines text) ≡ Ok entries → whole_fault entries ≡ None → (path : List ℕ) → exceeds_limit (guaranteed entries path) (maximum entries path) ≡ false
+
+-- a maximum fits that of the queue above, where that has one
+abbrev pub MaximumFitsParent : Type 0
+MaximumFitsParent =
+    (text : List ℕ) (entries : List Entry) → read_lines (lines text) ≡ Ok entries → whole_fault entries ≡ None →
+    (path name most : List ℕ) → is_among (names_below entries path) name ≡ true → maximum entries (child path name) ≡ Some most → exceeds_limit most (maximum entries path) ≡ false
+
+-- the capacities of the queues below one other than `root` add up to no more than its own
+abbrev pub ChildrenFitParent : Type 0
+ChildrenFitParent =
+    (text : List ℕ) (entries : List Entry) → read_lines (lines text) ≡ Ok entries → whole_fault entries ≡ None →
+    (path : List ℕ) → bytes_eq path root ≡ false → exceeds (guaranteed_below entries path (names_below entries path)) (guaranteed entries path) ≡ false

@@ -1,5 +1,5 @@
 //! Laws of the definitions in `specs/`, for callers to cite. The functions do nothing.
-ghost use Rattle.cap_config.specs.Laws.{HasOneAnswer, QueuesAreLeast, QueuesAreNotTooDeep, RowsAreQueues, RowsAreFew};
+ghost use Rattle.cap_config.specs.Laws.{HasOneAnswer, QueuesAreLeast, QueuesAreNotTooDeep, RowsAreQueues, RowsAreFew, GuaranteeFitsMaximum, MaximumFitsParent, ChildrenFitParent};
 
 /// A text has a first fault or settings, and never both.
 pub fn text_has_one_answer()
@@ -17,4 +17,12 @@ pub fn rows_are_the_queues()
     ensures levels { QueuesAreNotTooDeep }
     ensures rows { RowsAreQueues }
     ensures few { RowsAreFew }
+{}
+
+/// In a text without a fault each capacity fits its maximum, each maximum that of the queue above, and the capacities below
+/// a queue other than `root` fit its own together.
+pub fn capacities_fit()
+    ensures guarantee { GuaranteeFitsMaximum }
+    ensures maximum { MaximumFitsParent }
+    ensures children { ChildrenFitParent }
 {}

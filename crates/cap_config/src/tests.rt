@@ -120,7 +120,7 @@ fn reads_the_limits(rt: HostRuntime) -> Result<(), Fail> {
 
 #[test]
 fn refuses_each_fault_on_its_line(rt: HostRuntime) -> Result<(), Fail> {
-    let cases: [(&[&[u8]], (usize, u8)); 30] = [
+    let cases: [(&[&[u8]], (usize, u8)); 31] = [
         (&[b".root.queues=a", b"no equals sign"], (2, 1)),
         (&[b".root.queues=a", b" "], (2, 1)),
         (&[b".root.queues=a", b" # c=d"], (2, 2)),
@@ -166,6 +166,14 @@ fn refuses_each_fault_on_its_line(rt: HostRuntime) -> Result<(), Fail> {
             (3, 10),
         ),
         (&[b".root.queues=a", b".root.a.b.state=RUNNING"], (2, 5)),
+        (
+            &[
+                b".root.queues=a,b",
+                b".root.a.queues=c",
+                b".root.b.c.state=RUNNING",
+            ],
+            (3, 5),
+        ),
         (
             &[
                 b".root.queues=a",
