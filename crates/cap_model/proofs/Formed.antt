@@ -134,7 +134,7 @@ module _ {K : ℕ} where
           ∷ (has_children old path, CallRefusal.not_leaf)
           ∷ (not (is_running old path), CallRefusal.queue_stopped)
           ∷ (Rattle.std.specs.Prelude.nat_le old.settings.application_limit (Rattle.std.specs.Prelude.length old.apps.active), CallRefusal.too_many_applications)
-          ∷ (Rattle.std.specs.Prelude.nat_le Rattle.cap_model.specs.Cluster.number_end old.apps.next, CallRefusal.numbers_spent)
+          ∷ (Rattle.std.specs.Prelude.nat_le Rattle.cap_model.specs.Limits.number_end old.apps.next, CallRefusal.numbers_spent)
           ∷ []) e in
       record { present = true_of_none (queue_at old path) tests.0; childless = tests.1.0 }
 

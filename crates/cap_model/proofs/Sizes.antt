@@ -9,7 +9,7 @@ use Rattle.std.proofs.lemmas.List.Sums.{length-filter, count_by-le-length, sum_b
 use Rattle.cap_vector.specs.Vector.{amount, by_amount, amount_max, plus, is_zero, is_within, IsWithin}
 use Rattle.cap_vector.proofs.AmountLemmas.{amount-plus, within_from_test}
 use Rattle.cap_model.specs.Settings.{Settings}
-use Rattle.cap_model.specs.Cluster.{number_end, nodes_max}
+use Rattle.cap_model.specs.Limits.{number_end, nodes_max}
 use Rattle.cap_model.specs.Calls.{Ask, CallRequest, CallReply, CallRefusal}
 use Rattle.cap_model.specs.Amounts.{part, sum_where}
 use Rattle.cap_model.specs.Flat.{Flat, App, ClusterNode, Container, Reservation, opened, queue_at}
