@@ -62,7 +62,7 @@ fn plays<R: Abort + AllocGlobal>(rt: &R, script: &str, printed: &str, status: u8
     let mut input = script.as_bytes();
     let mut output = Vec::new(rt.alloc());
     assert_eq!(rt;
-        replay(rt.alloc(), &mut input, &mut output),
+        replay(rt.alloc(), &mut Counted::new(&mut input), &mut Counted::new(&mut output)),
         status,
         "{script}"
     );
@@ -154,7 +154,7 @@ fn bad_lines_stop_the_script(rt: HostRuntime) {
     ] {
         let mut input = line.as_bytes();
         let mut output = Vec::new(rt.alloc());
-        assert_eq!(rt; replay(rt.alloc(), &mut input, &mut output), 2, "{line}");
+        assert_eq!(rt; replay(rt.alloc(), &mut Counted::new(&mut input), &mut Counted::new(&mut output)), 2, "{line}");
         assert_eq!(rt; output.as_slice(), b"bad line 1\n".as_slice(), "{line}");
     }
     plays(
@@ -198,7 +198,7 @@ fn a_failed_stream_loses_nothing_printed(rt: HostRuntime) {
         limit: 1000,
         written: &written,
     };
-    assert_eq!(rt; replay(rt.alloc(), &mut reader, &mut writer), 1);
+    assert_eq!(rt; replay(rt.alloc(), &mut Counted::new(&mut reader), &mut Counted::new(&mut writer)), 1);
     assert_eq!(rt; writer.kept.as_slice(), b"opened 1\nopened 2\n".as_slice());
     assert_eq!(rt; reader.before_last, 18);
 }
@@ -219,7 +219,7 @@ fn replies_are_written_before_the_next_read(rt: HostRuntime) {
         limit: 1000,
         written: &written,
     };
-    assert_eq!(rt; replay(rt.alloc(), &mut reader, &mut writer), 0);
+    assert_eq!(rt; replay(rt.alloc(), &mut Counted::new(&mut reader), &mut Counted::new(&mut writer)), 0);
     assert_eq!(rt; reader.before_last, 9);
 }
 
@@ -239,7 +239,7 @@ fn a_closed_output_ends_the_program(rt: HostRuntime) {
         limit: 1,
         written: &written,
     };
-    assert_eq!(rt; replay(rt.alloc(), &mut reader, &mut writer), 1);
+    assert_eq!(rt; replay(rt.alloc(), &mut Counted::new(&mut reader), &mut Counted::new(&mut writer)), 1);
     assert_eq!(rt; writer.kept.as_slice(), b"opened 1\n".as_slice());
 }
 
@@ -249,7 +249,7 @@ fn refused_memory_is_told(rt: HostRuntime) {
     let mut input = b"open 1\nbytes 1 00000006010a00000001\nend 1\n".as_slice();
     let mut output = [0u8; 200];
     let mut room = output.as_mut_slice();
-    let status = replay(rt.alloc(), &mut input, &mut room);
+    let status = replay(rt.alloc(), &mut Counted::new(&mut input), &mut Counted::new(&mut room));
     let left = room.len();
     let printed = output.get(..200 - left.min(200)).unwrap_or(&[]);
     if status == 0 {
