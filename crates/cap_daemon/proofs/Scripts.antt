@@ -1,18 +1,18 @@
 -- Scripts line by line.
-use Rattle.std.proofs.Common.{◌≡◌, ◌⊎◌, ℕ, Bool, true, false, List, [], ◌∷◌, ◌++◌, refl, sym, ap, ◌∙◌, subst, inl, inr, drop, Option, None, Some}
+use Rattle.std.proofs.Common.{◌≡◌, ◌⊎◌, ℕ, Bool, true, false, List, [], ◌∷◌, ◌++◌, refl, sym, ap, ◌∙◌, subst, inl, inr, Option, None, Some}
 use Rattle.std.specs.List.{All, fold, filter_map}
 use Rattle.std.proofs.lemmas.List.{append_assoc, append-nil}
-use Rattle.std.proofs.lemmas.List.Elements.{All-nil, All-cons, All-head, All-tail, All-append, All-push, All-same, filter_map-append}
+use Rattle.std.proofs.lemmas.List.Elements.{All-nil, All-cons, All-head, All-tail, All-push, All-same, filter_map-append}
 use Rattle.std.proofs.lemmas.List.Sums.{fold-append}
 use Rattle.cap_config.specs.declared.fault.ConfigFault.{ConfigFault}
 use Rattle.cap_config.specs.First.{first_fault}
 use denote.Ref.{Bor}
 use Rattle.cap_daemon.specs.declared.command.Command.{Command}
 use Rattle.cap_daemon.specs.declared.command.Command.TheVariants.{Nothing, Conf, Open, Bytes, End}
-use Rattle.cap_daemon.specs.Script.{IsCommand, IsOpeningLine, IsLaterLine, IsStep, IsScript, MayOpen, MayStep, MayFollow}
+use Rattle.cap_daemon.specs.Script.{IsCommand, IsOpeningLine, IsLaterLine, IsStep, IsScript, MayStep, MayFollow}
 use Rattle.cap_daemon.specs.Settings.{property_of, with_line, properties, settings_text, settings_fault}
 use Rattle.cap_daemon.specs.Progress.{Stands, StopsAtStep, Begins, FailsToBegin}
-use Rattle.cap_daemon.proofs.Blanks.{no_later_conf, step_never_opens, no_opening, no_later}
+use Rattle.cap_daemon.proofs.Blanks.{step_never_opens}
 
 -- the lines before a last line all open the script, or the last line stands behind the first step
 last_line : (head body front : List (List ℕ)) (line : List ℕ) → front ++ line ∷ [] ≡ head ++ body → All IsOpeningLine head → All IsLaterLine body → (All IsOpeningLine front × IsOpeningLine line) ⊎ IsLaterLine line

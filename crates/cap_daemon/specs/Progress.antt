@@ -1,9 +1,8 @@
 -- How far a text was played, whatever follows it.
-use Rattle.std.specs.Prelude.{◌≡◌, ◌⊎◌, ℕ, List, [], ◌∷◌, ◌++◌, Bool, true, false, not, ◌==◌, Option, None, Some}
+use Rattle.std.specs.Prelude.{◌≡◌, ℕ, List, ◌++◌, Bool, true, false, not, ◌==◌, Option, None, Some}
 use Rattle.std.specs.List.{All}
 use Rattle.std.specs.Str.Lines.{lines}
 use Rattle.cap_config.specs.declared.fault.ConfigFault.{ConfigFault}
-use Rattle.cap_config.specs.declared.fault.ConfigFaultKind.{ConfigFaultKind}
 use Rattle.cap_config.specs.declared.fault.ConfigFaultKind.TheVariants.{NoMemory as no_room}
 use Rattle.cap_config.specs.First.{first_fault}
 use Rattle.cap_daemon.specs.declared.stop.Stop.{Stop}

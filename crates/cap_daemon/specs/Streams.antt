@@ -1,5 +1,5 @@
 -- Streams whose failed calls are counted.
-use Rattle.std.specs.Prelude.{ℕ, ◌-◌, ◌^◌, ◌<◌, Result, Ok, Err}
+use Rattle.std.specs.Prelude.{ℕ, ◌-◌, ◌^◌, ◌<◌, Result, Err}
 use Rattle.cap_daemon.specs.declared.stop.Stop.{Stop}
 use Rattle.cap_daemon.specs.declared.stop.Stop.TheVariants.{BadLine, Config, Input, Output}
 

@@ -53,11 +53,11 @@ impl<R: Read> Counted<R> {
             return Err(io::Error::from(ErrorKind::Other));
         }
         self.reads += 1;
-        let result = self.inner.read(buf);
-        if result.is_err() {
+        let given = self.inner.read(buf);
+        if given.is_err() {
             self.failures += 1;
         }
-        result
+        given
     }
 }
 
@@ -68,13 +68,13 @@ impl<W: Write> Counted<W> {
         requires { self.old.failures < failures_max }
         ensures failures { self.new.failures ≡ (if is_err result then self.old.failures + 1 else self.old.failures) }
     {
-        let result = match self.inner.write_all(bytes) {
+        let written = match self.inner.write_all(bytes) {
             Ok(()) => self.inner.flush(),
             Err(error) => Err(error),
         };
-        if result.is_err() {
+        if written.is_err() {
             self.failures += 1;
         }
-        result
+        written
     }
 }

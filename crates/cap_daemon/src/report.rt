@@ -1,4 +1,4 @@
-ghost use Rattle.std.specs.Prelude.{◌≡◌, ◌≢◌, ◌⊎◌, ◌↔◌, ◌<◌, ◌≤◌, ◌+◌, ℕ, Ok, Err, IsOk, is_ok};
+ghost use Rattle.std.specs.Prelude.{◌≡◌, ◌≢◌, ◌⊎◌, ◌↔◌, ◌<◌, ◌≤◌, ◌+◌, ℕ, Ok, Err, IsOk, OnOk, OnErr};
 ghost use Rattle.cap_config.specs.declared.fault.ConfigFault.{ConfigFault};
 ghost use Rattle.cap_daemon.specs.Streams.{failures_max, input_failures, output_failures, MayWrite, IsRefused};
 
@@ -25,16 +25,21 @@ pub(crate) fn finish<W: Write>(
         Ok(()) => 0,
         Err(Stop::Input) => 1,
         Err(Stop::NoMemory) => 3,
-        Err(Stop::BadLine(line)) => match script.print_bad_line(line) {
-            Ok(()) => 2,
-            Err(_) => 3,
-        },
-        Err(Stop::Config(fault)) => match script.print_fault(fault) {
-            Ok(()) => 2,
-            Err(_) => 3,
-        },
+        Err(Stop::BadLine(line)) => refused(script.print_bad_line(line)),
+        Err(Stop::Config(fault)) => refused(script.print_fault(fault)),
     };
     tell(status, script, writer)
+}
+
+/// The status of a script that is refused for what it says, where there was memory to print why.
+fn refused(printed: Result<(), Stop>) -> u8
+    ensures ok { OnOk printed (result ≡ 2) }
+    ensures err { OnErr printed (result ≡ 3) }
+{
+    match printed {
+        Ok(()) => 2,
+        Err(_) => 3,
+    }
 }
 
 /// Writes out what was printed, and after it that memory was refused, where that is the status. The status is 1 where this fails.

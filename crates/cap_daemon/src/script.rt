@@ -72,7 +72,8 @@ impl Script {
         ensures only { (fault : ConfigFault) → result ≡ Err (bad_config fault) → ⊥ }
         ensures script { IfErr result IsOfScript }
     {
-        if self.world.is_some() {
+        let stepped = self.world.is_some();
+        if stepped {
             return Err(Stop::BadLine(self.lines));
         }
         self.settings.add(property)?;

@@ -1,10 +1,9 @@
-use Rattle.std.proofs.Common.{◌≡◌, ◌++◌, List, ℕ, length, arith, ap, sym, ◌∙◌, subst, refl}
+use Rattle.std.proofs.Common.{◌≡◌, ◌++◌, length, arith, ap, refl}
 use Rattle.std.specs.Prelude.{is_some}
 use Rattle.std.specs.Io.KnownBytes.{IsAtEnd}
 use Rattle.std.proofs.lemmas.Bool.Decides.{nat_tests}
-use Rattle.cap_daemon.specs.Progress.{IsPlayed}
 use Rattle.cap_daemon.proofs.Results.{on_ok}
-use Rattle.cap_daemon.proofs.Lines.{starts, as_now, consumes_more, consumes_none, fault_when}
+use Rattle.cap_daemon.proofs.Lines.{as_now, consumes_more, consumes_none, fault_when}
 use Rattle.cap_daemon.proofs.player.play_all.Goals as goal
 
 pub returns-then-is_empty-clause-done : goal.returns-then-is_empty-clause-done

@@ -1,4 +1,4 @@
-use Rattle.std.proofs.Common.{◌≡◌, ◌++◌, ◌∷◌, [], List, ℕ, ap, ◌∙◌, subst}
+use Rattle.std.proofs.Common.{◌++◌, ◌∷◌, [], List, ℕ, ap, ◌∙◌, subst}
 use Rattle.std.specs.Str.Lines.{strip_carriage_return}
 use Rattle.cap_daemon.specs.Script.{IsScript}
 use Rattle.cap_daemon.specs.Progress.{StopsAtStep}

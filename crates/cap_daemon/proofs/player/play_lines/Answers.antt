@@ -19,7 +19,7 @@ pub loop-front-preserved : goal.loop-front-preserved
 loop-front-preserved c = record {
   clean = rw c.in-Ok.ensures.cleared refl;
   played = λ text p.
-    let before = c.loop-front.invariant.played text p in
-    plays_line (text ++ c.args.bytes.now) c.loop-front.begun.items c.loop-front.rest.now c.in-Some.front.now c.in-Some.after.now c.play_line.new.begun.items c.loop-front.script.settings c.play_line.new.script.settings
-    (is_some c.loop-front.script.world) (is_some c.play_line.new.script.world) before c.in-Some.ensures.found c.loop-front.invariant.clean c.in-Some.ensures.first c.in-Ok.ensures.cleared (c.in-Ok.ensures.good before.done before.stands);
+      let before = c.loop-front.invariant.played text p in
+      plays_line (text ++ c.args.bytes.now) c.loop-front.begun.items c.loop-front.rest.now c.in-Some.front.now c.in-Some.after.now c.play_line.new.begun.items c.loop-front.script.settings c.play_line.new.script.settings
+      (is_some c.loop-front.script.world) (is_some c.play_line.new.script.world) before c.in-Some.ensures.found c.loop-front.invariant.clean c.in-Some.ensures.first c.in-Ok.ensures.cleared (c.in-Ok.ensures.good before.done before.stands);
 }
