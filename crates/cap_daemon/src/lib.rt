@@ -13,5 +13,5 @@ mod stop;
 #[cfg(test)]
 mod tests;
 
-pub use counted::Counted;
+pub use counted::{Counted, StreamFailed};
 pub use player::replay;
