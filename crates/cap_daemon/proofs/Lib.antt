@@ -1,3 +1,5 @@
 pub mod Digits
 pub mod Blanks
+pub mod Results
+pub mod Scripts
 pub mod Lines

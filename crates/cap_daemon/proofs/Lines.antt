@@ -1,18 +1,20 @@
 -- Lines of a text that comes in pieces.
-use Rattle.std.proofs.Common.{◌≡◌, ℕ, zero, suc, ◌<◌, Bool, true, false, List, [], ◌∷◌, ◌++◌, length, eqb, cond, refl, sym, ap, ◌∙◌, subst, arith}
+use Rattle.std.proofs.Common.{◌≡◌, ℕ, ◌<◌, Bool, true, false, List, [], ◌∷◌, ◌++◌, length, eqb, cond, refl, sym, ap, ◌∙◌, subst, arith}
 use Rattle.std.specs.Prelude.{not}
-use Rattle.std.specs.List.{All, list_all, slice_split}
+use Rattle.std.specs.List.{list_all, slice_split}
 use Rattle.std.specs.Str.Lines.{lines, lines_of_parts, strip_carriage_return}
 use Rattle.std.proofs.lemmas.Bool.{and_parts}
 use Rattle.std.proofs.lemmas.Bool.Decides.{nat_tests}
 use Rattle.std.proofs.lemmas.List.{append_assoc, append-nil}
-use Rattle.std.proofs.lemmas.List.Elements.{All-append}
 use Rattle.std.proofs.lemmas.List.Folds.{list_all-append}
-use Rattle.std.specs.Prelude.{Result, Ok, Err, OnOk, Option, None, Some}
+use Rattle.std.specs.Prelude.{Option, None, Some}
 use Rattle.std.specs.Io.KnownBytes.{Consumes}
 use Rattle.std.proofs.lemmas.List.Splits.{slice_split-cons_yes, slice_split-cons_no, length-slice_split}
-use Rattle.cap_daemon.specs.Script.{IsGood, HasBadLine}
-use Rattle.cap_daemon.specs.Progress.{is_no_feed, Reads, IsPlayed, StopsIn}
+use Rattle.cap_config.specs.declared.fault.ConfigFault.{ConfigFault}
+use Rattle.cap_daemon.specs.Script.{IsScript, HasBadLine}
+use Rattle.cap_daemon.specs.Settings.{settings_fault, AreReadBefore, HasFault, IsDone}
+use Rattle.cap_daemon.specs.Progress.{is_no_feed, Reads, IsPlayed, Stands, StopsAtStep, Begins, FailsToBegin}
+use Rattle.cap_daemon.proofs.Scripts.{at_start, sound_at_end, fault_at_end}
 
 not_true : (b : Bool) → not b ≡ true → b ≡ false
 not_true true h = absurd (cc h)
@@ -55,111 +57,154 @@ next_line text done raw after reads h = λ more.
     ∙ ap (λ x. done ++ x) (first_line raw (after ++ more) h)
     ∙ sym (append_assoc done (strip_carriage_return raw ∷ []) (lines (after ++ more)))
 
-reads_on : (text : List ℕ) (done : List (List ℕ)) (begun piece : List ℕ) (more_done : List (List ℕ)) (left : List ℕ) → Reads text done begun → Reads (begun ++ piece) more_done left → Reads (text ++ piece) (done ++ more_done) left
-reads_on text done begun piece more_done left a b = λ more.
+nothing : (xs : List ℕ) → length xs ≡ 0 → xs ≡ []
+nothing [] h = refl
+nothing (x ∷ xs) h = absurd (omega arith)
+
+-- a piece follows what was begun
+reads_piece : (text : List ℕ) (done : List (List ℕ)) (begun piece : List ℕ) → Reads text done begun → Reads (text ++ piece) done (begun ++ piece)
+reads_piece text done begun piece reads = λ more.
     ap lines (append_assoc text piece more)
-    ∙ a (piece ++ more)
+    ∙ reads (piece ++ more)
     ∙ ap (λ x. done ++ lines x) (sym (append_assoc begun piece more))
-    ∙ ap (λ x. done ++ x) (b more)
-    ∙ sym (append_assoc done more_done (lines (left ++ more)))
 
-one_good : (line : List ℕ) → IsGood line → All IsGood (line ∷ [])
-one_good line h zero d k = h
-one_good line h (suc i) d k = absurd (omega arith)
+-- nothing was read
+pub starts : IsPlayed [] [] None false
+starts = record { done = []; reads = λ more. refl; stands = at_start }
 
-none_good : All IsGood []
-none_good i d k = absurd (omega arith)
+-- a piece was read, and none of its lines is played yet
+pub plays_piece : (text begun piece : List ℕ) (settings : Option (List ℕ)) (opened : Bool) → IsPlayed text begun settings opened → IsPlayed (text ++ piece) (begun ++ piece) settings opened
+plays_piece text begun piece settings opened p = record { done = p.done; reads = reads_piece text p.done begun piece p.reads; stands = p.stands }
 
--- nothing was played
-pub starts : (text : List ℕ) → IsPlayed text text
-starts text = record { done = []; good = none_good; reads = λ more. refl }
+-- the same seen by other names
+pub as_now : (text begun left : List ℕ) (settings settings_then : Option (List ℕ)) (opened opened_then : Bool) → IsPlayed text begun settings opened → left ≡ begun → settings_then ≡ settings → opened_then ≡ opened → IsPlayed text left settings_then opened_then
+as_now text begun left settings settings_then opened opened_then p a b d = rw (a, b, d) p
 
--- one more good line
-pub plays_line : (text raw after : List ℕ) → IsPlayed text (raw ++ 10 ∷ after) → list_all is_no_feed raw ≡ true → IsGood (strip_carriage_return raw) → IsPlayed text after
-plays_line text raw after p h good = record {
-  done = p.done ++ strip_carriage_return raw ∷ [];
-  good = All-append IsGood p.done (strip_carriage_return raw ∷ []) p.good (one_good _ good);
-  reads = next_line text p.done raw after p.reads h;
+cut_reads : (text : List ℕ) (done : List (List ℕ)) (begun rest front after : List ℕ) → Reads text done (begun ++ rest) → rest ≡ front ++ 10 ∷ after → Reads text done ((begun ++ front) ++ 10 ∷ after)
+cut_reads text done begun rest front after reads cut =
+    subst (λ (x : List ℕ). Reads text done x) (ap (λ x. begun ++ x) cut ∙ sym (append_assoc begun front (10 ∷ after))) reads
+
+cut_clean : (begun front : List ℕ) → list_all is_no_feed begun ≡ true → list_all is_no_feed front ≡ true → list_all is_no_feed (begun ++ front) ≡ true
+cut_clean begun front a b = list_all-append is_no_feed begun front ∙ rw (a, b) refl
+
+-- the line that a line feed ends was played
+pub plays_line : (text begun rest front after left : List ℕ) (settings settings_then : Option (List ℕ)) (opened opened_then : Bool) → (p : IsPlayed text (begun ++ rest) settings opened) → rest ≡ front ++ 10 ∷ after → list_all is_no_feed begun ≡ true → list_all is_no_feed front ≡ true → left ≡ [] → Stands (p.done ++ strip_carriage_return (begun ++ front) ∷ []) settings_then opened_then → IsPlayed text (left ++ after) settings_then opened_then
+plays_line text begun rest front after left settings settings_then opened opened_then p cut a b cleared stands = record {
+  done = p.done ++ strip_carriage_return (begun ++ front) ∷ [];
+  reads = rw cleared (next_line text p.done (begun ++ front) after (cut_reads text p.done begun rest front after p.reads cut) (cut_clean begun front a b));
+  stands = stands;
 }
 
--- a line that is not good
-pub stops_at_line : (text raw after : List ℕ) → IsPlayed text (raw ++ 10 ∷ after) → list_all is_no_feed raw ≡ true → (IsGood (strip_carriage_return raw) → ⊥) → StopsIn text
-stops_at_line text raw after p h bad = record {
-  front = p.done;
-  line = strip_carriage_return raw;
-  rest = after;
-  good = p.good;
-  bad = bad;
-  reads = next_line text p.done raw after p.reads h;
-}
+whole_lines : (text : List ℕ) (done : List (List ℕ)) (line rest : List ℕ) (last : List (List ℕ)) → Reads text (done ++ last) rest → lines text ≡ done ++ (last ++ lines rest)
+whole_lines text done line rest last reads =
+    ap lines (sym (append-nil text))
+    ∙ reads []
+    ∙ ap (λ x. (done ++ last) ++ lines x) (append-nil rest)
+    ∙ append_assoc done last (lines rest)
 
--- one more piece
-pub plays_piece : (text begun piece left : List ℕ) → IsPlayed text begun → IsPlayed (begun ++ piece) left → IsPlayed (text ++ piece) left
-plays_piece text begun piece left p q = record {
-  done = p.done ++ q.done;
-  good = All-append IsGood p.done q.done p.good q.good;
-  reads = reads_on text p.done begun piece q.done left p.reads q.reads;
-}
-
--- a piece with a line that is not good
-pub stops_in_piece : (text begun piece : List ℕ) → IsPlayed text begun → StopsIn (begun ++ piece) → HasBadLine (text ++ piece)
-stops_in_piece text begun piece p q =
-    let reads = reads_on text p.done begun piece (q.front ++ q.line ∷ []) q.rest p.reads q.reads in
+-- the line that a line feed ends may not stand there
+pub stops_at_line : (text begun rest front after : List ℕ) (settings : Option (List ℕ)) (opened : Bool) → (p : IsPlayed text (begun ++ rest) settings opened) → rest ≡ front ++ 10 ∷ after → list_all is_no_feed begun ≡ true → list_all is_no_feed front ≡ true → (IsScript (p.done ++ strip_carriage_return (begun ++ front) ∷ []) → ⊥) → HasBadLine text
+stops_at_line text begun rest front after settings opened p cut a b bad =
+    let raw = begun ++ front in
+    let reads = next_line text p.done raw after (cut_reads text p.done begun rest front after p.reads cut) (cut_clean begun front a b) in
     record {
-      front = p.done ++ q.front;
-      line = q.line;
-      back = lines (q.rest ++ []);
-      lines = ap lines (sym (append-nil (text ++ piece)))
-          ∙ reads []
-          ∙ ap (λ x. x ++ lines (q.rest ++ [])) (sym (append_assoc p.done q.front (q.line ∷ [])))
-          ∙ append_assoc (p.done ++ q.front) (q.line ∷ []) (lines (q.rest ++ []));
-      good = All-append IsGood p.done q.front p.good q.good;
-      bad = q.bad;
+      front = p.done;
+      line = strip_carriage_return raw;
+      back = lines after;
+      lines = whole_lines text p.done (strip_carriage_return raw) after (strip_carriage_return raw ∷ []) reads;
+      good = p.stands.good;
+      bad = bad;
     }
+
+-- the line that a line feed ends is the first step, and the settings have a fault
+pub fails_at_line : (text begun rest front after : List ℕ) (settings : Option (List ℕ)) (opened : Bool) (fault : ConfigFault) (ended : Type 0) → (p : IsPlayed text (begun ++ rest) settings opened) → rest ≡ front ++ 10 ∷ after → list_all is_no_feed begun ≡ true → list_all is_no_feed front ≡ true → StopsAtStep p.done (strip_carriage_return (begun ++ front)) fault → HasFault text ended fault
+fails_at_line text begun rest front after settings opened fault ended p cut a b stops =
+    let raw = begun ++ front in
+    let reads = next_line text p.done raw after (cut_reads text p.done begun rest front after p.reads cut) (cut_clean begun front a b) in
+    record {
+      front = p.done;
+      back = strip_carriage_return raw ∷ lines after;
+      lines = whole_lines text p.done (strip_carriage_return raw) after (strip_carriage_return raw ∷ []) reads;
+      opens = stops.opens;
+      read = stops.step;
+      found = stops.found;
+    }
+
+read_when : (back : List (List ℕ)) (a b : Type 0) → (a → b) → AreReadBefore back a → AreReadBefore back b
+read_when [] a b f read = f read
+read_when (line ∷ back) a b f read = read
+
+-- a fault at the end, where that is seen otherwise
+pub fault_when : (text : List ℕ) (a b : Type 0) (fault : ConfigFault) → (a → b) → HasFault text a fault → HasFault text b fault
+fault_when text a b fault f h = record {
+  front = h.front;
+  back = h.back;
+  lines = h.lines;
+  opens = h.opens;
+  read = read_when h.back a b f h.read;
+  found = h.found;
+}
 
 at_end : (text : List ℕ) (done : List (List ℕ)) (begun : List ℕ) → Reads text done begun → lines text ≡ done ++ lines begun
 at_end text done begun reads = ap lines (sym (append-nil text)) ∙ reads [] ∙ ap (λ x. done ++ lines x) (append-nil begun)
 
--- the text has ended
-pub ends_good : (text begun : List ℕ) → IsPlayed text begun → All IsGood (lines begun) → All IsGood (lines text)
-ends_good text begun p good = rw (at_end text p.done begun p.reads) (All-append IsGood p.done (lines begun) p.good good)
+-- the end, with no last line
+no_last : (text : List ℕ) (done : List (List ℕ)) (begun : List ℕ) → length begun ≡ 0 → Reads text done begun → lines text ≡ done
+no_last text done begun none reads = at_end text done begun reads ∙ ap (λ x. done ++ lines x) (nothing begun none) ∙ append-nil done
 
-pub ends_bad : (text begun : List ℕ) → IsPlayed text begun → HasBadLine begun → HasBadLine text
-ends_bad text begun p q = record {
-  front = p.done ++ q.front;
-  line = q.line;
-  back = q.back;
-  lines = at_end text p.done begun p.reads ∙ ap (λ x. p.done ++ x) q.lines ∙ sym (append_assoc p.done q.front (q.line ∷ q.back));
-  good = All-append IsGood p.done q.front p.good q.good;
-  bad = q.bad;
+with_last : (text : List ℕ) (done : List (List ℕ)) (begun : List ℕ) → 0 < length begun → list_all is_no_feed begun ≡ true → Reads text done begun → lines text ≡ done ++ begun ∷ []
+with_last text done begun some h reads = at_end text done begun reads ∙ ap (λ x. done ++ x) (last_line begun some h)
+
+-- the last line stands where it may
+is_done : (text : List ℕ) (done : List (List ℕ)) (settings settings_then : Option (List ℕ)) (opened opened_then : Bool) → lines text ≡ done → Stands done settings opened → Begins settings opened settings_then opened_then → IsDone text
+is_done text done settings settings_then opened opened_then is stands begins = record {
+  good = subst IsScript (sym is) stands.good;
+  sound = ap settings_fault is ∙ sound_at_end done settings settings_then opened opened_then stands begins;
 }
 
-pub last_good : (line : List ℕ) → 0 < length line → list_all is_no_feed line ≡ true → IsGood line → All IsGood (lines line)
-last_good line some h good = rw (last_line line some h) (one_good line good)
+has_fault : (text : List ℕ) (done : List (List ℕ)) (settings : Option (List ℕ)) (opened : Bool) (fault : ConfigFault) (ended : Type 0) → ended → lines text ≡ done → Stands done settings opened → FailsToBegin settings opened fault → HasFault text ended fault
+has_fault text done settings opened fault ended end is stands fails = record {
+  front = done;
+  back = [];
+  lines = is ∙ sym (append-nil done);
+  opens = stands.waits fails.0;
+  read = end;
+  found = fault_at_end done settings opened fault stands fails;
+}
 
-pub last_bad : (line : List ℕ) → 0 < length line → list_all is_no_feed line ≡ true → (IsGood line → ⊥) → HasBadLine line
-last_bad line some h bad = record { front = []; line = line; back = []; lines = last_line line some h; good = none_good; bad = bad }
+pub ends_done : (text begun : List ℕ) (settings settings_then : Option (List ℕ)) (opened opened_then : Bool) → length begun ≡ 0 → IsPlayed text begun settings opened → Begins settings opened settings_then opened_then → IsDone text
+ends_done text begun settings settings_then opened opened_then none p begins = is_done text p.done settings settings_then opened opened_then (no_last text p.done begun none p.reads) p.stands begins
 
-cut_whole : (text begun rest front after raw : List ℕ) → IsPlayed text (begun ++ rest) → rest ≡ front ++ 10 ∷ after → raw ≡ begun ++ front → IsPlayed text (raw ++ 10 ∷ after)
-cut_whole text begun rest front after raw p cut is =
-    subst (λ (x : List ℕ). IsPlayed text x) (ap (λ x. begun ++ x) cut ∙ sym (append_assoc begun front (10 ∷ after)) ∙ ap (λ x. x ++ 10 ∷ after) (sym is)) p
+pub ends_done_with : (text begun : List ℕ) (old settings settings_then : Option (List ℕ)) (was opened opened_then : Bool) → 0 < length begun → list_all is_no_feed begun ≡ true → (p : IsPlayed text begun old was) → Stands (p.done ++ begun ∷ []) settings opened → Begins settings opened settings_then opened_then → IsDone text
+ends_done_with text begun old settings settings_then was opened opened_then some h p stands begins = is_done text (p.done ++ begun ∷ []) settings settings_then opened opened_then (with_last text p.done begun some h p.reads) stands begins
 
-cut_clean : (begun front raw : List ℕ) → list_all is_no_feed begun ≡ true → list_all is_no_feed front ≡ true → raw ≡ begun ++ front → list_all is_no_feed raw ≡ true
-cut_clean begun front raw a b is = ap (list_all is_no_feed) is ∙ list_all-append is_no_feed begun front ∙ rw (a, b) refl
+pub ends_fault : (text begun : List ℕ) (settings : Option (List ℕ)) (opened : Bool) (fault : ConfigFault) (ended : Type 0) → ended → length begun ≡ 0 → IsPlayed text begun settings opened → FailsToBegin settings opened fault → HasFault text ended fault
+ends_fault text begun settings opened fault ended end none p fails = has_fault text p.done settings opened fault ended end (no_last text p.done begun none p.reads) p.stands fails
 
--- the line that a line feed ends is good
-pub plays_cut : (text begun rest front after raw line : List ℕ) → IsPlayed text (begun ++ rest) → rest ≡ front ++ 10 ∷ after → list_all is_no_feed begun ≡ true → list_all is_no_feed front ≡ true → raw ≡ begun ++ front → line ≡ strip_carriage_return raw → IsGood line → IsPlayed text after
-plays_cut text begun rest front after raw line p cut a b is stripped good =
-    plays_line text raw after (cut_whole text begun rest front after raw p cut is) (cut_clean begun front raw a b is) (subst IsGood stripped good)
+pub ends_fault_with : (text begun : List ℕ) (old settings : Option (List ℕ)) (was opened : Bool) (fault : ConfigFault) (ended : Type 0) → ended → 0 < length begun → list_all is_no_feed begun ≡ true → (p : IsPlayed text begun old was) → Stands (p.done ++ begun ∷ []) settings opened → FailsToBegin settings opened fault → HasFault text ended fault
+ends_fault_with text begun old settings was opened fault ended end some h p stands fails = has_fault text (p.done ++ begun ∷ []) settings opened fault ended end (with_last text p.done begun some h p.reads) stands fails
 
--- the line that a line feed ends is not good
-pub stops_at_cut : (text begun rest front after raw line : List ℕ) → IsPlayed text (begun ++ rest) → rest ≡ front ++ 10 ∷ after → list_all is_no_feed begun ≡ true → list_all is_no_feed front ≡ true → raw ≡ begun ++ front → line ≡ strip_carriage_return raw → (IsGood line → ⊥) → StopsIn text
-stops_at_cut text begun rest front after raw line p cut a b is stripped bad =
-    stops_at_line text raw after (cut_whole text begun rest front after raw p cut is) (cut_clean begun front raw a b is) (λ good. bad (subst IsGood (sym stripped) good))
+-- the last line may not stand there
+pub ends_bad : (text begun : List ℕ) (settings : Option (List ℕ)) (opened : Bool) → 0 < length begun → list_all is_no_feed begun ≡ true → (p : IsPlayed text begun settings opened) → (IsScript (p.done ++ begun ∷ []) → ⊥) → HasBadLine text
+ends_bad text begun settings opened some h p bad = record {
+  front = p.done;
+  line = begun;
+  back = [];
+  lines = with_last text p.done begun some h p.reads;
+  good = p.stands.good;
+  bad = bad;
+}
 
-pub on_ok : {X E : Type 0} {P Q : Type 0} → (r : Result X E) → OnOk r P → (P → Q) → OnOk r Q
-on_ok (Ok x) p f = f p
-on_ok (Err e) p f = tt
+-- the last line is the first step, and the settings have a fault
+pub ends_at_step : (text begun : List ℕ) (settings : Option (List ℕ)) (opened : Bool) (fault : ConfigFault) (ended : Type 0) → 0 < length begun → list_all is_no_feed begun ≡ true → (p : IsPlayed text begun settings opened) → StopsAtStep p.done begun fault → HasFault text ended fault
+ends_at_step text begun settings opened fault ended some h p stops = record {
+  front = p.done;
+  back = begun ∷ [];
+  lines = with_last text p.done begun some h p.reads;
+  opens = stops.opens;
+  read = stops.step;
+  found = stops.found;
+}
 
 -- known bytes that are taken one after the other
 pub consumes_more : (a b c : Option (List ℕ)) (first next : List ℕ) → Consumes a b first → Consumes b c next → Consumes a c (first ++ next)
@@ -167,10 +212,6 @@ consumes_more None b c first next x y = tt
 consumes_more (Some xs) None c first next x y = absurd x
 consumes_more (Some xs) (Some ys) None first next x y = absurd y
 consumes_more (Some xs) (Some ys) (Some zs) first next x y = x ∙ ap (λ r. first ++ r) y ∙ sym (append_assoc first next zs)
-
-nothing : (xs : List ℕ) → length xs ≡ 0 → xs ≡ []
-nothing [] h = refl
-nothing (x ∷ xs) h = absurd (omega arith)
 
 pub consumes_none : (a b c : Option (List ℕ)) (text piece : List ℕ) → length piece ≡ 0 → Consumes a b text → Consumes b c piece → Consumes a c text
 consumes_none a b c text piece none x y = subst (λ (t : List ℕ). Consumes a c t) (ap (λ p. text ++ p) (nothing piece none) ∙ append-nil text) (consumes_more a b c text piece x y)

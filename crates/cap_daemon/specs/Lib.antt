@@ -1,3 +1,5 @@
 pub mod Number
 pub mod Script
+pub mod Settings
+pub mod Streams
 pub mod Progress

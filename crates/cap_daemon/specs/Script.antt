@@ -4,7 +4,7 @@ use Rattle.std.specs.List.{All}
 use Rattle.std.specs.Str.Lines.{lines}
 use Rattle.hex.specs.Hex.{decode_of}
 use Rattle.cap_daemon.specs.declared.command.Command.{Command}
-use Rattle.cap_daemon.specs.declared.command.Command.TheVariants.{Nothing, Open, Bytes, End}
+use Rattle.cap_daemon.specs.declared.command.Command.TheVariants.{Nothing, Conf, Open, Bytes, End}
 use Rattle.cap_daemon.specs.Number.{IsNumber}
 
 abbrev pub is_no_blank : ℕ → Bool
@@ -17,6 +17,7 @@ IsNumbered line word n = (digits : List ℕ) × (line ≡ word ++ 32 ∷ digits)
 -- the line asks for the command
 abbrev pub IsCommand : List ℕ → Command → Type 0
 IsCommand line Nothing = (line ≡ []) ⊎ ((comment : List ℕ) × (line ≡ 35 ∷ comment))
+IsCommand line (Conf property) = line ≡ codes "conf" ++ 32 ∷ property.now
 IsCommand line (Open n) = IsNumbered line (codes "open") n
 IsCommand line (End n) = IsNumbered line (codes "end") n
 IsCommand line (Bytes n piece) = (digits : List ℕ) × (line ≡ codes "bytes" ++ 32 ∷ digits ++ 32 ∷ piece.now) × IsNumber digits n
@@ -25,21 +26,47 @@ IsCommand line (Bytes n piece) = (digits : List ℕ) × (line ≡ codes "bytes" 
 abbrev pub IsPiece : List ℕ → Type 0
 IsPiece digits = (0 < length digits) × IsOk (decode_of digits)
 
-abbrev pub IsPlayable : Command → Type 0
-IsPlayable Nothing = Unit {0}
-IsPlayable (Open n) = Unit {0}
-IsPlayable (End n) = Unit {0}
-IsPlayable (Bytes n piece) = IsPiece piece.now
+-- before the first step stand property lines, comments and empty lines
+abbrev pub MayOpen : Command → Type 0
+MayOpen Nothing = Unit {0}
+MayOpen (Conf property) = Unit {0}
+MayOpen _ = ⊥
 
--- a line that a script may have
-abbrev pub IsGood : List ℕ → Type 0
-IsGood line = (command : Command) × IsCommand line command × IsPlayable command
+-- the steps of connections
+abbrev pub MayStep : Command → Type 0
+MayStep Nothing = ⊥
+MayStep (Conf property) = ⊥
+MayStep (Open n) = Unit {0}
+MayStep (End n) = Unit {0}
+MayStep (Bytes n piece) = IsPiece piece.now
 
--- the first line that a script may not have, after good ones
+-- from the first step on stand steps, comments and empty lines
+abbrev pub MayFollow : Command → Type 0
+MayFollow Nothing = Unit {0}
+MayFollow command = MayStep command
+
+abbrev pub IsOpeningLine : List ℕ → Type 0
+IsOpeningLine line = (command : Command) × IsCommand line command × MayOpen command
+
+abbrev pub IsStep : List ℕ → Type 0
+IsStep line = (command : Command) × IsCommand line command × MayStep command
+
+abbrev pub IsLaterLine : List ℕ → Type 0
+IsLaterLine line = (command : Command) × IsCommand line command × MayFollow command
+
+-- a script: its property lines, and then its steps
+pub record IsScript (script : List (List ℕ)) : Type 0 where
+  pub front : List (List ℕ)
+  pub back : List (List ℕ)
+  pub cut : script ≡ front ++ back
+  pub opens : All IsOpeningLine front
+  pub steps : All IsLaterLine back
+
+-- the first line that may not stand there, after good ones
 pub record HasBadLine (text : List ℕ) : Type 0 where
   pub front : List (List ℕ)
   pub line : List ℕ
   pub back : List (List ℕ)
   pub lines : lines text ≡ front ++ line ∷ back
-  pub good : All IsGood front
-  pub bad : IsGood line → ⊥
+  pub good : IsScript front
+  pub bad : IsScript (front ++ line ∷ []) → ⊥

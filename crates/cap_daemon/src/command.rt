@@ -10,6 +10,8 @@ use crate::number::number_of;
 pub(crate) enum Command<'a> {
     /// An empty line, or a comment.
     Nothing,
+    /// A property line of the settings.
+    Conf(&'a [u8]),
     Open(u32),
     /// A piece in hexadecimal, which is not looked at yet.
     Bytes(u32, &'a [u8]),
@@ -23,6 +25,9 @@ pub(crate) fn command_of(line: &[u8]) -> Option<Command<'_>>
 {
     if line.is_empty() || line[0] == b'#' {
         return Some(Command::Nothing);
+    }
+    if let Some(property) = line.strip_prefix(b"conf ") {
+        return Some(Command::Conf(property));
     }
     if let Some(number) = line.strip_prefix(b"open ") {
         return Some(Command::Open(number_of(number)?));

@@ -2,12 +2,16 @@
 #![tactic(auto)]
 
 mod command;
+mod counted;
 mod frames;
 mod number;
 mod player;
+mod report;
 mod script;
+mod settings;
 mod stop;
 #[cfg(test)]
 mod tests;
 
+pub use counted::{Counted, StreamFailed};
 pub use player::replay;

@@ -1,52 +1,76 @@
-ghost use Rattle.std.specs.Prelude.{◌≡◌, ◌<◌, ◌++◌, ◌∷◌, ℕ, List, true, length, Ok, Err, OnOk, IfOk, IfErr, IsOk, IfSome, IfNone};
+ghost use Rattle.std.specs.Prelude.{◌≡◌, ◌<◌, ◌≤◌, ◌+◌, ◌++◌, ◌∷◌, ◌⊎◌, ◌↔◌, [], ℕ, List, true, false, length, Ok, Err, OnOk, IfOk, IfErr, IsOk, IfSome, IfNone, OnErr, is_some, None};
 ghost use Rattle.std.specs.Io.KnownBytes.{Consumes, IsAtEnd};
-ghost use Rattle.std.specs.List.{All, list_all};
-ghost use Rattle.std.specs.Str.Lines.{lines, strip_carriage_return};
-ghost use Rattle.cap_daemon.specs.declared.stop.Stop.TheVariants.{BadLine, Stream as stream_failed};
-ghost use Rattle.cap_daemon.specs.Script.{IsGood, HasBadLine};
-ghost use Rattle.cap_daemon.specs.Progress.{is_no_feed, IsPlayed, StopsIn};
+ghost use Rattle.std.specs.List.{list_all};
+ghost use Rattle.std.specs.Str.Lines.{strip_carriage_return};
+ghost use Rattle.cap_config.specs.declared.fault.ConfigFault.{ConfigFault};
+ghost use Rattle.cap_daemon.specs.declared.stop.Stop.TheVariants.{BadLine, Config as bad_config, Input as read_failed};
+ghost use Rattle.cap_daemon.specs.Script.{HasBadLine, IsScript};
+ghost use Rattle.cap_daemon.specs.Settings.{HasFault, IsDone};
+ghost use Rattle.cap_daemon.specs.Progress.{is_no_feed, IsPlayed, Stands, StopsAtStep};
+ghost use Rattle.cap_daemon.specs.Streams.{failures_max, reads_max, input_failures, output_failures, IsOfScript};
 
+use crate::counted::Counted;
+use crate::report::finish;
 use crate::script::Script;
 use crate::stop::Stop;
 use std::alloc::{AllocError, Global};
 use std::io::{Read, Write};
 
-/// How many reads of the input are made at most.
-const READS_MAX: u64 = 1 << 32;
-
 /// How many bytes are read at once.
 const CHUNK: usize = 65536;
 
 /// Plays the script that the reader gives, one step of a world a line, and writes what its connections are answered. What was
-/// printed is written out before each read. The result is the exit status: 0 done; 1 the reader or the writer failed, or the
-/// input did not end within 2^32 reads; 2 after a line `bad line N`; 3 after a line `no memory`. What was printed before stays.
-pub fn replay<R: Read, W: Write>(alloc: Global, reader: &mut R, writer: &mut W) -> u8
+/// printed is written out before each read. The result is the exit status: 0 done; 1 the reader or the writer failed, a reader
+/// also where the input did not end within 2^32 reads; 2 after a line `bad line N`, or `config LINE NUMBER` for the first fault
+/// of the settings; 3 after a line `no memory`. What was printed before stays.
+pub fn replay<R: Read, W: Write>(
+    alloc: Global,
+    reader: &mut Counted<R>,
+    writer: &mut Counted<W>,
+) -> u8
+    requires reader { reader.old.failures < failures_max }
+    requires writer { writer.old.failures < failures_max }
     ensures status { result < 4 }
-    // It is done only where the input has ended and each of its lines is a command.
-    ensures done { result ≡ 0 → (text : List ℕ) × Consumes (R.remaining reader.old) (R.remaining reader.new) text × IsAtEnd (R.remaining reader.new) × All IsGood (lines text) }
-    // It answers 2 only where a line that was read is no command.
-    ensures bad { result ≡ 2 → (text : List ℕ) × Consumes (R.remaining reader.old) (R.remaining reader.new) text × HasBadLine text }
+    // It is done only where the input has ended, each of its lines stands where it may, and the settings have no fault.
+    ensures done { result ≡ 0 → (text : List ℕ) × Consumes (R.remaining reader.old.inner) (R.remaining reader.new.inner) text × IsAtEnd (R.remaining reader.new.inner) × IsDone text }
+    // It answers 2 only where what was read has a line that may not stand there, or settings with a fault.
+    ensures refused { result ≡ 2 → (text : List ℕ) × Consumes (R.remaining reader.old.inner) (R.remaining reader.new.inner) text × (HasBadLine text ⊎ ((fault : ConfigFault) × HasFault text (IsAtEnd (R.remaining reader.new.inner)) fault)) }
+    // It answers 1 exactly where a read or a write has failed.
+    ensures failed { result ≡ 1 ↔ ((reader.old.failures < reader.new.failures) ⊎ (writer.old.failures < writer.new.failures)) }
 {
     let mut script = Script::new(alloc);
     let played = play_all(alloc, reader, writer, &mut script);
-    finish(played, &mut script, writer).unwrap_or(1)
+    finish(played, &mut script, writer)
 }
 
 /// Plays all lines of the input.
 fn play_all<R: Read, W: Write>(
     alloc: Global,
-    reader: &mut R,
-    writer: &mut W,
+    reader: &mut Counted<R>,
+    writer: &mut Counted<W>,
     script: &mut Script,
 ) -> Result<(), Stop>
-    ensures done { OnOk result ((text : List ℕ) × Consumes (R.remaining reader.old) (R.remaining reader.new) text × IsAtEnd (R.remaining reader.new) × All IsGood (lines text)) }
-    ensures bad { (n : ℕ) → result ≡ Err (BadLine n) → (text : List ℕ) × Consumes (R.remaining reader.old) (R.remaining reader.new) text × HasBadLine text }
+    requires reader { reader.old.failures < failures_max }
+    requires writer { writer.old.failures < failures_max }
+    requires settings { script.old.settings ≡ None }
+    requires world { is_some script.old.world ≡ false }
+    ensures done { OnOk result ((text : List ℕ) × Consumes (R.remaining reader.old.inner) (R.remaining reader.new.inner) text × IsAtEnd (R.remaining reader.new.inner) × IsDone text) }
+    ensures bad { (n : ℕ) → result ≡ Err (BadLine n) → (text : List ℕ) × Consumes (R.remaining reader.old.inner) (R.remaining reader.new.inner) text × HasBadLine text }
+    ensures fault { (fault : ConfigFault) → result ≡ Err (bad_config fault) → (text : List ℕ) × Consumes (R.remaining reader.old.inner) (R.remaining reader.new.inner) text × HasFault text (IsAtEnd (R.remaining reader.new.inner)) fault }
+    ensures reads { reader.new.failures ≡ reader.old.failures + input_failures result }
+    ensures writes { writer.new.failures ≡ writer.old.failures + output_failures result }
 {
     let mut chunk = [0u8; CHUNK];
     let mut begun = Vec::new(alloc);
-    for _ in 0..READS_MAX {
-        script.write_out(writer)?;
-        let piece = read_piece(reader, &mut chunk)?;
+    loop {
+        match script.write_out(writer) {
+            Ok(()) => {}
+            Err(stop) => return Err(stop),
+        }
+        let piece = match read_piece(reader, &mut chunk) {
+            Ok(piece) => piece,
+            Err(stop) => return Err(stop),
+        };
         if piece.is_empty() {
             return play_last(&begun, script);
         }
@@ -55,18 +79,24 @@ fn play_all<R: Read, W: Write>(
             Err(stop) => return Err(stop),
         }
     }
-    Err(Stop::Stream)
 }
 
 /// The next bytes of the input; none where it has ended.
-fn read_piece<'a, R: Read>(reader: &mut R, chunk: &'a mut [u8; CHUNK]) -> Result<&'a [u8], Stop>
-    ensures read { IfOk result (λ piece. Consumes (R.remaining reader.old) (R.remaining reader.new) piece.now) }
-    ensures ended { IfOk result (λ piece. length piece.now ≡ 0 → IsAtEnd (R.remaining reader.new)) }
-    ensures failed { IfErr result (λ stop. stop ≡ stream_failed) }
+fn read_piece<'a, R: Read>(
+    reader: &mut Counted<R>,
+    chunk: &'a mut [u8; CHUNK],
+) -> Result<&'a [u8], Stop>
+    requires { reader.old.failures < failures_max }
+    ensures read { IfOk result (λ piece. Consumes (R.remaining reader.old.inner) (R.remaining reader.new.inner) piece.now) }
+    ensures ended { IfOk result (λ piece. length piece.now ≡ 0 → IsAtEnd (R.remaining reader.new.inner)) }
+    ensures failed { IfErr result (λ stop. stop ≡ read_failed) }
+    ensures failures { reader.new.failures ≡ reader.old.failures + input_failures result }
+    ensures count { OnOk result (reader.new.reads ≡ reader.old.reads + 1) }
+    ensures few { OnOk result (reader.new.reads ≤ reads_max) }
 {
     match reader.read(chunk) {
         Ok(n) => Ok(&chunk[..n]),
-        Err(_) => Err(Stop::Stream),
+        Err(_) => Err(Stop::Input),
     }
 }
 
@@ -74,20 +104,39 @@ fn read_piece<'a, R: Read>(reader: &mut R, chunk: &'a mut [u8; CHUNK]) -> Result
 fn play_lines(bytes: &[u8], begun: &mut Vec<u8>, script: &mut Script) -> Result<(), Stop>
     requires { list_all is_no_feed begun.old.items ≡ true }
     ensures begun { OnOk result (list_all is_no_feed begun.new.items ≡ true) }
-    ensures good { OnOk result (IsPlayed (begun.old.items ++ bytes.now) begun.new.items) }
-    ensures bad { (n : ℕ) → result ≡ Err (BadLine n) → StopsIn (begun.old.items ++ bytes.now) }
+    ensures good { (text : List ℕ) → IsPlayed text begun.old.items script.old.settings (is_some script.old.world) → OnOk result (IsPlayed (text ++ bytes.now) begun.new.items script.new.settings (is_some script.new.world)) }
+    ensures bad { (n : ℕ) → result ≡ Err (BadLine n) → (text : List ℕ) → IsPlayed text begun.old.items script.old.settings (is_some script.old.world) → HasBadLine (text ++ bytes.now) }
+    ensures fault { (fault : ConfigFault) → result ≡ Err (bad_config fault) → (text : List ℕ) → IsPlayed text begun.old.items script.old.settings (is_some script.old.world) → HasFault (text ++ bytes.now) ⊥ fault }
+    ensures only { IfErr result IsOfScript }
 {
     let mut rest = bytes;
     while let Some((front, after)) = cut_at_feed(rest) {
-        begun.extend_from_slice(front)?;
-        match script.play(without_return(begun)) {
-            Ok(()) => begun.clear(),
+        match play_line(front, begun, script) {
+            Ok(()) => {}
             Err(stop) => return Err(stop),
         }
         rest = after;
     }
     begun.extend_from_slice(rest)?;
     Ok(())
+}
+
+/// Plays the line that a line feed ends: what was begun of it before, and its last bytes. Then nothing is begun.
+fn play_line(last: &[u8], begun: &mut Vec<u8>, script: &mut Script) -> Result<(), Stop>
+    ensures cleared { OnOk result (begun.new.items ≡ []) }
+    ensures good { (done : List (List ℕ)) → Stands done script.old.settings (is_some script.old.world) → OnOk result (Stands (done ++ strip_carriage_return (begun.old.items ++ last.now) ∷ []) script.new.settings (is_some script.new.world)) }
+    ensures bad { (n : ℕ) → result ≡ Err (BadLine n) → (done : List (List ℕ)) → Stands done script.old.settings (is_some script.old.world) → IsScript (done ++ strip_carriage_return (begun.old.items ++ last.now) ∷ []) → ⊥ }
+    ensures fault { (fault : ConfigFault) → result ≡ Err (bad_config fault) → (done : List (List ℕ)) → Stands done script.old.settings (is_some script.old.world) → StopsAtStep done (strip_carriage_return (begun.old.items ++ last.now)) fault }
+    ensures only { IfErr result IsOfScript }
+{
+    begun.extend_from_slice(last)?;
+    match script.play(without_return(begun)) {
+        Ok(()) => {
+            begun.clear();
+            Ok(())
+        }
+        Err(stop) => Err(stop),
+    }
 }
 
 /// The bytes before the first line feed and those after it.
@@ -104,16 +153,21 @@ fn cut_at_feed(bytes: &[u8]) -> Option<(&[u8], &[u8])>
     None
 }
 
-/// Plays a last line that no line feed ends, if there is one.
+/// Plays a last line that no line feed ends, if there is one. Settings that no step has read are read now.
 fn play_last(line: &[u8], script: &mut Script) -> Result<(), Stop>
     requires { list_all is_no_feed line.now ≡ true }
-    ensures good { OnOk result (All IsGood (lines line.now)) }
-    ensures bad { (n : ℕ) → result ≡ Err (BadLine n) → HasBadLine line.now }
+    ensures good { (text : List ℕ) → IsPlayed text line.now script.old.settings (is_some script.old.world) → OnOk result (IsDone text) }
+    ensures bad { (n : ℕ) → result ≡ Err (BadLine n) → (text : List ℕ) → IsPlayed text line.now script.old.settings (is_some script.old.world) → HasBadLine text }
+    ensures fault { (fault : ConfigFault) → result ≡ Err (bad_config fault) → (text : List ℕ) → IsPlayed text line.now script.old.settings (is_some script.old.world) → HasFault text (Unit {0}) fault }
+    ensures only { IfErr result IsOfScript }
 {
     if line.is_empty() {
-        return Ok(());
+        return script.begin();
     }
-    script.play(line)
+    match script.play(line) {
+        Ok(()) => script.begin(),
+        Err(stop) => Err(stop),
+    }
 }
 
 /// A line without the one carriage return at its end.
@@ -123,39 +177,5 @@ fn without_return(line: &[u8]) -> &[u8]
     match line {
         [front @ .., b'\r'] => front,
         _ => line,
-    }
-}
-
-/// Prints why a script was played no further, and says the exit status.
-fn finish<W: Write>(
-    played: Result<(), Stop>,
-    script: &mut Script,
-    writer: &mut W,
-) -> Result<u8, Stop>
-    ensures status { IfOk result (λ status. status < 4) }
-    ensures done { result ≡ Ok 0 → IsOk played }
-    ensures bad { result ≡ Ok 2 → (n : ℕ) × (played ≡ Err (BadLine n)) }
-{
-    let stop = match played {
-        Ok(()) => {
-            script.write_out(writer)?;
-            return Ok(0);
-        }
-        Err(Stop::BadLine(line)) => match script.print_bad_line(line) {
-            Ok(()) => Stop::BadLine(line),
-            Err(stop) => stop,
-        },
-        Err(stop) => stop,
-    };
-    script.write_out(writer)?;
-    match stop {
-        Stop::BadLine(_) => Ok(2),
-        Stop::Stream => Ok(1),
-        Stop::NoMemory => {
-            if writer.write_all(b"no memory\n").is_err() || writer.flush().is_err() {
-                return Err(Stop::Stream);
-            }
-            Ok(3)
-        }
     }
 }

@@ -1,17 +1,22 @@
 ghost use Rattle.std.specs.Prelude.{◌≡◌};
 ghost use Rattle.cap_daemon.specs.declared.stop.Stop.TheVariants.{NoMemory as out_of_memory};
 
+use cap_config::ConfigFault;
 use std::alloc::{AllocError, AllocFailed};
 
 /// Why a script is played no further.
 #[derive(Clone, Copy, Debug, PartialEq, Eq)]
 pub(crate) enum Stop {
-    /// The line of this number, counted from 1, is none.
+    /// The line of this number, counted from 1, may not stand there.
     BadLine(u64),
+    /// The settings have this fault.
+    Config(ConfigFault),
     /// Memory was refused.
     NoMemory,
-    /// The input or the output failed, or the input did not end in time.
-    Stream,
+    /// A read failed, or the input did not end in time.
+    Input,
+    /// A write failed.
+    Output,
 }
 
 impl From<AllocError> for Stop {

@@ -62,7 +62,11 @@ fn plays<R: Abort + AllocGlobal>(rt: &R, script: &str, printed: &str, status: u8
     let mut input = script.as_bytes();
     let mut output = Vec::new(rt.alloc());
     assert_eq!(rt;
-        replay(rt.alloc(), &mut input, &mut output),
+        replay(
+            rt.alloc(),
+            &mut Counted::new(&mut input),
+            &mut Counted::new(&mut output)
+        ),
         status,
         "{script}"
     );
@@ -130,6 +134,135 @@ fn faults_in_the_stream_are_told(rt: HostRuntime) {
     );
 }
 
+const A_AND_B: &str = "conf yarn.scheduler.capacity.root.queues=a,b\n\
+    conf yarn.scheduler.capacity.root.a.capacity=[memory=4096,vcores=4]\n\
+    conf yarn.scheduler.capacity.root.a.maximum-capacity=[memory=16384,vcores=16]\n\
+    conf yarn.scheduler.capacity.root.a.user-limit-factor=4\n\
+    conf yarn.scheduler.capacity.root.b.capacity=[memory=2048,vcores=8]\n";
+
+/// Plays steps after the settings of two queues.
+fn plays_with_queues<R: Abort + AllocGlobal>(
+    rt: &R,
+    steps: &str,
+    printed: &str,
+) -> Result<(), Fail> {
+    let script = format!(in rt.alloc(); "{A_AND_B}{steps}")?;
+    plays(rt, script.as_str(), printed, 0);
+    Ok(())
+}
+
+#[test]
+fn a_queue_is_stopped(rt: HostRuntime) -> Result<(), Fail> {
+    plays_with_queues(
+        &rt,
+        "open 1\n\
+        bytes 1 0000000d01080000000906726f6f742e61\n\
+        bytes 1 0000000e01090000000106726f6f742e6100\n\
+        bytes 1 0000000d01080000000906726f6f742e61\n",
+        "opened 1\n\
+        out 1 0000003e0108000000090001010000000000001000000000000000000401000000000000400000000000000000100000000000000000000000000000000000000000\n\
+        out 1 0000000701090000000100\n\
+        out 1 0000003e0108000000090000010000000000001000000000000000000401000000000000400000000000000000100000000000000000000000000000000000000000\n",
+    )
+}
+
+#[test]
+fn queues_are_told(rt: HostRuntime) -> Result<(), Fail> {
+    // `root` has no guarantee and no bound; `root.b` stands under a stopped queue; `root.c` and `..` name no queue.
+    plays_with_queues(
+        &rt,
+        "open 1\n\
+        bytes 1 0000000b01080000000a04726f6f74\n\
+        bytes 1 0000000c01090000000204726f6f7400\n\
+        bytes 1 0000000d01080000000b06726f6f742e62\n\
+        bytes 1 0000000d01080000000c06726f6f742e63\n\
+        bytes 1 0000000901080000000d022e2e\n",
+        "opened 1\n\
+        out 1 0000003e01080000000a0001000000000000000000000000000000000000000000000000000000000000000000000000000000000000000000000000000000000000\n\
+        out 1 0000000701090000000200\n\
+        out 1 0000003e01080000000b0000010000000000000800000000000000000800000000000000000000000000000000000000000000000000000000000000000000000000\n\
+        out 1 0000000701080000000c01\n\
+        out 1 0000000701080000000d01\n",
+    )
+}
+
+#[test]
+fn without_property_lines_there_is_one_queue(rt: HostRuntime) {
+    plays(
+        &rt,
+        "open 1\nbytes 1 000000130108000000010c726f6f742e64656661756c74\n",
+        "opened 1\n\
+        out 1 0000003e0108000000010001010000000000000000000000000000000000000000000000000000000000000000000000000000000000000000000000000000000000\n",
+        0,
+    );
+}
+
+const FOUR: &str = "conf yarn.scheduler.capacity.root.queues=a\n\
+    conf yarn.scheduler.capacity.root.a.queues=x,y\n\
+    conf yarn.scheduler.capacity.root.a.capacity=[memory=4096,vcores=4]\n\
+    conf yarn.scheduler.capacity.root.a.x.capacity=[memory=1024,vcores=2]\n";
+
+#[test]
+fn settings_are_read_at_the_end_of_the_input(rt: HostRuntime) -> Result<(), Fail> {
+    let fine = format!(in rt.alloc();
+        "{FOUR}conf yarn.scheduler.capacity.root.a.y.capacity=[memory=3072,vcores=2]\n"
+    )?;
+    plays(&rt, fine.as_str(), "", 0);
+    let over = format!(in rt.alloc();
+        "{FOUR}conf yarn.scheduler.capacity.root.a.y.capacity=[memory=3072,vcores=3]\n"
+    )?;
+    plays(&rt, over.as_str(), "config 2 6\n", 2);
+    plays(
+        &rt,
+        "conf yarn.scheduler.capacity.root.queues=a\nconf x=1\n",
+        "config 2 2\n",
+        2,
+    );
+    plays(&rt, "conf # nothing\nconf \nconf #", "config 0 10\n", 2);
+    plays(&rt, "# a script\nconf \nconf x=1", "config 2 2\n", 2);
+    plays(
+        &rt,
+        "conf yarn.scheduler.capacity.root.queues=a\nconf yarn.scheduler.capacity.root.state=\u{7f}\n",
+        "config 2 1\n",
+        2,
+    );
+    plays(
+        &rt,
+        "conf yarn.scheduler.capacity.root.queues=a\n# between\nconf  yarn.scheduler.capacity.root.a.state = STOPPED \n",
+        "",
+        0,
+    );
+    plays(
+        &rt,
+        "conf yarn.scheduler.capacity.root.queues=a\r\nconf yarn.scheduler.capacity.root.state=RUNNING\r",
+        "config 2 1\n",
+        2,
+    );
+    Ok(())
+}
+
+#[test]
+fn settings_are_read_before_the_first_step(rt: HostRuntime) {
+    plays(&rt, "conf x=1\nopen 1\nx\n", "config 1 2\n", 2);
+    plays(&rt, "conf x=1\nbytes 1 00\n", "config 1 2\n", 2);
+    plays(&rt, "conf x=1\nend 1", "config 1 2\n", 2);
+    plays(&rt, "conf x=1\nx\nopen 1\n", "bad line 2\n", 2);
+    plays(&rt, "conf x=1\nbytes 1 0g\n", "bad line 2\n", 2);
+    plays(&rt, "conf x=1\nconf", "bad line 2\n", 2);
+    plays(
+        &rt,
+        "open 1\nconf yarn.scheduler.capacity.root.queues=a\n",
+        "opened 1\nbad line 2\n",
+        2,
+    );
+    plays(
+        &rt,
+        "end 1\n\nconf yarn.scheduler.capacity.root.queues=a",
+        "idle\nbad line 3\n",
+        2,
+    );
+}
+
 #[test]
 fn bad_lines_stop_the_script(rt: HostRuntime) {
     for line in [
@@ -151,10 +284,22 @@ fn bad_lines_stop_the_script(rt: HostRuntime) {
         "end -1",
         "End 1",
         "copy 0",
+        "conf",
+        "Conf x=1",
+        " conf x=1",
+        "conf\tx=1",
     ] {
         let mut input = line.as_bytes();
         let mut output = Vec::new(rt.alloc());
-        assert_eq!(rt; replay(rt.alloc(), &mut input, &mut output), 2, "{line}");
+        assert_eq!(rt;
+            replay(
+                rt.alloc(),
+                &mut Counted::new(&mut input),
+                &mut Counted::new(&mut output)
+            ),
+            2,
+            "{line}"
+        );
         assert_eq!(rt; output.as_slice(), b"bad line 1\n".as_slice(), "{line}");
     }
     plays(
@@ -198,9 +343,35 @@ fn a_failed_stream_loses_nothing_printed(rt: HostRuntime) {
         limit: 1000,
         written: &written,
     };
-    assert_eq!(rt; replay(rt.alloc(), &mut reader, &mut writer), 1);
+    let mut input = Counted::new(&mut reader);
+    let mut output = Counted::new(&mut writer);
+    assert_eq!(rt; replay(rt.alloc(), &mut input, &mut output), 1);
+    assert_eq!(rt; (input.failures(), output.failures()), (1, 0));
     assert_eq!(rt; writer.kept.as_slice(), b"opened 1\nopened 2\n".as_slice());
     assert_eq!(rt; reader.before_last, 18);
+}
+
+#[test]
+fn settings_are_not_read_after_a_failed_read(rt: HostRuntime) {
+    let written = Cell::new(0);
+    let pieces = [b"conf x=1\nop".as_slice()];
+    let mut reader = Pieces {
+        pieces: &pieces,
+        next: 0,
+        fails: true,
+        written: &written,
+        before_last: 0,
+    };
+    let mut output = Vec::new(rt.alloc());
+    assert_eq!(rt;
+        replay(
+            rt.alloc(),
+            &mut Counted::new(&mut reader),
+            &mut Counted::new(&mut output)
+        ),
+        1
+    );
+    assert_eq!(rt; output.as_slice(), b"".as_slice());
 }
 
 #[test]
@@ -219,7 +390,14 @@ fn replies_are_written_before_the_next_read(rt: HostRuntime) {
         limit: 1000,
         written: &written,
     };
-    assert_eq!(rt; replay(rt.alloc(), &mut reader, &mut writer), 0);
+    assert_eq!(rt;
+        replay(
+            rt.alloc(),
+            &mut Counted::new(&mut reader),
+            &mut Counted::new(&mut writer)
+        ),
+        0
+    );
     assert_eq!(rt; reader.before_last, 9);
 }
 
@@ -239,7 +417,10 @@ fn a_closed_output_ends_the_program(rt: HostRuntime) {
         limit: 1,
         written: &written,
     };
-    assert_eq!(rt; replay(rt.alloc(), &mut reader, &mut writer), 1);
+    let mut input = Counted::new(&mut reader);
+    let mut output = Counted::new(&mut writer);
+    assert_eq!(rt; replay(rt.alloc(), &mut input, &mut output), 1);
+    assert_eq!(rt; (input.failures(), output.failures()), (0, 1));
     assert_eq!(rt; writer.kept.as_slice(), b"opened 1\n".as_slice());
 }
 
@@ -249,7 +430,11 @@ fn refused_memory_is_told(rt: HostRuntime) {
     let mut input = b"open 1\nbytes 1 00000006010a00000001\nend 1\n".as_slice();
     let mut output = [0u8; 200];
     let mut room = output.as_mut_slice();
-    let status = replay(rt.alloc(), &mut input, &mut room);
+    let status = replay(
+        rt.alloc(),
+        &mut Counted::new(&mut input),
+        &mut Counted::new(&mut room),
+    );
     let left = room.len();
     let printed = output.get(..200 - left.min(200)).unwrap_or(&[]);
     if status == 0 {

@@ -1,7 +1,7 @@
 //! The program: words in, exit status out.
 #![tactic(auto)]
 
-use cap_daemon::replay;
+use cap_daemon::{Counted, replay};
 use clap::{Command, Error};
 use std::alloc::Global;
 use std::process::ExitCode;
@@ -26,7 +26,7 @@ fn main(rt: HostRuntime) -> anyhow::Result<ExitCode> {
     let words: Vec<String> = env::args(&rt)?.collect(alloc)?;
     let command = command_line(alloc)?;
     match command.try_get_matches_from(words.as_slice()) {
-        Ok(_) => Ok(ExitCode::from(replay(alloc, &mut rt.reader(), &mut io::writer(&rt)))),
+        Ok(_) => Ok(ExitCode::from(replay(alloc, &mut Counted::new(rt.reader()), &mut Counted::new(io::writer(&rt))))),
         Err(error) => {
             error.print(&rt)?;
             Ok(ExitCode::from(error.exit_code() as u8))

@@ -1,15 +1,25 @@
-use Rattle.std.proofs.Common.{◌++◌, refl, ap, ◌∙◌}
-use Rattle.std.specs.Str.Lines.{strip_carriage_return}
-use Rattle.cap_daemon.proofs.Lines.{plays_cut, stops_at_cut}
+use Rattle.std.proofs.Common.{◌++◌, refl}
+use Rattle.std.specs.Prelude.{is_some}
+use Rattle.cap_daemon.proofs.Lines.{plays_line, stops_at_line, fails_at_line}
 use Rattle.cap_daemon.proofs.player.play_lines.Goals as goal
 
 pub returns-in-Err-clause-bad : goal.returns-in-Err-clause-bad
-returns-in-Err-clause-bad c = λ n e.
-    stops_at_cut (c.args.begun.now.items ++ c.args.bytes.now) c.loop-front.begun.items c.loop-front.rest.now c.in-Some.front.now c.in-Some.after.now c.extend_from_slice.new.self.items c.without_return.result.now
-    c.loop-front.invariant.1 c.in-Some.ensures.found c.loop-front.invariant.0 c.in-Some.ensures.first c.in_ok-extend_from_slice.ensures.items (c.without_return.ensures ∙ ap strip_carriage_return c.deref.ensures.value) (c.in-Err.ensures.bad n e)
+returns-in-Err-clause-bad c = λ n e text p.
+    let before = c.loop-front.invariant.played text p in
+    stops_at_line (text ++ c.args.bytes.now) c.loop-front.begun.items c.loop-front.rest.now c.in-Some.front.now c.in-Some.after.now c.loop-front.script.settings (is_some c.loop-front.script.world)
+    before c.in-Some.ensures.found c.loop-front.invariant.clean c.in-Some.ensures.first (c.in-Err.ensures.bad n e before.done before.stands)
+
+pub returns-in-Err-clause-fault : goal.returns-in-Err-clause-fault
+returns-in-Err-clause-fault c = λ fault e text p.
+    let before = c.loop-front.invariant.played text p in
+    fails_at_line (text ++ c.args.bytes.now) c.loop-front.begun.items c.loop-front.rest.now c.in-Some.front.now c.in-Some.after.now c.loop-front.script.settings (is_some c.loop-front.script.world)
+    fault ⊥ before c.in-Some.ensures.found c.loop-front.invariant.clean c.in-Some.ensures.first (c.in-Err.ensures.fault fault e before.done before.stands)
 
 pub loop-front-preserved : goal.loop-front-preserved
-loop-front-preserved c =
-    let played = plays_cut (c.args.begun.now.items ++ c.args.bytes.now) c.loop-front.begun.items c.loop-front.rest.now c.in-Some.front.now c.in-Some.after.now c.extend_from_slice.new.self.items c.without_return.result.now
-    c.loop-front.invariant.1 c.in-Some.ensures.found c.loop-front.invariant.0 c.in-Some.ensures.first c.in_ok-extend_from_slice.ensures.items (c.without_return.ensures ∙ ap strip_carriage_return c.deref.ensures.value) c.in-Ok.ensures.good in
-    (rw c.clear.ensures.items refl, rw c.clear.ensures.items played)
+loop-front-preserved c = record {
+  clean = rw c.in-Ok.ensures.cleared refl;
+  played = λ text p.
+      let before = c.loop-front.invariant.played text p in
+      plays_line (text ++ c.args.bytes.now) c.loop-front.begun.items c.loop-front.rest.now c.in-Some.front.now c.in-Some.after.now c.play_line.new.begun.items c.loop-front.script.settings c.play_line.new.script.settings
+      (is_some c.loop-front.script.world) (is_some c.play_line.new.script.world) before c.in-Some.ensures.found c.loop-front.invariant.clean c.in-Some.ensures.first c.in-Ok.ensures.cleared (c.in-Ok.ensures.good before.done before.stands);
+}
