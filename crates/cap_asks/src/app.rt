@@ -6,7 +6,7 @@ use std::marker::Model;
 /// An active application: its number, its leaf queue and its user. Contracts see it as its row in the flat cluster: its
 /// master is not registered yet, and it asks for nothing.
 #[derive(Debug, Drop)]
-pub struct App {
+pub(crate) struct App {
     number: u64,
     leaf: PathText,
     user: ShortText,
@@ -55,24 +55,10 @@ impl App {
         }
     }
 
-    /// Its number.
-    pub fn number(&self) -> u64
-        ensures { result ≡ self.now.number }
-    {
-        self.number
-    }
-
     /// The path of its leaf queue.
-    pub fn leaf(&self) -> &PathText
+    pub(crate) fn leaf(&self) -> &PathText
         ensures { result.now ≡ self.now.leaf }
     {
         &self.leaf
-    }
-
-    /// Its user.
-    pub fn user(&self) -> &ShortText
-        ensures { result.now ≡ self.now.user }
-    {
-        &self.user
     }
 }

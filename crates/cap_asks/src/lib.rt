@@ -6,5 +6,4 @@ mod apps;
 #[cfg(test)]
 mod tests;
 
-pub use app::App;
 pub use apps::Apps;

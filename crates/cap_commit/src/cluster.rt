@@ -17,8 +17,8 @@ use cap_vector::{Resource, Sum, checked_add};
 use std::alloc::Global;
 use std::marker::Model;
 
-/// The cluster of K resources: its queues, its limits, its nodes, and the number of the next node. Contracts see it as the
-/// flat cluster.
+/// The cluster of K resources: its queues and limits, its applications, and its nodes with the number of the next. Contracts
+/// see it as the flat cluster.
 #[derive(Drop)]
 pub struct Cluster<const K: usize> {
     queues: Vec<Queue<K>>,

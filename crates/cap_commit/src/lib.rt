@@ -1,4 +1,4 @@
-//! The cluster: its queues, its nodes, and the changes that calls make of it. Contracts see it as the flat cluster.
+//! The cluster: its queues, applications and nodes, and the changes that calls make of it. Contracts see it as the flat cluster.
 #![tactic(auto)]
 
 mod cluster;
@@ -10,5 +10,4 @@ mod tests;
 
 pub use cap_model::{Event, Reply, Request};
 pub use cluster::Cluster;
-pub use node::Node;
 pub use queue::Queue;

@@ -7,7 +7,7 @@ use std::marker::Model;
 
 /// A node that is present. Contracts see it as its row in the flat cluster; no heartbeat has come from it.
 #[derive(Debug, Drop)]
-pub struct Node<const K: usize> {
+pub(crate) struct Node<const K: usize> {
     number: u64,
     host: ShortText,
     rack: ShortText,
@@ -44,7 +44,7 @@ impl<const K: usize> Node<K> {
     }
 
     /// Its host.
-    pub fn host(&self) -> &ShortText
+    fn host(&self) -> &ShortText
         ensures { result.now ≡ self.now.host }
     {
         &self.host

@@ -1,5 +1,6 @@
 //! The vocabulary of the allocation engine and what it means: the plain data that travels between the crates, and in
-//! `specs/` the flat cluster, the reply to each request, and runs. There is no engine code here, but for tests of texts and of refusals that several crates need.
+//! `specs/` the flat cluster, the reply to each request, and runs. There is no engine code here, but for tests of paths and
+//! of refusals that several crates need.
 #![tactic(auto)]
 
 mod event;
