@@ -1,15 +1,12 @@
 -- Looking asks up after they were replaced or counted down.
-use Rattle.std.proofs.Common.{◌≡◌, ℕ, ◌+◌, ◌-◌, ◌≤◌, ◌<◌, Bool, true, false, List, [], ◌∷◌, ◌++◌, refl, sym, ◌∙◌, ap, subst, inl, inr, arith}
+use Rattle.std.proofs.Common.{◌≡◌, ℕ, ◌-◌, ◌≤◌, ◌<◌, Bool, true, false, List, [], ◌∷◌, refl, sym, ◌∙◌, ap, inl, inr, arith}
 use Rattle.std.specs.Prelude.{◌⊎◌, Option, Some, None, IsSome, cond, not, ◌&&◌, ◌==◌, filter, find, map, length, count_by, if◌then◌else◌}
 use Rattle.std.specs.List.{sum_by}
 use Rattle.std.specs.Ordering.{is_lt}
 use Rattle.std.proofs.lemmas.Bool.Decides.{nat_tests}
-use Rattle.std.proofs.lemmas.List.Sums.{sum_by-cons, length-filter}
 use Rattle.cap_model.specs.Calls.{Key, same_key, ask_key_cmp, Ask}
-use Rattle.cap_model.specs.Flat.{Reservation, ask_at}
+use Rattle.cap_model.specs.Flat.{ask_at}
 use Rattle.cap_model.specs.Asking.{without_key, with_ask, put_ask, keep_first}
-use Rattle.cap_model.specs.Cascade.{holds_of}
-use Rattle.cap_model.specs.Bounds.{AreApart}
 use Rattle.cap_model.specs.Events.{take_one}
 use Rattle.cap_model.proofs.Choosing.{IsIn, and_both, of_filter}
 use Rattle.cap_model.proofs.Proposers.{true_or_false}
@@ -138,6 +135,7 @@ one_less_found key (x ∷ xs) ask e f = by (true_or_false (same_key x.key key)) 
   where
     rest : List Ask
     rest = take_one key xs
+
     by : ((same_key x.key key ≡ true) ⊎ (same_key x.key key ≡ false)) → (ask_at key xs ≡ Some ask → ask.count - 1 == 0 ≡ false → ask_at key (take_one key xs) ≡ Some (one_less ask)) → ask_at key (take_one key (x ∷ xs)) ≡ Some (one_less ask)
     by (inl h) r =
         let same : x ≡ ask = first_is (same_key x.key key) x ask (ask_at key xs) h e in
@@ -155,6 +153,7 @@ other_ask_stays key gone (x ∷ xs) ask o e f = by (true_or_false (same_key x.ke
   where
     rest : List Ask
     rest = take_one gone xs
+
     by : ((same_key x.key key ≡ true) ⊎ (same_key x.key key ≡ false)) → (ask_at key xs ≡ Some ask → ask.count == 0 ≡ false → ask_at key (take_one gone xs) ≡ Some ask) → ask_at key (take_one gone (x ∷ xs)) ≡ Some ask
     by (inl h) r =
         let same : x ≡ ask = first_is (same_key x.key key) x ask (ask_at key xs) h e in

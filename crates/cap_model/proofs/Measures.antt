@@ -1,18 +1,18 @@
 -- Uses and what nodes hold, amount by amount.
-use Rattle.std.proofs.Common.{◌≡◌, ℕ, ◌+◌, ◌-◌, ◌≤◌, ◌<◌, Bool, true, false, List, [], ◌∷◌, ◌++◌, zero, suc, length, get_or, refl, sym, ◌∙◌, ap, subst, inl, inr, arith}
-use Rattle.std.specs.Prelude.{◌⊎◌, Option, Some, None, IsSome, cond, not, ◌&&◌, ◌==◌, filter, map, option_map, nat_le, if◌then◌else◌}
+use Rattle.std.proofs.Common.{◌≡◌, ℕ, ◌+◌, ◌≤◌, ◌<◌, Bool, true, false, List, [], ◌∷◌, zero, suc, refl, sym, ◌∙◌, ap, inl, inr, arith}
+use Rattle.std.specs.Prelude.{Option, Some, None, ◌&&◌, ◌==◌, map, nat_le, if◌then◌else◌}
 use Rattle.std.specs.List.{sum_by}
 use Rattle.std.proofs.lemmas.Bool.{cases_lt}
 use Rattle.std.proofs.lemmas.Bool.Decides.{nat_tests}
 use Rattle.std.proofs.lemmas.List.{get_or_past}
-use Rattle.std.proofs.lemmas.List.Sums.{sum_by-cons, sum_by-append}
+use Rattle.std.proofs.lemmas.List.Sums.{sum_by-append}
 use Rattle.std.proofs.lemmas.List.FromFn.{get_or-map-range_with_len, length-map-range_with_len}
 use Rattle.cap_vector.specs.Vector.{amount, by_amount}
 use Rattle.cap_model.specs.Cascade.{holds_of}
-use Rattle.cap_model.specs.Amounts.{fits, part, sum_where}
+use Rattle.cap_model.specs.Amounts.{fits, part}
 use Rattle.cap_model.specs.Flat.{Flat, App, Container, Reservation, app_at}
 use Rattle.cap_model.specs.Uses.{Holding, holdings, of_container, of_reservation, use_of, node_held}
-use Rattle.cap_model.proofs.Choosing.{IsIn, and_both}
+use Rattle.cap_model.proofs.Choosing.{and_both}
 use Rattle.cap_model.proofs.Members.{sum_by_map}
 use Rattle.cap_model.proofs.Lessening.{standing}
 

@@ -1,11 +1,11 @@
 -- The containers that some numbers name among others, and their ends.
-use Rattle.std.proofs.Common.{◌≡◌, ℕ, ◌+◌, ◌≤◌, ◌<◌, Bool, true, false, List, [], ◌∷◌, ◌++◌, refl, sym, ◌∙◌, ap, subst, inl, inr, arith}
-use Rattle.std.specs.Prelude.{◌⊎◌, Option, Some, None, IsSome, cond, not, ◌&&◌, ◌||◌, ◌==◌, filter, find, map, count_by, if◌then◌else◌}
+use Rattle.std.proofs.Common.{◌≡◌, ℕ, ◌+◌, Bool, true, false, List, [], ◌∷◌, refl, sym, ◌∙◌, ap, arith}
+use Rattle.std.specs.Prelude.{Option, Some, None, cond, not, ◌&&◌, ◌||◌, ◌==◌, filter, find, count_by}
 use Rattle.std.specs.List.{list_any, sum_by, cons_option}
 use Rattle.std.proofs.lemmas.Bool.Decides.{nat_tests}
 use Rattle.std.proofs.lemmas.List.Sums.{sum_by-cons}
 use Rattle.cap_model.specs.Calls.{Cause, EndedContainer}
-use Rattle.cap_model.specs.Flat.{Flat, Container}
+use Rattle.cap_model.specs.Flat.{Container}
 use Rattle.cap_model.specs.Ending.{is_among, named_among}
 use Rattle.cap_model.specs.Bounds.{IsRising}
 use Rattle.cap_model.specs.EngineLaws.{numbers_of, ends_of}
@@ -50,8 +50,10 @@ count_at g n low (x ∷ xs) high r = by (x.number == n) refl (count_at g n (x.nu
   where
     weight : Container → ℕ
     weight y = one_where (y.number == n && g y)
+
     first : sum_by (λ (y : Container). one_where (y.number == n && g y)) (x ∷ xs) ≡ one_where (x.number == n && g x) + sum_by (λ (y : Container). one_where (y.number == n && g y)) xs
     first = sum_by-cons (λ (y : Container). one_where (y.number == n && g y)) x xs
+
     by : (b : Bool) → x.number == n ≡ b → sum_by (λ (y : Container). one_where (y.number == n && g y)) xs ≡ of_found g (find (λ (y : Container). y.number == n) xs) →
         sum_by (λ (y : Container). one_where (y.number == n && g y)) (x ∷ xs) ≡ of_found g (cond b (Some x) (find (λ (y : Container). y.number == n) xs))
     by true e h =
@@ -96,6 +98,7 @@ among_found n c (x ∷ xs) e o f = by (x.number == n) refl f (λ o' f'. among_fo
   where
     number : n ≡ c.number
     number = grind (arith, nat_tests, e)
+
     by : (b : Bool) → x.number == n ≡ b → cond b (Some x) (find (λ (y : Container). y.number == n) xs) ≡ o → ((o' : Option Container) → find (λ (y : Container). y.number == n) xs ≡ o' → is_among (cons_option o' []) c ≡ is_among xs c) →
         is_among (cons_option o []) c ≡ (x.number == c.number) || is_among xs c
     by true g h r =
@@ -170,6 +173,7 @@ among_named (n ∷ ns) xs c = by (c.number == n) refl (among_named ns (filter (�
   where
     others : List Container
     others = filter (λ (x : Container). not (x.number == n)) xs
+
     by : (b : Bool) → c.number == n ≡ b → is_among (named_among ns others) c ≡ is_named ns c && is_among others c → is_among (named_among (n ∷ ns) xs) c ≡ is_named (n ∷ ns) c && is_among xs c
     by true e r =
         let turned : n == c.number ≡ true = grind (arith, nat_tests, e) in

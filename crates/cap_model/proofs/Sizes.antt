@@ -1,30 +1,28 @@
 -- A step keeps a cluster within its sizes.
-use Rattle.std.proofs.Common.{◌≡◌, ℕ, ◌+◌, ◌-◌, ◌≤◌, ◌<◌, Bool, true, false, List, [], ◌∷◌, ◌++◌, length, refl, sym, ◌∙◌, ap, subst, inl, inr, arith}
-use Rattle.std.specs.Prelude.{◌⊎◌, Option, Some, None, is_none, cond, not, ◌&&◌, ◌==◌, filter, map, nat_le, bytes_eq, if◌then◌else◌}
+use Rattle.std.proofs.Common.{◌≡◌, ℕ, ◌+◌, ◌≤◌, ◌<◌, Bool, true, false, List, [], ◌∷◌, ◌++◌, length, refl, sym, ap, subst, inl, inr, arith}
+use Rattle.std.specs.Prelude.{Some, None, is_none, cond, not, ◌==◌, filter, nat_le, bytes_eq, if◌then◌else◌}
 use Rattle.std.specs.List.{sum_by, list_any}
 use Rattle.std.proofs.lemmas.Bool.{cases_lt, not-false}
 use Rattle.std.proofs.lemmas.Bool.Decides.{nat_tests}
 use Rattle.std.proofs.lemmas.List.{length-append, length-map}
 use Rattle.std.proofs.lemmas.List.Sums.{length-filter, count_by-le-length, sum_by_push}
-use Rattle.cap_vector.specs.Vector.{amount, by_amount, amount_max, plus, is_zero, is_within, IsWithin}
+use Rattle.cap_vector.specs.Vector.{amount, amount_max, plus, is_zero, is_within, IsWithin}
 use Rattle.cap_vector.proofs.AmountLemmas.{amount-plus, within_from_test}
-use Rattle.cap_model.specs.Settings.{Settings}
 use Rattle.cap_model.specs.Cluster.{number_end, nodes_max}
-use Rattle.cap_model.specs.Calls.{Ask, CallRequest, CallReply, CallRefusal}
-use Rattle.cap_model.specs.Amounts.{part, sum_where}
-use Rattle.cap_model.specs.Flat.{Flat, App, ClusterNode, Container, Reservation, opened, queue_at}
+use Rattle.cap_model.specs.Calls.{Ask, CallRequest, CallRefusal}
+use Rattle.cap_model.specs.Amounts.{part}
+use Rattle.cap_model.specs.Flat.{Flat, ClusterNode, queue_at}
 use Rattle.cap_model.specs.Submit.{submit_refusal, has_children, is_running}
 use Rattle.cap_model.specs.RegisterNode.{register_node_refusal, total_of_nodes, new_node}
 use Rattle.cap_model.specs.Allocate.{after_processed_allocate, is_repeated_allocate}
 use Rattle.cap_model.specs.Heartbeat.{after_processed_heartbeat, is_repeated_heartbeat, beat_of}
 use Rattle.cap_model.specs.Replies.{refusal_of, granted_cluster}
-use Rattle.cap_model.specs.Admission.{live_max}
-use Rattle.cap_model.specs.Events.{ClusterEvent, Step, after_grant, after_reserve}
+use Rattle.cap_model.specs.Events.{ClusterEvent, Step}
 use Rattle.cap_model.specs.Bounds.{IsWithinSizes}
 use Rattle.cap_model.specs.EngineLaws.{SizesStay, OpenedIsWithinSizes}
 use Rattle.cap_model.proofs.Reasons.{none_holds}
 use Rattle.cap_model.proofs.Members.{part_filter, part_sum, sum_by_map}
-use Rattle.cap_model.proofs.ContainerNumbers.{IsThinned, call_thins}
+use Rattle.cap_model.proofs.ContainerNumbers.{call_thins}
 use Rattle.cap_model.proofs.Moves.{AppsMove, call_moves}
 use Rattle.cap_model.proofs.Lessening.{asked}
 use Rattle.cap_model.proofs.Measures.{amount_of, amount_past}
@@ -78,6 +76,7 @@ module _ {K : ℕ} where
     where
       beaten : ClusterNode → ClusterNode
       beaten node = if node.number == n then record node { response = (beat_of old n id ended).response; kept = Some (beat_of old n id ended) } else node
+
       total : (x : ClusterNode) (b : Bool) → (cond b (record x { response = (beat_of old n id ended).response; kept = Some (beat_of old n id ended) }) x).total ≡ x.total
       total x true = refl
       total x false = refl
@@ -87,12 +86,12 @@ module _ {K : ℕ} where
       AreNodesWithin K (old.nodes.present ++ new_node old host rack total ∷ []) (old.nodes.next_node + 1)
   register_nodes old host rack total e a =
       let tests = none_holds
-          ((list_any (λ (node : ClusterNode). bytes_eq node.host host) old.nodes.present, CallRefusal.host_taken)
-          ∷ (not (is_within amount_max (plus (total_of_nodes old) total)), CallRefusal.total_too_large)
-          ∷ (nat_le nodes_max (length old.nodes.present), CallRefusal.too_many_nodes)
-          ∷ (is_zero total, CallRefusal.zero_resource)
-          ∷ (nat_le number_end old.nodes.next_node, CallRefusal.numbers_spent)
-          ∷ []) e in
+      ((list_any (λ (node : ClusterNode). bytes_eq node.host host) old.nodes.present, CallRefusal.host_taken)
+      ∷ (not (is_within amount_max (plus (total_of_nodes old) total)), CallRefusal.total_too_large)
+      ∷ (nat_le nodes_max (length old.nodes.present), CallRefusal.too_many_nodes)
+      ∷ (is_zero total, CallRefusal.zero_resource)
+      ∷ (nat_le number_end old.nodes.next_node, CallRefusal.numbers_spent)
+      ∷ []) e in
       let within = within_from_test amount_max (plus (total_of_nodes old) total) (not-false (is_within amount_max (plus (total_of_nodes old) total)) tests.1.0) in
       let few = tests.1.1.0 in
       let left = tests.1.1.1.1.0 in
@@ -131,12 +130,12 @@ module _ {K : ℕ} where
   number_left : (old : Flat K) (path : List ℕ) → submit_refusal old path ≡ None → old.apps.next < number_end
   number_left old path e =
       let tests = none_holds
-          ((is_none (queue_at old path), CallRefusal.unknown_queue)
-          ∷ (has_children old path, CallRefusal.not_leaf)
-          ∷ (not (is_running old path), CallRefusal.queue_stopped)
-          ∷ (nat_le old.settings.application_limit (length old.apps.active), CallRefusal.too_many_applications)
-          ∷ (nat_le number_end old.apps.next, CallRefusal.numbers_spent)
-          ∷ []) e in
+      ((is_none (queue_at old path), CallRefusal.unknown_queue)
+      ∷ (has_children old path, CallRefusal.not_leaf)
+      ∷ (not (is_running old path), CallRefusal.queue_stopped)
+      ∷ (nat_le old.settings.application_limit (length old.apps.active), CallRefusal.too_many_applications)
+      ∷ (nat_le number_end old.apps.next, CallRefusal.numbers_spent)
+      ∷ []) e in
       let left = tests.1.1.1.1.0 in
       grind (arith, nat_tests, left)
 

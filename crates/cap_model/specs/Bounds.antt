@@ -6,7 +6,7 @@ use Rattle.cap_model.specs.Cascade.{holds_of}
 use Rattle.cap_model.specs.Amounts.{fits, times, sum_where}
 use Rattle.cap_model.specs.Settings.{QueueRow}
 use Rattle.cap_model.specs.Calls.{Key}
-use Rattle.cap_model.specs.Flat.{Flat, App, ClusterNode, Container, Reservation, is_for, ask_at, app_at, node_at, queue_at, is_child_of}
+use Rattle.cap_model.specs.Flat.{Flat, ClusterNode, Reservation, is_for, ask_at, app_at, node_at, queue_at, is_child_of}
 use Rattle.cap_model.specs.Cluster.{number_end, nodes_max}
 use Rattle.cap_model.specs.Admission.{live_max}
 use Rattle.cap_model.specs.Submit.{has_children}
