@@ -9,7 +9,7 @@ use Rattle.cap_model.specs.Flat.{Flat, App, Container, Reservation, opened, is_u
 use Rattle.cap_model.specs.Uses.{use_of, queue_use}
 use Rattle.cap_model.specs.Events.{ClusterEvent, Step, Run}
 use Rattle.cap_model.specs.Bounds.{FitsMaximum, IsTree, IsLeaf, IsPlaced, IsQueueBounded, IsNodeBounded, IsReservationBounded, IsWellFormed, IsBounded}
-use Rattle.cap_model.specs.EngineLaws.{StepStaysBounded, RunsStayBounded, OpenedIsBounded}
+use Rattle.cap_model.specs.BoundLaws.{StepStaysBounded, RunsStayBounded, OpenedIsBounded}
 use Rattle.cap_model.proofs.Members.{of_each}
 use Rattle.cap_model.proofs.Measures.{amounts_fit, use_amount, use_past}
 use Rattle.cap_model.proofs.ContainerNumbers.{numbers_stay_distinct}

@@ -12,7 +12,7 @@ use Rattle.cap_model.specs.Heartbeat.{after_processed_heartbeat, is_repeated_hea
 use Rattle.cap_model.specs.Replies.{refused_or, refusal_of, granted_reply, granted_cluster}
 use Rattle.cap_model.specs.Events.{ClusterEvent, Step, Run, after_event, ended_between, ever_ended}
 use Rattle.cap_model.specs.Bounds.{IsBounded}
-use Rattle.cap_model.specs.EngineLaws.{new_ends, ends_of, ever_new_ends, NewEndsAreOfTheEnded}
+use Rattle.cap_model.specs.NewsLaws.{new_ends, ends_of, ever_new_ends, NewEndsAreOfTheEnded}
 use Rattle.cap_model.proofs.Choosing.{IsIn}
 use Rattle.cap_model.proofs.Members.{sum_of_zeros}
 use Rattle.cap_model.proofs.ContainerNumbers.{IsThinned, asks_keep}

@@ -14,7 +14,7 @@ use Rattle.cap_model.specs.Events.{ClusterEvent, Step, after_grant, after_reserv
 use Rattle.cap_model.specs.Sight.{sight_of}
 use Rattle.cap_model.specs.Admission.{NodeProposal, IsAdmissible}
 use Rattle.cap_model.specs.Bounds.{IsRising, HasDistinctPaths, IsTree, IsLeaf, IsPlaced, IsWellFormed}
-use Rattle.cap_model.specs.EngineLaws.{StepStaysWellFormed}
+use Rattle.cap_model.specs.BoundLaws.{StepStaysWellFormed}
 use Rattle.cap_model.proofs.Choosing.{IsIn, of_filter, in_either}
 use Rattle.cap_model.proofs.Reasons.{none_holds, true_of_none}
 use Rattle.cap_model.proofs.Members.{each_of, of_each, of_map, rising_kept, rising_more, same_numbers}

@@ -8,7 +8,8 @@ use Rattle.cap_model.specs.Calls.{Cause, EndedContainer}
 use Rattle.cap_model.specs.Flat.{Container}
 use Rattle.cap_model.specs.Ending.{is_among, named_among}
 use Rattle.cap_model.specs.Bounds.{IsRising}
-use Rattle.cap_model.specs.EngineLaws.{numbers_of, ends_of}
+use Rattle.cap_model.specs.EngineLaws.{numbers_of}
+use Rattle.cap_model.specs.NewsLaws.{ends_of}
 use Rattle.cap_model.proofs.Choosing.{IsIn}
 use Rattle.cap_model.proofs.Members.{rising_kept, rising_from_low, sum_of_zeros, sum_by_map}
 use Rattle.cap_model.proofs.Balance.{among_some, filter_same, filter_twice, twice_not}

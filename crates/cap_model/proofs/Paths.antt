@@ -10,7 +10,7 @@ use Rattle.std.proofs.lemmas.List.Sums.{sum_by-cons}
 use Rattle.cap_model.specs.Settings.{QueueRow}
 use Rattle.cap_model.specs.Flat.{is_under, is_child_of, name_of}
 use Rattle.cap_model.specs.Bounds.{HasDistinctPaths}
-use Rattle.cap_model.specs.EngineLaws.{UnderByPath}
+use Rattle.cap_model.specs.BoundLaws.{UnderByPath}
 use Rattle.cap_model.proofs.Choosing.{and_both}
 use Rattle.cap_model.proofs.Reasons.{or_left, or_right, or_both}
 use Rattle.cap_model.proofs.Proposers.{true_or_false}

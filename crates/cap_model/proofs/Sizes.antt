@@ -19,7 +19,7 @@ use Rattle.cap_model.specs.Heartbeat.{after_processed_heartbeat, is_repeated_hea
 use Rattle.cap_model.specs.Replies.{refusal_of, granted_cluster}
 use Rattle.cap_model.specs.Events.{ClusterEvent, Step}
 use Rattle.cap_model.specs.Bounds.{IsWithinSizes}
-use Rattle.cap_model.specs.EngineLaws.{SizesStay, OpenedIsWithinSizes}
+use Rattle.cap_model.specs.BoundLaws.{SizesStay, OpenedIsWithinSizes}
 use Rattle.cap_model.proofs.Reasons.{none_holds}
 use Rattle.cap_model.proofs.Members.{part_filter, part_sum, sum_by_map}
 use Rattle.cap_model.proofs.ContainerNumbers.{call_thins}

@@ -15,7 +15,7 @@ use Rattle.cap_model.specs.Heartbeat.{after_processed_heartbeat, is_repeated_hea
 use Rattle.cap_model.specs.Replies.{granted_cluster}
 use Rattle.cap_model.specs.Events.{ClusterEvent, Step, after_grant, after_reserve, grant_proposal, reserve_proposal}
 use Rattle.cap_model.specs.Bounds.{FitsMaximum, AreApart, IsQueueBounded, IsNodeBounded, IsReservationBounded, IsBounded, IsPlaced}
-use Rattle.cap_model.specs.EngineLaws.{QueuesStayBounded, NodesStayBounded, ReservationsStayApart, ReservationsStayBounded}
+use Rattle.cap_model.specs.BoundLaws.{QueuesStayBounded, NodesStayBounded, ReservationsStayApart, ReservationsStayBounded}
 use Rattle.cap_model.proofs.Choosing.{IsIn}
 use Rattle.cap_model.proofs.Members.{part_itself, part_filter, each_of, of_each, of_map, find_changed, find_others, find_with_more}
 use Rattle.cap_model.proofs.Lessening.{HasPlaces, IsSite, IsLessened, lessened, gone_app}

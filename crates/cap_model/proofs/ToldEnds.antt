@@ -13,7 +13,7 @@ use Rattle.cap_model.specs.Heartbeat.{is_repeated_heartbeat, ended_by, container
 use Rattle.cap_model.specs.Replies.{reply_to}
 use Rattle.cap_model.specs.Events.{ClusterEvent, Step, Run, after_event}
 use Rattle.cap_model.specs.Bounds.{IsPlaced, IsWellFormed}
-use Rattle.cap_model.specs.EngineLaws.{untold_ends, told_ends, new_ends, ends_of, ever_told_ends, ever_new_ends, EndsAreToldOverRuns}
+use Rattle.cap_model.specs.NewsLaws.{untold_ends, told_ends, new_ends, ends_of, ever_told_ends, ever_new_ends, EndsAreToldOverRuns}
 use Rattle.cap_model.proofs.Choosing.{IsIn, found, of_filter}
 use Rattle.cap_model.proofs.Balance.{determined, filter_none}
 use Rattle.cap_model.proofs.Members.{each_of}

@@ -13,7 +13,8 @@ use Rattle.cap_model.specs.Allocate.{allocate_refusal, is_repeated_allocate}
 use Rattle.cap_model.specs.Replies.{refused_or, granted_reply, reply_to}
 use Rattle.cap_model.specs.Events.{ClusterEvent, Step, Run, after_event, news_of, granted_by, ever_granted}
 use Rattle.cap_model.specs.Bounds.{IsRising}
-use Rattle.cap_model.specs.EngineLaws.{numbers_of, HasAppNumbers, untold_grants, told_grants, new_grants, ever_told_grants, ever_new_grants, AppNumbersStayDistinct, GrantsAreToldOverRuns, NewGrantsAreOfTheGranted}
+use Rattle.cap_model.specs.EngineLaws.{numbers_of, HasAppNumbers, AppNumbersStayDistinct}
+use Rattle.cap_model.specs.NewsLaws.{untold_grants, told_grants, new_grants, ever_told_grants, ever_new_grants, GrantsAreToldOverRuns, NewGrantsAreOfTheGranted}
 use Rattle.cap_model.proofs.Members.{rising_kept, rising_more, same_numbers, none_from_high}
 use Rattle.cap_model.proofs.Moves.{AppsMove, AppsChange, step_moves, allocate_changes, grant_change}
 use Rattle.cap_model.proofs.Balance.{determined}

@@ -6,7 +6,7 @@ use Rattle.cap_model.specs.Settings.{QueueRow}
 use Rattle.cap_model.specs.Flat.{Flat, App, queue_at, is_under, is_child_of}
 use Rattle.cap_model.specs.Submit.{has_children}
 use Rattle.cap_model.specs.Bounds.{IsSumOfChildren, IsLeaf, IsWellFormed}
-use Rattle.cap_model.specs.EngineLaws.{IsInOneChild, TreesAddUp}
+use Rattle.cap_model.specs.BoundLaws.{IsInOneChild, TreesAddUp}
 use Rattle.cap_model.proofs.Choosing.{found, and_both}
 use Rattle.cap_model.proofs.Members.{each_of, of_each, sum_of_zeros}
 use Rattle.cap_model.proofs.Parents.{parent_uses_children}

@@ -13,7 +13,7 @@ use Rattle.cap_model.specs.Flat.{Flat, App, ClusterNode, Container, Reservation,
 use Rattle.cap_model.specs.Uses.{Holding, holdings, use_of, node_held}
 use Rattle.cap_model.specs.RegisterNode.{total_of_nodes}
 use Rattle.cap_model.specs.Bounds.{AreApart, IsNodeBounded, IsReservationBounded, IsPlaced, IsBounded}
-use Rattle.cap_model.specs.EngineLaws.{UsesAreSums}
+use Rattle.cap_model.specs.BoundLaws.{UsesAreSums}
 use Rattle.cap_model.proofs.Choosing.{IsIn, found}
 use Rattle.cap_model.proofs.Members.{each_of, found_by_number}
 use Rattle.cap_model.proofs.Measures.{fits_amounts, amount_of, counts, counted, use_amount, use_past, held_amount}

@@ -10,7 +10,8 @@ use Rattle.cap_model.specs.Flat.{Flat, App, ClusterNode, Reservation, node_at, i
 use Rattle.cap_model.specs.Sight.{Sight, NodeSight, AppSight, sight_of, node_sight, app_sight, seen_app, still_wanted}
 use Rattle.cap_model.specs.Admission.{NodeProposal, is_wanted}
 use Rattle.cap_model.specs.Bounds.{IsRising, AreApart, reservations_for, IsPlaced}
-use Rattle.cap_model.specs.EngineLaws.{WantedIsSeen, ReasonsAreInOrder}
+use Rattle.cap_model.specs.EngineLaws.{ReasonsAreInOrder}
+use Rattle.cap_model.specs.BoundLaws.{WantedIsSeen}
 use Rattle.cap_model.proofs.Choosing.{IsIn, found}
 use Rattle.cap_model.proofs.Reasons.{or_left, or_right}
 use Rattle.cap_model.proofs.Members.{each_of, sum_by_map, sum_of_zeros}
