@@ -1,3 +1,4 @@
+pub mod UsedNumbers
 pub mod Sizes
 pub mod UseSums
 pub mod EndsOfEnded

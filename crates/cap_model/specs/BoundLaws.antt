@@ -1,8 +1,8 @@
 -- Laws of the bounds: what holds in every state of a run.
-use Rattle.std.specs.Prelude.{◌≡◌, ◌↔◌, ◌⊎◌, ℕ, ◌+◌, true, List, Some, ◌∷◌, ◌++◌, count_by, ◌&&◌, if◌then◌else◌}
+use Rattle.std.specs.Prelude.{◌≡◌, ◌↔◌, ◌⊎◌, ℕ, ◌+◌, ◌<◌, true, List, Some, None, ◌∷◌, ◌++◌, count_by, ◌&&◌, if◌then◌else◌}
 use Rattle.std.specs.List.{All}
 use Rattle.cap_model.specs.Calls.{Ask}
-use Rattle.cap_model.specs.Flat.{Flat, App, opened, app_at, is_under, is_child_of}
+use Rattle.cap_model.specs.Flat.{Flat, App, opened, app_at, node_at, is_under, is_child_of}
 use Rattle.cap_model.specs.Settings.{Settings, QueueRow}
 use Rattle.cap_vector.specs.Vector.{IsSum}
 use Rattle.cap_model.specs.Uses.{wanted, queue_use}
@@ -31,6 +31,12 @@ TreesAddUp = (K : ℕ) (cluster : Flat K) → IsWellFormed cluster → All (IsSu
 -- a step from a well-formed cluster leaves a well-formed one
 abbrev pub StepStaysWellFormed : Type 0
 StepStaysWellFormed = (K : ℕ) (old new : Flat K) (event : ClusterEvent) → IsWellFormed old → Step old event new → IsWellFormed new
+
+-- the number of an application or of a node that has gone is never used again
+abbrev pub NumbersAreNotUsedAgain : Type 0
+NumbersAreNotUsedAgain =
+    (K : ℕ) (events : List ClusterEvent) (old new : Flat K) (n : ℕ) → IsWellFormed old → Run old events new →
+    (n < old.apps.next → app_at old n ≡ None → app_at new n ≡ None) × (n < old.nodes.next_node → node_at old n ≡ None → node_at new n ≡ None)
 
 -- a step from a bounded cluster keeps each queue within its maximum and each user within the user limit
 abbrev pub QueuesStayBounded : Type 0

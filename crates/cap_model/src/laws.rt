@@ -1,7 +1,7 @@
 //! Laws of the definitions in `specs/`, for callers to cite. The functions do nothing.
 ghost use Rattle.cap_model.specs.EngineLaws.{RejectedExactly, NumbersStayDistinct, GrantedOnce, StepIsDetermined, ContainersBalance, EndedOnce, LiveIsWhatWasNotEnded, OneOfEachRank, ChoiceIsComputed, ChoiceFromIsComputed, AppNumbersStayDistinct, ReasonsAreInOrder, PassedIsStep};
 ghost use Rattle.cap_model.specs.NewsLaws.{GrantsAreToldInOrder, EndsAreToldInOrder, GrantsAreToldOverRuns, NewGrantsAreOfTheGranted, EndsAreToldOverRuns, NewEndsAreOfTheEnded};
-ghost use Rattle.cap_model.specs.BoundLaws.{ParentUsesChildren, StepStaysWellFormed, QueuesStayBounded, NodesStayBounded, ReservationsStayApart, ReservationsStayBounded, UnderByPath, TreesAddUp, StepStaysBounded, RunsStayBounded, OpenedIsBounded, WantedIsSeen, UsesAreSums, SizesStay, OpenedIsWithinSizes};
+ghost use Rattle.cap_model.specs.BoundLaws.{ParentUsesChildren, StepStaysWellFormed, QueuesStayBounded, NodesStayBounded, ReservationsStayApart, ReservationsStayBounded, UnderByPath, TreesAddUp, StepStaysBounded, RunsStayBounded, OpenedIsBounded, WantedIsSeen, UsesAreSums, SizesStay, OpenedIsWithinSizes, NumbersAreNotUsedAgain};
 
 /// A proposal has no reason to be rejected exactly where it is admissible, and of several the one of the smallest number.
 pub fn reason_says_why()
@@ -46,9 +46,10 @@ pub fn news_is_told_in_order()
     ensures ends { EndsAreToldInOrder }
 {}
 
-/// No application number is used twice.
-pub fn application_numbers_are_used_once()
-    ensures { AppNumbersStayDistinct }
+/// No number of an application or of a node is there twice or used again.
+pub fn application_and_node_numbers_are_used_once()
+    ensures distinct { AppNumbersStayDistinct }
+    ensures again { NumbersAreNotUsedAgain }
 {}
 
 /// Over a whole run an application is told its grants in the order in which they came, of each once.
