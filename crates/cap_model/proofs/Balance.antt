@@ -15,6 +15,7 @@ use Rattle.cap_model.specs.Bounds.{IsRising}
 use Rattle.cap_model.specs.EngineLaws.{numbers_of, HasDistinctNumbers, StepIsDetermined, ContainersBalance, EndedOnce, LiveIsWhatWasNotEnded}
 use Rattle.cap_model.proofs.Choosing.{IsIn, in_left}
 use Rattle.cap_model.proofs.ContainerNumbers.{IsThinned, reply_thins, numbers_stay_distinct, granted_once}
+use Rattle.cap_model.proofs.Members.{one_where}
 
 -- the cluster after a step is determined by the event
 
@@ -134,9 +135,6 @@ count_parts f t (x ∷ xs) = by (t x) (count_parts f t xs)
 
 abbrev is_numbered : ℕ → Container → Bool
 is_numbered n c = c.number == n
-
-abbrev one_where : Bool → ℕ
-one_where b = cond b 1 0
 
 -- of containers in order no number stands twice
 count_rising : (n low : ℕ) (cs : List Container) (high : ℕ) → IsRising low (numbers_of cs) high → (count_by (is_numbered n) cs ≤ 1) × (n < low → count_by (is_numbered n) cs ≡ 0)

@@ -14,7 +14,7 @@ use Rattle.cap_model.specs.Events.{ClusterEvent, Step, Run, after_event, ended_b
 use Rattle.cap_model.specs.Bounds.{IsBounded}
 use Rattle.cap_model.specs.NewsLaws.{new_ends, ends_of, ever_new_ends, NewEndsAreOfTheEnded}
 use Rattle.cap_model.proofs.Choosing.{IsIn}
-use Rattle.cap_model.proofs.Members.{sum_of_zeros}
+use Rattle.cap_model.proofs.Members.{sum_of_zeros, one_where}
 use Rattle.cap_model.proofs.ContainerNumbers.{IsThinned, asks_keep}
 use Rattle.cap_model.proofs.Balance.{determined, none_ended, ended_by_thinning, count_append}
 use Rattle.cap_model.proofs.Moves.{step_moves}
@@ -23,7 +23,7 @@ use Rattle.cap_model.proofs.BoundedRuns.{step_stays_bounded}
 use Rattle.cap_model.proofs.Telling.{not_none, gone_is_none}
 use Rattle.cap_model.proofs.ToldRuns.{there_or_not, used, next_rises}
 use Rattle.cap_model.proofs.ToldEnds.{refused_ends, not_live, step_quiet, never_told}
-use Rattle.cap_model.proofs.NamedEnds.{one_where, count_kept, count_ended, count_lost, count_ends, count_of}
+use Rattle.cap_model.proofs.NamedEnds.{count_kept, count_ended, count_lost, count_ends, count_of}
 
 module _ (n number : ℕ) where
   -- a container of the application and of the number

@@ -10,6 +10,7 @@ use Rattle.cap_model.specs.Asking.{without_key, with_ask, put_ask, keep_first}
 use Rattle.cap_model.specs.Events.{take_one}
 use Rattle.cap_model.proofs.Choosing.{IsIn, and_both, of_filter}
 use Rattle.cap_model.proofs.Proposers.{true_or_false}
+use Rattle.cap_model.proofs.Members.{both_true, not_true}
 
 pub same_key_is : (a b : Key) → same_key a b ≡ true → a ≡ b
 same_key_is a b h =
@@ -17,10 +18,6 @@ same_key_is a b h =
     let p : a.priority ≡ b.priority = (let t = both.0 in grind (arith, nat_tests, t)) in
     let r : a.request ≡ b.request = (let t = both.1 in grind (arith, nat_tests, t)) in
     λ i. record { priority = p i; request = r i }
-
-both_true : (a b : Bool) → a ≡ true → b ≡ true → a && b ≡ true
-both_true true b h g = g
-both_true false b h g = absurd (cc h)
 
 pub same_key_itself : (a : Key) → same_key a a ≡ true
 same_key_itself a = both_true (a.priority == a.priority) (a.request == a.request) (grind (arith, nat_tests)) (grind (arith, nat_tests))
@@ -80,10 +77,6 @@ other_without key gone (x ∷ xs) e = by (same_key x.key gone) refl (other_witho
     by : (b : Bool) → same_key x.key gone ≡ b → ask_at key (without_key gone xs) ≡ ask_at key xs → ask_at key (cond (not b) (x ∷ without_key gone xs) (without_key gone xs)) ≡ ask_at key (x ∷ xs)
     by true g r = r ∙ sym (ap (λ b. cond b (Some x) (ask_at key xs)) (other_key x.key gone key g e))
     by false g r = ap (λ o. cond (same_key x.key key) (Some x) o) r
-
-not_true : (b : Bool) → not b ≡ true → b ≡ false
-not_true true e = absurd (cc e)
-not_true false e = refl
 
 -- an ask of some containers is found under its key, and others as before
 pub put_is_found : (ask : Ask) (xs : List Ask) → ask.count == 0 ≡ false → ask_at ask.key (put_ask ask xs) ≡ Some ask

@@ -14,7 +14,7 @@ use Rattle.cap_model.specs.Replies.{granted_cluster}
 use Rattle.cap_model.proofs.Choosing.{IsIn, of_filter, in_filter, in_either}
 use Rattle.cap_model.proofs.ContainerNumbers.{IsThinned, call_thins, thinned_same, processed_allocate_thins}
 use Rattle.cap_model.proofs.Balance.{among_itself}
-use Rattle.cap_model.proofs.Members.{IsPart, part_itself, part_filter, part_in, part_of_part, find_changed, find_others, find_with_more, of_map}
+use Rattle.cap_model.proofs.Members.{IsPart, part_itself, part_filter, part_in, part_of_part, find_changed, find_others, find_with_more, of_map, not_true}
 use Rattle.cap_model.proofs.Moves.{AppsChange, allocate_change, ends_change, one_change, no_change}
 
 -- the leaf queue and the user of an application, and the total of a node
@@ -57,10 +57,6 @@ not_among t cs c m =
     by : (b : Bool) → t c ≡ b → not (is_among (filter t cs) c) ≡ true → IsIn c cs → b ≡ false
     by true e h g = let no : not (is_among (filter t cs) c) ≡ false = ap not (among_itself (filter t cs) c (in_filter t cs c g e)) in absurd (cc (no, h))
     by false e h g = refl
-
-not_true : (b : Bool) → not b ≡ true → b ≡ false
-not_true true e = absurd (cc e)
-not_true false e = refl
 
 module _ {K : ℕ} where
   -- a live container or a reservation of this application, on this node

@@ -13,7 +13,7 @@ use Rattle.cap_model.specs.Amounts.{fits, part}
 use Rattle.cap_model.specs.Flat.{Flat, App, Container, Reservation, app_at}
 use Rattle.cap_model.specs.Uses.{Holding, holdings, of_container, of_reservation, use_of, node_held}
 use Rattle.cap_model.proofs.Choosing.{and_both}
-use Rattle.cap_model.proofs.Members.{sum_by_map}
+use Rattle.cap_model.proofs.Members.{sum_by_map, both_true}
 use Rattle.cap_model.proofs.Lessening.{standing}
 
 -- what fits, amount by amount
@@ -23,10 +23,6 @@ fits_amounts (x ∷ a) [] h zero = let z = (and_both (x == 0) (fits a []) h).0 i
 fits_amounts (x ∷ a) [] h (suc k) = fits_amounts a [] (and_both (x == 0) (fits a []) h).1 k
 fits_amounts (x ∷ a) (y ∷ b) h zero = let z = (and_both (nat_le x y) (fits a b) h).0 in grind (arith, nat_tests, z)
 fits_amounts (x ∷ a) (y ∷ b) h (suc k) = fits_amounts a b (and_both (nat_le x y) (fits a b) h).1 k
-
-both_true : (a b : Bool) → a ≡ true → b ≡ true → a && b ≡ true
-both_true true b h g = g
-both_true false b h g = absurd (cc h)
 
 pub amounts_fit : (a b : List ℕ) → ((k : ℕ) → amount a k ≤ amount b k) → fits a b ≡ true
 amounts_fit [] b h = refl

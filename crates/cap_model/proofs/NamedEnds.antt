@@ -11,11 +11,8 @@ use Rattle.cap_model.specs.Bounds.{IsRising}
 use Rattle.cap_model.specs.EngineLaws.{numbers_of}
 use Rattle.cap_model.specs.NewsLaws.{ends_of}
 use Rattle.cap_model.proofs.Choosing.{IsIn}
-use Rattle.cap_model.proofs.Members.{rising_kept, rising_from_low, sum_of_zeros, sum_by_map}
+use Rattle.cap_model.proofs.Members.{rising_kept, rising_from_low, sum_of_zeros, sum_by_map, one_where, sum_of_two}
 use Rattle.cap_model.proofs.Balance.{among_some, filter_same, filter_twice, twice_not}
-
-abbrev pub one_where : Bool → ℕ
-one_where b = cond b 1 0
 
 -- counting what a filter keeps
 pub count_kept : {A : Type 0} (g h : A → Bool) (xs : List A) → count_by g (filter h xs) ≡ sum_by (λ x. one_where (h x && g x)) xs
@@ -26,10 +23,6 @@ count_kept g h (x ∷ xs) = by (h x) (count_kept g h xs) ∙ sym (sum_by-cons (�
         count_by g (cond b (x ∷ filter h xs) (filter h xs)) ≡ one_where (b && g x) + sum_by (λ y. one_where (h y && g y)) xs
     by true e = sum_by-cons (λ y. one_where (g y)) x (filter h xs) ∙ ap (λ n. one_where (g x) + n) e
     by false e = omega (arith, e)
-
-sum_of_two : {A : Type 0} (f g : A → ℕ) (xs : List A) → sum_by (λ x. f x + g x) xs ≡ sum_by f xs + sum_by g xs
-sum_of_two f g [] = refl
-sum_of_two f g (x ∷ xs) = omega (arith, sum_by-cons (λ y. f y + g y) x xs, sum_by-cons f x xs, sum_by-cons g x xs, sum_of_two f g xs)
 
 -- whether some numbers name a container
 abbrev pub is_named : List ℕ → Container → Bool

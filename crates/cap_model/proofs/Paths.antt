@@ -14,6 +14,7 @@ use Rattle.cap_model.specs.BoundLaws.{UnderByPath}
 use Rattle.cap_model.proofs.Choosing.{and_both}
 use Rattle.cap_model.proofs.Reasons.{or_left, or_right, or_both}
 use Rattle.cap_model.proofs.Proposers.{true_or_false}
+use Rattle.cap_model.proofs.Members.{both_true}
 
 -- a list that begins with another
 
@@ -24,10 +25,6 @@ begins (b ∷ p) (c ∷ s) h =
     let both = and_both (nat_eq b c) (starts_with nat_eq s p) h in
     let same : c ≡ b = (let t = both.0 in grind (arith, nat_tests, t)) in
     λ i. same i ∷ begins p s (both.1) i
-
-both_true : (a b : Bool) → a ≡ true → b ≡ true → a && b ≡ true
-both_true true b h g = g
-both_true false b h g = absurd (cc h)
 
 begins_with : (p rest : List ℕ) → starts_with nat_eq (p ++ rest) p ≡ true
 begins_with [] rest = nothing rest

@@ -16,18 +16,11 @@ use Rattle.cap_model.specs.Bounds.{AreApart, reservations_for, IsPlaced}
 use Rattle.cap_model.specs.Events.{after_grant, after_reserve, take_one, news_of, grant_proposal, reserve_proposal}
 use Rattle.cap_model.proofs.Choosing.{IsIn, found, of_filter, in_filter, in_either}
 use Rattle.cap_model.proofs.Reasons.{or_both}
-use Rattle.cap_model.proofs.Members.{part_filter, find_changed}
+use Rattle.cap_model.proofs.Members.{part_filter, find_changed, one_where, both_true}
 use Rattle.cap_model.proofs.Proposers.{IsSeen, node_seen, held_for, true_or_false}
 use Rattle.cap_model.proofs.KeptAsks.{same_key_itself, one_less, one_less_found, other_ask_stays}
 use Rattle.cap_model.proofs.Reserving.{AreBounded, IsEnough, enough_is, is_enough, fewer_left, one_left, for_it, same_reservations}
 use Rattle.cap_model.proofs.Wanting.{wanted_is}
-
-abbrev one_where : Bool → ℕ
-one_where b = cond b 1 0
-
-both_true : (a b : Bool) → a ≡ true → b ≡ true → a && b ≡ true
-both_true true b h g = g
-both_true false b h g = absurd (cc h)
 
 is_for_itself : (r : Reservation) → is_for r.app r.key r ≡ true
 is_for_itself r = both_true (r.app == r.app) (same_key r.key r.key) (grind (arith, nat_tests)) (same_key_itself r.key)

@@ -8,14 +8,10 @@ use Rattle.cap_model.specs.Submit.{has_children}
 use Rattle.cap_model.specs.Bounds.{IsSumOfChildren, IsLeaf, IsWellFormed}
 use Rattle.cap_model.specs.BoundLaws.{IsInOneChild, TreesAddUp}
 use Rattle.cap_model.proofs.Choosing.{found, and_both}
-use Rattle.cap_model.proofs.Members.{each_of, of_each, sum_of_zeros}
+use Rattle.cap_model.proofs.Members.{each_of, of_each, sum_of_zeros, both_true}
 use Rattle.cap_model.proofs.Parents.{parent_uses_children}
 use Rattle.cap_model.proofs.Proposers.{value_of, true_or_false}
 use Rattle.cap_model.proofs.Paths.{IsUnder, under_is, is_under_it, child_to, its_child, child_leads, only_child, under_parent, counted_once}
-
-both_true : (a b : Bool) → a ≡ true → b ≡ true → a && b ≡ true
-both_true true b h g = g
-both_true false b h g = absurd (cc h)
 
 -- two tests that hold of the same
 same_test : (a b : Bool) → (a ≡ true → b ≡ true) → (b ≡ true → a ≡ true) → a ≡ b

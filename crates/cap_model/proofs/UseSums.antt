@@ -15,7 +15,7 @@ use Rattle.cap_model.specs.RegisterNode.{total_of_nodes}
 use Rattle.cap_model.specs.Bounds.{AreApart, IsNodeBounded, IsReservationBounded, IsPlaced, IsBounded}
 use Rattle.cap_model.specs.BoundLaws.{UsesAreSums}
 use Rattle.cap_model.proofs.Choosing.{IsIn, found}
-use Rattle.cap_model.proofs.Members.{each_of, found_by_number}
+use Rattle.cap_model.proofs.Members.{each_of, found_by_number, sum_of_two}
 use Rattle.cap_model.proofs.Measures.{fits_amounts, amount_of, counts, counted, use_amount, use_past, held_amount}
 use Rattle.cap_model.proofs.Growing.{in_sum}
 use Rattle.cap_model.proofs.Proposers.{value_of}
@@ -24,10 +24,6 @@ use Rattle.cap_model.proofs.Wanting.{none_there}
 if_less : (b : Bool) (n : ℕ) → (if b then n else 0) ≤ n
 if_less true n = omega arith
 if_less false n = omega arith
-
-sum_of_two : {A : Type 0} (f g : A → ℕ) (xs : List A) → sum_by (λ x. f x + g x) xs ≡ sum_by f xs + sum_by g xs
-sum_of_two f g [] = refl
-sum_of_two f g (x ∷ xs) = omega (arith, sum_by-cons (λ y. f y + g y) x xs, sum_by-cons f x xs, sum_by-cons g x xs, sum_of_two f g xs)
 
 sum_below : {A : Type 0} (f g : A → ℕ) (xs : List A) → ((x : A) → IsIn x xs → f x ≤ g x) → sum_by f xs ≤ sum_by g xs
 sum_below f g [] e = omega arith

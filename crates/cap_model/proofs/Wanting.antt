@@ -14,17 +14,10 @@ use Rattle.cap_model.specs.EngineLaws.{ReasonsAreInOrder}
 use Rattle.cap_model.specs.BoundLaws.{WantedIsSeen}
 use Rattle.cap_model.proofs.Choosing.{IsIn, found}
 use Rattle.cap_model.proofs.Reasons.{or_left, or_right}
-use Rattle.cap_model.proofs.Members.{each_of, sum_by_map, sum_of_zeros}
+use Rattle.cap_model.proofs.Members.{each_of, sum_by_map, sum_of_zeros, one_where, sum_of_two}
 use Rattle.cap_model.proofs.Growing.{in_sum}
 use Rattle.cap_model.proofs.Proposers.{IsSeen, value_of, true_or_false}
 use Rattle.cap_model.proofs.KeptAsks.{same_key_is}
-
-abbrev one_where : Bool → ℕ
-one_where b = cond b 1 0
-
-sum_of_two : {A : Type 0} (f g : A → ℕ) (xs : List A) → sum_by (λ x. f x + g x) xs ≡ sum_by f xs + sum_by g xs
-sum_of_two f g [] = refl
-sum_of_two f g (x ∷ xs) = omega (arith, sum_by-cons (λ y. f y + g y) x xs, sum_by-cons f x xs, sum_by-cons g x xs, sum_of_two f g xs)
 
 same_sums : {A : Type 0} (f g : A → ℕ) (xs : List A) → ((x : A) → f x ≡ g x) → sum_by f xs ≡ sum_by g xs
 same_sums f g xs e = λ i. sum_by (λ x. e x i) xs
