@@ -17,9 +17,9 @@ use Rattle.cap_model.specs.RegisterNode.{register_node_refusal, total_of_nodes, 
 use Rattle.cap_model.specs.Allocate.{after_processed_allocate, is_repeated_allocate}
 use Rattle.cap_model.specs.Heartbeat.{after_processed_heartbeat, is_repeated_heartbeat, beat_of}
 use Rattle.cap_model.specs.Replies.{refusal_of, granted_cluster}
-use Rattle.cap_model.specs.Events.{ClusterEvent, Step}
+use Rattle.cap_model.specs.Events.{ClusterEvent, Step, Run}
 use Rattle.cap_model.specs.Bounds.{IsWithinSizes}
-use Rattle.cap_model.specs.BoundLaws.{SizesStay, OpenedIsWithinSizes}
+use Rattle.cap_model.specs.BoundLaws.{SizesStay, RunsStayWithinSizes, OpenedIsWithinSizes}
 use Rattle.cap_model.proofs.Reasons.{none_holds}
 use Rattle.cap_model.proofs.Members.{part_filter, part_sum, sum_by_map}
 use Rattle.cap_model.proofs.ContainerNumbers.{call_thins}
@@ -181,6 +181,19 @@ module _ {K : ℕ} where
   step_sizes old new (ClusterEvent.reserve r) s (admissible, after) =
       subst IsWithinSizes (sym after)
       (record { totals = s.totals; nodes = s.nodes; live = s.live; app_numbers = s.app_numbers; node_numbers = s.node_numbers; container_numbers = s.container_numbers })
+
+  run_sizes : (events : List ClusterEvent) (old new : Flat K) → IsWithinSizes old → Run old events new → IsWithinSizes new
+  run_sizes [] old new s run = subst IsWithinSizes run s
+  run_sizes (event ∷ events) old new s (mid, step, run) = run_sizes events mid new (step_sizes old mid event s step) run
+
+  split_sizes : (first rest : List ClusterEvent) (old new : Flat K) → IsWithinSizes old → Run old (first ++ rest) new → (mid : Flat K) × Run old first mid × Run mid rest new × IsWithinSizes mid × IsWithinSizes new
+  split_sizes [] rest old new s run = (old, refl, run, s, run_sizes rest old new s run)
+  split_sizes (event ∷ first) rest old new s (next, step, run) =
+      let r = split_sizes first rest next new (step_sizes old next event s step) run in
+      (r.0, (next, step, r.1), r.2, r.3, r.4)
+
+pub runs_stay_within_sizes : RunsStayWithinSizes
+runs_stay_within_sizes K first rest old new s run = split_sizes first rest old new s run
 
 pub sizes_stay : SizesStay
 sizes_stay K old new event s step = step_sizes old new event s step

@@ -8,11 +8,15 @@ use Rattle.cap_vector.specs.Vector.{IsSum}
 use Rattle.cap_model.specs.Uses.{wanted, queue_use}
 use Rattle.cap_model.specs.Sight.{sight_of, still_wanted}
 use Rattle.cap_model.specs.Events.{ClusterEvent, Step, Run}
-use Rattle.cap_model.specs.Bounds.{AreApart, IsQueueBounded, IsNodeBounded, IsReservationBounded, IsSumOfChildren, IsTree, IsWellFormed, IsBounded, IsWithinSizes}
+use Rattle.cap_model.specs.Bounds.{AreApart, IsQueueBounded, IsNodeBounded, IsReservationBounded, IsSumOfChildren, is_tree, IsTree, IsWellFormed, IsBounded, IsWithinSizes}
 
 -- a queue is in or under another exactly where it has the other's path or a path that begins with it and a dot
 abbrev pub UnderByPath : Type 0
 UnderByPath = (path queue : List ℕ) → (is_under path queue ≡ true) ↔ ((queue ≡ path) ⊎ ((rest : List ℕ) × (queue ≡ path ++ 46 ∷ rest)))
+
+-- whether queues are a tree is told by the test
+abbrev pub TreesAreTested : Type 0
+TreesAreTested = (queues : List QueueRow) → (is_tree queues ≡ true) ↔ IsTree queues
 
 -- an application in a queue with children, or under it, is in or under exactly one of them
 abbrev pub IsInOneChild : {K : ℕ} → Flat K → List ℕ → App → Type 0
@@ -72,10 +76,16 @@ RunsStayBounded =
 abbrev pub WantedIsSeen : Type 0
 WantedIsSeen = (K : ℕ) (cluster : Flat K) (app : ℕ) (ask : Ask) → IsBounded cluster → still_wanted (sight_of cluster) app ask ≡ wanted cluster app ask
 
--- a step leaves a cluster within its sizes, and one that was opened just now is within them
+-- a step leaves a cluster within its sizes, and so does a run
 abbrev pub SizesStay : Type 0
 SizesStay = (K : ℕ) (old new : Flat K) (event : ClusterEvent) → IsWithinSizes old → Step old event new → IsWithinSizes new
 
+abbrev pub RunsStayWithinSizes : Type 0
+RunsStayWithinSizes =
+    (K : ℕ) (first rest : List ClusterEvent) (old new : Flat K) → IsWithinSizes old → Run old (first ++ rest) new →
+    (mid : Flat K) × Run old first mid × Run mid rest new × IsWithinSizes mid × IsWithinSizes new
+
+-- a cluster that was opened just now is within them
 abbrev pub OpenedIsWithinSizes : Type 0
 OpenedIsWithinSizes = (K : ℕ) (settings : Settings) → IsWithinSizes (opened {K = K} settings)
 

@@ -1,6 +1,6 @@
 -- The bounds that hold in every state of a run.
-use Rattle.std.specs.Prelude.{◌≡◌, ℕ, ◌+◌, ◌≤◌, Bool, true, false, List, [], ◌∷◌, ◌++◌, Option, Some, None, IsSome, map, find, filter, length, ◌==◌, nat_le, bytes_eq}
-use Rattle.std.specs.List.{All, list_any}
+use Rattle.std.specs.Prelude.{◌≡◌, ℕ, ◌+◌, ◌≤◌, Bool, true, false, not, ◌&&◌, is_some, if◌then◌else◌, List, [], ◌∷◌, ◌++◌, Option, Some, None, IsSome, map, find, filter, length, ◌==◌, nat_le, bytes_eq}
+use Rattle.std.specs.List.{All, list_any, list_all}
 use Rattle.cap_vector.specs.Vector.{amount_max, IsWithin}
 use Rattle.cap_model.specs.Cascade.{holds_of}
 use Rattle.cap_model.specs.Amounts.{fits, times, sum_where}
@@ -37,6 +37,21 @@ HasDistinctPaths (q ∷ queues) = (list_any (λ r. bytes_eq r.path q.path) queue
 pub record IsTree (queues : List QueueRow) : Type 0 where
   pub distinct : HasDistinctPaths queues
   pub above : All (λ q. (front rest : List ℕ) → q.path ≡ front ++ 46 ∷ rest → IsSome (find (λ r. bytes_eq r.path front) queues)) queues
+
+-- the beginnings of a path that end before a dot
+abbrev pub fronts : List ℕ → List (List ℕ)
+fronts [] = []
+fronts (b ∷ path) =
+    let longer = map (λ front. b ∷ front) (fronts path) in
+    if b == 46 then [] ∷ longer else longer
+
+-- whether no path stands in a list of queues twice, and whether they are a tree
+abbrev pub has_distinct_paths : List QueueRow → Bool
+has_distinct_paths [] = true
+has_distinct_paths (q ∷ queues) = not (list_any (λ r. bytes_eq r.path q.path) queues) && has_distinct_paths queues
+
+abbrev pub is_tree : List QueueRow → Bool
+is_tree queues = has_distinct_paths queues && list_all (λ q. list_all (λ front. is_some (find (λ r. bytes_eq r.path front) queues)) (fronts q.path)) queues
 
 module _ {K : ℕ} where
   -- a queue without children
