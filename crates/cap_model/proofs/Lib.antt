@@ -1,3 +1,4 @@
+pub mod Levels
 pub mod Trees
 pub mod UsedNumbers
 pub mod Sizes

@@ -1,6 +1,6 @@
 -- Laws of the bounds: what holds in every state of a run.
-use Rattle.std.specs.Prelude.{◌≡◌, ◌↔◌, ◌⊎◌, ℕ, ◌+◌, ◌<◌, true, List, Some, None, ◌∷◌, ◌++◌, count_by, ◌&&◌, if◌then◌else◌}
-use Rattle.std.specs.List.{All}
+use Rattle.std.specs.Prelude.{◌≡◌, ◌↔◌, ◌⊎◌, ℕ, ◌+◌, ◌<◌, true, List, Some, None, IsSome, map, find, filter, bytes_eq, ◌∷◌, ◌++◌, count_by, ◌&&◌, if◌then◌else◌}
+use Rattle.std.specs.List.{All, range_with_len}
 use Rattle.cap_model.specs.Calls.{Ask}
 use Rattle.cap_model.specs.Flat.{Flat, App, opened, app_at, node_at, is_under, is_child_of}
 use Rattle.cap_model.specs.Settings.{Settings, QueueRow}
@@ -8,7 +8,7 @@ use Rattle.cap_vector.specs.Vector.{IsSum}
 use Rattle.cap_model.specs.Uses.{wanted, queue_use}
 use Rattle.cap_model.specs.Sight.{sight_of, still_wanted}
 use Rattle.cap_model.specs.Events.{ClusterEvent, Step, Run}
-use Rattle.cap_model.specs.Bounds.{AreApart, IsQueueBounded, IsNodeBounded, IsReservationBounded, IsSumOfChildren, is_tree, IsTree, IsWellFormed, IsBounded, IsWithinSizes}
+use Rattle.cap_model.specs.Bounds.{AreApart, IsQueueBounded, IsNodeBounded, IsReservationBounded, IsSumOfChildren, is_tree, IsTree, StandBelow, depth, IsWellFormed, IsBounded, IsWithinSizes}
 
 -- a queue is in or under another exactly where it has the other's path or a path that begins with it and a dot
 abbrev pub UnderByPath : Type 0
@@ -17,6 +17,13 @@ UnderByPath = (path queue : List ℕ) → (is_under path queue ≡ true) ↔ ((q
 -- whether queues are a tree is told by the test
 abbrev pub TreesAreTested : Type 0
 TreesAreTested = (queues : List QueueRow) → (is_tree queues ≡ true) ↔ IsTree queues
+
+-- in a tree where each queue stands before those under it, the queues that lead to one of them are one of each level, in order, from 0 on:
+-- the place of a queue among them is its level
+abbrev pub LevelsInOrder : Type 0
+LevelsInOrder =
+    (queues : List QueueRow) (leaf : List ℕ) → IsTree queues → StandBelow queues → IsSome (find (λ q. bytes_eq q.path leaf) queues) →
+    map (λ q. depth q.path) (filter (λ q. is_under q.path leaf) queues) ≡ range_with_len 0 (depth leaf + 1)
 
 -- an application in a queue with children, or under it, is in or under exactly one of them
 abbrev pub IsInOneChild : {K : ℕ} → Flat K → List ℕ → App → Type 0

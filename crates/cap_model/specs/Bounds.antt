@@ -1,12 +1,12 @@
 -- The bounds that hold in every state of a run.
-use Rattle.std.specs.Prelude.{◌≡◌, ℕ, ◌+◌, ◌≤◌, Bool, true, false, not, ◌&&◌, is_some, if◌then◌else◌, List, [], ◌∷◌, ◌++◌, Option, Some, None, IsSome, map, find, filter, length, ◌==◌, nat_le, bytes_eq}
+use Rattle.std.specs.Prelude.{◌≡◌, ℕ, ◌+◌, ◌≤◌, Bool, true, false, not, ◌&&◌, is_some, if◌then◌else◌, List, [], ◌∷◌, ◌++◌, Option, Some, None, IsSome, map, find, filter, length, count_by, ◌==◌, nat_le, bytes_eq}
 use Rattle.std.specs.List.{All, list_any, list_all}
 use Rattle.cap_vector.specs.Vector.{amount_max, IsWithin}
 use Rattle.cap_model.specs.Cascade.{holds_of}
 use Rattle.cap_model.specs.Amounts.{fits, times, sum_where}
 use Rattle.cap_model.specs.Settings.{QueueRow}
 use Rattle.cap_model.specs.Calls.{Key}
-use Rattle.cap_model.specs.Flat.{Flat, ClusterNode, Reservation, is_for, ask_at, app_at, node_at, queue_at, is_child_of}
+use Rattle.cap_model.specs.Flat.{Flat, ClusterNode, Reservation, is_for, ask_at, app_at, node_at, queue_at, is_under, is_child_of}
 use Rattle.cap_model.specs.Cluster.{number_end, nodes_max}
 use Rattle.cap_model.specs.Admission.{live_max}
 use Rattle.cap_model.specs.Submit.{has_children}
@@ -37,6 +37,15 @@ HasDistinctPaths (q ∷ queues) = (list_any (λ r. bytes_eq r.path q.path) queue
 pub record IsTree (queues : List QueueRow) : Type 0 where
   pub distinct : HasDistinctPaths queues
   pub above : All (λ q. (front rest : List ℕ) → q.path ≡ front ++ 46 ∷ rest → IsSome (find (λ r. bytes_eq r.path front) queues)) queues
+
+-- each queue of a list stands before those under it
+abbrev pub StandBelow : List QueueRow → Type 0
+StandBelow [] = Unit {0}
+StandBelow (q ∷ queues) = (list_any (λ r. is_under r.path q.path) queues ≡ false) × StandBelow queues
+
+-- how far down a queue is: the dots of its path
+abbrev pub depth : List ℕ → ℕ
+depth path = count_by (λ b. b == 46) path
 
 -- the beginnings of a path that end before a dot
 abbrev pub fronts : List ℕ → List (List ℕ)
