@@ -1,5 +1,5 @@
 -- The queues from the root down to a leaf stand in order of level.
-use Rattle.std.proofs.Common.{◌≡◌, ℕ, zero, suc, ◌+◌, ◌-◌, ◌≤◌, ◌<◌, Bool, true, false, List, [], ◌∷◌, ◌++◌, refl, sym, ◌∙◌, ap, subst, inl, inr, arith}
+use Rattle.std.proofs.Common.{◌≡◌, ℕ, zero, suc, ◌+◌, ◌≤◌, ◌<◌, Bool, true, false, List, [], ◌∷◌, ◌++◌, refl, sym, ◌∙◌, ap, subst, inl, inr, arith}
 use Rattle.std.specs.Prelude.{◌⊎◌, Option, Some, None, IsSome, cond, not, ◌&&◌, ◌==◌, filter, find, map, bytes_eq, count_by, if◌then◌else◌}
 use Rattle.std.specs.List.{list_any, range_with_len, sum_by}
 use Rattle.std.proofs.lemmas.Bool.Decides.{nat_tests}
@@ -7,9 +7,9 @@ use Rattle.std.proofs.lemmas.Slice.Eq.{bytes_eq-Decides}
 use Rattle.std.proofs.lemmas.List.Sums.{sum_by-cons, sum_by-append}
 use Rattle.cap_model.specs.Settings.{QueueRow}
 use Rattle.cap_model.specs.Flat.{is_under}
-use Rattle.cap_model.specs.Bounds.{IsRising, IsTree, StandBelow, depth}
+use Rattle.cap_model.specs.Bounds.{IsRising, StandBelow, depth}
 use Rattle.cap_model.specs.BoundLaws.{LevelsInOrder}
-use Rattle.cap_model.proofs.Choosing.{IsIn, in_filter, of_filter, found}
+use Rattle.cap_model.proofs.Choosing.{IsIn, in_filter, found}
 use Rattle.cap_model.proofs.Members.{each_of, in_map, one_where}
 use Rattle.cap_model.proofs.Proposers.{none_in, value_of}
 use Rattle.cap_model.proofs.Paths.{IsUnder, under_is, is_under_it}
@@ -77,6 +77,7 @@ is_shallower x y leaf u v e = by (comparable x y leaf u v)
   where
     no : IsUnder y x → ⊥
     no w = let yes = is_under_it y x w in cc (yes, e)
+
     by : IsUnder x y ⊎ IsUnder y x → depth x < depth y
     by (inl (inl s)) = absurd (no (inl (sym s)))
     by (inl (inr (rest, s))) = let t : depth y ≡ depth (x ++ 46 ∷ rest) = ap depth s in omega (arith, t, below_is_deeper x rest)
@@ -96,8 +97,7 @@ levels_rise leaf low (q ∷ qs) s f h = by (above leaf q) refl (levels_rise leaf
         IsRising low (map (λ r. depth r.path) (cond b (q ∷ filter (above leaf) qs) (filter (above leaf) qs))) (depth leaf + 1)
     by true e g k =
         let u = under_is q.path leaf e in
-        let top = not_shallower q.path leaf u in
-        (
+        let top = not_shallower q.path leaf u in (
           f q (inl refl) u,
           k (λ r m v. let d = is_shallower q.path r.path leaf u v (none_in (λ (x : QueueRow). is_under x.path q.path) qs r s.0 m) in omega (arith, d)) (omega (arith, top)),
         )
@@ -143,9 +143,11 @@ all_there low (suc n) (m ∷ ns) r f =
     from_low a [] high k s m = absurd m
     from_low a (x ∷ xs) high k s (inl e) = omega (arith, s.0, e)
     from_low a (x ∷ xs) high k s (inr g) = omega (arith, s.0, from_low (x + 1) xs high k s.1 g)
+
     by : IsIn low (m ∷ ns) → m ≡ low
     by (inl e) = e
     by (inr g) = absurd (omega (arith, r.0, from_low (m + 1) ns (low + suc n) low r.1 g))
+
     rest : (k : ℕ) → low + 1 ≤ k → k < low + 1 + n → IsIn k ns
     rest k a b = later (f k (omega (arith, a)) (omega (arith, b)))
       where
@@ -166,11 +168,13 @@ levels_in_order queues leaf t s h =
         let same : (v.0).path ≡ path = (bytes_eq-Decides (v.0).path path).0 (f.1) in
         let up : above leaf (v.0) ≡ true = ap (λ p. is_under p leaf) same ∙ is_under_it path leaf u in
         subst (λ p. IsIn (depth p) (map (λ q. depth q.path) (filter (above leaf) queues))) same (in_map (λ (q : QueueRow). depth q.path) (filter (above leaf) queues) (v.0) (in_filter (above leaf) queues (v.0) (f.0) up))
+
     its_row : (x : QueueRow) × IsIn x queues × (x.path ≡ leaf)
     its_row =
         let v = value_of (find (λ (r : QueueRow). bytes_eq r.path leaf) queues) h in
         let f = found (λ (r : QueueRow). bytes_eq r.path leaf) queues (v.0) (v.1) in
         (v.0, f.0, (bytes_eq-Decides (v.0).path leaf).0 (f.1))
+
     by : {k : ℕ} → (k < depth leaf) ⊎ (depth leaf ≤ k) → k < 0 + (depth leaf + 1) → IsIn k (map (λ q. depth q.path) (filter (above leaf) queues))
     by {k = k} (inl below) b =
         let f = front_at leaf k below in

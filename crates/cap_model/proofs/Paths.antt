@@ -1,6 +1,6 @@
 -- Dotted paths: what is under what, and the names of children.
 use Rattle.std.proofs.Common.{◌≡◌, ℕ, ◌+◌, Bool, true, false, List, [], ◌∷◌, ◌++◌, refl, sym, ◌∙◌, ap, subst, inl, inr, arith}
-use Rattle.std.specs.Prelude.{◌⊎◌, Some, IsSome, cond, ◌&&◌, ◌||◌, ◌==◌, find, length, drop, bytes_eq, nat_eq, count_by, if◌then◌else◌}
+use Rattle.std.specs.Prelude.{◌⊎◌, Some, IsSome, cond, ◌||◌, ◌==◌, find, length, drop, bytes_eq, nat_eq, count_by, if◌then◌else◌}
 use Rattle.std.specs.List.{All, list_any, starts_with, sum_by}
 use Rattle.std.proofs.lemmas.Bool.Decides.{nat_tests}
 use Rattle.std.proofs.lemmas.Slice.Eq.{bytes_eq-Decides}

@@ -1,6 +1,6 @@
 -- Whether queues are a tree is told by the test.
 use Rattle.std.proofs.Common.{◌≡◌, ℕ, Bool, true, false, List, [], ◌∷◌, ◌++◌, refl, sym, ◌∙◌, ap, subst, inl, inr, arith}
-use Rattle.std.specs.Prelude.{◌⊎◌, Option, Some, None, IsSome, is_some, cond, not, ◌&&◌, ◌==◌, find, map, bytes_eq, if◌then◌else◌}
+use Rattle.std.specs.Prelude.{IsSome, is_some, cond, not, ◌==◌, find, map, bytes_eq}
 use Rattle.std.specs.List.{list_any, list_all}
 use Rattle.std.proofs.lemmas.Bool.Decides.{nat_tests}
 use Rattle.cap_model.specs.Settings.{QueueRow}
@@ -38,6 +38,7 @@ front_is (b ∷ path) front m = by (b == 46) refl (front_is path) m
         let w = of_map (λ x. b ∷ x) (fronts path) front g in
         let r = f (w.0) (w.1) in
         (r.0, ap (λ x. b ∷ x) (r.1) ∙ ap (λ x. x ++ 46 ∷ (r.0)) (w.2))
+
     by : (dot : Bool) → b == 46 ≡ dot → ((x : List ℕ) → IsIn x (fronts path) → (rest : List ℕ) × (path ≡ x ++ 46 ∷ rest)) →
         IsIn front (cond dot ([] ∷ map (λ x. b ∷ x) (fronts path)) (map (λ x. b ∷ x) (fronts path))) → (rest : List ℕ) × (b ∷ path ≡ front ++ 46 ∷ rest)
     by true e f (inl g) =

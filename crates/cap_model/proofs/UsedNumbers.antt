@@ -1,19 +1,19 @@
 -- Numbers of applications and nodes that have gone are never used again.
-use Rattle.std.proofs.Common.{◌≡◌, ℕ, ◌+◌, ◌≤◌, ◌<◌, Bool, true, false, List, [], ◌∷◌, ◌++◌, refl, sym, ◌∙◌, ap, subst, inl, inr, arith}
-use Rattle.std.specs.Prelude.{◌⊎◌, Option, Some, None, IsSome, cond, ◌==◌, find}
+use Rattle.std.proofs.Common.{◌≡◌, ℕ, ◌≤◌, ◌<◌, Bool, true, false, List, [], ◌∷◌, refl, sym, ◌∙◌, ap, subst, inl, inr, arith}
+use Rattle.std.specs.Prelude.{Some, None, cond, ◌==◌, find}
 use Rattle.std.proofs.lemmas.Bool.Decides.{nat_tests}
-use Rattle.cap_model.specs.Calls.{Ask, CallRequest, CallReply}
+use Rattle.cap_model.specs.Calls.{Ask, CallRequest}
 use Rattle.cap_model.specs.Flat.{Flat, ClusterNode, app_at, node_at}
 use Rattle.cap_model.specs.Allocate.{after_processed_allocate, is_repeated_allocate}
 use Rattle.cap_model.specs.Heartbeat.{after_processed_heartbeat, is_repeated_heartbeat}
-use Rattle.cap_model.specs.Replies.{refusal_of, granted_cluster}
+use Rattle.cap_model.specs.Replies.{granted_cluster}
 use Rattle.cap_model.specs.Events.{ClusterEvent, Step, Run}
 use Rattle.cap_model.specs.Bounds.{IsWellFormed}
 use Rattle.cap_model.specs.BoundLaws.{NumbersAreNotUsedAgain}
-use Rattle.cap_model.proofs.Choosing.{IsIn, found}
+use Rattle.cap_model.proofs.Choosing.{IsIn}
 use Rattle.cap_model.proofs.Moves.{step_moves}
 use Rattle.cap_model.proofs.ToldRuns.{stays_missing}
-use Rattle.cap_model.proofs.Lessening.{IsOldNode, lessened, asked}
+use Rattle.cap_model.proofs.Lessening.{lessened, asked}
 use Rattle.cap_model.proofs.Formed.{places_of, after_call, step_formed}
 
 -- where nobody has a number, it is not found
@@ -61,14 +61,13 @@ module _ {K : ℕ} where
       let new = granted_cluster old request in
       let l = lessened old (places_of old w) request in
       let next = call_next old request in
-      let below = s.0 in
-      (
+      let below = s.0 in (
         omega (arith, below, next),
         not_found n new.nodes.present
-        (λ x m. elim (l.present x m) [
-          | inl (y, g, number, total) ↦ ap (λ k. k == n) (sym number) ∙ has_not n old.nodes.present (s.1) y g
-          | inr number ↦ grind (arith, nat_tests, number, below)
-        ]),
+            (λ x m. elim (l.present x m) [
+              | inl (y, g, number, total) ↦ ap (λ k. k == n) (sym number) ∙ has_not n old.nodes.present (s.1) y g
+              | inr number ↦ grind (arith, nat_tests, number, below)
+            ]),
       )
 
   step_spent : (old new : Flat K) (event : ClusterEvent) (n : ℕ) → IsWellFormed old → IsSpent n old → Step old event new → IsSpent n new
