@@ -1,5 +1,5 @@
 -- Laws of the bounds: what holds in every state of a run.
-use Rattle.std.specs.Prelude.{◌≡◌, ◌↔◌, ◌⊎◌, ℕ, ◌+◌, ◌<◌, true, List, Some, None, IsSome, map, find, filter, bytes_eq, ◌∷◌, ◌++◌, count_by, ◌&&◌, if◌then◌else◌}
+use Rattle.std.specs.Prelude.{◌≡◌, ◌↔◌, ◌⊎◌, ℕ, ◌+◌, ◌<◌, true, List, Some, None, map, filter, ◌∷◌, ◌++◌, count_by, ◌&&◌, if◌then◌else◌}
 use Rattle.std.specs.List.{All, range_with_len}
 use Rattle.cap_model.specs.Calls.{Ask}
 use Rattle.cap_model.specs.Flat.{Flat, App, opened, app_at, node_at, is_under, is_child_of}
@@ -8,7 +8,7 @@ use Rattle.cap_vector.specs.Vector.{IsSum}
 use Rattle.cap_model.specs.Uses.{wanted, queue_use}
 use Rattle.cap_model.specs.Sight.{sight_of, still_wanted}
 use Rattle.cap_model.specs.Events.{ClusterEvent, Step, Run}
-use Rattle.cap_model.specs.Bounds.{AreApart, IsQueueBounded, IsNodeBounded, IsReservationBounded, IsSumOfChildren, is_tree, IsTree, StandBelow, depth, IsWellFormed, IsBounded, IsWithinSizes}
+use Rattle.cap_model.specs.Bounds.{AreApart, IsQueueBounded, IsNodeBounded, IsReservationBounded, IsSumOfChildren, has_path, is_tree, IsTree, StandBelow, depth, IsWellFormed, IsBounded, IsWithinSizes}
 
 -- a queue is in or under another exactly where it has the other's path or a path that begins with it and a dot
 abbrev pub UnderByPath : Type 0
@@ -22,7 +22,7 @@ TreesAreTested = (queues : List QueueRow) → (is_tree queues ≡ true) ↔ IsTr
 -- the place of a queue among them is its level
 abbrev pub LevelsInOrder : Type 0
 LevelsInOrder =
-    (queues : List QueueRow) (leaf : List ℕ) → IsTree queues → StandBelow queues → IsSome (find (λ q. bytes_eq q.path leaf) queues) →
+    (queues : List QueueRow) (leaf : List ℕ) → IsTree queues → StandBelow queues → has_path queues leaf ≡ true →
     map (λ q. depth q.path) (filter (λ q. is_under q.path leaf) queues) ≡ range_with_len 0 (depth leaf + 1)
 
 -- an application in a queue with children, or under it, is in or under exactly one of them
