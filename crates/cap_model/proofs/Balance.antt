@@ -1,7 +1,6 @@
 -- What lives and what has ended is what lived and what was granted.
 use Rattle.std.proofs.Common.{◌≡◌, ℕ, ◌+◌, ◌≤◌, ◌<◌, Bool, true, false, List, [], ◌∷◌, ◌++◌, refl, sym, ◌∙◌, ap, subst, inl, inr, arith}
-use Rattle.std.specs.Prelude.{Option, Some, None, cond, not, ◌||◌, ◌==◌, filter, count_by, if◌then◌else◌}
-use Rattle.std.specs.List.{sum_by}
+use Rattle.std.specs.Prelude.{Option, Some, None, cond, not, ◌||◌, ◌==◌, filter, count_by}
 use Rattle.std.proofs.lemmas.Bool.Decides.{nat_tests}
 use Rattle.std.proofs.lemmas.List.Sums.{sum_by-cons, sum_by-append}
 use Rattle.std.proofs.lemmas.List.{append_assoc, append-nil}
@@ -10,12 +9,13 @@ use Rattle.std.proofs.lemmas.List.Folds.{list_any-append}
 use Rattle.cap_model.specs.Calls.{CallRequest, CallReply, CallRefusal}
 use Rattle.cap_model.specs.Flat.{Flat, Container}
 use Rattle.cap_model.specs.Ending.{is_among}
-use Rattle.cap_model.specs.Replies.{refused_or, refusal_of, granted_reply, granted_cluster, reply_to, after_request}
-use Rattle.cap_model.specs.Events.{ClusterEvent, Step, Run, after_event, after_grant, granted_by, ever_granted, ended_between, ever_ended, is_no_memory}
+use Rattle.cap_model.specs.Replies.{refused_or, refusal_of, granted_reply, granted_cluster, after_request}
+use Rattle.cap_model.specs.Events.{ClusterEvent, Step, Run, after_event, granted_by, ever_granted, ended_between, ever_ended, is_no_memory}
 use Rattle.cap_model.specs.Bounds.{IsRising}
 use Rattle.cap_model.specs.EngineLaws.{numbers_of, HasDistinctNumbers, StepIsDetermined, ContainersBalance, EndedOnce, LiveIsWhatWasNotEnded}
-use Rattle.cap_model.proofs.Choosing.{IsIn, in_left, in_right}
+use Rattle.cap_model.proofs.Choosing.{IsIn, in_left}
 use Rattle.cap_model.proofs.ContainerNumbers.{IsThinned, reply_thins, numbers_stay_distinct, granted_once}
+use Rattle.cap_model.proofs.Members.{one_where}
 
 -- the cluster after a step is determined by the event
 
@@ -101,6 +101,7 @@ among_some t low (d ∷ cs) high c r (inr m) = by (t d) (among_some t (d.number 
   where
     above : d.number + 1 ≤ c.number
     above = in_above (d.number + 1) cs high c r.1 m
+
     by : (b : Bool) → is_among (filter t cs) c ≡ t c → is_among (cond b (d ∷ filter t cs) (filter t cs)) c ≡ t c
     by true e = let other : d.number == c.number ≡ false = grind (arith, nat_tests, above) in ap (λ x. x || is_among (filter t cs) c) other ∙ e
     by false e = e
@@ -134,9 +135,6 @@ count_parts f t (x ∷ xs) = by (t x) (count_parts f t xs)
 
 abbrev is_numbered : ℕ → Container → Bool
 is_numbered n c = c.number == n
-
-abbrev one_where : Bool → ℕ
-one_where b = cond b 1 0
 
 -- of containers in order no number stands twice
 count_rising : (n low : ℕ) (cs : List Container) (high : ℕ) → IsRising low (numbers_of cs) high → (count_by (is_numbered n) cs ≤ 1) × (n < low → count_by (is_numbered n) cs ≡ 0)
@@ -242,6 +240,7 @@ among_earlier t low (d ∷ cs) high c r h = by (t d) (among_earlier t (d.number 
   where
     below : d.number < high
     below = omega (arith, bounds_meet (d.number + 1) (numbers_of cs) high r.1)
+
     by : (b : Bool) → is_among (filter t cs) c ≡ false → is_among (cond b (d ∷ filter t cs) (filter t cs)) c ≡ false
     by true e = let other : d.number == c.number ≡ false = grind (arith, nat_tests, h, below) in ap (λ x. x || is_among (filter t cs) c) other ∙ e
     by false e = e

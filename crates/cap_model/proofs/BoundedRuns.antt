@@ -1,16 +1,15 @@
 -- Every state of a run from a bounded cluster is bounded.
-use Rattle.std.proofs.Common.{◌≡◌, ℕ, ◌+◌, ◌≤◌, ◌<◌, List, [], ◌∷◌, ◌++◌, refl, sym, ◌∙◌, ap, subst, inl, inr, arith}
+use Rattle.std.proofs.Common.{◌≡◌, ℕ, List, [], ◌∷◌, ◌++◌, refl, subst, inl, inr, arith}
 use Rattle.std.specs.Prelude.{◌&&◌, ◌==◌, Option, Some, None, bytes_eq, map, true}
 use Rattle.std.specs.List.{All}
 use Rattle.std.proofs.lemmas.Bool.{cases_lt}
-use Rattle.cap_vector.specs.Vector.{amount}
-use Rattle.cap_model.specs.Settings.{Settings, QueueRow}
+use Rattle.cap_model.specs.Settings.{Settings}
 use Rattle.cap_model.specs.Amounts.{fits, times}
-use Rattle.cap_model.specs.Flat.{Flat, App, ClusterNode, Container, Reservation, opened, is_under}
+use Rattle.cap_model.specs.Flat.{Flat, App, Container, Reservation, opened, is_under}
 use Rattle.cap_model.specs.Uses.{use_of, queue_use}
 use Rattle.cap_model.specs.Events.{ClusterEvent, Step, Run}
 use Rattle.cap_model.specs.Bounds.{FitsMaximum, IsTree, IsLeaf, IsPlaced, IsQueueBounded, IsNodeBounded, IsReservationBounded, IsWellFormed, IsBounded}
-use Rattle.cap_model.specs.EngineLaws.{StepStaysBounded, RunsStayBounded, OpenedIsBounded}
+use Rattle.cap_model.specs.BoundLaws.{StepStaysBounded, RunsStayBounded, OpenedIsBounded}
 use Rattle.cap_model.proofs.Members.{of_each}
 use Rattle.cap_model.proofs.Measures.{amounts_fit, use_amount, use_past}
 use Rattle.cap_model.proofs.ContainerNumbers.{numbers_stay_distinct}

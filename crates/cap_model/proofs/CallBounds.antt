@@ -1,6 +1,6 @@
 -- A call keeps the bounds: it only takes away.
-use Rattle.std.proofs.Common.{◌≡◌, ℕ, ◌+◌, ◌-◌, ◌≤◌, ◌<◌, Bool, true, false, List, [], ◌∷◌, ◌++◌, refl, sym, ◌∙◌, ap, subst, inl, inr, arith}
-use Rattle.std.specs.Prelude.{◌⊎◌, Option, Some, None, IsSome, is_some, cond, not, ◌&&◌, ◌==◌, filter, find, map, option_map, bytes_eq, if◌then◌else◌}
+use Rattle.std.proofs.Common.{◌≡◌, ℕ, ◌≤◌, Bool, true, false, List, [], ◌∷◌, refl, sym, ◌∙◌, ap, subst, inl, inr, arith}
+use Rattle.std.specs.Prelude.{Option, Some, None, IsSome, ◌&&◌, ◌==◌, filter, map, option_map, bytes_eq, if◌then◌else◌}
 use Rattle.std.specs.List.{All, list_any, sum_by}
 use Rattle.std.proofs.lemmas.Bool.{cases_lt}
 use Rattle.std.proofs.lemmas.Bool.Decides.{nat_tests}
@@ -8,13 +8,13 @@ use Rattle.cap_vector.specs.Vector.{amount}
 use Rattle.cap_model.specs.Settings.{QueueRow}
 use Rattle.cap_model.specs.Amounts.{fits, times}
 use Rattle.cap_model.specs.Flat.{Flat, App, ClusterNode, Container, Reservation, app_at, node_at, is_under}
-use Rattle.cap_model.specs.Uses.{use_of, queue_use, user_use, node_held}
+use Rattle.cap_model.specs.Uses.{use_of, queue_use, node_held}
 use Rattle.cap_model.specs.Bounds.{IsRising, FitsMaximum, AreApart, IsNodeBounded, IsQueueBounded}
-use Rattle.cap_model.proofs.Choosing.{IsIn, of_filter}
+use Rattle.cap_model.proofs.Choosing.{IsIn}
 use Rattle.cap_model.proofs.Reasons.{or_left, or_right, or_both}
-use Rattle.cap_model.proofs.Members.{IsPart, part_filter, part_in, part_sum, each_of, of_each, sum_by_agree, sum_of_zeros, none_from_high}
-use Rattle.cap_model.proofs.Lessening.{IsLessened, IsSite, IsOldNode, HasPlaces, standing, capacity, site_before}
-use Rattle.cap_model.proofs.Measures.{fits_amounts, amounts_fit, counts, same_counts, counted, live_part, reserved_part, use_amount, use_past, held_amount, held_past}
+use Rattle.cap_model.proofs.Members.{IsPart, part_filter, part_sum, each_of, of_each, sum_by_agree, sum_of_zeros, none_from_high}
+use Rattle.cap_model.proofs.Lessening.{IsLessened, IsSite, IsOldNode, HasPlaces, site_before}
+use Rattle.cap_model.proofs.Measures.{fits_amounts, amounts_fit, same_counts, counted, live_part, reserved_part, use_amount, use_past, held_amount, held_past}
 
 pub some_kept : {A B : Type 0} (f : A → B) (o p : Option A) → option_map f o ≡ option_map f p → IsSome p → IsSome o
 some_kept f None None e h = h
@@ -49,12 +49,13 @@ module _ {K : ℕ} (old new : Flat K) (less : IsLessened old new) (h : HasPlaces
   -- a use only falls
   pub use_falls : (test : List ℕ → List ℕ → Bool) (k : ℕ) → amount (use_of new (λ a. test a.leaf a.user)) k ≤ amount (use_of old (λ a. test a.leaf a.user)) k
   use_falls test k = elim (cases_lt k K) [
-      | inl b ↦ omega (arith, use_amount old test k b, use_amount new test k b, live, reserved)
-      | inr p ↦ omega (arith, use_past old test k p, use_past new test k p)
-    ]
+    | inl b ↦ omega (arith, use_amount old test k b, use_amount new test k b, live, reserved)
+    | inr p ↦ omega (arith, use_past old test k p, use_past new test k p)
+  ]
     where
       same : (app node : ℕ) (resource : List ℕ) → IsSite new app node → counted new test k app resource ≡ counted old test k app resource
       same app node resource s = ap (λ b. if b then amount resource k else 0) (same_counts test (app_at new app) (app_at old app) (less.apps app node s))
+
       live : live_part new test k new.nodes.live ≤ live_part old test k old.nodes.live
       live =
           let a : live_part new test k new.nodes.live ≡ live_part old test k new.nodes.live =
@@ -62,6 +63,7 @@ module _ {K : ℕ} (old new : Flat K) (less : IsLessened old new) (h : HasPlaces
           let b : live_part old test k new.nodes.live ≡ live_part old test k (filter less.live.test old.nodes.live) = ap (live_part old test k) less.live.live in
           let c = part_sum (λ (c : Container). counted old test k c.app c.resource) old.nodes.live (filter less.live.test old.nodes.live) (part_filter less.live.test old.nodes.live) in
           omega (arith, a, b, c)
+
       reserved : reserved_part new test k new.nodes.reserved ≤ reserved_part old test k old.nodes.reserved
       reserved =
           let a : reserved_part new test k new.nodes.reserved ≡ reserved_part old test k new.nodes.reserved =
@@ -85,30 +87,31 @@ module _ {K : ℕ} (old new : Flat K) (less : IsLessened old new) (h : HasPlaces
   -- what a node holds only falls, and on a new node nothing runs
   held_falls : (n k : ℕ) → amount (node_held new n) k ≤ amount (node_held old n) k
   held_falls n k = elim (cases_lt k K) [
-      | inl b ↦
-          let held : Container → ℕ = λ c. if c.node == n then amount c.resource k else 0 in
-          let a : sum_by held new.nodes.live ≡ sum_by held (filter less.live.test old.nodes.live) = ap (sum_by held) less.live.live in
-          let c = part_sum held old.nodes.live (filter less.live.test old.nodes.live) (part_filter less.live.test old.nodes.live) in
-          omega (arith, held_amount old n k b, held_amount new n k b, a, c)
-      | inr p ↦ omega (arith, held_past old n k p, held_past new n k p)
-    ]
+    | inl b ↦
+        let held : Container → ℕ = λ c. if c.node == n then amount c.resource k else 0 in
+        let a : sum_by held new.nodes.live ≡ sum_by held (filter less.live.test old.nodes.live) = ap (sum_by held) less.live.live in
+        let c = part_sum held old.nodes.live (filter less.live.test old.nodes.live) (part_filter less.live.test old.nodes.live) in
+        omega (arith, held_amount old n k b, held_amount new n k b, a, c)
+    | inr p ↦ omega (arith, held_past old n k p, held_past new n k p)
+  ]
 
   pub nodes_stay : IsRising 1 (map (λ node. node.number) old.nodes.present) old.nodes.next_node → All (IsNodeBounded old) old.nodes.present → All (IsNodeBounded new) new.nodes.present
   nodes_stay r b = of_each (IsNodeBounded new) new.nodes.present (λ node m. by node (less.present node m))
     where
       nothing : (n : ℕ) → n ≡ old.nodes.next_node → (k : ℕ) → amount (node_held old n) k ≤ 0
       nothing n e k = elim (cases_lt k K) [
-          | inl g ↦
-              let zeros = sum_of_zeros (λ (c : Container). if c.node == n then amount c.resource k else 0) old.nodes.live (λ c m. away c m (c.node == n) refl) in
-              omega (arith, held_amount old n k g, zeros)
-          | inr p ↦ omega (arith, held_past old n k p)
-        ]
+        | inl g ↦
+            let zeros = sum_of_zeros (λ (c : Container). if c.node == n then amount c.resource k else 0) old.nodes.live (λ c m. away c m (c.node == n) refl) in
+            omega (arith, held_amount old n k g, zeros)
+        | inr p ↦ omega (arith, held_past old n k p)
+      ]
         where
           away : (c : Container) → IsIn c old.nodes.live → (x : Bool) → c.node == n ≡ x → (if x then amount c.resource k else 0) ≡ 0
           away c m true g =
               let at : old.nodes.next_node ≤ c.node = grind (arith, nat_tests, g, e) in
               absurd (missing (node_at old c.node) (none_from_high (λ (x : ClusterNode). x.number) 1 old.nodes.present old.nodes.next_node c.node r at) (h c.app c.node (inl (c, m, refl, refl))).1)
           away c m false g = refl
+
       by : (node : ClusterNode) → IsOldNode old node → IsNodeBounded new node
       by node (inl (x, m, number, total)) =
           let before : fits (node_held old node.number) node.total ≡ true = subst (λ n. fits (node_held old n) node.total ≡ true) number (subst (λ t. fits (node_held old x.number) t ≡ true) total (each_of (IsNodeBounded old) old.nodes.present b x m)) in

@@ -1,22 +1,20 @@
 -- The ends that are told are those of the containers that ended.
-use Rattle.std.proofs.Common.{◌≡◌, ℕ, ◌+◌, ◌≤◌, ◌<◌, Bool, true, false, List, [], ◌∷◌, ◌++◌, refl, sym, ◌∙◌, ap, subst, inl, inr, arith}
-use Rattle.std.specs.Prelude.{◌⊎◌, Option, Some, None, IsSome, cond, not, ◌&&◌, ◌==◌, filter, find, count_by, if◌then◌else◌}
-use Rattle.std.specs.List.{sum_by}
+use Rattle.std.proofs.Common.{◌≡◌, ℕ, ◌+◌, ◌<◌, Bool, true, false, List, [], ◌∷◌, refl, sym, ◌∙◌, ap, subst, inl, inr, arith}
+use Rattle.std.specs.Prelude.{◌⊎◌, Option, Some, None, IsSome, cond, not, ◌&&◌, ◌==◌, filter, count_by, if◌then◌else◌}
 use Rattle.std.proofs.lemmas.Bool.Decides.{nat_tests}
 use Rattle.std.proofs.lemmas.List.{append-nil}
-use Rattle.std.proofs.lemmas.List.Elements.{filter-append}
 use Rattle.cap_model.specs.Calls.{Ask, Cause, EndedContainer, CallRequest, CallReply, CallRefusal}
-use Rattle.cap_model.specs.Flat.{Flat, App, Container, app_at}
+use Rattle.cap_model.specs.Flat.{Flat, Container, app_at}
 use Rattle.cap_model.specs.Ending.{is_among}
 use Rattle.cap_model.specs.FinishMaster.{containers_of}
 use Rattle.cap_model.specs.Allocate.{after_processed_allocate, is_repeated_allocate, released_by}
 use Rattle.cap_model.specs.Heartbeat.{after_processed_heartbeat, is_repeated_heartbeat, ended_by, containers_on}
-use Rattle.cap_model.specs.Replies.{Replies, refused_or, refusal_of, granted_reply, granted_cluster, reply_to}
-use Rattle.cap_model.specs.Events.{ClusterEvent, Step, Run, after_event, after_grant, after_reserve, ended_between, ever_ended}
-use Rattle.cap_model.specs.Bounds.{IsRising, IsBounded}
-use Rattle.cap_model.specs.EngineLaws.{numbers_of, new_ends, ends_of, ever_new_ends, StepStaysBounded, NewEndsAreOfTheEnded}
+use Rattle.cap_model.specs.Replies.{refused_or, refusal_of, granted_reply, granted_cluster}
+use Rattle.cap_model.specs.Events.{ClusterEvent, Step, Run, after_event, ended_between, ever_ended}
+use Rattle.cap_model.specs.Bounds.{IsBounded}
+use Rattle.cap_model.specs.NewsLaws.{new_ends, ends_of, ever_new_ends, NewEndsAreOfTheEnded}
 use Rattle.cap_model.proofs.Choosing.{IsIn}
-use Rattle.cap_model.proofs.Members.{sum_of_zeros}
+use Rattle.cap_model.proofs.Members.{sum_of_zeros, one_where}
 use Rattle.cap_model.proofs.ContainerNumbers.{IsThinned, asks_keep}
 use Rattle.cap_model.proofs.Balance.{determined, none_ended, ended_by_thinning, count_append}
 use Rattle.cap_model.proofs.Moves.{step_moves}
@@ -25,7 +23,7 @@ use Rattle.cap_model.proofs.BoundedRuns.{step_stays_bounded}
 use Rattle.cap_model.proofs.Telling.{not_none, gone_is_none}
 use Rattle.cap_model.proofs.ToldRuns.{there_or_not, used, next_rises}
 use Rattle.cap_model.proofs.ToldEnds.{refused_ends, not_live, step_quiet, never_told}
-use Rattle.cap_model.proofs.NamedEnds.{one_where, count_kept, count_ended, count_lost, count_ends, count_of}
+use Rattle.cap_model.proofs.NamedEnds.{count_kept, count_ended, count_lost, count_ends, count_of}
 
 module _ (n number : ℕ) where
   -- a container of the application and of the number
@@ -92,6 +90,7 @@ module _ (n number : ℕ) where
         by : (e : Bool) → app == n ≡ e → app == n ≡ false
         by true e = absurd (not_none (app_at (granted_cluster old (CallRequest.finish_master app)) n) (gone_is_none app n e old.apps.active) h)
         by false e = e
+
         other : (c : Container) → IsIn c old.nodes.live → c.app == app ≡ true → c.app == n ≡ false
         other c m e = let no = by (app == n) refl in grind (arith, nat_tests, e, no)
 
@@ -131,6 +130,7 @@ module _ (n number : ℕ) where
     where
       at : mid ≡ after_event old event
       at = determined old mid event step
+
       by : (IsSome (app_at mid n) ⊎ (app_at mid n ≡ None)) → (IsSome (app_at old n) ⊎ (app_at old n ≡ None)) → told (new_ends old n event) ≡ count_by it (ended_between old mid)
       by (inl a) o = step_ends old b mid event step a
       by (inr a) (inl o) =
@@ -139,6 +139,7 @@ module _ (n number : ℕ) where
       by (inr a) (inr o) =
           ap told (step_quiet old n o b.formed mid event step).1
           ∙ sym (nobody (λ c. not (is_among mid.nodes.live c)) old.nodes.live (λ c m e. not_live old n o b.formed c m))
+
       joined : told (new_ends old n event) ≡ count_by it (ended_between old mid) → told (ever_new_ends mid n events) ≡ count_by it (ever_ended mid events) → told (ever_new_ends old n (event ∷ events)) ≡ count_by it (ever_ended old (event ∷ events))
       joined first rest =
           count_append (λ (e : EndedContainer). e.container == number) (new_ends old n event) (ever_new_ends (after_event old event) n events)

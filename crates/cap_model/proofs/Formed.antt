@@ -1,27 +1,26 @@
 -- A step keeps a cluster well-formed.
-use Rattle.std.proofs.Common.{◌≡◌, ℕ, ◌+◌, ◌≤◌, ◌<◌, Bool, true, false, List, [], ◌∷◌, ◌++◌, refl, sym, ◌∙◌, ap, subst, inl, inr, arith}
+use Rattle.std.proofs.Common.{◌≡◌, ℕ, Bool, true, false, List, [], ◌∷◌, ◌++◌, refl, sym, ◌∙◌, ap, subst, inl, inr}
 use Rattle.std.specs.Prelude.{◌⊎◌, Option, Some, None, IsSome, is_some, is_none, cond, not, ◌&&◌, ◌||◌, ◌==◌, filter, find, map, option_map, bytes_eq, nat_eq, if◌then◌else◌}
 use Rattle.std.specs.List.{All, list_any, starts_with}
-use Rattle.std.proofs.lemmas.Bool.Decides.{nat_tests}
 use Rattle.cap_model.specs.Settings.{QueueRow}
 use Rattle.cap_model.specs.Calls.{Ask, CallRequest, CallReply, CallRefusal}
-use Rattle.cap_model.specs.Flat.{Flat, App, ClusterNode, Container, Reservation, app_at, node_at, queue_at}
+use Rattle.cap_model.specs.Flat.{Flat, App, ClusterNode, Container, Reservation, app_at, queue_at}
 use Rattle.cap_model.specs.Submit.{has_children, submit_refusal, is_running}
 use Rattle.cap_model.specs.RegisterNode.{new_node}
 use Rattle.cap_model.specs.Allocate.{after_processed_allocate, is_repeated_allocate}
 use Rattle.cap_model.specs.Heartbeat.{after_processed_heartbeat, is_repeated_heartbeat, beat_of}
 use Rattle.cap_model.specs.Replies.{Replies, refused_or, refusal_of, granted_cluster}
-use Rattle.cap_model.specs.Events.{ClusterEvent, Step, Run, after_grant, after_reserve, grant_proposal, reserve_proposal}
+use Rattle.cap_model.specs.Events.{ClusterEvent, Step, after_grant, after_reserve, grant_proposal, reserve_proposal}
 use Rattle.cap_model.specs.Sight.{sight_of}
 use Rattle.cap_model.specs.Admission.{NodeProposal, IsAdmissible}
 use Rattle.cap_model.specs.Bounds.{IsRising, HasDistinctPaths, IsTree, IsLeaf, IsPlaced, IsWellFormed}
-use Rattle.cap_model.specs.EngineLaws.{StepStaysWellFormed}
+use Rattle.cap_model.specs.BoundLaws.{StepStaysWellFormed}
 use Rattle.cap_model.proofs.Choosing.{IsIn, of_filter, in_either}
 use Rattle.cap_model.proofs.Reasons.{none_holds, true_of_none}
 use Rattle.cap_model.proofs.Members.{each_of, of_each, of_map, rising_kept, rising_more, same_numbers}
 use Rattle.cap_model.proofs.Moves.{AppsMove, call_moves, grant_change, no_change}
 use Rattle.cap_model.proofs.ToldRuns.{app_numbers_move}
-use Rattle.cap_model.proofs.Lessening.{HasPlaces, IsSite, IsLessened, lessened, asked, standing, change_stands}
+use Rattle.cap_model.proofs.Lessening.{HasPlaces, IsSite, lessened, asked, change_stands}
 use Rattle.cap_model.proofs.CallBounds.{places_stay, some_kept}
 use Rattle.cap_model.proofs.Proposers.{seen_is, node_seen, find_mapped_at}
 
@@ -110,9 +109,11 @@ module _ {K : ℕ} where
       same : (b : Bool) (q : QueueRow) (g : QueueRow → List ℕ) → g (record q { running = running }) ≡ g q → g (cond b (record q { running = running }) q) ≡ g q
       same true q g e = e
       same false q g e = refl
+
       same_maximum : (b : Bool) (q : QueueRow) → (cond b (record q { running = running }) q).maximum ≡ q.maximum
       same_maximum true q = refl
       same_maximum false q = refl
+
       same_factor : (b : Bool) (q : QueueRow) → (cond b (record q { running = running }) q).factor ≡ q.factor
       same_factor true q = refl
       same_factor false q = refl
@@ -130,12 +131,12 @@ module _ {K : ℕ} where
   unrefused_leaf : (old : Flat K) (path : List ℕ) → submit_refusal old path ≡ None → IsLeaf old path
   unrefused_leaf old path e =
       let tests = none_holds
-          ((is_none (queue_at old path), CallRefusal.unknown_queue)
-          ∷ (has_children old path, CallRefusal.not_leaf)
-          ∷ (not (is_running old path), CallRefusal.queue_stopped)
-          ∷ (Rattle.std.specs.Prelude.nat_le old.settings.application_limit (Rattle.std.specs.Prelude.length old.apps.active), CallRefusal.too_many_applications)
-          ∷ (Rattle.std.specs.Prelude.nat_le Rattle.cap_model.specs.Limits.number_end old.apps.next, CallRefusal.numbers_spent)
-          ∷ []) e in
+      ((is_none (queue_at old path), CallRefusal.unknown_queue)
+      ∷ (has_children old path, CallRefusal.not_leaf)
+      ∷ (not (is_running old path), CallRefusal.queue_stopped)
+      ∷ (Rattle.std.specs.Prelude.nat_le old.settings.application_limit (Rattle.std.specs.Prelude.length old.apps.active), CallRefusal.too_many_applications)
+      ∷ (Rattle.std.specs.Prelude.nat_le Rattle.cap_model.specs.Limits.number_end old.apps.next, CallRefusal.numbers_spent)
+      ∷ []) e in
       record { present = true_of_none (queue_at old path) tests.0; childless = tests.1.0 }
 
   leaves_move : (old new : Flat K) → HasSameQueues old new → AppsMove old new → All (λ app. IsLeaf old app.leaf) old.apps.active → All (λ app. IsLeaf new app.leaf) new.apps.active
@@ -176,6 +177,7 @@ module _ {K : ℕ} where
     where
       beaten : ClusterNode → ClusterNode
       beaten node = if node.number == n then record node { response = (beat_of old n id ended).response; kept = Some (beat_of old n id ended) } else node
+
       by : (b : Bool) (x : ClusterNode) → (cond b (record x { response = (beat_of old n id ended).response; kept = Some (beat_of old n id ended) }) x).number ≡ x.number
       by true x = refl
       by false x = refl

@@ -1,30 +1,30 @@
 -- An admissible grant or reservation keeps queues, users and nodes within their bounds.
-use Rattle.std.proofs.Common.{◌≡◌, ℕ, ◌+◌, ◌-◌, ◌≤◌, ◌<◌, Bool, true, false, List, [], ◌∷◌, ◌++◌, refl, sym, ◌∙◌, ap, subst, inl, inr, arith}
-use Rattle.std.specs.Prelude.{◌⊎◌, Option, Some, None, IsSome, is_some, is_none, cond, not, ◌&&◌, ◌||◌, ◌==◌, filter, find, map, option_map, unwrap_or, bytes_eq, if◌then◌else◌}
+use Rattle.std.proofs.Common.{◌≡◌, ℕ, ◌+◌, ◌≤◌, ◌<◌, Bool, true, false, List, [], ◌∷◌, ◌++◌, refl, sym, ◌∙◌, ap, subst, inl, inr, arith}
+use Rattle.std.specs.Prelude.{◌⊎◌, Option, Some, None, is_some, is_none, not, ◌&&◌, ◌||◌, ◌==◌, filter, map, option_map, unwrap_or, bytes_eq, if◌then◌else◌}
 use Rattle.std.specs.List.{All, sum_by}
 use Rattle.std.proofs.lemmas.Bool.{cases_lt}
 use Rattle.std.proofs.lemmas.Bool.Decides.{nat_tests}
 use Rattle.std.proofs.lemmas.Slice.Eq.{bytes_eq-Decides}
 use Rattle.std.proofs.lemmas.List.Sums.{sum_by-cons, sum_by_push}
 use Rattle.std.proofs.lemmas.List.Filters.{sum_by-filter_both}
-use Rattle.cap_vector.specs.Vector.{amount, plus, less}
+use Rattle.cap_vector.specs.Vector.{amount, less}
 use Rattle.cap_vector.proofs.AmountLemmas.{amount-plus, amount-less}
 use Rattle.cap_model.specs.Settings.{QueueRow}
 use Rattle.cap_model.specs.Cascade.{holds_of}
 use Rattle.cap_model.specs.Amounts.{fits, times}
 use Rattle.cap_model.specs.Calls.{same_key}
-use Rattle.cap_model.specs.Flat.{Flat, App, ClusterNode, Container, Reservation, app_at, node_at, is_under, is_for}
+use Rattle.cap_model.specs.Flat.{Flat, ClusterNode, Container, Reservation, app_at, node_at, is_under}
 use Rattle.cap_model.specs.Uses.{use_of, queue_use, user_use, node_held, node_free}
 use Rattle.cap_model.specs.Sight.{sight_of, app_sight, node_sight, queue_sight, seen_app, seen_node, seen_queue, QueueSight, NodeSight}
-use Rattle.cap_model.specs.Admission.{NodeProposal, IsAdmissible, IsWithinLimits, leaf_path, user_name, replaced, use_after, stays_in_maximum, fits_free}
+use Rattle.cap_model.specs.Admission.{NodeProposal, IsWithinLimits, leaf_path, user_name, replaced, use_after, fits_free}
 use Rattle.cap_model.specs.Events.{grant_proposal, reserve_proposal, after_grant, after_reserve}
-use Rattle.cap_model.specs.Bounds.{IsRising, HasDistinctPaths, FitsMaximum, IsNodeBounded, IsQueueBounded, IsWellFormed}
+use Rattle.cap_model.specs.Bounds.{IsRising, FitsMaximum, IsNodeBounded, IsQueueBounded, IsWellFormed}
 use Rattle.cap_model.proofs.Choosing.{IsIn, in_filter, and_both}
 use Rattle.cap_model.proofs.Members.{each_of, of_each, sum_by_agree, found_by_number}
 use Rattle.cap_model.proofs.Moves.{grant_change}
-use Rattle.cap_model.proofs.Lessening.{standing, change_stands}
+use Rattle.cap_model.proofs.Lessening.{change_stands}
 use Rattle.cap_model.proofs.Measures.{fits_amounts, amounts_fit, counts, same_counts, counted, live_part, reserved_part, use_amount, use_past, held_amount, held_past}
-use Rattle.cap_model.proofs.Proposers.{IsSeen, seen_is, IsSeenNode, node_seen, IsReplaced, replaced_is, maximum_stays, leaf_seen, true_or_false}
+use Rattle.cap_model.proofs.Proposers.{IsSeen, seen_is, node_seen, IsReplaced, replaced_is, maximum_stays, leaf_seen, true_or_false}
 
 -- a term is at most a sum that has it
 pub in_sum : {A : Type 0} (f : A → ℕ) (xs : List A) (x : A) → IsIn x xs → f x ≤ sum_by f xs
@@ -138,10 +138,13 @@ module _ {K : ℕ} (old : Flat K) where
     where
       here : Reservation → Bool
       here r = r.node == c.node
+
       weight : Reservation → ℕ
       weight r = counted old test k r.app r.resource
+
       parts : sum_by weight (filter here old.nodes.reserved) + sum_by weight (filter (λ r. not (here r)) old.nodes.reserved) ≡ sum_by weight old.nodes.reserved
       parts = sum_by-filter_both here (λ r. not (here r)) (λ r. refl) weight old.nodes.reserved
+
       by : IsReplaced old (grant_proposal c) →
           sum_by weight (filter (λ r. not (here r)) old.nodes.reserved) + counted old test k c.app (replaced (sight_of old) (grant_proposal c)) ≤ sum_by weight old.nodes.reserved
       by (IsReplaced.nothing e) =
@@ -179,8 +182,10 @@ module _ {K : ℕ} (old : Flat K) where
     where
       new : Flat K
       new = after_grant old c
+
       held : ℕ → ℕ → Container → ℕ
       held n k x = if x.node == n then amount x.resource k else 0
+
       room : (node : ClusterNode) → IsIn node old.nodes.present → c.node == node.number ≡ true → fits c.resource (node_free old node) ≡ true
       room node m e = seen (seen_node (sight_of old) c.node) refl f
         where
@@ -193,6 +198,7 @@ module _ {K : ℕ} (old : Flat K) where
               let same : n.node ≡ node = ap (λ o. unwrap_or o node) (sym n.at ∙ this) in
               let sight : s ≡ node_sight old node = ap (λ o. unwrap_or o s) (sym g ∙ n.seen) ∙ ap (node_sight old) same in
               subst (λ (x : NodeSight). fits c.resource x.free ≡ true) sight t
+
       by : (node : ClusterNode) → IsIn node old.nodes.present → IsNodeBounded old node → ((c.node == node.number ≡ true) ⊎ (c.node == node.number ≡ false)) → IsNodeBounded new node
       by node m bounded (inl e) =
           amounts_fit (node_held new node.number) node.total

@@ -1,18 +1,16 @@
 -- Looking asks up after they were replaced or counted down.
-use Rattle.std.proofs.Common.{◌≡◌, ℕ, ◌+◌, ◌-◌, ◌≤◌, ◌<◌, Bool, true, false, List, [], ◌∷◌, ◌++◌, refl, sym, ◌∙◌, ap, subst, inl, inr, arith}
+use Rattle.std.proofs.Common.{◌≡◌, ℕ, ◌-◌, ◌≤◌, ◌<◌, Bool, true, false, List, [], ◌∷◌, refl, sym, ◌∙◌, ap, inl, inr, arith}
 use Rattle.std.specs.Prelude.{◌⊎◌, Option, Some, None, IsSome, cond, not, ◌&&◌, ◌==◌, filter, find, map, length, count_by, if◌then◌else◌}
 use Rattle.std.specs.List.{sum_by}
 use Rattle.std.specs.Ordering.{is_lt}
 use Rattle.std.proofs.lemmas.Bool.Decides.{nat_tests}
-use Rattle.std.proofs.lemmas.List.Sums.{sum_by-cons, length-filter}
 use Rattle.cap_model.specs.Calls.{Key, same_key, ask_key_cmp, Ask}
-use Rattle.cap_model.specs.Flat.{Reservation, ask_at}
+use Rattle.cap_model.specs.Flat.{ask_at}
 use Rattle.cap_model.specs.Asking.{without_key, with_ask, put_ask, keep_first}
-use Rattle.cap_model.specs.Cascade.{holds_of}
-use Rattle.cap_model.specs.Bounds.{AreApart}
 use Rattle.cap_model.specs.Events.{take_one}
 use Rattle.cap_model.proofs.Choosing.{IsIn, and_both, of_filter}
 use Rattle.cap_model.proofs.Proposers.{true_or_false}
+use Rattle.cap_model.proofs.Members.{both_true, not_true}
 
 pub same_key_is : (a b : Key) → same_key a b ≡ true → a ≡ b
 same_key_is a b h =
@@ -20,10 +18,6 @@ same_key_is a b h =
     let p : a.priority ≡ b.priority = (let t = both.0 in grind (arith, nat_tests, t)) in
     let r : a.request ≡ b.request = (let t = both.1 in grind (arith, nat_tests, t)) in
     λ i. record { priority = p i; request = r i }
-
-both_true : (a b : Bool) → a ≡ true → b ≡ true → a && b ≡ true
-both_true true b h g = g
-both_true false b h g = absurd (cc h)
 
 pub same_key_itself : (a : Key) → same_key a a ≡ true
 same_key_itself a = both_true (a.priority == a.priority) (a.request == a.request) (grind (arith, nat_tests)) (grind (arith, nat_tests))
@@ -84,10 +78,6 @@ other_without key gone (x ∷ xs) e = by (same_key x.key gone) refl (other_witho
     by true g r = r ∙ sym (ap (λ b. cond b (Some x) (ask_at key xs)) (other_key x.key gone key g e))
     by false g r = ap (λ o. cond (same_key x.key key) (Some x) o) r
 
-not_true : (b : Bool) → not b ≡ true → b ≡ false
-not_true true e = absurd (cc e)
-not_true false e = refl
-
 -- an ask of some containers is found under its key, and others as before
 pub put_is_found : (ask : Ask) (xs : List Ask) → ask.count == 0 ≡ false → ask_at ask.key (put_ask ask xs) ≡ Some ask
 put_is_found ask xs e =
@@ -138,6 +128,7 @@ one_less_found key (x ∷ xs) ask e f = by (true_or_false (same_key x.key key)) 
   where
     rest : List Ask
     rest = take_one key xs
+
     by : ((same_key x.key key ≡ true) ⊎ (same_key x.key key ≡ false)) → (ask_at key xs ≡ Some ask → ask.count - 1 == 0 ≡ false → ask_at key (take_one key xs) ≡ Some (one_less ask)) → ask_at key (take_one key (x ∷ xs)) ≡ Some (one_less ask)
     by (inl h) r =
         let same : x ≡ ask = first_is (same_key x.key key) x ask (ask_at key xs) h e in
@@ -155,6 +146,7 @@ other_ask_stays key gone (x ∷ xs) ask o e f = by (true_or_false (same_key x.ke
   where
     rest : List Ask
     rest = take_one gone xs
+
     by : ((same_key x.key key ≡ true) ⊎ (same_key x.key key ≡ false)) → (ask_at key xs ≡ Some ask → ask.count == 0 ≡ false → ask_at key (take_one gone xs) ≡ Some ask) → ask_at key (take_one gone (x ∷ xs)) ≡ Some ask
     by (inl h) r =
         let same : x ≡ ask = first_is (same_key x.key key) x ask (ask_at key xs) h e in

@@ -1,9 +1,7 @@
 -- What a call that is not refused leaves: of the live containers and the reservations some, each with its application and its node.
-use Rattle.std.proofs.Common.{◌≡◌, ℕ, ◌+◌, ◌≤◌, ◌<◌, Bool, true, false, List, [], ◌∷◌, ◌++◌, refl, sym, ◌∙◌, ap, subst, inl, inr, arith}
-use Rattle.std.specs.Prelude.{◌⊎◌, Option, Some, None, IsSome, cond, not, ◌&&◌, ◌==◌, length, ◌-◌, filter, find, map, option_map, bytes_eq, if◌then◌else◌}
+use Rattle.std.proofs.Common.{◌≡◌, ℕ, Bool, true, false, List, [], ◌∷◌, refl, sym, ◌∙◌, ap, subst, inl, inr, arith}
+use Rattle.std.specs.Prelude.{◌⊎◌, Option, Some, None, IsSome, cond, not, ◌&&◌, ◌==◌, ◌-◌, filter, find, option_map, if◌then◌else◌}
 use Rattle.std.proofs.lemmas.Bool.Decides.{nat_tests}
-use Rattle.std.proofs.lemmas.List.{map-id}
-use Rattle.cap_model.specs.Settings.{QueueRow}
 use Rattle.cap_model.specs.Calls.{Ask, CallRequest, Cause}
 use Rattle.cap_model.specs.Flat.{Flat, App, ClusterNode, Container, Reservation, app_at, node_at, is_for}
 use Rattle.cap_model.specs.Asking.{after_asks, after_ask, rounded, keep_first}
@@ -11,14 +9,13 @@ use Rattle.cap_model.specs.Ending.{is_among}
 use Rattle.cap_model.specs.Submit.{new_app}
 use Rattle.cap_model.specs.RegisterNode.{new_node}
 use Rattle.cap_model.specs.Allocate.{after_processed_allocate, is_repeated_allocate}
-use Rattle.cap_model.specs.FinishMaster.{containers_of}
 use Rattle.cap_model.specs.Heartbeat.{after_processed_heartbeat, is_repeated_heartbeat, containers_on, ended_by, beat_of}
 use Rattle.cap_model.specs.Replies.{granted_cluster}
 use Rattle.cap_model.proofs.Choosing.{IsIn, of_filter, in_filter, in_either}
 use Rattle.cap_model.proofs.ContainerNumbers.{IsThinned, call_thins, thinned_same, processed_allocate_thins}
 use Rattle.cap_model.proofs.Balance.{among_itself}
-use Rattle.cap_model.proofs.Members.{IsPart, part_itself, part_filter, part_in, part_of_part, find_changed, find_others, find_with_more, of_map}
-use Rattle.cap_model.proofs.Moves.{AppsChange, asks_change, allocate_change, ends_change, one_change, no_change}
+use Rattle.cap_model.proofs.Members.{IsPart, part_itself, part_filter, part_in, part_of_part, find_changed, find_others, find_with_more, of_map, not_true}
+use Rattle.cap_model.proofs.Moves.{AppsChange, allocate_change, ends_change, one_change, no_change}
 
 -- the leaf queue and the user of an application, and the total of a node
 abbrev pub standing : Option App → Option (List ℕ × List ℕ)
@@ -34,6 +31,7 @@ part_keep_first {A} t n (x ∷ xs) = by (t x && n == 0) (part_keep_first t (if t
   where
     rest : List A
     rest = keep_first t (if t x then n - 1 else n) xs
+
     by : (b : Bool) → IsPart xs rest → IsPart (x ∷ xs) (cond b rest (x ∷ rest))
     by true p = inl p
     by false p = inr (rest, refl, p)
@@ -59,10 +57,6 @@ not_among t cs c m =
     by : (b : Bool) → t c ≡ b → not (is_among (filter t cs) c) ≡ true → IsIn c cs → b ≡ false
     by true e h g = let no : not (is_among (filter t cs) c) ≡ false = ap not (among_itself (filter t cs) c (in_filter t cs c g e)) in absurd (cc (no, h))
     by false e h g = refl
-
-not_true : (b : Bool) → not b ≡ true → b ≡ false
-not_true true e = absurd (cc e)
-not_true false e = refl
 
 module _ {K : ℕ} where
   -- a live container or a reservation of this application, on this node

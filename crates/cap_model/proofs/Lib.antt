@@ -1,3 +1,6 @@
+pub mod Levels
+pub mod Trees
+pub mod UsedNumbers
 pub mod Sizes
 pub mod UseSums
 pub mod EndsOfEnded

@@ -1,19 +1,19 @@
 -- Uses and what nodes hold, amount by amount.
-use Rattle.std.proofs.Common.{◌≡◌, ℕ, ◌+◌, ◌-◌, ◌≤◌, ◌<◌, Bool, true, false, List, [], ◌∷◌, ◌++◌, zero, suc, length, get_or, refl, sym, ◌∙◌, ap, subst, inl, inr, arith}
-use Rattle.std.specs.Prelude.{◌⊎◌, Option, Some, None, IsSome, cond, not, ◌&&◌, ◌==◌, filter, map, option_map, nat_le, if◌then◌else◌}
+use Rattle.std.proofs.Common.{◌≡◌, ℕ, ◌+◌, ◌≤◌, ◌<◌, Bool, true, List, [], ◌∷◌, zero, suc, refl, sym, ◌∙◌, ap, inl, inr, arith}
+use Rattle.std.specs.Prelude.{Option, Some, None, ◌==◌, map, nat_le, if◌then◌else◌}
 use Rattle.std.specs.List.{sum_by}
 use Rattle.std.proofs.lemmas.Bool.{cases_lt}
 use Rattle.std.proofs.lemmas.Bool.Decides.{nat_tests}
 use Rattle.std.proofs.lemmas.List.{get_or_past}
-use Rattle.std.proofs.lemmas.List.Sums.{sum_by-cons, sum_by-append}
+use Rattle.std.proofs.lemmas.List.Sums.{sum_by-append}
 use Rattle.std.proofs.lemmas.List.FromFn.{get_or-map-range_with_len, length-map-range_with_len}
 use Rattle.cap_vector.specs.Vector.{amount, by_amount}
 use Rattle.cap_model.specs.Cascade.{holds_of}
-use Rattle.cap_model.specs.Amounts.{fits, part, sum_where}
+use Rattle.cap_model.specs.Amounts.{fits, part}
 use Rattle.cap_model.specs.Flat.{Flat, App, Container, Reservation, app_at}
 use Rattle.cap_model.specs.Uses.{Holding, holdings, of_container, of_reservation, use_of, node_held}
-use Rattle.cap_model.proofs.Choosing.{IsIn, and_both}
-use Rattle.cap_model.proofs.Members.{sum_by_map}
+use Rattle.cap_model.proofs.Choosing.{and_both}
+use Rattle.cap_model.proofs.Members.{sum_by_map, both_true}
 use Rattle.cap_model.proofs.Lessening.{standing}
 
 -- what fits, amount by amount
@@ -23,10 +23,6 @@ fits_amounts (x ∷ a) [] h zero = let z = (and_both (x == 0) (fits a []) h).0 i
 fits_amounts (x ∷ a) [] h (suc k) = fits_amounts a [] (and_both (x == 0) (fits a []) h).1 k
 fits_amounts (x ∷ a) (y ∷ b) h zero = let z = (and_both (nat_le x y) (fits a b) h).0 in grind (arith, nat_tests, z)
 fits_amounts (x ∷ a) (y ∷ b) h (suc k) = fits_amounts a b (and_both (nat_le x y) (fits a b) h).1 k
-
-both_true : (a b : Bool) → a ≡ true → b ≡ true → a && b ≡ true
-both_true true b h g = g
-both_true false b h g = absurd (cc h)
 
 pub amounts_fit : (a b : List ℕ) → ((k : ℕ) → amount a k ≤ amount b k) → fits a b ≡ true
 amounts_fit [] b h = refl

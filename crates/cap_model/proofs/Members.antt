@@ -1,9 +1,9 @@
 -- Lists: members, parts of a list, and numbers in order.
 use Rattle.std.proofs.Common.{◌≡◌, ℕ, ◌+◌, ◌≤◌, ◌<◌, Bool, true, false, List, [], ◌∷◌, ◌++◌, refl, sym, ◌∙◌, ap, subst, inl, inr, arith}
-use Rattle.std.specs.Prelude.{◌⊎◌, Option, Some, None, IsSome, option_map, cond, not, ◌==◌, filter, find, map}
+use Rattle.std.specs.Prelude.{◌⊎◌, Option, Some, None, IsSome, option_map, cond, not, ◌&&◌, ◌==◌, filter, find, map}
 use Rattle.std.specs.Option.{option_or}
 use Rattle.std.proofs.lemmas.List.Folds.{find-append}
-use Rattle.std.specs.List.{All, AllByRecursion, sum_by, count_by}
+use Rattle.std.specs.List.{All, AllByRecursion, sum_by}
 use Rattle.std.proofs.lemmas.Bool.Decides.{nat_tests}
 use Rattle.std.proofs.lemmas.List.Elements.{All-from_recursion, recursion_from_All}
 use Rattle.std.proofs.lemmas.List.Sums.{sum_by-cons}
@@ -179,3 +179,20 @@ module _ {A : Type 0} (num : A → ℕ) where
 
   pub find_with_more : (n : ℕ) (xs ys : List A) → IsSome (find (λ y. num y == n) xs) → find (λ y. num y == n) (xs ++ ys) ≡ find (λ y. num y == n) xs
   find_with_more n xs ys h = find-append (λ y. num y == n) xs ys ∙ kept_found (find (λ y. num y == n) xs) (find (λ y. num y == n) ys) h
+
+-- tests and counts
+
+abbrev pub one_where : Bool → ℕ
+one_where b = cond b 1 0
+
+pub both_true : (a b : Bool) → a ≡ true → b ≡ true → a && b ≡ true
+both_true true b h g = g
+both_true false b h g = absurd (cc h)
+
+pub not_true : (b : Bool) → not b ≡ true → b ≡ false
+not_true true e = absurd (cc e)
+not_true false e = refl
+
+pub sum_of_two : {A : Type 0} (f g : A → ℕ) (xs : List A) → sum_by (λ x. f x + g x) xs ≡ sum_by f xs + sum_by g xs
+sum_of_two f g [] = refl
+sum_of_two f g (x ∷ xs) = omega (arith, sum_by-cons (λ y. f y + g y) x xs, sum_by-cons f x xs, sum_by-cons g x xs, sum_of_two f g xs)

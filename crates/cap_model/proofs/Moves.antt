@@ -1,22 +1,18 @@
 -- What a step does to the applications.
-use Rattle.std.proofs.Common.{◌≡◌, ℕ, ◌+◌, ◌≤◌, ◌<◌, Bool, true, false, List, [], ◌∷◌, ◌++◌, refl, sym, ◌∙◌, ap, subst, inl, inr, arith}
-use Rattle.std.specs.Prelude.{Option, Some, None, cond, not, ◌==◌, length, ◌-◌, filter, find, map, option_map, if◌then◌else◌}
-use Rattle.std.proofs.lemmas.Bool.Decides.{nat_tests}
+use Rattle.std.proofs.Common.{◌≡◌, ℕ, ◌+◌, Bool, true, false, List, [], ◌∷◌, ◌++◌, refl, sym, ◌∙◌, ap, subst, inl, inr}
+use Rattle.std.specs.Prelude.{Option, Some, None, cond, not, ◌==◌, length, ◌-◌, filter, map, if◌then◌else◌}
 use Rattle.std.proofs.lemmas.List.{map-id}
-use Rattle.std.proofs.lemmas.List.Folds.{find-append}
-use Rattle.std.specs.Option.{option_or}
 use Rattle.cap_model.specs.Calls.{Ask, Cause, CallRequest, CallReply, CallRefusal}
-use Rattle.cap_model.specs.Flat.{Flat, App, Container, app_at, with_app}
+use Rattle.cap_model.specs.Flat.{Flat, App, Container, with_app}
 use Rattle.cap_model.specs.Asking.{after_asks, after_ask, rounded, put_ask}
 use Rattle.cap_model.specs.Ending.{with_ends}
 use Rattle.cap_model.specs.Submit.{new_app, submit_refusal}
 use Rattle.cap_model.specs.Allocate.{after_telling, after_wishes, after_processed_allocate, is_repeated_allocate, released_by}
 use Rattle.cap_model.specs.Heartbeat.{after_processed_heartbeat, is_repeated_heartbeat, ended_by, containers_on}
 use Rattle.cap_model.specs.Replies.{refused_or, refusal_of, granted_cluster, Replies}
-use Rattle.cap_model.specs.Events.{ClusterEvent, Step, Run, after_grant, news_of, take_one}
-use Rattle.cap_model.specs.Bounds.{IsRising}
-use Rattle.cap_model.proofs.Members.{map_twice, rising_kept, rising_more, same_numbers}
-use Rattle.cap_model.proofs.Telling.{is_number, find_mapped, kept_if, others_stay, gone_is_none}
+use Rattle.cap_model.specs.Events.{ClusterEvent, Step, after_grant, news_of, take_one}
+use Rattle.cap_model.proofs.Members.{map_twice}
+use Rattle.cap_model.proofs.Telling.{kept_if}
 
 -- a change of an application that keeps what it is
 pub record KeepsApp (f : App → App) : Type 0 where
@@ -166,4 +162,3 @@ module _ {K : ℕ} where
       subst (λ x. AppsMove old x) (sym after)
       (AppsMove.change (grant_change old c))
   step_moves old new (ClusterEvent.reserve r) (admissible, after) = subst (λ x. AppsMove old x) (sym after) (AppsMove.change (no_change old _ refl refl))
-

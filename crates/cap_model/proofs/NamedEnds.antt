@@ -1,20 +1,18 @@
 -- The containers that some numbers name among others, and their ends.
-use Rattle.std.proofs.Common.{◌≡◌, ℕ, ◌+◌, ◌≤◌, ◌<◌, Bool, true, false, List, [], ◌∷◌, ◌++◌, refl, sym, ◌∙◌, ap, subst, inl, inr, arith}
-use Rattle.std.specs.Prelude.{◌⊎◌, Option, Some, None, IsSome, cond, not, ◌&&◌, ◌||◌, ◌==◌, filter, find, map, count_by, if◌then◌else◌}
+use Rattle.std.proofs.Common.{◌≡◌, ℕ, ◌+◌, Bool, true, false, List, [], ◌∷◌, refl, sym, ◌∙◌, ap, arith}
+use Rattle.std.specs.Prelude.{Option, Some, None, cond, not, ◌&&◌, ◌||◌, ◌==◌, filter, find, count_by}
 use Rattle.std.specs.List.{list_any, sum_by, cons_option}
 use Rattle.std.proofs.lemmas.Bool.Decides.{nat_tests}
 use Rattle.std.proofs.lemmas.List.Sums.{sum_by-cons}
 use Rattle.cap_model.specs.Calls.{Cause, EndedContainer}
-use Rattle.cap_model.specs.Flat.{Flat, Container}
+use Rattle.cap_model.specs.Flat.{Container}
 use Rattle.cap_model.specs.Ending.{is_among, named_among}
 use Rattle.cap_model.specs.Bounds.{IsRising}
-use Rattle.cap_model.specs.EngineLaws.{numbers_of, ends_of}
+use Rattle.cap_model.specs.EngineLaws.{numbers_of}
+use Rattle.cap_model.specs.NewsLaws.{ends_of}
 use Rattle.cap_model.proofs.Choosing.{IsIn}
-use Rattle.cap_model.proofs.Members.{rising_kept, rising_from_low, sum_of_zeros, sum_by_map}
+use Rattle.cap_model.proofs.Members.{rising_kept, rising_from_low, sum_of_zeros, sum_by_map, one_where, sum_of_two}
 use Rattle.cap_model.proofs.Balance.{among_some, filter_same, filter_twice, twice_not}
-
-abbrev pub one_where : Bool → ℕ
-one_where b = cond b 1 0
 
 -- counting what a filter keeps
 pub count_kept : {A : Type 0} (g h : A → Bool) (xs : List A) → count_by g (filter h xs) ≡ sum_by (λ x. one_where (h x && g x)) xs
@@ -25,10 +23,6 @@ count_kept g h (x ∷ xs) = by (h x) (count_kept g h xs) ∙ sym (sum_by-cons (�
         count_by g (cond b (x ∷ filter h xs) (filter h xs)) ≡ one_where (b && g x) + sum_by (λ y. one_where (h y && g y)) xs
     by true e = sum_by-cons (λ y. one_where (g y)) x (filter h xs) ∙ ap (λ n. one_where (g x) + n) e
     by false e = omega (arith, e)
-
-sum_of_two : {A : Type 0} (f g : A → ℕ) (xs : List A) → sum_by (λ x. f x + g x) xs ≡ sum_by f xs + sum_by g xs
-sum_of_two f g [] = refl
-sum_of_two f g (x ∷ xs) = omega (arith, sum_by-cons (λ y. f y + g y) x xs, sum_by-cons f x xs, sum_by-cons g x xs, sum_of_two f g xs)
 
 -- whether some numbers name a container
 abbrev pub is_named : List ℕ → Container → Bool
@@ -50,8 +44,10 @@ count_at g n low (x ∷ xs) high r = by (x.number == n) refl (count_at g n (x.nu
   where
     weight : Container → ℕ
     weight y = one_where (y.number == n && g y)
+
     first : sum_by (λ (y : Container). one_where (y.number == n && g y)) (x ∷ xs) ≡ one_where (x.number == n && g x) + sum_by (λ (y : Container). one_where (y.number == n && g y)) xs
     first = sum_by-cons (λ (y : Container). one_where (y.number == n && g y)) x xs
+
     by : (b : Bool) → x.number == n ≡ b → sum_by (λ (y : Container). one_where (y.number == n && g y)) xs ≡ of_found g (find (λ (y : Container). y.number == n) xs) →
         sum_by (λ (y : Container). one_where (y.number == n && g y)) (x ∷ xs) ≡ of_found g (cond b (Some x) (find (λ (y : Container). y.number == n) xs))
     by true e h =
@@ -96,6 +92,7 @@ among_found n c (x ∷ xs) e o f = by (x.number == n) refl f (λ o' f'. among_fo
   where
     number : n ≡ c.number
     number = grind (arith, nat_tests, e)
+
     by : (b : Bool) → x.number == n ≡ b → cond b (Some x) (find (λ (y : Container). y.number == n) xs) ≡ o → ((o' : Option Container) → find (λ (y : Container). y.number == n) xs ≡ o' → is_among (cons_option o' []) c ≡ is_among xs c) →
         is_among (cons_option o []) c ≡ (x.number == c.number) || is_among xs c
     by true g h r =
@@ -170,6 +167,7 @@ among_named (n ∷ ns) xs c = by (c.number == n) refl (among_named ns (filter (�
   where
     others : List Container
     others = filter (λ (x : Container). not (x.number == n)) xs
+
     by : (b : Bool) → c.number == n ≡ b → is_among (named_among ns others) c ≡ is_named ns c && is_among others c → is_among (named_among (n ∷ ns) xs) c ≡ is_named (n ∷ ns) c && is_among xs c
     by true e r =
         let turned : n == c.number ≡ true = grind (arith, nat_tests, e) in

@@ -11,7 +11,7 @@ use Rattle.cap_model.specs.Cascade.{holds_of}
 use Rattle.cap_model.specs.Amounts.{part, sum_where}
 use Rattle.cap_model.specs.Flat.{Flat, App, app_at, is_under, is_child_of}
 use Rattle.cap_model.specs.Uses.{Holding, holdings, queue_use}
-use Rattle.cap_model.specs.EngineLaws.{IsInOneChild, ParentUsesChildren}
+use Rattle.cap_model.specs.BoundLaws.{IsInOneChild, ParentUsesChildren}
 
 abbrev one_if : Bool → ℕ
 one_if b = cond b 1 0

@@ -1,6 +1,6 @@
 -- Dotted paths: what is under what, and the names of children.
-use Rattle.std.proofs.Common.{◌≡◌, ℕ, ◌+◌, ◌≤◌, ◌<◌, Bool, true, false, List, [], ◌∷◌, ◌++◌, refl, sym, ◌∙◌, ap, subst, inl, inr, arith}
-use Rattle.std.specs.Prelude.{◌⊎◌, ◌↔◌, Option, Some, None, IsSome, cond, not, ◌&&◌, ◌||◌, ◌==◌, find, length, take, drop, bytes_eq, nat_eq, count_by, if◌then◌else◌}
+use Rattle.std.proofs.Common.{◌≡◌, ℕ, ◌+◌, Bool, true, false, List, [], ◌∷◌, ◌++◌, refl, sym, ◌∙◌, ap, subst, inl, inr, arith}
+use Rattle.std.specs.Prelude.{◌⊎◌, Some, IsSome, cond, ◌||◌, ◌==◌, find, length, drop, bytes_eq, nat_eq, count_by, if◌then◌else◌}
 use Rattle.std.specs.List.{All, list_any, starts_with, sum_by}
 use Rattle.std.proofs.lemmas.Bool.Decides.{nat_tests}
 use Rattle.std.proofs.lemmas.Slice.Eq.{bytes_eq-Decides}
@@ -10,10 +10,11 @@ use Rattle.std.proofs.lemmas.List.Sums.{sum_by-cons}
 use Rattle.cap_model.specs.Settings.{QueueRow}
 use Rattle.cap_model.specs.Flat.{is_under, is_child_of, name_of}
 use Rattle.cap_model.specs.Bounds.{HasDistinctPaths}
-use Rattle.cap_model.specs.EngineLaws.{UnderByPath}
-use Rattle.cap_model.proofs.Choosing.{IsIn, and_both}
+use Rattle.cap_model.specs.BoundLaws.{UnderByPath}
+use Rattle.cap_model.proofs.Choosing.{and_both}
 use Rattle.cap_model.proofs.Reasons.{or_left, or_right, or_both}
-use Rattle.cap_model.proofs.Proposers.{none_in, true_or_false}
+use Rattle.cap_model.proofs.Proposers.{true_or_false}
+use Rattle.cap_model.proofs.Members.{both_true}
 
 -- a list that begins with another
 
@@ -24,10 +25,6 @@ begins (b ∷ p) (c ∷ s) h =
     let both = and_both (nat_eq b c) (starts_with nat_eq s p) h in
     let same : c ≡ b = (let t = both.0 in grind (arith, nat_tests, t)) in
     λ i. same i ∷ begins p s (both.1) i
-
-both_true : (a b : Bool) → a ≡ true → b ≡ true → a && b ≡ true
-both_true true b h g = g
-both_true false b h g = absurd (cc h)
 
 begins_with : (p rest : List ℕ) → starts_with nat_eq (p ++ rest) p ≡ true
 begins_with [] rest = nothing rest
@@ -164,11 +161,10 @@ only_child path child rest c u =
 -- what is under a child is under its parent
 pub under_parent : (path child queue : List ℕ) → is_child_of path child ≡ true → IsUnder child queue → (rest : List ℕ) × (queue ≡ path ++ 46 ∷ rest)
 under_parent path child queue c (inl e) = (name_of child, e ∙ (bytes_eq-Decides child (path ++ 46 ∷ name_of child)).0 c)
-under_parent path child queue c (inr (rest, e)) =
-    (
-      name_of child ++ 46 ∷ rest,
-      e ∙ ap (λ x. x ++ 46 ∷ rest) ((bytes_eq-Decides child (path ++ 46 ∷ name_of child)).0 c) ∙ append_assoc path (46 ∷ name_of child) (46 ∷ rest),
-    )
+under_parent path child queue c (inr (rest, e)) = (
+  name_of child ++ 46 ∷ rest,
+  e ∙ ap (λ x. x ++ 46 ∷ rest) ((bytes_eq-Decides child (path ++ 46 ∷ name_of child)).0 c) ∙ append_assoc path (46 ∷ name_of child) (46 ∷ rest),
+)
 
 -- a path that is there stands once
 pub counted_once : (path : List ℕ) (qs : List QueueRow) → HasDistinctPaths qs → IsSome (find (λ r. bytes_eq r.path path) qs) → count_by (λ (r : QueueRow). bytes_eq r.path path) qs ≡ 1
@@ -177,10 +173,13 @@ counted_once path (q ∷ qs) d h = by (true_or_false (bytes_eq q.path path)) (co
   where
     test : QueueRow → Bool
     test r = bytes_eq r.path path
+
     one_where : Bool → ℕ
     one_where b = cond b 1 0
+
     first : count_by (λ (r : QueueRow). bytes_eq r.path path) (q ∷ qs) ≡ one_where (bytes_eq q.path path) + count_by (λ (r : QueueRow). bytes_eq r.path path) qs
     first = sum_by-cons (λ (r : QueueRow). one_where (bytes_eq r.path path)) q qs
+
     by : ((bytes_eq q.path path ≡ true) ⊎ (bytes_eq q.path path ≡ false)) → (IsSome (find (λ r. bytes_eq r.path path) qs) → count_by (λ (r : QueueRow). bytes_eq r.path path) qs ≡ 1) →
         count_by (λ (r : QueueRow). bytes_eq r.path path) (q ∷ qs) ≡ 1
     by (inl e) f =

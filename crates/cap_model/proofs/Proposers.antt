@@ -1,15 +1,14 @@
 -- What an admissible proposal is of: its application, its node and the reservation that it replaces.
-use Rattle.std.proofs.Common.{◌≡◌, ℕ, ◌+◌, ◌≤◌, ◌<◌, Bool, true, false, List, [], ◌∷◌, ◌++◌, refl, sym, ◌∙◌, ap, subst, inl, inr, arith}
-use Rattle.std.specs.Prelude.{◌⊎◌, Option, Some, None, IsSome, is_some, cond, not, ◌&&◌, ◌||◌, ◌==◌, filter, find, map, option_map, option_and_then, unwrap_or, bytes_eq}
+use Rattle.std.proofs.Common.{◌≡◌, ℕ, Bool, true, false, List, [], ◌∷◌, refl, sym, ◌∙◌, ap, subst, inl, inr, arith}
+use Rattle.std.specs.Prelude.{◌⊎◌, Option, Some, None, IsSome, cond, ◌&&◌, ◌==◌, filter, find, map, option_map, option_and_then, unwrap_or, bytes_eq}
 use Rattle.std.specs.List.{list_all, list_any}
 use Rattle.std.proofs.lemmas.Bool.Decides.{nat_tests}
 use Rattle.std.proofs.lemmas.Slice.Eq.{bytes_eq-Decides}
 use Rattle.cap_model.specs.Settings.{QueueRow}
 use Rattle.cap_model.specs.Cascade.{holds_of}
-use Rattle.cap_model.specs.Calls.{same_key}
-use Rattle.cap_model.specs.Flat.{Flat, App, ClusterNode, Container, Reservation, app_at, node_at, queue_at, is_under, is_for, reservation_on}
-use Rattle.cap_model.specs.Sight.{Sight, AppSight, NodeSight, QueueSight, sight_of, app_sight, node_sight, queue_sight, seen_app, seen_node, seen_queue, queues_to}
-use Rattle.cap_model.specs.Admission.{NodeProposal, is_grant, IsAdmissible, leaf_path, user_name, replaced, is_reserved_for, node_reservation, stays_in_maximum, stays_in_maxima}
+use Rattle.cap_model.specs.Flat.{Flat, App, ClusterNode, Reservation, app_at, node_at, is_under, is_for, reservation_on}
+use Rattle.cap_model.specs.Sight.{AppSight, NodeSight, QueueSight, sight_of, app_sight, node_sight, queue_sight, seen_app, seen_node, seen_queue, queues_to}
+use Rattle.cap_model.specs.Admission.{NodeProposal, is_grant, leaf_path, replaced, is_reserved_for, node_reservation, stays_in_maximum, stays_in_maxima}
 use Rattle.cap_model.specs.Bounds.{IsRising, HasDistinctPaths}
 use Rattle.cap_model.proofs.Choosing.{IsIn, found, of_filter, in_filter, and_both}
 use Rattle.cap_model.proofs.Reasons.{or_left, or_right}
@@ -133,6 +132,7 @@ module _ {K : ℕ} (old : Flat K) where
     where
       back : List ℕ
       back = unwrap_or (option_map (λ (r : Reservation). r.resource) (node_reservation (sight_of old) p)) []
+
       by : (g i : Bool) → is_grant p.kind ≡ g → is_reserved_for (sight_of old) p ≡ i → IsReplaced p
       by true true e f =
           let h = held_for p f in

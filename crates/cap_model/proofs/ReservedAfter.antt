@@ -1,5 +1,5 @@
 -- A grant and a reservation keep reservations bounded.
-use Rattle.std.proofs.Common.{◌≡◌, ℕ, ◌+◌, ◌-◌, ◌≤◌, ◌<◌, Bool, true, false, List, [], ◌∷◌, ◌++◌, refl, sym, ◌∙◌, ap, subst, inl, inr, arith}
+use Rattle.std.proofs.Common.{◌≡◌, ℕ, ◌+◌, ◌-◌, ◌≤◌, Bool, true, false, List, [], ◌∷◌, ◌++◌, refl, sym, ◌∙◌, ap, subst, inl, inr, arith}
 use Rattle.std.specs.Prelude.{◌⊎◌, Option, Some, None, IsSome, cond, not, ◌&&◌, ◌||◌, ◌==◌, filter, find, length, option_map, unwrap_or, if◌then◌else◌}
 use Rattle.std.specs.List.{list_any, sum_by}
 use Rattle.std.proofs.lemmas.Bool.Decides.{nat_tests}
@@ -12,22 +12,15 @@ use Rattle.cap_model.specs.Calls.{Key, same_key, Ask}
 use Rattle.cap_model.specs.Flat.{Flat, App, ClusterNode, Container, Reservation, app_at, node_at, is_for, ask_at, reservation_on}
 use Rattle.cap_model.specs.Sight.{NodeSight, sight_of, node_sight, seen_node}
 use Rattle.cap_model.specs.Admission.{NodeProposal, is_wanted, is_reserved_for, node_reservation, fits_total}
-use Rattle.cap_model.specs.Bounds.{AreApart, IsReservationBounded, reservations_for, IsPlaced}
+use Rattle.cap_model.specs.Bounds.{AreApart, reservations_for, IsPlaced}
 use Rattle.cap_model.specs.Events.{after_grant, after_reserve, take_one, news_of, grant_proposal, reserve_proposal}
 use Rattle.cap_model.proofs.Choosing.{IsIn, found, of_filter, in_filter, in_either}
-use Rattle.cap_model.proofs.Reasons.{or_both, or_left, or_right}
-use Rattle.cap_model.proofs.Members.{part_filter, find_changed}
-use Rattle.cap_model.proofs.Proposers.{IsSeen, IsSeenNode, node_seen, IsHeldFor, held_for, true_or_false}
+use Rattle.cap_model.proofs.Reasons.{or_both}
+use Rattle.cap_model.proofs.Members.{part_filter, find_changed, one_where, both_true}
+use Rattle.cap_model.proofs.Proposers.{IsSeen, node_seen, held_for, true_or_false}
 use Rattle.cap_model.proofs.KeptAsks.{same_key_itself, one_less, one_less_found, other_ask_stays}
-use Rattle.cap_model.proofs.Reserving.{AreBounded, IsEnough, enough_is, is_enough, fewer_left, one_left, IsForIt, for_it, same_reservations}
-use Rattle.cap_model.proofs.Wanting.{IsWanted, wanted_is}
-
-abbrev one_where : Bool → ℕ
-one_where b = cond b 1 0
-
-both_true : (a b : Bool) → a ≡ true → b ≡ true → a && b ≡ true
-both_true true b h g = g
-both_true false b h g = absurd (cc h)
+use Rattle.cap_model.proofs.Reserving.{AreBounded, IsEnough, enough_is, is_enough, fewer_left, one_left, for_it, same_reservations}
+use Rattle.cap_model.proofs.Wanting.{wanted_is}
 
 is_for_itself : (r : Reservation) → is_for r.app r.key r ≡ true
 is_for_itself r = both_true (r.app == r.app) (same_key r.key r.key) (grind (arith, nat_tests)) (same_key_itself r.key)
@@ -63,6 +56,7 @@ module _ {K : ℕ} (old : Flat K) (apart : AreApart old.nodes.reserved) (placed 
       where
         new : Flat K
         new = after_reserve old r
+
         by : ((is_for s.app s.key r ≡ true) ⊎ (is_for s.app s.key r ≡ false)) → (IsIn s old.nodes.reserved ⊎ IsIn s (r ∷ [])) → IsEnough (reservations_for new s.app s.key) s.key (app_at old s.app)
         by (inl h) g =
             let f = for_it s.app s.key r h in
@@ -95,8 +89,10 @@ module _ {K : ℕ} (old : Flat K) (apart : AreApart old.nodes.reserved) (placed 
       where
         t : Reservation → Bool
         t = is_for c.app c.key
+
         part : reservations_for (after_grant old c) c.app c.key ≤ reservations_for old c.app c.key
         part = fewer_left (is_for c.app c.key) old.nodes.reserved (filter (λ (r : Reservation). not (r.node == c.node)) old.nodes.reserved) (part_filter (λ (r : Reservation). not (r.node == c.node)) old.nodes.reserved)
+
         by : ((node_reservation (sight_of old) (grant_proposal c) ≡ None) × (is_wanted (sight_of old) (grant_proposal c) ≡ true)) ⊎ (is_reserved_for (sight_of old) (grant_proposal c) ≡ true) →
             reservations_for (after_grant old c) c.app c.key + 1 ≤ ask.count
         by (inl n) =
@@ -148,14 +144,19 @@ module _ {K : ℕ} (old : Flat K) (apart : AreApart old.nodes.reserved) (placed 
       where
         new : Flat K
         new = after_grant old c
+
         stay : Reservation → Bool
         stay r = not (r.node == c.node)
+
         before : IsIn s old.nodes.reserved
         before = (of_filter (λ (r : Reservation). not (r.node == c.node)) old.nodes.reserved s m).1
+
         e : IsEnough (reservations_for old s.app s.key) s.key (app_at old s.app)
         e = enough_is (reservations_for old s.app s.key) s.key (app_at old s.app) (bounded s before).ask
+
         at : app_at new s.app ≡ Some (granting_at e.app)
         at = find_changed (λ (app : App). app.number) granting_at same_number s.app old.apps.active ∙ ap (option_map granting_at) e.at
+
         by : ((is_for c.app c.key s ≡ true) ⊎ (is_for c.app c.key s ≡ false)) → IsEnough (reservations_for new s.app s.key) s.key (app_at new s.app)
         by (inl h) =
             let f = for_it c.app c.key s h in
@@ -208,7 +209,7 @@ apart_push : (rs : List Reservation) (r : Reservation) → ((s : Reservation) �
 apart_push [] r f a = (refl, tt)
 apart_push (s ∷ rs) r f a = (
   list_any-append (λ (t : Reservation). s.node == t.node) rs (r ∷ [])
-  ∙ or_both (list_any (λ (t : Reservation). s.node == t.node) rs) (s.node == r.node || false) a.0 (or_both (s.node == r.node) false (f s (inl refl)) refl),
+      ∙ or_both (list_any (λ (t : Reservation). s.node == t.node) rs) (s.node == r.node || false) a.0 (or_both (s.node == r.node) false (f s (inl refl)) refl),
   apart_push rs r (λ t m. f t (inr m)) a.1,
 )
 

@@ -1,27 +1,22 @@
 -- Reservations stay apart, on nodes that they fit, and no more than their asks count.
-use Rattle.std.proofs.Common.{◌≡◌, ℕ, ◌+◌, ◌-◌, ◌≤◌, ◌<◌, Bool, true, false, List, [], ◌∷◌, ◌++◌, refl, sym, ◌∙◌, ap, subst, inl, inr, arith}
+use Rattle.std.proofs.Common.{◌≡◌, ℕ, ◌≤◌, Bool, true, false, List, [], ◌∷◌, refl, sym, ◌∙◌, ap, inl, inr, arith}
 use Rattle.std.specs.Prelude.{◌⊎◌, Option, Some, None, IsSome, is_some, cond, not, ◌&&◌, ◌||◌, ◌==◌, filter, find, map, length, option_map, option_and_then, nat_le, if◌then◌else◌}
 use Rattle.std.specs.List.{All, list_any, sum_by, count_by}
 use Rattle.std.specs.Option.{option_map_or}
 use Rattle.std.proofs.lemmas.Bool.Decides.{nat_tests}
-use Rattle.std.proofs.lemmas.List.Sums.{sum_by-cons, sum_by_push, length-filter}
-use Rattle.std.proofs.lemmas.List.Filters.{sum_by-filter_both}
+use Rattle.std.proofs.lemmas.List.Sums.{length-filter}
 use Rattle.cap_model.specs.Cascade.{holds_of}
 use Rattle.cap_model.specs.Amounts.{fits}
 use Rattle.cap_model.specs.Calls.{Key, same_key, Ask}
-use Rattle.cap_model.specs.Flat.{Flat, App, ClusterNode, Container, Reservation, app_at, node_at, is_for, ask_at, reservation_on}
-use Rattle.cap_model.specs.Asking.{after_ask, after_asks, rounded, put_ask, keep_first, reservations_left, is_changed}
-use Rattle.cap_model.specs.Sight.{Sight, NodeSight, AppSight, sight_of, node_sight, seen_app, seen_node, still_wanted}
-use Rattle.cap_model.specs.Admission.{NodeProposal, is_wanted, is_reserved_for, proposed_ask}
-use Rattle.cap_model.specs.Bounds.{AreApart, IsReservationBounded, reservations_for}
-use Rattle.cap_model.specs.Events.{after_grant, after_reserve, take_one, news_of, grant_proposal, reserve_proposal}
-use Rattle.cap_model.proofs.Choosing.{IsIn, found, of_filter, in_filter, in_either, and_both}
-use Rattle.cap_model.proofs.Members.{IsPart, part_in, part_sum, part_filter, each_of, of_each, sum_by_map, find_changed}
-use Rattle.cap_model.proofs.Moves.{grant_change}
+use Rattle.cap_model.specs.Flat.{Flat, App, ClusterNode, Reservation, app_at, node_at, is_for, ask_at}
+use Rattle.cap_model.specs.Asking.{after_ask, after_asks, rounded, put_ask, reservations_left, is_changed}
+use Rattle.cap_model.specs.Bounds.{IsReservationBounded, reservations_for}
+use Rattle.cap_model.proofs.Choosing.{IsIn, found, and_both}
+use Rattle.cap_model.proofs.Members.{IsPart, part_in, part_sum, find_changed}
 use Rattle.cap_model.proofs.Lessening.{capacity, part_keep_first}
 use Rattle.cap_model.proofs.Growing.{in_sum}
-use Rattle.cap_model.proofs.Proposers.{IsSeen, IsHeldFor, held_for, value_of, true_or_false}
-use Rattle.cap_model.proofs.KeptAsks.{same_key_is, same_key_itself, kept_few, put_is_found, others_are_found, one_less, one_less_found, other_ask_stays}
+use Rattle.cap_model.proofs.Proposers.{true_or_false}
+use Rattle.cap_model.proofs.KeptAsks.{same_key_is, same_key_itself, kept_few, put_is_found, others_are_found}
 
 -- the asks of an application
 abbrev pub asking : Option App → Option (List Ask)
@@ -85,7 +80,6 @@ same_capacity resource None None e = refl
 same_capacity resource None (Some x) e = absurd (cc e)
 same_capacity resource (Some x) None e = absurd (cc e)
 same_capacity resource (Some x) (Some y) e = ap (λ o. fits resource (Rattle.std.specs.Prelude.unwrap_or o [])) e
-
 
 pub same_key_other : (a b : Key) → same_key a b ≡ false → same_key b a ≡ false
 same_key_other a b e = by (true_or_false (same_key b a))
@@ -154,7 +148,6 @@ module _ {K : ℕ} where
             ∙ fewer (reservations_for new r.app r.key) (reservations_for old r.app r.key) r.key (app_at old r.app) (fewer_left (is_for r.app r.key) old.nodes.reserved new.nodes.reserved p) before.ask;
       }
 
-
   -- one ask
   module _ (n : ℕ) (old : Flat K) (ask : Ask) where
     put_is_at : (m : ℕ) → app_at (after_ask n old ask) m ≡ option_map (put_at n ask) (app_at old m)
@@ -171,14 +164,19 @@ module _ {K : ℕ} where
       where
         new : Flat K
         new = after_ask n old ask
+
         part : IsPart old.nodes.reserved new.nodes.reserved
         part = part_keep_first (is_for n ask.key) left old.nodes.reserved
+
         before : IsReservationBounded old r
         before = b r (part_in old.nodes.reserved new.nodes.reserved r part m)
+
         e : IsEnough (reservations_for old r.app r.key) r.key (app_at old r.app)
         e = enough_is (reservations_for old r.app r.key) r.key (app_at old r.app) before.ask
+
         at : app_at new r.app ≡ Some (put_at n ask e.app)
         at = put_is_at r.app ∙ ap (option_map (put_at n ask)) e.at
+
         by : ((is_for n ask.key r ≡ true) ⊎ (is_for n ask.key r ≡ false)) → IsEnough (reservations_for new r.app r.key) r.key (app_at new r.app)
         by (inl h) =
             let f = for_it n ask.key r h in

@@ -1,30 +1,28 @@
 -- A step keeps a cluster within its sizes.
-use Rattle.std.proofs.Common.{◌≡◌, ℕ, ◌+◌, ◌-◌, ◌≤◌, ◌<◌, Bool, true, false, List, [], ◌∷◌, ◌++◌, length, refl, sym, ◌∙◌, ap, subst, inl, inr, arith}
-use Rattle.std.specs.Prelude.{◌⊎◌, Option, Some, None, is_none, cond, not, ◌&&◌, ◌==◌, filter, map, nat_le, bytes_eq, if◌then◌else◌}
+use Rattle.std.proofs.Common.{◌≡◌, ℕ, ◌+◌, ◌≤◌, ◌<◌, Bool, true, false, List, [], ◌∷◌, ◌++◌, length, refl, sym, ap, subst, inl, inr, arith}
+use Rattle.std.specs.Prelude.{Some, None, is_none, cond, not, ◌==◌, filter, nat_le, bytes_eq, if◌then◌else◌}
 use Rattle.std.specs.List.{sum_by, list_any}
 use Rattle.std.proofs.lemmas.Bool.{cases_lt, not-false}
 use Rattle.std.proofs.lemmas.Bool.Decides.{nat_tests}
 use Rattle.std.proofs.lemmas.List.{length-append, length-map}
 use Rattle.std.proofs.lemmas.List.Sums.{length-filter, count_by-le-length, sum_by_push}
-use Rattle.cap_vector.specs.Vector.{amount, by_amount, amount_max, plus, is_zero, is_within, IsWithin}
+use Rattle.cap_vector.specs.Vector.{amount, amount_max, plus, is_zero, is_within, IsWithin}
 use Rattle.cap_vector.proofs.AmountLemmas.{amount-plus, within_from_test}
-use Rattle.cap_model.specs.Settings.{Settings}
 use Rattle.cap_model.specs.Limits.{number_end, nodes_max}
-use Rattle.cap_model.specs.Calls.{Ask, CallRequest, CallReply, CallRefusal}
-use Rattle.cap_model.specs.Amounts.{part, sum_where}
-use Rattle.cap_model.specs.Flat.{Flat, App, ClusterNode, Container, Reservation, opened, queue_at}
+use Rattle.cap_model.specs.Calls.{Ask, CallRequest, CallRefusal}
+use Rattle.cap_model.specs.Amounts.{part}
+use Rattle.cap_model.specs.Flat.{Flat, ClusterNode, queue_at}
 use Rattle.cap_model.specs.Submit.{submit_refusal, has_children, is_running}
 use Rattle.cap_model.specs.RegisterNode.{register_node_refusal, total_of_nodes, new_node}
 use Rattle.cap_model.specs.Allocate.{after_processed_allocate, is_repeated_allocate}
 use Rattle.cap_model.specs.Heartbeat.{after_processed_heartbeat, is_repeated_heartbeat, beat_of}
 use Rattle.cap_model.specs.Replies.{refusal_of, granted_cluster}
-use Rattle.cap_model.specs.Admission.{live_max}
-use Rattle.cap_model.specs.Events.{ClusterEvent, Step, after_grant, after_reserve}
+use Rattle.cap_model.specs.Events.{ClusterEvent, Step, Run}
 use Rattle.cap_model.specs.Bounds.{IsWithinSizes}
-use Rattle.cap_model.specs.EngineLaws.{SizesStay, OpenedIsWithinSizes}
+use Rattle.cap_model.specs.BoundLaws.{SizesStay, RunsStayWithinSizes, OpenedIsWithinSizes}
 use Rattle.cap_model.proofs.Reasons.{none_holds}
 use Rattle.cap_model.proofs.Members.{part_filter, part_sum, sum_by_map}
-use Rattle.cap_model.proofs.ContainerNumbers.{IsThinned, call_thins}
+use Rattle.cap_model.proofs.ContainerNumbers.{call_thins}
 use Rattle.cap_model.proofs.Moves.{AppsMove, call_moves}
 use Rattle.cap_model.proofs.Lessening.{asked}
 use Rattle.cap_model.proofs.Measures.{amount_of, amount_past}
@@ -78,6 +76,7 @@ module _ {K : ℕ} where
     where
       beaten : ClusterNode → ClusterNode
       beaten node = if node.number == n then record node { response = (beat_of old n id ended).response; kept = Some (beat_of old n id ended) } else node
+
       total : (x : ClusterNode) (b : Bool) → (cond b (record x { response = (beat_of old n id ended).response; kept = Some (beat_of old n id ended) }) x).total ≡ x.total
       total x true = refl
       total x false = refl
@@ -87,12 +86,12 @@ module _ {K : ℕ} where
       AreNodesWithin K (old.nodes.present ++ new_node old host rack total ∷ []) (old.nodes.next_node + 1)
   register_nodes old host rack total e a =
       let tests = none_holds
-          ((list_any (λ (node : ClusterNode). bytes_eq node.host host) old.nodes.present, CallRefusal.host_taken)
-          ∷ (not (is_within amount_max (plus (total_of_nodes old) total)), CallRefusal.total_too_large)
-          ∷ (nat_le nodes_max (length old.nodes.present), CallRefusal.too_many_nodes)
-          ∷ (is_zero total, CallRefusal.zero_resource)
-          ∷ (nat_le number_end old.nodes.next_node, CallRefusal.numbers_spent)
-          ∷ []) e in
+      ((list_any (λ (node : ClusterNode). bytes_eq node.host host) old.nodes.present, CallRefusal.host_taken)
+      ∷ (not (is_within amount_max (plus (total_of_nodes old) total)), CallRefusal.total_too_large)
+      ∷ (nat_le nodes_max (length old.nodes.present), CallRefusal.too_many_nodes)
+      ∷ (is_zero total, CallRefusal.zero_resource)
+      ∷ (nat_le number_end old.nodes.next_node, CallRefusal.numbers_spent)
+      ∷ []) e in
       let within = within_from_test amount_max (plus (total_of_nodes old) total) (not-false (is_within amount_max (plus (total_of_nodes old) total)) tests.1.0) in
       let few = tests.1.1.0 in
       let left = tests.1.1.1.1.0 in
@@ -131,12 +130,12 @@ module _ {K : ℕ} where
   number_left : (old : Flat K) (path : List ℕ) → submit_refusal old path ≡ None → old.apps.next < number_end
   number_left old path e =
       let tests = none_holds
-          ((is_none (queue_at old path), CallRefusal.unknown_queue)
-          ∷ (has_children old path, CallRefusal.not_leaf)
-          ∷ (not (is_running old path), CallRefusal.queue_stopped)
-          ∷ (nat_le old.settings.application_limit (length old.apps.active), CallRefusal.too_many_applications)
-          ∷ (nat_le number_end old.apps.next, CallRefusal.numbers_spent)
-          ∷ []) e in
+      ((is_none (queue_at old path), CallRefusal.unknown_queue)
+      ∷ (has_children old path, CallRefusal.not_leaf)
+      ∷ (not (is_running old path), CallRefusal.queue_stopped)
+      ∷ (nat_le old.settings.application_limit (length old.apps.active), CallRefusal.too_many_applications)
+      ∷ (nat_le number_end old.apps.next, CallRefusal.numbers_spent)
+      ∷ []) e in
       let left = tests.1.1.1.1.0 in
       grind (arith, nat_tests, left)
 
@@ -182,6 +181,19 @@ module _ {K : ℕ} where
   step_sizes old new (ClusterEvent.reserve r) s (admissible, after) =
       subst IsWithinSizes (sym after)
       (record { totals = s.totals; nodes = s.nodes; live = s.live; app_numbers = s.app_numbers; node_numbers = s.node_numbers; container_numbers = s.container_numbers })
+
+  run_sizes : (events : List ClusterEvent) (old new : Flat K) → IsWithinSizes old → Run old events new → IsWithinSizes new
+  run_sizes [] old new s run = subst IsWithinSizes run s
+  run_sizes (event ∷ events) old new s (mid, step, run) = run_sizes events mid new (step_sizes old mid event s step) run
+
+  split_sizes : (first rest : List ClusterEvent) (old new : Flat K) → IsWithinSizes old → Run old (first ++ rest) new → (mid : Flat K) × Run old first mid × Run mid rest new × IsWithinSizes mid × IsWithinSizes new
+  split_sizes [] rest old new s run = (old, refl, run, s, run_sizes rest old new s run)
+  split_sizes (event ∷ first) rest old new s (next, step, run) =
+      let r = split_sizes first rest next new (step_sizes old next event s step) run in
+      (r.0, (next, step, r.1), r.2, r.3, r.4)
+
+pub runs_stay_within_sizes : RunsStayWithinSizes
+runs_stay_within_sizes K first rest old new s run = split_sizes first rest old new s run
 
 pub sizes_stay : SizesStay
 sizes_stay K old new event s step = step_sizes old new event s step

@@ -1,21 +1,21 @@
 -- A step from a bounded cluster keeps each bound.
-use Rattle.std.proofs.Common.{◌≡◌, ℕ, ◌+◌, ◌≤◌, ◌<◌, Bool, true, false, List, [], ◌∷◌, ◌++◌, refl, sym, ◌∙◌, ap, subst, inl, inr, arith}
-use Rattle.std.specs.Prelude.{◌⊎◌, Option, Some, None, IsSome, is_some, cond, not, ◌&&◌, ◌==◌, ◌-◌, length, filter, find, map, option_map, bytes_eq, if◌then◌else◌}
+use Rattle.std.proofs.Common.{◌≡◌, ℕ, Bool, true, false, List, [], ◌∷◌, refl, sym, ◌∙◌, ap, subst, inr}
+use Rattle.std.specs.Prelude.{Option, Some, None, cond, not, ◌==◌, ◌-◌, length, filter, find, map, option_map, if◌then◌else◌}
 use Rattle.std.specs.List.{All}
 use Rattle.cap_model.specs.Settings.{QueueRow}
 use Rattle.cap_model.specs.Amounts.{fits, times}
-use Rattle.cap_model.specs.Calls.{Ask, Cause, CallRequest, CallReply}
-use Rattle.cap_model.specs.Flat.{Flat, App, ClusterNode, Container, Reservation, app_at, node_at}
+use Rattle.cap_model.specs.Calls.{Ask, Cause, CallRequest}
+use Rattle.cap_model.specs.Flat.{Flat, App, Reservation, app_at}
 use Rattle.cap_model.specs.Uses.{queue_use, user_use}
 use Rattle.cap_model.specs.Asking.{after_asks}
 use Rattle.cap_model.specs.Ending.{with_ends}
 use Rattle.cap_model.specs.Submit.{new_app}
 use Rattle.cap_model.specs.Allocate.{after_processed_allocate, after_telling, after_wishes, is_repeated_allocate, released_by}
 use Rattle.cap_model.specs.Heartbeat.{after_processed_heartbeat, is_repeated_heartbeat, ended_by, containers_on}
-use Rattle.cap_model.specs.Replies.{refusal_of, granted_cluster}
-use Rattle.cap_model.specs.Events.{ClusterEvent, Step, Run, after_grant, after_reserve, grant_proposal, reserve_proposal}
-use Rattle.cap_model.specs.Bounds.{IsRising, FitsMaximum, AreApart, IsQueueBounded, IsNodeBounded, IsReservationBounded, IsWellFormed, IsBounded, IsPlaced}
-use Rattle.cap_model.specs.EngineLaws.{QueuesStayBounded, NodesStayBounded, ReservationsStayApart, ReservationsStayBounded}
+use Rattle.cap_model.specs.Replies.{granted_cluster}
+use Rattle.cap_model.specs.Events.{ClusterEvent, Step, after_grant, after_reserve, grant_proposal, reserve_proposal}
+use Rattle.cap_model.specs.Bounds.{FitsMaximum, AreApart, IsQueueBounded, IsNodeBounded, IsReservationBounded, IsBounded, IsPlaced}
+use Rattle.cap_model.specs.BoundLaws.{QueuesStayBounded, NodesStayBounded, ReservationsStayApart, ReservationsStayBounded}
 use Rattle.cap_model.proofs.Choosing.{IsIn}
 use Rattle.cap_model.proofs.Members.{part_itself, part_filter, each_of, of_each, of_map, find_changed, find_others, find_with_more}
 use Rattle.cap_model.proofs.Lessening.{HasPlaces, IsSite, IsLessened, lessened, gone_app}
@@ -150,6 +150,7 @@ module _ {K : ℕ} where
     where
       placed : (r : Reservation) → IsIn r old.nodes.reserved → IsPlaced old r.app r.node
       placed = each_of (λ (r : Reservation). IsPlaced old r.app r.node) old.nodes.reserved b.formed.reserved
+
       by : (event : ClusterEvent) → Step old event new → AreBounded new
       by (ClusterEvent.call who request reply) s = after_call AreBounded old (each_bounded old b) (λ request e. call_bounds_reservations old (places_of old b.formed) (each_bounded old b) request) new request reply s
       by (ClusterEvent.grant c) (admissible, number, after) =

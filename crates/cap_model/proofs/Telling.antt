@@ -14,7 +14,7 @@ use Rattle.cap_model.specs.Allocate.{news_max, nothing_told, after_telling, afte
 use Rattle.cap_model.specs.Heartbeat.{after_processed_heartbeat, is_repeated_heartbeat, ended_by, containers_on}
 use Rattle.cap_model.specs.Replies.{refused_or, refusal_of, granted_reply, granted_cluster, reply_to}
 use Rattle.cap_model.specs.Events.{ClusterEvent, Step, after_grant, news_of, take_one}
-use Rattle.cap_model.specs.EngineLaws.{untold_grants, told_grants, new_grants, GrantsAreToldInOrder}
+use Rattle.cap_model.specs.NewsLaws.{untold_grants, told_grants, new_grants, GrantsAreToldInOrder}
 use Rattle.cap_model.proofs.Choosing.{found}
 
 abbrev pub is_number : ℕ → App → Bool

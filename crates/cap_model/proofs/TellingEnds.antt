@@ -14,7 +14,7 @@ use Rattle.cap_model.specs.Allocate.{news_max, nothing_told, after_telling, afte
 use Rattle.cap_model.specs.Heartbeat.{after_processed_heartbeat, is_repeated_heartbeat, ended_by, containers_on}
 use Rattle.cap_model.specs.Replies.{refused_or, refusal_of, granted_reply, granted_cluster, reply_to}
 use Rattle.cap_model.specs.Events.{ClusterEvent, Step, after_grant, news_of, take_one}
-use Rattle.cap_model.specs.EngineLaws.{untold_ends, told_ends, new_ends, ends_of, EndsAreToldInOrder}
+use Rattle.cap_model.specs.NewsLaws.{untold_ends, told_ends, new_ends, ends_of, EndsAreToldInOrder}
 use Rattle.cap_model.proofs.Telling.{is_number, find_mapped, kept_if, numbers_at, elsewhere, at_number, found_at, others_stay, gone_is_none, not_none, nothing_where, only_where}
 
 abbrev ends_in : Option App → List EndedContainer

@@ -1,23 +1,23 @@
 -- Over whole runs ends are told in order, each once.
-use Rattle.std.proofs.Common.{◌≡◌, ℕ, ◌+◌, ◌≤◌, ◌<◌, Bool, true, false, List, [], ◌∷◌, ◌++◌, refl, sym, ◌∙◌, ap, subst, inl, inr, arith}
+use Rattle.std.proofs.Common.{◌≡◌, ℕ, ◌<◌, Bool, true, false, List, [], ◌∷◌, ◌++◌, refl, sym, ◌∙◌, ap, subst, inl, inr, arith}
 use Rattle.std.specs.Prelude.{◌⊎◌, Option, Some, None, IsSome, cond, not, ◌&&◌, ◌==◌, filter, find, map, if◌then◌else◌}
 use Rattle.std.specs.List.{cons_option}
 use Rattle.std.specs.Option.{option_map_or}
 use Rattle.std.proofs.lemmas.Bool.Decides.{nat_tests}
 use Rattle.std.proofs.lemmas.List.{append-nil}
 use Rattle.cap_model.specs.Calls.{Ask, Cause, EndedContainer, CallRequest, CallReply, CallRefusal}
-use Rattle.cap_model.specs.Flat.{Flat, App, Container, Reservation, app_at}
+use Rattle.cap_model.specs.Flat.{Flat, App, Container, app_at}
 use Rattle.cap_model.specs.Ending.{named_among}
 use Rattle.cap_model.specs.Allocate.{is_repeated_allocate, released_by}
 use Rattle.cap_model.specs.Heartbeat.{is_repeated_heartbeat, ended_by, containers_on}
 use Rattle.cap_model.specs.Replies.{reply_to}
 use Rattle.cap_model.specs.Events.{ClusterEvent, Step, Run, after_event}
 use Rattle.cap_model.specs.Bounds.{IsPlaced, IsWellFormed}
-use Rattle.cap_model.specs.EngineLaws.{untold_ends, told_ends, new_ends, ends_of, ever_told_ends, ever_new_ends, EndsAreToldOverRuns}
+use Rattle.cap_model.specs.NewsLaws.{untold_ends, told_ends, new_ends, ends_of, ever_told_ends, ever_new_ends, EndsAreToldOverRuns}
 use Rattle.cap_model.proofs.Choosing.{IsIn, found, of_filter}
 use Rattle.cap_model.proofs.Balance.{determined, filter_none}
 use Rattle.cap_model.proofs.Members.{each_of}
-use Rattle.cap_model.proofs.Moves.{AppsMove, AppsChange, step_moves, allocate_changes, beat_changes, lost_changes, grant_change}
+use Rattle.cap_model.proofs.Moves.{AppsMove, step_moves, allocate_changes, beat_changes, lost_changes}
 use Rattle.cap_model.proofs.Formed.{step_formed}
 use Rattle.cap_model.proofs.Telling.{not_none}
 use Rattle.cap_model.proofs.TellingEnds.{ends_are_told_in_order}
@@ -85,6 +85,7 @@ module _ {K : ℕ} where
             let f = of_filter (λ (x : Container). x.app == app) old.nodes.live c (named_in releases (filter (λ x. x.app == app) old.nodes.live) c m) in
             let its = f.0 in
             grind (arith, nat_tests, its, e)
+
         nothing : (b : Bool) → (if b then [] else ends_of Cause.released n (released_by old app releases)) ≡ []
         nothing true = refl
         nothing false = none_of Cause.released n (released_by old app releases) other
@@ -137,8 +138,7 @@ module _ {K : ℕ} where
       let at = determined old mid event step in
       let still = stays_missing old mid (step_moves old mid event step) n e h in
       let rest = never_told events mid new n still.0 still.1 (step_formed old mid event w step) run in
-      let quiet = step_quiet old n e w mid event step in
-      (
+      let quiet = step_quiet old n e w mid event step in (
         (λ i. (quiet.0) i ++ (ap (λ c. ever_told_ends c n events) (sym at) ∙ rest.0) i),
         (λ i. (quiet.1) i ++ (ap (λ c. ever_new_ends c n events) (sym at) ∙ rest.1) i),
         rest.2,
@@ -171,15 +171,18 @@ module _ {K : ℕ} where
     where
       moves : AppsMove old mid
       moves = step_moves old mid event step
+
       at : mid ≡ after_event old event
       at = determined old mid event step
+
       joined : IsToldOver events mid new n → told_ends old n event ++ untold_ends mid n ≡ untold_ends old n ++ new_ends old n event → IsToldOver (event ∷ events) old new n
       joined rest first = (
         rest.0,
         told_joined (told_ends old n event) (ever_told_ends (after_event old event) n events) (rest.0) (untold_ends old n) (untold_ends mid n) (new_ends old n event) (ever_new_ends (after_event old event) n events) first
-        (subst (λ c. ever_told_ends c n events ++ rest.0 ≡ untold_ends mid n ++ ever_new_ends c n events) at (rest.1)),
+            (subst (λ c. ever_told_ends c n events ++ rest.0 ≡ untold_ends mid n ++ ever_new_ends c n events) at (rest.1)),
         rest.2,
       )
+
       by : IsToldOver events mid new n → (IsSome (app_at mid n) ⊎ (app_at mid n ≡ None)) → (IsSome (app_at old n) ⊎ (app_at old n ≡ None)) → IsToldOver (event ∷ events) old new n
       by rest (inl a) b = joined rest (ends_are_told_in_order K old mid n event step a)
       by rest (inr a) (inr b) =
@@ -188,12 +191,11 @@ module _ {K : ℕ} where
       by rest (inr a) (inl b) =
           let quiet = gone_quietly old mid event n step b a in
           let below : n < mid.apps.next = omega (arith, used old n w.apps b, next_rises old mid moves) in
-          let never = never_told events mid new n a below (step_formed old mid event w step) run in
-          (
+          let never = never_told events mid new n a below (step_formed old mid event w step) run in (
             untold_ends old n,
             (λ i. ((quiet.0) i ++ (ap (λ c. ever_told_ends c n events) (sym at) ∙ never.0) i) ++ untold_ends old n)
-            ∙ sym (append-nil (untold_ends old n))
-            ∙ (λ i. untold_ends old n ++ (sym (quiet.1) i ++ sym (ap (λ c. ever_new_ends c n events) (sym at) ∙ never.1) i)),
+                ∙ sym (append-nil (untold_ends old n))
+                ∙ (λ i. untold_ends old n ++ (sym (quiet.1) i ++ sym (ap (λ c. ever_new_ends c n events) (sym at) ∙ never.1) i)),
             λ h. absurd (not_none (app_at new n) (never.2) h),
           )
 

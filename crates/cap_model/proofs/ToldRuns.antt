@@ -1,6 +1,6 @@
 -- Over whole runs grants are told in order, each once.
 use Rattle.std.proofs.Common.{◌≡◌, ℕ, ◌+◌, ◌≤◌, ◌<◌, Bool, true, false, List, [], ◌∷◌, ◌++◌, refl, sym, ◌∙◌, ap, subst, inl, inr, arith}
-use Rattle.std.specs.Prelude.{◌⊎◌, Option, Some, None, IsSome, is_some, is_none, cond, not, ◌&&◌, ◌==◌, filter, find, map, option_map, if◌then◌else◌}
+use Rattle.std.specs.Prelude.{◌⊎◌, Option, Some, None, IsSome, is_some, is_none, cond, not, ◌&&◌, ◌==◌, filter, find, map, option_map}
 use Rattle.std.specs.Option.{option_map_or, option_or}
 use Rattle.std.proofs.lemmas.Bool.Decides.{nat_tests}
 use Rattle.std.proofs.lemmas.List.{append_assoc, append-nil, map-append}
@@ -8,17 +8,17 @@ use Rattle.std.proofs.lemmas.List.Elements.{filter-append}
 use Rattle.std.proofs.lemmas.List.Folds.{find-append}
 use Rattle.cap_model.specs.Calls.{GrantedContainer, Ask, CallRequest, CallReply, CallRefusal}
 use Rattle.cap_model.specs.Flat.{Flat, App, Container, app_at}
-use Rattle.cap_model.specs.Cascade.{earliest}
 use Rattle.cap_model.specs.Sight.{sight_of, seen_app, app_sight, AppSight}
 use Rattle.cap_model.specs.Allocate.{allocate_refusal, is_repeated_allocate}
-use Rattle.cap_model.specs.Replies.{refused_or, refusal_of, granted_reply, granted_cluster, reply_to, Replies}
+use Rattle.cap_model.specs.Replies.{refused_or, granted_reply, reply_to}
 use Rattle.cap_model.specs.Events.{ClusterEvent, Step, Run, after_event, news_of, granted_by, ever_granted}
 use Rattle.cap_model.specs.Bounds.{IsRising}
-use Rattle.cap_model.specs.EngineLaws.{numbers_of, HasAppNumbers, untold_grants, told_grants, new_grants, ever_told_grants, ever_new_grants, AppNumbersStayDistinct, GrantsAreToldOverRuns, NewGrantsAreOfTheGranted}
+use Rattle.cap_model.specs.EngineLaws.{numbers_of, HasAppNumbers, AppNumbersStayDistinct}
+use Rattle.cap_model.specs.NewsLaws.{untold_grants, told_grants, new_grants, ever_told_grants, ever_new_grants, GrantsAreToldOverRuns, NewGrantsAreOfTheGranted}
 use Rattle.cap_model.proofs.Members.{rising_kept, rising_more, same_numbers, none_from_high}
-use Rattle.cap_model.proofs.Moves.{AppsMove, AppsChange, AppGoes, AppComes, step_moves, allocate_changes, grant_change}
+use Rattle.cap_model.proofs.Moves.{AppsMove, AppsChange, step_moves, allocate_changes, grant_change}
 use Rattle.cap_model.proofs.Balance.{determined}
-use Rattle.cap_model.proofs.Telling.{is_number, find_mapped, found_at, others_stay, gone_is_none, not_none, refused_tells, grants_are_told_in_order}
+use Rattle.cap_model.proofs.Telling.{is_number, find_mapped, others_stay, gone_is_none, not_none, refused_tells, grants_are_told_in_order}
 
 abbrev number_of : App → ℕ
 number_of app = app.number
@@ -45,6 +45,7 @@ unseen n (x ∷ xs) e = by (x.number == n) x.registered refl e (unseen n xs)
   where
     rest : List AppSight
     rest = map app_sight (filter (λ app. app.registered) xs)
+
     by : (b r : Bool) → x.number == n ≡ b → cond b (Some x) (find (is_number n) xs) ≡ None → (find (is_number n) xs ≡ None → find (λ (app : AppSight). app.number == n) rest ≡ None) →
         find (λ (app : AppSight). app.number == n) (map app_sight (cond r (x ∷ filter (λ app. app.registered) xs) (filter (λ app. app.registered) xs))) ≡ None
     by true r t g f = absurd (cc g)
@@ -90,10 +91,9 @@ module _ {K : ℕ} where
   stays_missing old new (AppsMove.comes m) n e h =
       let next = m.next in
       let number = m.number in
-      let other : m.app.number == n ≡ false = grind (arith, nat_tests, number, h) in
-      (
+      let other : m.app.number == n ≡ false = grind (arith, nat_tests, number, h) in (
         ap (find (is_number n)) m.active ∙ find-append (is_number n) old.apps.active (m.app ∷ [])
-        ∙ (λ i. option_or (e i) (cond (other i) (Some m.app) None)),
+            ∙ (λ i. option_or (e i) (cond (other i) (Some m.app) None)),
         omega (arith, h, next),
       )
 
@@ -172,8 +172,7 @@ module _ {K : ℕ} where
   never_told (event ∷ events) old new n e h (mid, step, run) =
       let at = determined old mid event step in
       let still = stays_missing old mid (step_moves old mid event step) n e h in
-      let rest = never_told events mid new n still.0 still.1 run in
-      (
+      let rest = never_told events mid new n still.0 still.1 run in (
         (λ i. tells_nothing old n e mid event step i ++ (ap (λ c. ever_told_grants c n events) (sym at) ∙ rest.0) i),
         (λ i. grants_nothing old n e mid event step i ++ (ap (λ c. ever_new_grants c n events) (sym at) ∙ rest.1) i),
         rest.2,
@@ -210,23 +209,25 @@ module _ {K : ℕ} where
     where
       moves : AppsMove old mid
       moves = step_moves old mid event step
+
       at : mid ≡ after_event old event
       at = determined old mid event step
+
       joined : IsToldOver events mid new n → told_grants old n event ++ untold_grants mid n ≡ untold_grants old n ++ new_grants old n event →
           IsToldOver (event ∷ events) old new n
       joined rest first = (rest.0, told_joined (told_grants old n event) (ever_told_grants (after_event old event) n events) (rest.0) (untold_grants old n) (untold_grants mid n) (new_grants old n event) (ever_new_grants (after_event old event) n events) first (subst (λ c. ever_told_grants c n events ++ rest.0 ≡ untold_grants mid n ++ ever_new_grants c n events) at (rest.1)), rest.2)
+
       by : IsToldOver events mid new n → (IsSome (app_at mid n) ⊎ (app_at mid n ≡ None)) → (IsSome (app_at old n) ⊎ (app_at old n ≡ None)) → IsToldOver (event ∷ events) old new n
       by rest (inl a) b = joined rest (grants_are_told_in_order K old mid n event step a)
       by rest (inr a) (inr b) = joined rest ((λ i. tells_nothing old n b mid event step i ++ untold_in (a i)) ∙ sym (λ i. untold_in (b i) ++ grants_nothing old n b mid event step i))
       by rest (inr a) (inl b) =
           let quiet = gone_quietly old mid event n step b a in
           let below : n < mid.apps.next = omega (arith, used old n r b, next_rises old mid moves) in
-          let never = never_told events mid new n a below run in
-          (
+          let never = never_told events mid new n a below run in (
             untold_grants old n,
             (λ i. ((quiet.0) i ++ (ap (λ c. ever_told_grants c n events) (sym at) ∙ never.0) i) ++ untold_grants old n)
-            ∙ sym (append-nil (untold_grants old n))
-            ∙ (λ i. untold_grants old n ++ (sym (quiet.1) i ++ sym (ap (λ c. ever_new_grants c n events) (sym at) ∙ never.1) i)),
+                ∙ sym (append-nil (untold_grants old n))
+                ∙ (λ i. untold_grants old n ++ (sym (quiet.1) i ++ sym (ap (λ c. ever_new_grants c n events) (sym at) ∙ never.1) i)),
             λ h. absurd (not_none (app_at new n) (never.2) h),
           )
 

@@ -1,22 +1,17 @@
 -- In a tree each parent queue uses what its children use together.
-use Rattle.std.proofs.Common.{◌≡◌, ℕ, ◌+◌, Bool, true, false, List, [], ◌∷◌, ◌++◌, refl, sym, ◌∙◌, ap, subst, inl, inr, arith}
-use Rattle.std.specs.Prelude.{◌⊎◌, Option, Some, None, IsSome, cond, ◌==◌, ◌&&◌, find, bytes_eq, nat_eq, count_by, if◌then◌else◌}
-use Rattle.std.specs.List.{All, list_any, starts_with}
+use Rattle.std.proofs.Common.{◌≡◌, ℕ, Bool, true, false, List, ◌∷◌, ◌++◌, refl, sym, ◌∙◌, ap, subst, inl, inr}
+use Rattle.std.specs.Prelude.{◌⊎◌, IsSome, cond, ◌==◌, ◌&&◌, find, bytes_eq, count_by, if◌then◌else◌}
 use Rattle.std.proofs.lemmas.Slice.Eq.{bytes_eq-Decides}
 use Rattle.cap_model.specs.Settings.{QueueRow}
-use Rattle.cap_model.specs.Flat.{Flat, App, app_at, queue_at, is_under, is_child_of}
+use Rattle.cap_model.specs.Flat.{Flat, App, queue_at, is_under, is_child_of}
 use Rattle.cap_model.specs.Submit.{has_children}
-use Rattle.cap_model.specs.Bounds.{IsSumOfChildren, IsTree, IsLeaf, IsWellFormed}
-use Rattle.cap_model.specs.EngineLaws.{IsInOneChild, TreesAddUp}
-use Rattle.cap_model.proofs.Choosing.{IsIn, found, and_both}
-use Rattle.cap_model.proofs.Members.{each_of, of_each, sum_of_zeros}
+use Rattle.cap_model.specs.Bounds.{IsSumOfChildren, IsLeaf, IsWellFormed}
+use Rattle.cap_model.specs.BoundLaws.{IsInOneChild, TreesAddUp}
+use Rattle.cap_model.proofs.Choosing.{found, and_both}
+use Rattle.cap_model.proofs.Members.{each_of, of_each, sum_of_zeros, both_true}
 use Rattle.cap_model.proofs.Parents.{parent_uses_children}
 use Rattle.cap_model.proofs.Proposers.{value_of, true_or_false}
 use Rattle.cap_model.proofs.Paths.{IsUnder, under_is, is_under_it, child_to, its_child, child_leads, only_child, under_parent, counted_once}
-
-both_true : (a b : Bool) → a ≡ true → b ≡ true → a && b ≡ true
-both_true true b h g = g
-both_true false b h g = absurd (cc h)
 
 -- two tests that hold of the same
 same_test : (a b : Bool) → (a ≡ true → b ≡ true) → (b ≡ true → a ≡ true) → a ≡ b
@@ -63,12 +58,14 @@ module _ {K : ℕ} (cluster : Flat K) (w : IsWellFormed cluster) where
           let yes : is_under q.path app.leaf ≡ true = is_under_it q.path app.leaf (inr under) in
           absurd (cc (yes, e)))
           (λ g. absurd (cc g))
+
       through : IsUnder q.path app.leaf → count_by (leads q.path app.leaf) cluster.settings.queues ≡ 1
       through (inl e) = let no : has_children cluster q.path ≡ false = ap (has_children cluster) (sym e) ∙ l.childless in absurd (cc (no, h))
       through (inr (rest, e)) =
           (λ i. count_by (leads q.path (e i)) cluster.settings.queues)
           ∙ (λ i. count_by (λ child. leads_at q.path rest child i) cluster.settings.queues)
           ∙ counted_once (child_to q.path rest) cluster.settings.queues w.tree.distinct (on_the_way q.path rest app.leaf e l)
+
       by : ((is_under q.path app.leaf ≡ true) ⊎ (is_under q.path app.leaf ≡ false)) → IsInOneChild cluster q.path app
       by (inl e) = through (under_is q.path app.leaf e) ∙ sym (ap (λ b. if b then 1 else 0) e)
       by (inr e) =

@@ -1,23 +1,22 @@
 -- Uses are sums: at most twice what the nodes have together.
-use Rattle.std.proofs.Common.{◌≡◌, ℕ, ◌+◌, ◌-◌, ◌≤◌, ◌<◌, Bool, true, false, List, [], ◌∷◌, ◌++◌, length, refl, sym, ◌∙◌, ap, subst, inl, inr, arith}
-use Rattle.std.specs.Prelude.{◌⊎◌, Option, Some, None, IsSome, is_some, cond, not, ◌&&◌, ◌==◌, filter, find, map, nat_le, if◌then◌else◌}
-use Rattle.std.specs.List.{All, list_any, sum_by}
+use Rattle.std.proofs.Common.{◌≡◌, ℕ, ◌+◌, ◌≤◌, ◌<◌, Bool, true, false, List, [], ◌∷◌, refl, sym, ◌∙◌, ap, inl, inr, arith}
+use Rattle.std.specs.Prelude.{Option, Some, None, IsSome, cond, ◌==◌, find, if◌then◌else◌}
+use Rattle.std.specs.List.{sum_by}
 use Rattle.std.proofs.lemmas.Bool.{cases_lt}
 use Rattle.std.proofs.lemmas.Bool.Decides.{nat_tests}
 use Rattle.std.proofs.lemmas.List.FromFn.{length-map-range_with_len}
 use Rattle.std.proofs.lemmas.List.Sums.{sum_by-cons, sum_by-le-sum_by}
-use Rattle.cap_vector.specs.Vector.{amount, IsSum}
+use Rattle.cap_vector.specs.Vector.{amount}
 use Rattle.cap_model.specs.Cascade.{holds_of}
 use Rattle.cap_model.specs.Amounts.{fits, part}
 use Rattle.cap_model.specs.Flat.{Flat, App, ClusterNode, Container, Reservation, app_at, node_at, is_under}
-use Rattle.cap_model.specs.Uses.{Holding, holdings, use_of, queue_use, node_held}
+use Rattle.cap_model.specs.Uses.{Holding, holdings, use_of, node_held}
 use Rattle.cap_model.specs.RegisterNode.{total_of_nodes}
-use Rattle.cap_model.specs.Bounds.{IsRising, AreApart, IsNodeBounded, IsReservationBounded, IsPlaced, IsBounded}
-use Rattle.cap_model.specs.EngineLaws.{UsesAreSums}
+use Rattle.cap_model.specs.Bounds.{AreApart, IsNodeBounded, IsReservationBounded, IsPlaced, IsBounded}
+use Rattle.cap_model.specs.BoundLaws.{UsesAreSums}
 use Rattle.cap_model.proofs.Choosing.{IsIn, found}
-use Rattle.cap_model.proofs.Reasons.{or_left, or_right}
-use Rattle.cap_model.proofs.Members.{each_of, found_by_number, sum_of_zeros}
-use Rattle.cap_model.proofs.Measures.{fits_amounts, amount_of, counts, counted, live_part, reserved_part, use_amount, use_past, held_amount}
+use Rattle.cap_model.proofs.Members.{each_of, found_by_number, sum_of_two}
+use Rattle.cap_model.proofs.Measures.{fits_amounts, amount_of, counts, counted, use_amount, use_past, held_amount}
 use Rattle.cap_model.proofs.Growing.{in_sum}
 use Rattle.cap_model.proofs.Proposers.{value_of}
 use Rattle.cap_model.proofs.Wanting.{none_there}
@@ -25,10 +24,6 @@ use Rattle.cap_model.proofs.Wanting.{none_there}
 if_less : (b : Bool) (n : ℕ) → (if b then n else 0) ≤ n
 if_less true n = omega arith
 if_less false n = omega arith
-
-sum_of_two : {A : Type 0} (f g : A → ℕ) (xs : List A) → sum_by (λ x. f x + g x) xs ≡ sum_by f xs + sum_by g xs
-sum_of_two f g [] = refl
-sum_of_two f g (x ∷ xs) = omega (arith, sum_by-cons (λ y. f y + g y) x xs, sum_by-cons f x xs, sum_by-cons g x xs, sum_of_two f g xs)
 
 sum_below : {A : Type 0} (f g : A → ℕ) (xs : List A) → ((x : A) → IsIn x xs → f x ≤ g x) → sum_by f xs ≤ sum_by g xs
 sum_below f g [] e = omega arith
@@ -106,10 +101,10 @@ module _ {K : ℕ} (cluster : Flat K) (b : IsBounded cluster) where
       let placed = each_of (λ (c : Container). IsPlaced cluster c.app c.node) cluster.nodes.live b.formed.live in
       let spread = on_some_node k cluster.nodes.present cluster.nodes.live (λ c m. node_is c.node (placed c m).1) in
       let each = sum_below (λ (x : ClusterNode). sum_by (λ (c : Container). if c.node == x.number then amount c.resource k else 0) cluster.nodes.live) (λ x. amount x.total k) cluster.nodes.present
-          (λ x m.
-          let held = held_amount cluster x.number k h in
-          let f = fits_amounts (node_held cluster x.number) x.total (each_of (IsNodeBounded cluster) cluster.nodes.present b.nodes x m) k in
-          omega (arith, held, f)) in
+      (λ x m.
+      let held = held_amount cluster x.number k h in
+      let f = fits_amounts (node_held cluster x.number) x.total (each_of (IsNodeBounded cluster) cluster.nodes.present b.nodes x m) k in
+      omega (arith, held, f)) in
       let totals = totals_amount k h in
       omega (arith, spread, each, totals)
 
@@ -118,7 +113,7 @@ module _ {K : ℕ} (cluster : Flat K) (b : IsBounded cluster) where
       let placed = each_of (λ (r : Reservation). IsPlaced cluster r.app r.node) cluster.nodes.reserved b.formed.reserved in
       let spread = reserved_on_nodes k cluster.nodes.present cluster.nodes.reserved b.apart (λ r m. node_is r.node (placed r m).1) in
       let each = sum_below (λ (x : ClusterNode). taken k (find (λ (r : Reservation). r.node == x.number) cluster.nodes.reserved)) (λ x. amount x.total k) cluster.nodes.present
-          (λ x m. takes_less k x m (find (λ (r : Reservation). r.node == x.number) cluster.nodes.reserved) refl) in
+      (λ x m. takes_less k x m (find (λ (r : Reservation). r.node == x.number) cluster.nodes.reserved) refl) in
       let totals = totals_amount k h in
       omega (arith, spread, each, totals)
 

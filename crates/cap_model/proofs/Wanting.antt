@@ -1,34 +1,23 @@
 -- A container that is still wanted: fewer reservations than the ask counts. And what a grant or a reservation does to reservations.
-use Rattle.std.proofs.Common.{◌≡◌, ℕ, ◌+◌, ◌-◌, ◌≤◌, ◌<◌, Bool, true, false, List, [], ◌∷◌, ◌++◌, refl, sym, ◌∙◌, ap, subst, inl, inr, arith}
-use Rattle.std.specs.Prelude.{◌⊎◌, Option, Some, None, IsSome, is_some, cond, not, ◌&&◌, ◌||◌, ◌==◌, filter, find, map, length, option_map, option_and_then, nat_le, if◌then◌else◌}
-use Rattle.std.specs.List.{All, list_any, sum_by, count_by}
+use Rattle.std.proofs.Common.{◌≡◌, ℕ, ◌+◌, ◌≤◌, ◌<◌, Bool, true, false, List, [], ◌∷◌, refl, sym, ◌∙◌, ap, inl, inr, arith}
+use Rattle.std.specs.Prelude.{◌⊎◌, Option, Some, None, cond, ◌&&◌, ◌==◌, filter, find, map, length, option_and_then, nat_le}
+use Rattle.std.specs.List.{list_any, sum_by, count_by}
 use Rattle.std.proofs.lemmas.Bool.Decides.{nat_tests}
 use Rattle.std.proofs.lemmas.List.Sums.{sum_by-cons, sum_by-le-sum_by, length-filter}
-use Rattle.std.proofs.lemmas.List.Filters.{sum_by-filter_both}
 use Rattle.cap_model.specs.Cascade.{holds_of}
-use Rattle.cap_model.specs.Amounts.{fits}
-use Rattle.cap_model.specs.Calls.{Key, same_key, Ask}
-use Rattle.cap_model.specs.Flat.{Flat, App, ClusterNode, Container, Reservation, app_at, node_at, is_for, ask_at, reservation_on}
-use Rattle.cap_model.specs.Sight.{Sight, NodeSight, AppSight, sight_of, node_sight, app_sight, seen_app, seen_node, still_wanted}
-use Rattle.cap_model.specs.Admission.{NodeProposal, is_wanted, is_reserved_for, proposed_ask, node_reservation, fits_total}
-use Rattle.cap_model.specs.Bounds.{IsRising, AreApart, IsReservationBounded, reservations_for, IsPlaced, IsBounded}
-use Rattle.cap_model.specs.EngineLaws.{WantedIsSeen, ReasonsAreInOrder}
-use Rattle.cap_model.specs.Events.{after_grant, after_reserve, take_one, news_of, grant_proposal, reserve_proposal}
-use Rattle.cap_model.proofs.Choosing.{IsIn, found, of_filter, in_filter, in_either, and_both}
+use Rattle.cap_model.specs.Calls.{same_key, Ask}
+use Rattle.cap_model.specs.Flat.{Flat, App, ClusterNode, Reservation, node_at, is_for, ask_at, reservation_on}
+use Rattle.cap_model.specs.Sight.{Sight, NodeSight, AppSight, sight_of, node_sight, app_sight, seen_app, still_wanted}
+use Rattle.cap_model.specs.Admission.{NodeProposal, is_wanted}
+use Rattle.cap_model.specs.Bounds.{IsRising, AreApart, reservations_for, IsPlaced}
+use Rattle.cap_model.specs.EngineLaws.{ReasonsAreInOrder}
+use Rattle.cap_model.specs.BoundLaws.{WantedIsSeen}
+use Rattle.cap_model.proofs.Choosing.{IsIn, found}
 use Rattle.cap_model.proofs.Reasons.{or_left, or_right}
-use Rattle.cap_model.proofs.Members.{each_of, sum_by_map, sum_of_zeros}
-use Rattle.cap_model.proofs.Moves.{grant_change}
+use Rattle.cap_model.proofs.Members.{each_of, sum_by_map, sum_of_zeros, one_where, sum_of_two}
 use Rattle.cap_model.proofs.Growing.{in_sum}
-use Rattle.cap_model.proofs.Proposers.{IsSeen, IsSeenNode, node_seen, IsHeldFor, held_for, value_of, true_or_false}
-use Rattle.cap_model.proofs.KeptAsks.{same_key_is, same_key_itself, one_less, one_less_found, other_ask_stays}
-use Rattle.cap_model.proofs.Reserving.{AreBounded, IsEnough, enough, enough_is, is_enough, fewer_left, one_left, IsForIt, for_it, same_reservations, same_key_other}
-
-abbrev one_where : Bool → ℕ
-one_where b = cond b 1 0
-
-sum_of_two : {A : Type 0} (f g : A → ℕ) (xs : List A) → sum_by (λ x. f x + g x) xs ≡ sum_by f xs + sum_by g xs
-sum_of_two f g [] = refl
-sum_of_two f g (x ∷ xs) = omega (arith, sum_by-cons (λ y. f y + g y) x xs, sum_by-cons f x xs, sum_by-cons g x xs, sum_of_two f g xs)
+use Rattle.cap_model.proofs.Proposers.{IsSeen, value_of, true_or_false}
+use Rattle.cap_model.proofs.KeptAsks.{same_key_is}
 
 same_sums : {A : Type 0} (f g : A → ℕ) (xs : List A) → ((x : A) → f x ≡ g x) → sum_by f xs ≡ sum_by g xs
 same_sums f g xs e = λ i. sum_by (λ x. e x i) xs
@@ -93,7 +82,7 @@ module _ {K : ℕ} (old : Flat K) (apart : AreApart old.nodes.reserved) (placed 
       let a = asked_is (sight_of old) p (app_sight s.app) s.seen h in
       let key : (a.0).key ≡ p.key = same_key_is (a.0).key p.key (found (λ (x : Ask). same_key x.key p.key) s.app.asks (a.0) (a.1)).1 in
       let seen : count_by (λ (x : NodeSight). holds_of (is_for p.app (a.0).key) x.reservation) (map (node_sight old) old.nodes.present)
-          ≡ count_by (λ (x : ClusterNode). holds_of (is_for p.app (a.0).key) (reservation_on old x.number)) old.nodes.present =
+      ≡ count_by (λ (x : ClusterNode). holds_of (is_for p.app (a.0).key) (reservation_on old x.number)) old.nodes.present =
       sum_by_map (node_sight old) (λ (x : NodeSight). cond (holds_of (is_for p.app (a.0).key) x.reservation) 1 0) old.nodes.present in
       let few = on_nodes (is_for p.app (a.0).key) old.nodes.present old.nodes.reserved apart node_of in
       let same : reservations_for old p.app p.key ≡ reservations_for old p.app (a.0).key = ap (reservations_for old p.app) (sym key) in
@@ -109,6 +98,7 @@ one_node n low (x ∷ nodes) high r = by (n == x.number) refl (one_node n (x.num
   where
     first : count_by (λ (y : ClusterNode). n == y.number) (x ∷ nodes) ≡ one_where (n == x.number) + count_by (λ (y : ClusterNode). n == y.number) nodes
     first = sum_by-cons (λ (y : ClusterNode). one_where (n == y.number)) x nodes
+
     by : (b : Bool) → n == x.number ≡ b → (count_by (λ (y : ClusterNode). n == y.number) nodes ≤ 1) × (n < x.number + 1 → count_by (λ (y : ClusterNode). n == y.number) nodes ≡ 0) →
         (count_by (λ (y : ClusterNode). n == y.number) (x ∷ nodes) ≤ 1) × (n < low → count_by (λ (y : ClusterNode). n == y.number) (x ∷ nodes) ≡ 0)
     by true e h =

@@ -1,12 +1,12 @@
 -- The bounds that hold in every state of a run.
-use Rattle.std.specs.Prelude.{◌≡◌, ℕ, ◌+◌, ◌≤◌, Bool, true, false, List, [], ◌∷◌, ◌++◌, Option, Some, None, IsSome, map, find, filter, length, ◌==◌, nat_le, bytes_eq}
-use Rattle.std.specs.List.{All, list_any}
+use Rattle.std.specs.Prelude.{◌≡◌, ℕ, ◌+◌, ◌≤◌, Bool, true, false, not, ◌&&◌, is_some, if◌then◌else◌, List, [], ◌∷◌, ◌++◌, Option, Some, None, IsSome, map, find, filter, length, count_by, ◌==◌, nat_le, bytes_eq}
+use Rattle.std.specs.List.{All, list_any, list_all}
 use Rattle.cap_vector.specs.Vector.{amount_max, IsWithin}
 use Rattle.cap_model.specs.Cascade.{holds_of}
 use Rattle.cap_model.specs.Amounts.{fits, times, sum_where}
 use Rattle.cap_model.specs.Settings.{QueueRow}
 use Rattle.cap_model.specs.Calls.{Key}
-use Rattle.cap_model.specs.Flat.{Flat, App, ClusterNode, Container, Reservation, is_for, ask_at, app_at, node_at, queue_at, is_child_of}
+use Rattle.cap_model.specs.Flat.{Flat, ClusterNode, Reservation, is_for, ask_at, app_at, node_at, queue_at, is_under, is_child_of}
 use Rattle.cap_model.specs.Limits.{number_end, nodes_max}
 use Rattle.cap_model.specs.Admission.{live_max}
 use Rattle.cap_model.specs.Submit.{has_children}
@@ -33,10 +33,39 @@ abbrev pub HasDistinctPaths : List QueueRow → Type 0
 HasDistinctPaths [] = Unit {0}
 HasDistinctPaths (q ∷ queues) = (list_any (λ r. bytes_eq r.path q.path) queues ≡ false) × HasDistinctPaths queues
 
+-- whether a queue of that path is there
+abbrev pub has_path : List QueueRow → List ℕ → Bool
+has_path queues path = is_some (find (λ r. bytes_eq r.path path) queues)
+
 -- queues that are a tree: no path stands there twice, and where a path is there, so is each beginning of it that ends before a dot
 pub record IsTree (queues : List QueueRow) : Type 0 where
   pub distinct : HasDistinctPaths queues
-  pub above : All (λ q. (front rest : List ℕ) → q.path ≡ front ++ 46 ∷ rest → IsSome (find (λ r. bytes_eq r.path front) queues)) queues
+  pub above : All (λ q. (front rest : List ℕ) → q.path ≡ front ++ 46 ∷ rest → has_path queues front ≡ true) queues
+
+-- each queue of a list stands before those under it
+abbrev pub StandBelow : List QueueRow → Type 0
+StandBelow [] = Unit {0}
+StandBelow (q ∷ queues) = (list_any (λ r. is_under r.path q.path) queues ≡ false) × StandBelow queues
+
+-- how far down a queue is: the dots of its path
+abbrev pub depth : List ℕ → ℕ
+depth path = count_by (λ b. b == 46) path
+
+-- the beginnings of a path that end before a dot
+abbrev pub fronts : List ℕ → List (List ℕ)
+fronts [] = []
+fronts (b ∷ path) =
+    let longer = map (λ front. b ∷ front) (fronts path) in
+    if b == 46 then [] ∷ longer else longer
+
+-- whether no path stands in a list of queues twice
+abbrev pub has_distinct_paths : List QueueRow → Bool
+has_distinct_paths [] = true
+has_distinct_paths (q ∷ queues) = not (list_any (λ r. bytes_eq r.path q.path) queues) && has_distinct_paths queues
+
+-- whether queues are a tree
+abbrev pub is_tree : List QueueRow → Bool
+is_tree queues = has_distinct_paths queues && list_all (λ q. list_all (has_path queues) (fronts q.path)) queues
 
 module _ {K : ℕ} where
   -- a queue without children
@@ -81,7 +110,7 @@ module _ {K : ℕ} where
     pub node : holds_of (λ node. fits r.resource node.total) (node_at cluster r.node) ≡ true
     pub ask : holds_of (λ app. holds_of (λ ask. nat_le (reservations_for cluster r.app r.key) ask.count) (ask_at r.key app.asks)) (app_at cluster r.app) ≡ true
 
-  -- the bounds of a cluster: no queue over its maximum, no user over the limit, each queue the sum of its children, no node over its
+  -- the bounds of a well-formed cluster: no queue over its maximum, no user over the limit, each queue the sum of its children, no node over its
   -- total, at most one reservation a node, which fits there and is asked for, and no container number twice
   pub record IsBounded (cluster : Flat K) : Type 0 where
     pub formed : IsWellFormed cluster

@@ -1,5 +1,5 @@
 -- Worked examples: proposals that are made, admitted and rejected.
-use Rattle.std.specs.Prelude.{◌≡◌, [], ◌∷◌, Some, None, codes}
+use Rattle.std.specs.Prelude.{◌≡◌, true, false, not, [], ◌∷◌, Some, None, filter, bytes_eq, codes}
 use Rattle.cap_model.specs.Settings.{Settings}
 use Rattle.cap_model.specs.Calls.{CallRequest, CallReply}
 use Rattle.cap_model.specs.Flat.{Flat, opened}
@@ -7,6 +7,7 @@ use Rattle.cap_model.specs.Uses.{queue_use}
 use Rattle.cap_model.specs.Sight.{sight_of}
 use Rattle.cap_model.specs.Admission.{RejectReason, reason_of}
 use Rattle.cap_model.specs.Candidates.{choice_from}
+use Rattle.cap_model.specs.Bounds.{is_tree}
 use Rattle.cap_model.specs.Replies.{reply_to, after_request}
 use Rattle.cap_model.specs.ExampleClusters.{mb_and_vcores, key, ask_anywhere, queue, with_queues, two_queues, two_masters, after_calls, small, asks_of, grant_of, reserve_of, granted, reserved}
 
@@ -179,3 +180,10 @@ OtherReasons =
     × (reason_of large (reserve_of 1 (key 1 0) 1 (mb_and_vcores 8192 1)) ≡ Some RejectReason.never_fits)
     × (reason_of (record sight { next_container = 4611686018427387904 }) (grant_of 1 (key 1 0) 1 (mb_and_vcores 1024 1)) ≡ Some RejectReason.numbers_spent)
     × (reason_of sight (grant_of 3 (key 9 9) 7 (mb_and_vcores 9999 9)) ≡ Some RejectReason.no_app)
+
+-- the queues of the examples are trees; without the queue between two others they are none
+abbrev pub ExamplesAreTrees : Type 0
+ExamplesAreTrees =
+    (is_tree two_queues.queues ≡ true)
+    × (is_tree middle_queue.queues ≡ true)
+    × (is_tree (filter (λ q. not (bytes_eq q.path (codes "root.g.p"))) middle_queue.queues) ≡ false)

@@ -33,3 +33,5 @@ pub mod ExampleShares
 pub mod ExampleProposals
 pub mod ExampleCalls
 pub mod EngineLaws
+pub mod NewsLaws
+pub mod BoundLaws

@@ -1,7 +1,7 @@
 //! Worked examples of the definitions in `specs/`, computed by the checker. The functions do nothing: each states in
 //! its contract what small clusters and calls give.
 ghost use Rattle.cap_model.specs.ExampleShares.{DominantShares, ShareOfNothing, ThreeShares, LessFullQueueFirst, EqualQueuesByName, AsksByPriority, AsksAreRounded};
-ghost use Rattle.cap_model.specs.ExampleProposals.{MiddleMaximum, RoomIsReserved, ReservationKeepsOthersOut, ReservationIsConverted, SmallerAskDropsNewest, ChangedAskDropsAll, UserLimit, SecondProposalRejected, ReplacedAskRejected, ReturnedNodeIsAnother, NodeFillsUp, OtherReasons, RingFromTheStart};
+ghost use Rattle.cap_model.specs.ExampleProposals.{MiddleMaximum, RoomIsReserved, ReservationKeepsOthersOut, ReservationIsConverted, SmallerAskDropsNewest, ChangedAskDropsAll, UserLimit, SecondProposalRejected, ReplacedAskRejected, ReturnedNodeIsAnother, NodeFillsUp, OtherReasons, RingFromTheStart, ExamplesAreTrees};
 ghost use Rattle.cap_model.specs.ExampleCalls.{SubmitRefusals, SubmitStatuses, MasterComesAndGoes, GrantIsTold, HeartbeatEnds, ReleasedOnce, ResponseIds, ResponseIdsWrap, NewsInTwoReplies, LargeAsks, KeptAsks, TotalsStayBounded, NodeRefusals, OperatorSees};
 
 /// Fullness compares the greatest share first, and then the next greatest.
@@ -54,6 +54,11 @@ pub fn proposals_are_rejected_as_in_the_examples()
 /// Nodes are looked at as a ring from the starting position.
 pub fn nodes_are_a_ring_as_in_the_example()
     ensures { RingFromTheStart }
+{}
+
+/// The queues of these examples are trees.
+pub fn queues_are_trees_as_in_the_examples()
+    ensures { ExamplesAreTrees }
 {}
 
 /// The refusals of a submit, and of several that hold the smallest number.

@@ -1,5 +1,7 @@
 //! Laws of the definitions in `specs/`, for callers to cite. The functions do nothing.
-ghost use Rattle.cap_model.specs.EngineLaws.{RejectedExactly, NumbersStayDistinct, GrantedOnce, StepIsDetermined, ContainersBalance, EndedOnce, LiveIsWhatWasNotEnded, OneOfEachRank, ChoiceIsComputed, ChoiceFromIsComputed, ParentUsesChildren, GrantsAreToldInOrder, EndsAreToldInOrder, AppNumbersStayDistinct, GrantsAreToldOverRuns, NewGrantsAreOfTheGranted, StepStaysWellFormed, QueuesStayBounded, NodesStayBounded, ReservationsStayApart, ReservationsStayBounded, UnderByPath, TreesAddUp, StepStaysBounded, RunsStayBounded, OpenedIsBounded, EndsAreToldOverRuns, NewEndsAreOfTheEnded, ReasonsAreInOrder, WantedIsSeen, UsesAreSums, PassedIsStep, SizesStay, OpenedIsWithinSizes};
+ghost use Rattle.cap_model.specs.EngineLaws.{RejectedExactly, NumbersStayDistinct, GrantedOnce, StepIsDetermined, ContainersBalance, EndedOnce, LiveIsWhatWasNotEnded, OneOfEachRank, ChoiceIsComputed, ChoiceFromIsComputed, AppNumbersStayDistinct, ReasonsAreInOrder, PassedIsStep};
+ghost use Rattle.cap_model.specs.NewsLaws.{GrantsAreToldInOrder, EndsAreToldInOrder, GrantsAreToldOverRuns, NewGrantsAreOfTheGranted, EndsAreToldOverRuns, NewEndsAreOfTheEnded};
+ghost use Rattle.cap_model.specs.BoundLaws.{ParentUsesChildren, StepStaysWellFormed, QueuesStayBounded, NodesStayBounded, ReservationsStayApart, ReservationsStayBounded, UnderByPath, TreesAddUp, StepStaysBounded, RunsStayBounded, OpenedIsBounded, WantedIsSeen, UsesAreSums, SizesStay, OpenedIsWithinSizes, NumbersAreNotUsedAgain, RunsStayWithinSizes, TreesAreTested, LevelsInOrder};
 
 /// A proposal has no reason to be rejected exactly where it is admissible, and of several the one of the smallest number.
 pub fn reason_says_why()
@@ -44,9 +46,10 @@ pub fn news_is_told_in_order()
     ensures ends { EndsAreToldInOrder }
 {}
 
-/// No application number is used twice.
-pub fn application_numbers_are_used_once()
-    ensures { AppNumbersStayDistinct }
+/// No number of an application or of a node is there twice or used again.
+pub fn application_and_node_numbers_are_used_once()
+    ensures distinct { AppNumbersStayDistinct }
+    ensures again { NumbersAreNotUsedAgain }
 {}
 
 /// Over a whole run an application is told its grants in the order in which they came, of each once.
@@ -86,6 +89,8 @@ pub fn steps_keep_reservations_within_asks()
 /// What is under a queue is told by dotted paths, and in a tree a parent uses what its children use together.
 pub fn trees_add_up()
     ensures under { UnderByPath }
+    ensures tested { TreesAreTested }
+    ensures levels { LevelsInOrder }
     ensures sums { TreesAddUp }
 {}
 
@@ -114,4 +119,5 @@ pub fn uses_are_sums()
 pub fn sizes_stay_bounded()
     ensures opened { OpenedIsWithinSizes }
     ensures steps { SizesStay }
+    ensures runs { RunsStayWithinSizes }
 {}

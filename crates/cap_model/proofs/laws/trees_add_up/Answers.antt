@@ -1,3 +1,5 @@
+use Rattle.cap_model.proofs.Levels.{levels_in_order}
+use Rattle.cap_model.proofs.Trees.{trees_are_tested}
 use Rattle.cap_model.proofs.Paths.{under_by_path}
 use Rattle.cap_model.proofs.TreeSums.{trees_add_up}
 use Rattle.cap_model.proofs.laws.trees_add_up.Goals as goal
@@ -7,3 +9,9 @@ returns-clause-under c = under_by_path
 
 pub returns-clause-sums : goal.returns-clause-sums
 returns-clause-sums c = trees_add_up
+
+pub returns-clause-tested : goal.returns-clause-tested
+returns-clause-tested c = trees_are_tested
+
+pub returns-clause-levels : goal.returns-clause-levels
+returns-clause-levels c = levels_in_order
