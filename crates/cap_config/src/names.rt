@@ -8,7 +8,7 @@ use crate::seen::{add_new, was_seen};
 use crate::trim::trimmed;
 use cap_model::{PathText, ShortText};
 use std::alloc::{AllocError, Global};
-use std::collections::BTreeMap;
+use std::collections::HashMap;
 use std::marker::Model;
 
 /// The greatest length of a queue's path, in bytes.
@@ -19,7 +19,7 @@ const PATH_MAX: usize = 255;
 pub struct Names<'t> {
     names: Vec<ShortText>,
     /// The same names, to look one up.
-    set: BTreeMap<&'t [u8], ()>,
+    set: HashMap<&'t [u8], ()>,
 }
 
 impl<'t> Model for Names<'t> {
@@ -62,7 +62,7 @@ pub fn names_for<'t>(
     ensures { IfOk result (λ names. names ≡ names_for path.now bytes.now) }
 {
     let mut names = Vec::new(alloc);
-    let mut set = BTreeMap::new(alloc);
+    let mut set = HashMap::new(alloc);
     if bytes.is_empty() {
         return Ok(Some(Names { names, set }));
     }
@@ -84,7 +84,7 @@ fn add_name<'a>(
     path: &[u8],
     bytes: &'a [u8],
     names: &mut Vec<ShortText>,
-    seen: &mut BTreeMap<&'a [u8], ()>,
+    seen: &mut HashMap<&'a [u8], ()>,
 ) -> Result<bool, AllocError>
     requires { HasAll seen.old names.old.items }
     ensures taken { IfOk result (λ taken. taken ≡ is_next path.now names.old.items bytes.now) }
