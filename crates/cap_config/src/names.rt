@@ -1,4 +1,4 @@
-ghost use Rattle.std.specs.Prelude.{◌≡◌, ◌++◌, ◌∷◌, [], IfOk, true};
+ghost use Rattle.std.specs.Prelude.{◌≡◌, ◌≤◌, ◌++◌, ◌∷◌, [], IfOk, true, length, count_by, nat_eq};
 ghost use Rattle.cap_config.specs.Seen.{HasAll};
 ghost use Rattle.cap_config.specs.Values.{names_for, is_next, name_under};
 
@@ -62,10 +62,12 @@ pub fn names_for<'t>(
     ensures { IfOk result (λ names. names ≡ names_for path.now bytes.now) }
 {
     let mut names = Vec::new(alloc);
-    let mut set = HashMap::new(alloc);
     if bytes.is_empty() {
+        let set = HashMap::new(alloc);
         return Ok(Some(Names { names, set }));
     }
+    // Room for all names at once: a map that grows moves its names again and again.
+    let mut set = HashMap::with_capacity(alloc, commas(bytes) + 1)?;
     let mut rest = bytes;
     while let Some((part, after)) = split_once(rest, b',') {
         if !add_name(path, trimmed(part), &mut names, &mut set)? {
@@ -77,6 +79,14 @@ pub fn names_for<'t>(
         return Ok(None);
     }
     Ok(Some(Names { names, set }))
+}
+
+/// How many commas there are.
+fn commas(bytes: &[u8]) -> usize
+    ensures count { result ≡ count_by (λ byte. nat_eq byte 44) bytes.now }
+    ensures few { result ≤ length bytes.now }
+{
+    bytes.iter().filter(|byte| **byte == b',').count()
 }
 
 /// Adds a name of a list. False where it is no name or was seen before.
