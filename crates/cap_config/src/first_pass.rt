@@ -14,14 +14,14 @@ use crate::seen::add_new;
 use crate::trim::trimmed;
 use crate::value::value_of;
 use std::alloc::Global;
-use std::collections::BTreeMap;
+use std::collections::HashMap;
 
 /// The lines that set a property, in order. The first line with a fault of its own is the error.
 pub fn read_lines<'t>(alloc: Global, text: &'t [u8]) -> Result<Vec<Entry<'t>>, ConfigFault>
     ensures { Gives (λ entries. entries.items) result (read_lines (lines text.now)) }
 {
     let mut entries = Vec::new(alloc);
-    let mut keys = BTreeMap::new(alloc);
+    let mut keys = HashMap::new(alloc);
     let mut rest = text;
     let mut line = 0;
     while !rest.is_empty() {
@@ -49,7 +49,7 @@ fn is_passed_over(bytes: &[u8]) -> bool
 /// What a line sets, where it has no fault of its own. The keys are those of the lines before, and then this one's too.
 fn entry_of<'a>(
     alloc: Global,
-    keys: &mut BTreeMap<&'a [u8], ()>,
+    keys: &mut HashMap<&'a [u8], ()>,
     line: usize,
     bytes: &'a [u8],
 ) -> Result<Entry<'a>, ConfigFault>

@@ -1,4 +1,4 @@
-ghost use Rattle.std.specs.Prelude.{◌≡◌, ◌++◌, ◌∷◌, [], IfOk, true};
+ghost use Rattle.std.specs.Prelude.{◌≡◌, ◌≤◌, ◌++◌, ◌∷◌, [], IfOk, true, length, count_by, nat_eq};
 ghost use Rattle.cap_config.specs.Seen.{HasAll};
 ghost use Rattle.cap_config.specs.Values.{names_for, is_next, name_under};
 
@@ -8,7 +8,7 @@ use crate::seen::{add_new, was_seen};
 use crate::trim::trimmed;
 use cap_model::{PathText, ShortText};
 use std::alloc::{AllocError, Global};
-use std::collections::BTreeMap;
+use std::collections::HashMap;
 use std::marker::Model;
 
 /// The greatest length of a queue's path, in bytes.
@@ -19,7 +19,7 @@ const PATH_MAX: usize = 255;
 pub struct Names<'t> {
     names: Vec<ShortText>,
     /// The same names, to look one up.
-    set: BTreeMap<&'t [u8], ()>,
+    set: HashMap<&'t [u8], ()>,
 }
 
 impl<'t> Model for Names<'t> {
@@ -62,10 +62,12 @@ pub fn names_for<'t>(
     ensures { IfOk result (λ names. names ≡ names_for path.now bytes.now) }
 {
     let mut names = Vec::new(alloc);
-    let mut set = BTreeMap::new(alloc);
     if bytes.is_empty() {
+        let set = HashMap::new(alloc);
         return Ok(Some(Names { names, set }));
     }
+    // Room for all names at once: a map that grows moves its names again and again.
+    let mut set = HashMap::with_capacity(alloc, commas(bytes) + 1)?;
     let mut rest = bytes;
     while let Some((part, after)) = split_once(rest, b',') {
         if !add_name(path, trimmed(part), &mut names, &mut set)? {
@@ -79,12 +81,20 @@ pub fn names_for<'t>(
     Ok(Some(Names { names, set }))
 }
 
+/// How many commas there are.
+fn commas(bytes: &[u8]) -> usize
+    ensures count { result ≡ count_by (λ byte. nat_eq byte 44) bytes.now }
+    ensures few { result ≤ length bytes.now }
+{
+    bytes.iter().filter(|byte| **byte == b',').count()
+}
+
 /// Adds a name of a list. False where it is no name or was seen before.
 fn add_name<'a>(
     path: &[u8],
     bytes: &'a [u8],
     names: &mut Vec<ShortText>,
-    seen: &mut BTreeMap<&'a [u8], ()>,
+    seen: &mut HashMap<&'a [u8], ()>,
 ) -> Result<bool, AllocError>
     requires { HasAll seen.old names.old.items }
     ensures taken { IfOk result (λ taken. taken ≡ is_next path.now names.old.items bytes.now) }

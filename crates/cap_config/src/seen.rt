@@ -3,10 +3,10 @@ ghost use Rattle.std.specs.Str.{bytes_eq};
 ghost use Rattle.cap_config.specs.Seen.{has};
 
 use std::alloc::AllocError;
-use std::collections::BTreeMap;
+use std::collections::HashMap;
 
 /// Adds bytes to those that were seen. False where they were seen before.
-pub fn add_new<'a>(seen: &mut BTreeMap<&'a [u8], ()>, bytes: &'a [u8]) -> Result<bool, AllocError>
+pub fn add_new<'a>(seen: &mut HashMap<&'a [u8], ()>, bytes: &'a [u8]) -> Result<bool, AllocError>
     ensures new { IfOk result (λ new. new ≡ not (has seen.old bytes.now)) }
     ensures after { OnOk result ((q : List ℕ) → has seen.new q ≡ (has seen.old q || bytes_eq bytes.now q)) }
 {
@@ -15,7 +15,7 @@ pub fn add_new<'a>(seen: &mut BTreeMap<&'a [u8], ()>, bytes: &'a [u8]) -> Result
 }
 
 /// Whether these bytes are among those that were seen.
-pub fn was_seen(seen: &BTreeMap<&[u8], ()>, bytes: &[u8]) -> bool
+pub fn was_seen(seen: &HashMap<&[u8], ()>, bytes: &[u8]) -> bool
     ensures { result ≡ has seen.now bytes.now }
 {
     seen.contains_key(bytes)

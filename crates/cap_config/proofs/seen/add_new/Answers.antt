@@ -1,12 +1,11 @@
-use Rattle.std.proofs.Common.{refl, nat_cmp}
-use Rattle.std.specs.BTreeMap.{get_by}
-use Rattle.std.specs.Cmp.Lexicographic.{slice_cmp}
+use Rattle.std.proofs.Common.{refl}
+use Rattle.std.specs.HashMap.{get_by}
 use Rattle.std.specs.Str.{bytes_eq}
-use Rattle.std.proofs.lemmas.Map.Text.{btree_map_updates_str}
+use Rattle.std.proofs.lemmas.Map.Text.{hash_map_updates_str}
 use Rattle.cap_config.proofs.Among.{there_after}
 use Rattle.cap_config.proofs.seen.add_new.Goals as goal
 
 pub returns-clause-after : goal.returns-clause-after
 returns-clause-after c = λ q.
-    there_after (bytes_eq c.args.bytes.now q) (get_by (λ k. slice_cmp nat_cmp q k.now) c.args.seen.now) _ _ refl
-    (btree_map_updates_str c.args.bytes.now c.args.seen.now c.insert.new.self _ c.in_ok-old.ensures.updates q)
+    there_after (bytes_eq c.args.bytes.now q) (get_by (λ k. bytes_eq q k.now) c.args.seen.now) _ _ refl
+    (hash_map_updates_str c.args.bytes.now c.args.seen.now c.insert.new.self _ c.in_ok-old.ensures.updates q)
