@@ -46,6 +46,7 @@ impl<T> Counted<T> {
         requires { self.old.failures < failures_max }
         ensures failures { self.new.failures ≡ self.old.failures + 1 }
         ensures inner { self.new.inner ≡ self.old.inner }
+        ensures reads { self.new.reads ≡ self.old.reads }
     {
         self.failures += 1;
         StreamFailed
@@ -62,6 +63,7 @@ impl<R: Read> Counted<R> {
         ensures failures { self.new.failures ≡ (if is_err result then self.old.failures + 1 else self.old.failures) }
         ensures reads { OnOk result (self.new.reads ≡ self.old.reads + 1) }
         ensures few { OnOk result (self.new.reads ≤ reads_max) }
+        ensures kept { self.old.reads ≤ self.new.reads }
     {
         if self.reads >= READS_MAX {
             return Err(self.fail());
@@ -81,6 +83,7 @@ impl<W: Write> Counted<W> {
         requires { self.old.failures < failures_max }
         ensures bytes { OnOk result (Appends (W.contents self.old.inner) (W.contents self.new.inner) bytes.now) }
         ensures failures { self.new.failures ≡ (if is_err result then self.old.failures + 1 else self.old.failures) }
+        ensures reads { self.new.reads ≡ self.old.reads }
     {
         let written = match self.inner.write_all(bytes) {
             Ok(()) => self.inner.flush(),
