@@ -165,7 +165,7 @@ impl Script {
             Err(stop) => return Err(stop),
         }
         let Some(world) = &mut self.world else {
-            return Err(Stop::NoMemory);
+            unreachable!()
         };
         let did = world.step(step, &mut self.events);
         self.events.clear();
