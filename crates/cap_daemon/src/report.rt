@@ -1,5 +1,4 @@
-ghost use Rattle.std.specs.Prelude.{◌≡◌, ◌≢◌, ◌⊎◌, ◌↔◌, ◌<◌, ◌≤◌, ◌+◌, ℕ, Ok, Err, IsOk, OnOk, OnErr};
-ghost use Rattle.cap_config.specs.declared.fault.ConfigFault.{ConfigFault};
+ghost use Rattle.std.specs.Prelude.{◌≡◌, ◌≢◌, ◌↔◌, ◌<◌, ◌≤◌, ◌+◌, Ok, Err, IsOk, OnOk, OnErr};
 ghost use Rattle.cap_daemon.specs.Streams.{failures_max, input_failures, output_failures, MayWrite, IsRefused};
 
 use crate::counted::Counted;

@@ -1,7 +1,7 @@
 ghost use Rattle.std.specs.Prelude.{◌≡◌, ◌+◌, ◌<◌, ◌++◌, ◌∷◌, [], ℕ, List, None, Some, Err, OnOk, IfErr, true, false, is_some, is_err, if◌then◌else◌};
 ghost use Rattle.cap_config.specs.declared.fault.ConfigFault.{ConfigFault};
-ghost use Rattle.cap_daemon.specs.declared.stop.Stop.TheVariants.{BadLine, Config as bad_config, NoMemory as out_of_memory, Output as write_failed};
-ghost use Rattle.cap_daemon.specs.Script.{IsPiece, IsScript, IsStep};
+ghost use Rattle.cap_daemon.specs.declared.stop.Stop.TheVariants.{BadLine, Config as bad_config, Output as write_failed};
+ghost use Rattle.cap_daemon.specs.Script.{IsPiece, IsScript};
 ghost use Rattle.cap_daemon.specs.Settings.{with_line};
 ghost use Rattle.cap_daemon.specs.Progress.{Stands, StopsAtStep, Begins, FailsToBegin};
 ghost use Rattle.cap_daemon.specs.Streams.{failures_max, IsOfScript};
@@ -165,7 +165,7 @@ impl Script {
             Err(stop) => return Err(stop),
         }
         let Some(world) = &mut self.world else {
-            return Err(Stop::NoMemory);
+            unreachable!()
         };
         let did = world.step(step, &mut self.events);
         self.events.clear();
