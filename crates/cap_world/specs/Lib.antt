@@ -4,3 +4,4 @@ pub mod Serving
 pub mod World
 pub mod Steps
 pub mod Hearing
+pub mod Laws

@@ -5,9 +5,9 @@ ghost use Rattle.cap_model.specs.Flat.{Flat};
 ghost use Rattle.cap_world.specs.World.{connection_at, is_open_connection, output_from};
 ghost use Rattle.cap_world.specs.Steps.{Outcome, Ended, Fed};
 
-use cap_commit::Cluster;
 use crate::session::{Session, Standing};
 use crate::step::{Did, Step};
+use cap_commit::Cluster;
 use cap_model::{Event, NoMemory};
 use indexmap::IndexMap;
 use std::alloc::Global;

@@ -2,6 +2,7 @@
 #![tactic(auto)]
 
 mod connections;
+mod laws;
 mod run;
 mod service;
 mod session;
@@ -11,6 +12,7 @@ mod tests;
 mod world;
 
 pub use cap_model::NoMemory;
+pub use laws::{containers_are_used_once, worlds_stay_bounded};
 pub use run::Outcome;
 pub use step::{Did, Step};
 pub use world::World;

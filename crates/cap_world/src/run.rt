@@ -1,9 +1,9 @@
 ghost use Rattle.std.specs.Prelude.{◌≡◌, ◌≤◌, length};
 ghost use Rattle.cap_world.specs.Hearing.{IsHeadline};
 
-use cap_commit::Cluster;
 use crate::step::Step;
 use crate::world::World;
+use cap_commit::Cluster;
 use cap_model::{Event, NoMemory};
 use std::alloc::Global;
 

@@ -6,9 +6,9 @@ ghost use Rattle.cap_messages.specs.Spelling.{kind_of, reply_bytes, fault_reply}
 ghost use Rattle.cap_world.specs.Answers.{call_event};
 ghost use Rattle.cap_world.specs.Serving.{Serves, IsServed, Faults};
 
-use cap_commit::Cluster;
 use crate::session::Standing;
 use bytes::BytesMut;
+use cap_commit::Cluster;
 use cap_frames::{FrameFault, Framer, put_frame};
 use cap_messages::{
     MessageFault, Out, REPLY_ROOM, dispatch, kind, read_request, write_fault, write_reply,
@@ -75,7 +75,9 @@ fn answer(
             let mut room = Out::with_capacity(alloc, REPLY_ROOM)?;
             output.reserve(REPLY_ROOM)?;
             events.reserve(1)?;
-            perform(alloc, by, call_id, request, cluster, &mut room, output, events);
+            perform(
+                alloc, by, call_id, request, cluster, &mut room, output, events,
+            );
             Ok(())
         }
         Err(MessageFault::Bad) => put_fault(alloc, BAD_MESSAGE, output),

@@ -2,9 +2,9 @@ ghost use Rattle.std.specs.Prelude.{◌≡◌, [], ◌++◌, IfOk, OnOk, OnErr, 
 ghost use Rattle.cap_world.specs.Connection.{Connection, fresh, is_open_standing};
 ghost use Rattle.cap_world.specs.Serving.{Feeds};
 
-use cap_commit::Cluster;
 use crate::service::serve;
 use bytes::BytesMut;
+use cap_commit::Cluster;
 use cap_frames::{Framer, NoMemory};
 use cap_model::Event;
 use std::alloc::Global;

@@ -2,9 +2,9 @@ ghost use Rattle.std.specs.Prelude.{◌≡◌};
 ghost use Rattle.cap_world.specs.World.{Adds, IsWorld, start, is_open, output_of};
 ghost use Rattle.cap_world.specs.Steps.{Outcome};
 
-use cap_commit::Cluster;
 use crate::connections::{self, Connections};
 use crate::step::{Did, Step};
+use cap_commit::Cluster;
 use cap_model::{Event, NoMemory};
 use http_server::Log;
 use std::alloc::Global;
