@@ -26,7 +26,11 @@ fn main(rt: HostRuntime) -> anyhow::Result<ExitCode> {
     let words: Vec<String> = env::args(&rt)?.collect(alloc)?;
     let command = command_line(alloc)?;
     match command.try_get_matches_from(words.as_slice()) {
-        Ok(_) => Ok(ExitCode::from(replay(alloc, &mut Counted::new(rt.reader()), &mut Counted::new(io::writer(&rt))))),
+        Ok(_) => Ok(ExitCode::from(replay(
+            alloc,
+            &mut Counted::new(rt.reader()),
+            &mut Counted::new(io::writer(&rt)),
+        ))),
         Err(error) => {
             error.print(&rt)?;
             Ok(ExitCode::from(error.exit_code() as u8))
