@@ -21,6 +21,7 @@ pub mod Answered
 pub mod Least
 pub mod RowPaths
 pub mod RowCounts
+pub mod RowTrees
 pub mod RowBounds
 pub mod Fitting
 pub mod Fitted

@@ -61,7 +61,7 @@ abbrev front : List ℕ → List ℕ
 front [] = []
 front (b ∷ bytes) = cond (is_dot b) [] (b ∷ front bytes)
 
-dotless_cons : (first : Bool) (r : Option ℕ) → dot_or first r ≡ None → (first ≡ false) × (r ≡ None)
+pub dotless_cons : (first : Bool) (r : Option ℕ) → dot_or first r ≡ None → (first ≡ false) × (r ≡ None)
 dotless_cons first (Some i) h = absurd (cc h)
 dotless_cons true None h = absurd (cc h)
 dotless_cons false None h = (refl, refl)
