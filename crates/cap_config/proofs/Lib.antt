@@ -22,6 +22,7 @@ pub mod Least
 pub mod RowPaths
 pub mod RowCounts
 pub mod RowTrees
+pub mod RowOrder
 pub mod RowBounds
 pub mod Fitting
 pub mod Fitted
