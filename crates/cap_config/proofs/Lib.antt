@@ -21,6 +21,8 @@ pub mod Answered
 pub mod Least
 pub mod RowPaths
 pub mod RowCounts
+pub mod RowTrees
+pub mod RowOrder
 pub mod RowBounds
 pub mod Fitting
 pub mod Fitted

@@ -28,16 +28,16 @@ abbrev pub rows_for : List QueueRow → List ℕ → ℕ
 rows_for rows path = count_by (λ row. bytes_eq row.path path) rows
 
 -- a rest of a path after a queue: nothing, or a dot and more
-abbrev starts_dot : List ℕ → Bool
+abbrev pub starts_dot : List ℕ → Bool
 starts_dot [] = true
 starts_dot (b ∷ bytes) = is_dot b
 
-record IsBelow (p path : List ℕ) : Type 0 where
-  rest : List ℕ
-  whole : path ≡ p ++ rest
-  starts : starts_dot rest ≡ true
+pub record IsBelow (p path : List ℕ) : Type 0 where
+  pub rest : List ℕ
+  pub whole : path ≡ p ++ rest
+  pub starts : starts_dot rest ≡ true
 
-append_none : (xs : List ℕ) → xs ++ [] ≡ xs
+pub append_none : (xs : List ℕ) → xs ++ [] ≡ xs
 append_none [] = refl
 append_none (x ∷ xs) = ap (λ (ys : List ℕ). x ∷ ys) (append_none xs)
 
@@ -46,7 +46,7 @@ neither true b h = absurd (cc h)
 neither false b h = (refl, h)
 
 -- the paths of the rows under a queue are its own and those below it
-row_below_is : (entries : List Entry) (n : ℕ) (p path : List ℕ) → is_among (paths_of (rows_under n entries p)) path ≡ true → IsBelow p path
+pub row_below_is : (entries : List Entry) (n : ℕ) (p path : List ℕ) → is_among (paths_of (rows_under n entries p)) path ≡ true → IsBelow p path
 row_below_is entries zero p path h = none_under (IsBelow p path) entries p path h
 row_below_is entries (suc n) p path h =
     either (IsBelow p path) (bytes_eq p path) (is_among (paths_of (flat_map (λ name. rows_under n entries (child p name)) (names_below entries p))) path) (sym (paths_more n entries p path) ∙ h)
@@ -61,7 +61,7 @@ abbrev front : List ℕ → List ℕ
 front [] = []
 front (b ∷ bytes) = cond (is_dot b) [] (b ∷ front bytes)
 
-dotless_cons : (first : Bool) (r : Option ℕ) → dot_or first r ≡ None → (first ≡ false) × (r ≡ None)
+pub dotless_cons : (first : Bool) (r : Option ℕ) → dot_or first r ≡ None → (first ≡ false) × (r ≡ None)
 dotless_cons first (Some i) h = absurd (cc h)
 dotless_cons true None h = absurd (cc h)
 dotless_cons false None h = (refl, refl)
@@ -82,7 +82,7 @@ after_dot (b ∷ p) name rest =
     ap (λ n. drop n (child (b ∷ p) name ++ rest)) (let e : suc (length p) + 1 ≡ suc (length p + 1) = omega arith in e) ∙ after_dot p name rest
 
 -- which of the names a path below goes on with
-which : (p name path : List ℕ) → last_dot name ≡ None → IsBelow (child p name) path → front (drop (length p + 1) path) ≡ name
+pub which : (p name path : List ℕ) → last_dot name ≡ None → IsBelow (child p name) path → front (drop (length p + 1) path) ≡ name
 which p name path none below = ap (λ (x : List ℕ). front (drop (length p + 1) x)) below.whole ∙ ap front (after_dot p name below.rest) ∙ front_is name below.rest none below.starts
 
 longer : (p name path : List ℕ) → IsBelow (child p name) path → p ≡ path → ⊥
@@ -133,7 +133,7 @@ sum_at_most f p x (name ∷ names) all each =
     let later = sum_at_most f p x names parts.1 each in
     rw (sum_by-cons f name names, sum_by-cons (λ (m : List ℕ). cond (bytes_eq m x) 1 0) name names) (omega (arith, here, later))
 
-other_name : (b : Bool) (before : List (List ℕ)) (name x : List ℕ) → bytes_eq name x ≡ b → is_among before name ≡ false → is_among before x ≡ true → b ≡ false
+pub other_name : (b : Bool) (before : List (List ℕ)) (name x : List ℕ) → bytes_eq name x ≡ b → is_among before name ≡ false → is_among before x ≡ true → b ≡ false
 other_name true before name x is out within = absurd (cc (sym out ∙ ap (is_among before) (same_bytes name x is) ∙ within))
 other_name false before name x is out within = refl
 
@@ -145,10 +145,10 @@ other_yes : (a b : Bool) → b ≡ true → (a || b) ≡ true
 other_yes true b h = refl
 other_yes false b h = h
 
-still_among : (before : List (List ℕ)) (name x : List ℕ) → is_among before x ≡ true → is_among (before ++ name ∷ []) x ≡ true
+pub still_among : (before : List (List ℕ)) (name x : List ℕ) → is_among before x ≡ true → is_among (before ++ name ∷ []) x ≡ true
 still_among before name x h = list_any-append _ before (name ∷ []) ∙ either_yes (is_among before x) _ h
 
-last_among : (before : List (List ℕ)) (name x : List ℕ) → bytes_eq name x ≡ true → is_among (before ++ name ∷ []) x ≡ true
+pub last_among : (before : List (List ℕ)) (name x : List ℕ) → bytes_eq name x ≡ true → is_among (before ++ name ∷ []) x ≡ true
 last_among before name x h = list_any-append _ before (name ∷ []) ∙ other_yes (is_among before x) _ (either_yes (bytes_eq name x) false h)
 
 -- no name stands twice
@@ -203,7 +203,7 @@ zero_of false n h = omega (arith, h)
 under_one : {a b : ℕ} → a ≤ b → b ≤ 1 → a ≤ 1
 under_one h k = omega (arith, h, k)
 
-no_longer : (b : Bool) → (b ≡ true → ⊥) → b ≡ false
+pub no_longer : (b : Bool) → (b ≡ true → ⊥) → b ≡ false
 no_longer true h = absurd (h refl)
 no_longer false h = refl
 

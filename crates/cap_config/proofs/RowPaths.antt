@@ -30,11 +30,11 @@ pub either : (C : Type 0) (a b : Bool) → (a || b) ≡ true → (a ≡ true →
 either C true b h left right = left refl
 either C false b h left right = right h
 
-first_of_two : (a b : Bool) → a ≡ true → (a || b) ≡ true
+pub first_of_two : (a b : Bool) → a ≡ true → (a || b) ≡ true
 first_of_two true b h = refl
 first_of_two false b h = absurd (cc h)
 
-second_of_two : (a b : Bool) → b ≡ true → (a || b) ≡ true
+pub second_of_two : (a b : Bool) → b ≡ true → (a || b) ≡ true
 second_of_two true b h = refl
 second_of_two false b h = h
 
@@ -42,7 +42,7 @@ or_assoc : (a b c : Bool) → (a || (b || c)) ≡ ((a || b) || c)
 or_assoc true b c = refl
 or_assoc false b c = refl
 
-same_is : (bytes : List ℕ) → bytes_eq bytes bytes ≡ true
+pub same_is : (bytes : List ℕ) → bytes_eq bytes bytes ≡ true
 same_is bytes = (bytes_eq-Decides bytes bytes).1 refl
 
 paths_append : (xs ys : List QueueRow) (path : List ℕ) → is_among (paths_of (xs ++ ys)) path ≡ (is_among (paths_of xs) path || is_among (paths_of ys) path)

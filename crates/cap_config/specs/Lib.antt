@@ -12,3 +12,4 @@ pub mod Tests
 pub mod Rows
 pub mod First
 pub mod Laws
+pub mod TreeLaws
