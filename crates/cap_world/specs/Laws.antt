@@ -1,13 +1,14 @@
 -- Laws of worlds: what else holds of every run of them.
-use Rattle.std.specs.Prelude.{ℕ, ◌≤◌, ◌==◌, List, ◌++◌, map, count_by}
+use Rattle.std.specs.Prelude.{◌≡◌, ℕ, ◌≤◌, ◌==◌, List, Some, ◌++◌, map, count_by}
 use Rattle.cap_model.specs.declared.event.Event.{Event}
 use Rattle.cap_model.specs.Settings.{Settings}
 use Rattle.cap_model.specs.Flat.{Flat, opened}
-use Rattle.cap_model.specs.Bounds.{IsTree, IsBounded, IsRising}
+use Rattle.cap_model.specs.Bounds.{IsBounded, IsRising}
 use Rattle.cap_model.specs.Events.{ever_granted, ever_ended}
 use Rattle.cap_model.specs.EngineLaws.{numbers_of}
 use Rattle.cap_model.specs.Messages.{as_event}
 use Rattle.cap_model.specs.Runs.{Run}
+use Rattle.cap_config.specs.First.{settings_in}
 use Rattle.cap_world.specs.declared.step.Step.{Step}
 use Rattle.cap_world.specs.World.{Sight}
 use Rattle.cap_world.specs.Hearing.{IsHeadline}
@@ -25,6 +26,6 @@ ContainersAreUsedOnce =
     IsRising opening.nodes.next_container (numbers_of (ever_granted (map as_event events))) sight.cluster.nodes.next_container
     × ((n : ℕ) → count_by (λ c. c.number == n) (ever_ended opening (map as_event events)) ≤ 1)
 
--- The cluster that settings open is bounded, where their queues are a tree.
+-- The cluster that the settings of a text open is bounded.
 abbrev pub OpeningsAreBounded : Type 0
-OpeningsAreBounded = (settings : Settings) → IsTree settings.queues → IsBounded (opened {K = 2} settings)
+OpeningsAreBounded = (text : List ℕ) (settings : Settings) → settings_in text ≡ Some settings → IsBounded (opened {K = 2} settings)
