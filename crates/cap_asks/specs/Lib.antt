@@ -1,1 +1,2 @@
 pub mod Apps
+pub mod Held

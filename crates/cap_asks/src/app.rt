@@ -1,64 +1,248 @@
-ghost use Rattle.std.specs.Prelude.{◌≡◌};
+ghost use Rattle.std.specs.Prelude.{◌≡◌, ◌+◌, ◌≤◌, [], ◌∷◌, ◌++◌, true, false, is_some, option_map, OnOk};
+ghost use Rattle.cap_model.specs.Flat.{ask_at};
+ghost use Rattle.cap_model.specs.Asking.{put_ask};
+ghost use Rattle.cap_model.specs.Allocate.{has_too_many_keys, after_telling};
+ghost use Rattle.cap_model.specs.Events.{take_one};
+ghost use Rattle.cap_model.specs.ResponseIds.{is_repeated, is_bad_id};
+ghost use Rattle.cap_model.specs.Messages.{as_allocate_reply};
+ghost use Rattle.cap_asks.specs.Held.{TakesRoom, HasRoom};
+ghost use Rattle.cap_asks.specs.Apps.{entering, no_room};
 
-use cap_model::{PathText, ShortText};
+use crate::asks::Asks;
+use crate::news::News;
+use cap_model::{AllocateReply, Ask, End, Grant, Key, NoMemory, PathText, ShortText};
+use std::alloc::Global;
 use std::marker::Model;
 
-/// An active application: its number, its leaf queue and its user. Contracts see it as its row in the flat cluster: its
-/// master is not registered yet, and it asks for nothing.
-#[derive(Debug, Drop)]
-pub(crate) struct App {
+/// Response ids stay below this, and begin again at 0.
+const RESPONSE_END: u32 = 1 << 31;
+
+/// An active application: its number, leaf queue and user, its standing with its master, its asks and the news not yet told.
+/// The reply that was told last is kept. Contracts see its row in the flat cluster, and its room.
+#[derive(Drop)]
+pub struct App<const K: usize> {
     number: u64,
     leaf: PathText,
     user: ShortText,
+    registered: bool,
+    response: u32,
+    ignored: Option<u16>,
+    asks: Asks<K>,
+    grants: News<Grant<K>>,
+    ends: News<End>,
 }
 
-impl Model for App {
-    ghost use Rattle.std.specs.Prelude.{None, [], false};
-    ghost use Rattle.cap_model.specs.Flat.{App as Row};
+impl<const K: usize> Model for App<K> {
+    ghost use Rattle.std.specs.Prelude.{◌<◌, option_map};
+    ghost use Rattle.cap_model.specs.ResponseIds.{response_end};
+    ghost use Rattle.cap_asks.specs.Held.{HeldApp};
 
-    ghost Value = { Row };
+    ghost Value = { HeldApp };
 
     ghost view = { λ a. record {
-      number = a.number;
-      leaf = a.leaf;
-      user = a.user;
-      registered = false;
-      response = 0;
-      kept = None;
-      asks = [];
-      grants = [];
-      ends = [];
+      app = record {
+        number = a.number;
+        leaf = a.leaf;
+        user = a.user;
+        registered = a.registered;
+        response = a.response;
+        kept = option_map (λ ignored. record { response = a.response; ignored = ignored; grants = a.grants.told; ends = a.ends.told }) a.ignored;
+        asks = a.asks.asks;
+        grants = a.grants.waiting;
+        ends = a.ends.waiting;
+      };
+      room = record { number = a.number; asks = a.asks.room; grants = a.grants.room; ends = a.ends.room };
     } };
+
+    ghost invariant = { λ a. a.response < response_end };
 }
 
-impl App {
-    ghost use Rattle.std.specs.Prelude.{None, [], false};
-
-    /// An application of this number that entered the leaf queue just now.
-    pub(crate) fn new(number: u64, leaf: &PathText, user: &ShortText) -> App
-        ensures { result ≡ record {
-          number = number;
-          leaf = leaf.now;
-          user = user.now;
-          registered = false;
-          response = 0;
-          kept = None;
-          asks = [];
-          grants = [];
-          ends = [];
-        } }
+impl<const K: usize> App<K> {
+    /// An application of this number that entered the leaf queue just now. It takes no memory.
+    pub(crate) fn new(alloc: Global, number: u64, leaf: &PathText, user: &ShortText) -> App<K>
+        ensures { result ≡ record { app = entering number leaf.now user.now; room = no_room number } }
     {
         App {
             number,
             leaf: *leaf,
             user: *user,
+            registered: false,
+            response: 0,
+            ignored: None,
+            asks: Asks::new(alloc),
+            grants: News::new(alloc),
+            ends: News::new(alloc),
         }
     }
 
+    /// Its number.
+    pub fn number(&self) -> u64
+        ensures { result ≡ self.now.app.number }
+    {
+        self.number
+    }
+
     /// The path of its leaf queue.
-    pub(crate) fn leaf(&self) -> &PathText
-        ensures { result.now ≡ self.now.leaf }
+    pub fn leaf(&self) -> &PathText
+        ensures { result.now ≡ self.now.app.leaf }
     {
         &self.leaf
     }
+
+    /// Its user.
+    pub fn user(&self) -> &ShortText
+        ensures { result.now ≡ self.now.app.user }
+    {
+        &self.user
+    }
+
+    /// Whether its master has reported.
+    pub fn is_registered(&self) -> bool
+        ensures { result ≡ self.now.app.registered }
+    {
+        self.registered
+    }
+
+    /// The response id that its master was given last, 0 before the first.
+    pub fn response(&self) -> u32
+        ensures { result ≡ self.now.app.response }
+    {
+        self.response
+    }
+
+    /// Its asks in order of key, each for at least one container.
+    pub fn asks(&self) -> &[Ask<K>]
+        ensures { result.now ≡ self.now.app.asks }
+    {
+        self.asks.as_slice()
+    }
+
+    /// Its ask of this key, none where there is none.
+    pub fn ask(&self, key: &Key) -> Option<Ask<K>>
+        ensures { result ≡ ask_at key.now self.now.app.asks }
+    {
+        self.asks.get(key)
+    }
+
+    /// Whether a reply is kept.
+    pub fn is_kept(&self) -> bool
+        ensures { result ≡ is_some self.now.app.kept }
+    {
+        self.ignored.is_some()
+    }
+
+    /// The reply that is kept, none before the first.
+    pub fn kept_reply(&self) -> Option<AllocateReply<K>>
+        ensures { option_map as_allocate_reply result ≡ self.now.app.kept }
+    {
+        let ignored = self.ignored?;
+        Some(AllocateReply {
+            response: self.response,
+            ignored,
+            grants: self.grants.told(),
+            ends: self.ends.told(),
+        })
+    }
+
+    /// Whether a request of this response id repeats the last processed one, whose reply is kept.
+    pub fn is_repeated(&self, id: u32) -> bool
+        ensures { result ≡ is_repeated self.now.app.response self.now.app.kept id }
+    {
+        self.ignored.is_some() && id < RESPONSE_END && next_response(id) == self.response
+    }
+
+    /// Whether a request of this response id is neither the next one nor repeats the last.
+    pub fn is_bad_id(&self, id: u32) -> bool
+        ensures { result ≡ is_bad_id self.now.app.response self.now.app.kept id }
+    {
+        !(id == self.response || self.is_repeated(id))
+    }
+
+    /// Whether more than 256 keys would stand after these asks were put, one after the other.
+    pub fn has_too_many_keys(&self, asks: &[Ask<K>]) -> bool
+        ensures { result ≡ has_too_many_keys self.now.app asks.now }
+    {
+        self.asks.has_too_many_keys(asks)
+    }
+
+    /// Its master has reported.
+    pub(crate) fn register(&mut self)
+        ensures app { self.new.app ≡ record self.old.app { registered = true } }
+        ensures room { TakesRoom 0 0 0 self.old.room self.new.room }
+    {
+        self.registered = true;
+    }
+
+    /// Makes room for so many more asks, grants and ends. `NoMemory` changes nothing but room that was made before.
+    pub(crate) fn reserve(
+        &mut self,
+        asks: usize,
+        grants: usize,
+        ends: usize,
+    ) -> Result<(), NoMemory>
+        ensures app { self.new.app ≡ self.old.app }
+        ensures stays { TakesRoom 0 0 0 self.old.room self.new.room }
+        ensures ok { OnOk result (HasRoom asks grants ends self.new.room) }
+    {
+        self.asks.reserve(asks)?;
+        self.grants.reserve(grants)?;
+        self.ends.reserve(ends)
+    }
+
+    /// Puts an ask in place of the one of its key, or in order of key; a count of 0 takes the key away.
+    pub(crate) fn put_ask(&mut self, ask: &Ask<K>)
+        requires { 1 ≤ self.old.room.asks }
+        ensures app { self.new.app ≡ record self.old.app { asks = put_ask ask.now self.old.app.asks } }
+        ensures room { TakesRoom 1 0 0 self.old.room self.new.room }
+    {
+        self.asks.put(ask);
+    }
+
+    /// One container less is wanted for this key; an ask that comes to 0 goes.
+    pub(crate) fn take_one(&mut self, key: &Key)
+        ensures app { self.new.app ≡ record self.old.app { asks = take_one key.now self.old.app.asks } }
+        ensures room { TakesRoom 0 0 0 self.old.room self.new.room }
+    {
+        self.asks.take_one(key);
+    }
+
+    /// One more grant waits, last.
+    pub(crate) fn add_grant(&mut self, grant: &Grant<K>)
+        requires { 1 ≤ self.old.room.grants }
+        ensures app { self.new.app ≡ record self.old.app { grants = self.old.app.grants ++ grant.now ∷ [] } }
+        ensures room { TakesRoom 0 1 0 self.old.room self.new.room }
+    {
+        self.grants.add(*grant);
+    }
+
+    /// One more end waits, last.
+    pub(crate) fn add_end(&mut self, end: &End)
+        requires { 1 ≤ self.old.room.ends }
+        ensures app { self.new.app ≡ record self.old.app { ends = self.old.app.ends ++ end.now ∷ [] } }
+        ensures room { TakesRoom 0 0 1 self.old.room self.new.room }
+    {
+        self.ends.add(*end);
+    }
+
+    /// Tells the oldest grants and ends that wait, at most 64 of each: the response id moves on, and the reply is kept.
+    pub(crate) fn tell(&mut self, ignored: u16)
+        ensures app { self.new.app ≡ after_telling self.old.app.response ignored self.old.app }
+        ensures room { TakesRoom 0 0 0 self.old.room self.new.room }
+    {
+        self.response = next_response(self.response);
+        self.ignored = Some(ignored);
+        self.grants.tell();
+        self.ends.tell();
+    }
+}
+
+ghost use Rattle.std.specs.Prelude.{◌<◌};
+ghost use Rattle.cap_model.specs.ResponseIds.{next_response, response_end};
+
+/// The response id that answers a request of this one.
+fn next_response(id: u32) -> u32
+    requires { id < response_end }
+    ensures { result ≡ next_response id }
+{
+    (id + 1) % RESPONSE_END
 }

@@ -1,52 +1,83 @@
-ghost use Rattle.std.specs.Prelude.{◌≡◌, ◌+◌, ◌<◌, ◌++◌, ◌∷◌, [], length, count_by, IfOk, OnErr};
+ghost use Rattle.std.specs.Prelude.{◌≡◌, ◌+◌, ◌<◌, ◌≤◌, ◌++◌, ◌∷◌, [], true, length, map, option_map, IfOk, OnOk, OnErr, IsOk, IsSome};
 ghost use Rattle.cap_model.specs.Limits.{number_end};
-ghost use Rattle.cap_model.specs.Flat.{is_under};
-ghost use Rattle.cap_asks.specs.Apps.{none, with_app};
+ghost use Rattle.cap_model.specs.Asking.{put_ask};
+ghost use Rattle.cap_model.specs.Events.{take_one};
+ghost use Rattle.cap_model.specs.Allocate.{after_telling};
+ghost use Rattle.cap_model.specs.Bounds.{IsRising};
+ghost use Rattle.cap_asks.specs.Apps.{none, no_room, with_entering, with_app, without_app, without_room, app_of, ask_room, grant_room, end_room, UsesRoom, HasRooms};
 
 use crate::app::App;
-use cap_model::{NoMemory, PathText, ShortText, is_under};
+use cap_model::{Ask, End, Grant, Key, NoMemory, PathText, ShortText};
 use indexmap::IndexMap;
 use std::alloc::Global;
 use std::marker::Model;
 
-/// The active applications in order of number, and the number of the next.
+/// The active applications in order of number, and the number of the next. Contracts see the flat cluster's table, and beside it
+/// the room of each application: how many more asks, grants and ends it may take with no memory; and how many more applications
+/// may enter with none.
 #[derive(Drop)]
-pub struct Apps {
-    active: IndexMap<u64, App>,
+pub struct Apps<const K: usize> {
+    alloc: Global,
+    active: IndexMap<u64, App<K>>,
     next: u64,
 }
 
-impl Model for Apps {
-    ghost use Rattle.std.specs.Prelude.{◌≡◌, true, map, nat_lt};
-    ghost use Rattle.std.specs.List.{list_all};
-    ghost use Rattle.cap_model.specs.Flat.{AppTable};
+impl<const K: usize> Model for Apps<K> {
+    ghost use Rattle.std.specs.Prelude.{map};
+    ghost use Rattle.indexmap.specs.IndexMap.{spare};
+    ghost use Rattle.cap_asks.specs.Apps.{HeldApps, AreNumbered};
 
-    ghost Value = { AppTable };
+    ghost Value = { HeldApps };
 
-    ghost view = { λ t. record { active = map (λ e. e.1) t.active.entries; next = t.next } };
+    ghost view = { λ t. record {
+      table = record { active = map (λ e. e.1.app) t.active.entries; next = t.next };
+      rooms = map (λ e. e.1.room) t.active.entries;
+      vacant = spare t.active;
+    } };
 
-    ghost invariant = { λ t. list_all (λ e. nat_lt e.0 t.next) t.active.entries ≡ true };
+    ghost invariant = { λ t. AreNumbered 1 t.active.entries t.next };
 }
 
-impl Apps {
+impl<const K: usize> Apps<K> {
     /// No application; the first will be number 1. It takes no memory.
-    pub fn new(alloc: Global) -> Apps
-        ensures { result ≡ none }
+    pub fn new(alloc: Global) -> Apps<K>
+        ensures table { result.table ≡ none }
+        ensures rooms { result.rooms ≡ [] }
     {
         Apps {
+            alloc,
             active: IndexMap::new(alloc),
             next: 1,
         }
     }
 
-    /// An application enters the leaf queue for a user, under the next number. `NoMemory` changes nothing.
+    /// Makes room for one more application, so that it enters with no memory. `NoMemory` changes nothing that is seen.
+    pub fn reserve(&mut self) -> Result<(), NoMemory>
+        ensures table { self.new.table ≡ self.old.table }
+        ensures rooms { self.new.rooms ≡ self.old.rooms }
+        ensures ok { OnOk result (1 ≤ self.new.vacant) }
+    {
+        match self.active.reserve(1) {
+            Ok(()) => {}
+            Err(_) => return Err(NoMemory),
+        }
+        Ok(())
+    }
+
+    /// An application enters the leaf queue for a user, under the next number. `NoMemory` changes nothing that is seen, and where
+    /// there is room there is no want of it.
     pub fn submit(&mut self, leaf: &PathText, user: &ShortText) -> Result<u64, NoMemory>
-        requires { self.old.next < number_end }
-        ensures ok { IfOk result (λ number. (number ≡ self.old.next) × (self.new ≡ with_app leaf.now user.now self.old)) }
-        ensures err { OnErr result (self.new ≡ self.old) }
+        requires { self.old.table.next < number_end }
+        ensures number { IfOk result (λ number. number ≡ self.old.table.next) }
+        ensures table { OnOk result (self.new.table ≡ with_entering leaf.now user.now self.old.table) }
+        ensures rooms { OnOk result (self.new.rooms ≡ self.old.rooms ++ no_room self.old.table.next ∷ []) }
+        ensures succeeds { 1 ≤ self.old.vacant → IsOk result }
+        ensures table_stays { OnErr result (self.new.table ≡ self.old.table) }
+        ensures rooms_stay { OnErr result (self.new.rooms ≡ self.old.rooms) }
     {
         let number = self.next;
-        match self.active.insert(number, App::new(number, leaf, user)) {
+        let app = App::new(self.alloc, number, leaf, user);
+        match self.active.insert(number, app) {
             Ok(_) => {}
             Err(_) => return Err(NoMemory),
         }
@@ -56,25 +87,115 @@ impl Apps {
 
     /// How many are active.
     pub fn count(&self) -> usize
-        ensures { result ≡ length self.now.active }
+        ensures { result ≡ length self.now.table.active }
     {
         self.active.len()
     }
 
-    /// How many are active in and under the queue of this path.
-    pub fn count_under(&self, path: &[u8]) -> usize
-        ensures { result ≡ count_by (λ app. is_under path.now app.leaf) self.now.active }
-    {
-        self.active
-            .values()
-            .filter(|app| is_under(path, app.leaf().as_bytes()))
-            .count()
-    }
-
-    /// The number of the next.
+    /// The number of the next. All that are active have numbers from 1 that rise and are below it.
     pub fn next(&self) -> u64
-        ensures { result ≡ self.now.next }
+        ensures value { result ≡ self.now.table.next }
+        ensures rising { IsRising 1 (map (λ app. app.number) self.now.table.active) self.now.table.next }
     {
         self.next
+    }
+
+    /// The active application of this number, none where there is none.
+    pub fn app(&self, n: u64) -> Option<&App<K>>
+        ensures { option_map (λ app. app.now.app) result ≡ app_of n self.now }
+    {
+        self.active.get(&n)
+    }
+
+    /// The master of an application has reported.
+    pub fn register(&mut self, n: u64)
+        ensures table { self.new.table ≡ with_app n (λ app. record app { registered = true }) self.old.table }
+        ensures room { UsesRoom n 0 0 0 self.old self.new }
+    {
+        let Some(app) = self.active.get_mut(&n) else {
+            return;
+        };
+        app.register();
+    }
+
+    /// Makes room for so many more asks, grants and ends of an application, so that it takes them with no memory. `NoMemory`
+    /// changes nothing that is seen, and room that was there before stays.
+    pub fn room(&mut self, n: u64, asks: usize, grants: usize, ends: usize) -> Result<(), NoMemory>
+        requires { IsSome (app_of n self.old) }
+        ensures table { self.new.table ≡ self.old.table }
+        ensures stays { UsesRoom n 0 0 0 self.old self.new }
+        ensures ok { OnOk result (HasRooms n asks grants ends self.new) }
+    {
+        let Some(app) = self.active.get_mut(&n) else {
+            unreachable!()
+        };
+        app.reserve(asks, grants, ends)
+    }
+
+    /// Puts an ask of an application in place of the one of its key, or in order of key; a count of 0 takes the key away.
+    pub fn put_ask(&mut self, n: u64, ask: &Ask<K>)
+        requires { 1 ≤ ask_room n self.old }
+        ensures table { self.new.table ≡ with_app n (λ app. record app { asks = put_ask ask.now app.asks }) self.old.table }
+        ensures room { UsesRoom n 1 0 0 self.old self.new }
+    {
+        let Some(app) = self.active.get_mut(&n) else {
+            return;
+        };
+        app.put_ask(ask);
+    }
+
+    /// One container less is wanted for this key of an application; an ask that comes to 0 goes.
+    pub fn take_one(&mut self, n: u64, key: &Key)
+        ensures table { self.new.table ≡ with_app n (λ app. record app { asks = take_one key.now app.asks }) self.old.table }
+        ensures room { UsesRoom n 0 0 0 self.old self.new }
+    {
+        let Some(app) = self.active.get_mut(&n) else {
+            return;
+        };
+        app.take_one(key);
+    }
+
+    /// One more grant waits to be told to the master of an application, last.
+    pub fn add_grant(&mut self, n: u64, grant: &Grant<K>)
+        requires { 1 ≤ grant_room n self.old }
+        ensures table { self.new.table ≡ with_app n (λ app. record app { grants = app.grants ++ grant.now ∷ [] }) self.old.table }
+        ensures room { UsesRoom n 0 1 0 self.old self.new }
+    {
+        let Some(app) = self.active.get_mut(&n) else {
+            return;
+        };
+        app.add_grant(grant);
+    }
+
+    /// One more end waits to be told to the master of an application, last.
+    pub fn add_end(&mut self, n: u64, end: &End)
+        requires { 1 ≤ end_room n self.old }
+        ensures table { self.new.table ≡ with_app n (λ app. record app { ends = app.ends ++ end.now ∷ [] }) self.old.table }
+        ensures room { UsesRoom n 0 0 1 self.old self.new }
+    {
+        let Some(app) = self.active.get_mut(&n) else {
+            return;
+        };
+        app.add_end(end);
+    }
+
+    /// Tells the master of an application the oldest grants and ends that wait, at most 64 of each: the response id moves on, and
+    /// the reply is kept. `ignored` is how many releases of the request named nothing.
+    pub fn tell(&mut self, n: u64, ignored: u16)
+        ensures table { self.new.table ≡ with_app n (λ app. after_telling app.response ignored app) self.old.table }
+        ensures room { UsesRoom n 0 0 0 self.old self.new }
+    {
+        let Some(app) = self.active.get_mut(&n) else {
+            return;
+        };
+        app.tell(ignored);
+    }
+
+    /// An application ends and is active no more.
+    pub fn finish(&mut self, n: u64)
+        ensures table { self.new.table ≡ without_app n self.old.table }
+        ensures rooms { self.new.rooms ≡ without_room n self.old.rooms }
+    {
+        self.active.shift_remove(&n);
     }
 }

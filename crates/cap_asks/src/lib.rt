@@ -3,7 +3,10 @@
 
 mod app;
 mod apps;
+mod asks;
+mod news;
 #[cfg(test)]
 mod tests;
 
+pub use app::App;
 pub use apps::Apps;

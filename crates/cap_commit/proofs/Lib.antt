@@ -1,2 +1,9 @@
-pub mod Marks
-pub mod Entering
+pub mod Parts
+pub mod Idle
+pub mod Counting
+pub mod Users
+pub mod RowsAt
+pub mod Ties
+pub mod Sizes
+pub mod Holding
+pub mod Reporting

@@ -1,1 +1,3 @@
-pub mod Queues
+pub mod Reports
+pub mod Changes
+pub mod Held

@@ -1,51 +1,59 @@
-ghost use Rattle.std.specs.Prelude.{◌≡◌, ◌≤◌, ◌<◌, None, IfOk, OnErr, length, bytes_eq, count_by};
+ghost use Rattle.std.specs.Prelude.{◌≡◌, ◌≤◌, ◌<◌, ◌==◌, ◌&&◌, ◌∷◌, [], ℕ, None, Some, true, IfOk, OnOk, OnErr, IfSome, IsSome, IsTrue, is_some, length, map, find, filter, not, bytes_eq, option_map, nat_lt};
 ghost use Rattle.std.specs.List.{list_any};
-ghost use Rattle.cap_model.specs.Limits.{nodes_max};
-ghost use Rattle.cap_model.specs.Flat.{opened, queue_at, is_under};
+ghost use Rattle.std.specs.Option.{option_copied};
+ghost use Rattle.cap_model.specs.Bounds.{IsRising};
+ghost use Rattle.cap_model.specs.Limits.{nodes_max, resources_max};
+ghost use Rattle.cap_model.specs.Admission.{live_max};
+ghost use Rattle.cap_model.specs.News.{as_cause};
+ghost use Rattle.cap_model.specs.Flat.{opened, queue_at, app_at, node_at, with_app, with_node};
 ghost use Rattle.cap_model.specs.Uses.{queue_use};
-ghost use Rattle.cap_model.specs.Submit.{has_children, is_running, submit_refusal, after_submit};
+ghost use Rattle.cap_model.specs.Submit.{submit_refusal, after_submit};
 ghost use Rattle.cap_model.specs.RegisterNode.{register_node_refusal, after_register_node, total_of_nodes};
-ghost use Rattle.cap_model.specs.QueueCalls.{after_set_queue_state};
+ghost use Rattle.cap_model.specs.RegisterMaster.{after_register_master};
+ghost use Rattle.cap_model.specs.QueueCalls.{after_set_queue_state, queue_report, root_path};
+ghost use Rattle.cap_model.specs.Asking.{after_asks};
+ghost use Rattle.cap_model.specs.Allocate.{after_telling};
+ghost use Rattle.cap_model.specs.Ending.{after_ends};
+ghost use Rattle.cap_model.specs.FinishMaster.{containers_of, after_finish_master};
+ghost use Rattle.cap_model.specs.Heartbeat.{containers_on};
+ghost use Rattle.cap_model.specs.EngineLaws.{HasDistinctNumbers};
+ghost use Rattle.cap_nodes.specs.Tables.{beaten};
+ghost use Rattle.cap_commit.specs.Reports.{as_report};
+ghost use Rattle.cap_commit.specs.Changes.{without_node};
 
-use crate::node::{Node, is_taken};
-use crate::queue::Queue;
-use crate::queues::{are_running, find_queue, have_below, set_running};
-use cap_asks::Apps;
+use crate::places::{find_place, place_of};
+use crate::report::QueueReport;
+use cap_asks::{App, Apps};
 use cap_config::Config;
-use cap_model::{NoMemory, PathText, ShortText};
-use cap_vector::{Resource, Sum, checked_add};
+use cap_model::{Ask, Cause, End, NoMemory, PathText, ShortText};
+use cap_nodes::{Container, Node, Nodes};
+use cap_tree::{Found, QueueTree};
+use cap_vector::{Resource, Sum, round_up};
 use std::alloc::Global;
 use std::marker::Model;
 
-/// The cluster of K resources: its queues and limits, its applications, and its nodes with the number of the next. Contracts
-/// see it as the flat cluster.
+/// The cluster of K resources: the tree of its queues, their limits, its applications, and its nodes with their containers.
+/// Contracts see it as the flat cluster.
 #[derive(Drop)]
 pub struct Cluster<const K: usize> {
-    queues: Vec<Queue<K>>,
+    tree: Box<QueueTree<K, Global>>,
     minimum_allocation: Resource<K>,
     maximum_allocation: Resource<K>,
     application_limit: u64,
-    apps: Apps,
-    nodes: Vec<Node<K>>,
-    total: Resource<K>,
-    next_node: u64,
+    apps: Apps<K>,
+    nodes: Nodes<K>,
 }
 
 impl<const K: usize> Model for Cluster<K> {
-    ghost use Rattle.std.specs.Prelude.{◌≡◌, ◌≤◌, [], length};
     ghost use Rattle.cap_model.specs.Flat.{Flat};
-    ghost use Rattle.cap_model.specs.Limits.{applications_max, nodes_max};
-    ghost use Rattle.cap_model.specs.RegisterNode.{sum_of_totals};
+    ghost use Rattle.cap_tree.specs.Rows.{queues_of};
+    ghost use Rattle.cap_commit.specs.Held.{flat_of, IsHeld};
 
     ghost Value = { Flat K };
 
-    ghost view = { λ c. record {
-      settings = record { queues = c.queues.items; minimum_allocation = c.minimum_allocation; maximum_allocation = c.maximum_allocation; application_limit = c.application_limit };
-      apps = c.apps;
-      nodes = record { present = c.nodes.items; live = []; reserved = []; next_node = c.next_node; next_container = 1 };
-    } };
+    ghost view = { λ c. flat_of c.minimum_allocation c.maximum_allocation c.application_limit (queues_of c.tree.value) c.apps.table c.nodes };
 
-    ghost invariant = { λ c. (c.total ≡ sum_of_totals K c.nodes.items) × (length c.nodes.items ≤ nodes_max) × (c.application_limit ≤ applications_max) × (length c.apps.active ≤ c.application_limit) };
+    ghost invariant = { λ c. IsHeld {K = K} c.tree.value (flat_of c.minimum_allocation c.maximum_allocation c.application_limit (queues_of c.tree.value) c.apps.table c.nodes) };
 }
 
 impl<const K: usize> Cluster<K> {
@@ -53,80 +61,77 @@ impl<const K: usize> Cluster<K> {
     pub fn from_config(alloc: Global, config: &Config<K>) -> Result<Cluster<K>, NoMemory>
         ensures { IfOk result (λ cluster. cluster ≡ opened config.now) }
     {
-        let mut queues = Vec::new(alloc);
-        for row in config.queues() {
-            let Ok(()) = queues.push(Queue::of(row)) else {
-                return Err(NoMemory);
-            };
-        }
+        let application_limit = config.application_limit();
+        let tree = match QueueTree::from_config(alloc, config) {
+            Ok(tree) => tree,
+            Err(NoMemory) => return Err(NoMemory),
+        };
+        let Ok(tree) = Box::new(alloc, tree) else {
+            return Err(NoMemory);
+        };
         Ok(Cluster {
-            queues,
+            tree,
             minimum_allocation: config.minimum_allocation(),
             maximum_allocation: config.maximum_allocation(),
-            application_limit: config.application_limit(),
+            application_limit,
             apps: Apps::new(alloc),
-            nodes: Vec::new(alloc),
-            total: Resource::zero(),
-            next_node: 1,
+            nodes: Nodes::new(alloc),
         })
     }
 
-    /// The queue of this path, none where there is none.
-    pub fn queue(&self, path: &[u8]) -> Option<Queue<K>>
-        ensures { result ≡ queue_at self.now path.now }
+    /// What an operator sees of the queue of this path, none where there is none.
+    pub fn report(&self, path: &[u8]) -> Option<QueueReport<K>>
+        ensures found { is_some result ≡ is_some (queue_at self.now path.now) }
+        ensures report { IfSome result (λ r. as_report r ≡ queue_report self.now path.now) }
     {
-        find_queue(&self.queues, path)
-    }
-
-    /// Whether the queue of this path has children.
-    pub fn has_children(&self, path: &[u8]) -> bool
-        ensures { result ≡ has_children self.now path.now }
-    {
-        have_below(&self.queues, path)
-    }
-
-    /// Whether the queue of this path takes applications: it and every queue above it are RUNNING.
-    pub fn is_running(&self, path: &[u8]) -> bool
-        ensures { result ≡ is_running self.now path.now }
-    {
-        are_running(&self.queues, path)
+        let tree = &*self.tree;
+        tree.rows_are_a_tree();
+        match tree.find(path) {
+            Found::Missing => None,
+            Found::Leaf(place) => {
+                let running = tree.running(&place);
+                Some(QueueReport::of(tree.row(&place), running, true))
+            }
+            Found::Parent(place) => {
+                let running = tree.running(&place);
+                Some(QueueReport::of(tree.row(&place), running, false))
+            }
+        }
     }
 
     /// Sets the own state of the queue of this path, and nothing else.
     pub fn set_state(&mut self, path: &[u8], running: bool)
         ensures { self.new ≡ after_set_queue_state self.old path.now running }
     {
-        set_running(&mut self.queues, path, running);
+        let tree = &mut *self.tree;
+        let Some(place) = find_place(tree, path) else {
+            return;
+        };
+        tree.set_state(&place, running);
     }
 
-    /// What all applications in and under the queue of this path use, in MiB and vcores. No call makes a container yet.
-    pub fn use_of(&self, path: &[u8]) -> Sum<K>
-        ensures { result ≡ queue_use self.now path.now }
+    /// What all applications use, in MiB and vcores: the use of `root`.
+    pub fn root_use(&self) -> Sum<K>
+        ensures { result ≡ queue_use self.now root_path }
     {
-        let _ = &self.nodes;
-        Sum::zero()
+        let tree = &*self.tree;
+        tree.rows_are_a_tree();
+        let place = place_of(tree, b"root");
+        tree.use_of(&place)
     }
 
-    /// How many containers are live. No call makes one yet.
-    pub fn container_count(&self) -> u32
-        ensures { result ≡ length self.now.nodes.live }
+    /// The least that a container may have, in MiB and vcores.
+    pub fn minimum_allocation(&self) -> Resource<K>
+        ensures { result ≡ self.now.settings.minimum_allocation }
     {
-        let _ = &self.nodes;
-        0
+        self.minimum_allocation
     }
 
-    /// How many applications are active in and under the queue of this path.
-    pub fn applications_under(&self, path: &[u8]) -> u32
-        ensures { result ≡ count_by (λ app. is_under path.now app.leaf) self.now.apps.active }
+    /// The most that a container may have, in MiB and vcores.
+    pub fn maximum_allocation(&self) -> Resource<K>
+        ensures { result ≡ self.now.settings.maximum_allocation }
     {
-        self.apps.count_under(path) as u32
-    }
-
-    /// How many applications are active.
-    pub fn application_count(&self) -> u32
-        ensures { result ≡ length self.now.apps.active }
-    {
-        self.apps.count() as u32
+        self.maximum_allocation
     }
 
     /// How many applications may be active: `yarn.scheduler.capacity.maximum-applications`.
@@ -136,11 +141,25 @@ impl<const K: usize> Cluster<K> {
         self.application_limit
     }
 
+    /// How many applications are active.
+    pub fn application_count(&self) -> u32
+        ensures { result ≡ length self.now.apps.active }
+    {
+        self.apps.count() as u32
+    }
+
     /// The number of the next application.
     pub fn next_app(&self) -> u64
         ensures { result ≡ self.now.apps.next }
     {
         self.apps.next()
+    }
+
+    /// The active application of this number, none where there is none.
+    pub fn app(&self, number: u64) -> Option<&App<K>>
+        ensures { option_map (λ app. app.now.app) result ≡ app_at self.now number }
+    {
+        self.apps.app(number)
     }
 
     /// An application enters the leaf queue of this path for a user, under the next number. `NoMemory` changes nothing.
@@ -149,14 +168,150 @@ impl<const K: usize> Cluster<K> {
         ensures ok { IfOk result (λ number. (number ≡ self.old.apps.next) × (self.new ≡ after_submit self.old path.now user.now)) }
         ensures err { OnErr result (self.new ≡ self.old) }
     {
-        self.apps.submit(path, user)
+        match self.apps.reserve() {
+            Ok(()) => {}
+            Err(NoMemory) => return Err(NoMemory),
+        }
+        let tree = &mut *self.tree;
+        let place = place_of(tree, path.as_bytes());
+        match tree.enter(&place, user) {
+            Ok(()) => {}
+            Err(NoMemory) => return Err(NoMemory),
+        }
+        let Ok(number) = self.apps.submit(path, user) else {
+            unreachable!()
+        };
+        Ok(number)
+    }
+
+    /// The master of an active application has reported.
+    pub fn register(&mut self, number: u64)
+        ensures { self.new ≡ after_register_master self.old number }
+    {
+        self.apps.register(number);
+    }
+
+    /// Puts asks of an active application, one after the other, each rounded and in place of the one of its key; a count of 0
+    /// takes the key away. `NoMemory` changes nothing.
+    pub fn put_asks(&mut self, number: u64, asks: &[Ask<K>]) -> Result<(), NoMemory>
+        requires { IsSome (app_at self.old number) }
+        ensures ok { OnOk result (self.new ≡ after_asks number asks.now self.old) }
+        ensures err { OnErr result (self.new ≡ self.old) }
+    {
+        match self.apps.room(number, asks.len(), 0, 0) {
+            Ok(()) => {}
+            Err(NoMemory) => return Err(NoMemory),
+        }
+        for ask in asks {
+            let resource = round_up(
+                &ask.resource(),
+                &self.minimum_allocation,
+                &self.maximum_allocation,
+            );
+            self.apps.put_ask(number, &ask.with_resource(&resource));
+        }
+        Ok(())
+    }
+
+    /// Tells an active application the oldest grants and ends that wait, at most 64 of each: its response id moves on, and the
+    /// reply is kept.
+    pub fn tell(&mut self, number: u64, ignored: u16)
+        ensures { IfSome (app_at self.old number) (λ app. self.new ≡ with_app number (after_telling app.response ignored) self.old) }
+    {
+        // That it is the only application of its number is known from here.
+        let _ = self.apps.next();
+        self.apps.tell(number, ignored);
+    }
+
+    /// A live container ends, and its application is to be told of it. What it had is given back at every level of its queue.
+    pub fn end(&mut self, number: u64, cause: Cause)
+        requires { IsSome (find (λ c. c.number == number) self.old.nodes.live) }
+        ensures { IfSome (find (λ c. c.number == number) self.old.nodes.live) (λ c. self.new ≡ after_ends (as_cause cause) (c ∷ []) self.old) }
+    {
+        let Some(container) = self.nodes.container(number) else {
+            unreachable!()
+        };
+        let Some(app) = self.apps.app(container.app()) else {
+            unreachable!()
+        };
+        let tree = &mut *self.tree;
+        let place = place_of(tree, app.leaf().as_bytes());
+        tree.give_back(&place, app.user(), &container.resource());
+        self.nodes.lift(number);
+        self.apps.add_end(container.app(), &End::new(number, cause));
+    }
+
+    /// An active application ends with all that it has: its containers, its asks and what it was not told. The result is how many
+    /// containers ended.
+    pub fn finish(&mut self, number: u64) -> u32
+        requires { IsSome (app_at self.old number) }
+        ensures ended { result ≡ length (containers_of self.old number) }
+        ensures finished { self.new ≡ after_finish_master self.old number }
+    {
+        let Some(app) = self.apps.app(number) else {
+            unreachable!()
+        };
+        let place = place_of(&self.tree, app.leaf().as_bytes());
+        let user = *app.user();
+        // That it is the only application of its number is known from here.
+        let _ = self.apps.next();
+        let mut ended = 0;
+        let mut after = 0;
+        while let Some(container) = self.nodes.next_of_app(number, after) {
+            after = container.number();
+            self.tree.give_back(&place, &user, &container.resource());
+            self.nodes.lift(after);
+            ended += 1;
+        }
+        self.apps.finish(number);
+        self.tree.leave(&place, &user);
+        ended
+    }
+
+    /// How many containers are live.
+    pub fn container_count(&self) -> u32
+        ensures { result ≡ length self.now.nodes.live }
+    {
+        self.nodes.live_count() as u32
+    }
+
+    /// The live container of this number, none where there is none.
+    pub fn container(&self, number: u64) -> Option<Container<K>>
+        ensures { result ≡ find (λ c. c.number == number) self.now.nodes.live }
+    {
+        self.nodes.container(number)
+    }
+
+    /// The live container on a node with the least number above `after`, none where there is none.
+    pub fn next_on_node(&self, node: u64, after: u64) -> Option<Container<K>>
+        ensures { result ≡ find (λ c. c.node == node && nat_lt after c.number) self.now.nodes.live }
+    {
+        self.nodes.next_on_node(node, after)
+    }
+
+    /// What is true of every cluster: the live containers and the nodes have numbers that rise, each below the next; at most
+    /// 65,536 containers are live; there are at most 1,000 kinds of resource.
+    pub fn containers_are_numbered(&self)
+        ensures numbers { HasDistinctNumbers self.now }
+        ensures nodes { IsRising 1 (map (λ node. node.number) self.now.nodes.present) self.now.nodes.next_node }
+        ensures few { length self.now.nodes.live ≤ live_max }
+        ensures resources { K ≤ resources_max }
+    {
+        self.nodes.law();
+    }
+
+    /// The node of this number, none where none is present.
+    pub fn node(&self, number: u64) -> Option<&Node<K>>
+        ensures { option_copied result ≡ node_at self.now number }
+    {
+        self.nodes.node(number)
     }
 
     /// Whether a present node has the host.
     pub fn is_host_taken(&self, host: &[u8]) -> bool
         ensures { result ≡ list_any (λ node. bytes_eq node.host host.now) self.now.nodes.present }
     {
-        is_taken(&self.nodes, host)
+        self.nodes.is_host_taken(host)
     }
 
     /// How many nodes are present.
@@ -164,21 +319,21 @@ impl<const K: usize> Cluster<K> {
         ensures value { result ≡ length self.now.nodes.present }
         ensures few { result ≤ nodes_max }
     {
-        self.nodes.len()
+        self.nodes.count()
     }
 
     /// What all nodes have together, in MiB and vcores.
     pub fn node_total(&self) -> Resource<K>
         ensures { result ≡ total_of_nodes self.now }
     {
-        self.total
+        self.nodes.total()
     }
 
     /// The number of the next node.
     pub fn next_node(&self) -> u64
         ensures { result ≡ self.now.nodes.next_node }
     {
-        self.next_node
+        self.nodes.next_node()
     }
 
     /// Takes a node in under the next number, of a total in MiB and vcores. `NoMemory` changes nothing.
@@ -192,15 +347,23 @@ impl<const K: usize> Cluster<K> {
         ensures ok { IfOk result (λ number. (number ≡ self.old.nodes.next_node) × (self.new ≡ after_register_node self.old host.now rack.now total.now)) }
         ensures err { OnErr result (self.new ≡ self.old) }
     {
-        let number = self.next_node;
-        let Some(sum) = checked_add(&self.total, total) else {
-            unreachable!()
-        };
-        let Ok(()) = self.nodes.push(Node::new(number, host, rack, total)) else {
-            return Err(NoMemory);
-        };
-        self.total = sum;
-        self.next_node = number + 1;
-        Ok(number)
+        self.nodes.register(host, rack, total)
+    }
+
+    /// A present node has answered a heartbeat, in which so many named containers were not live there, and keeps the reply.
+    pub fn beat(&mut self, number: u64, ignored: u16)
+        requires { IsSome (node_at self.old number) }
+        ensures { self.new ≡ with_node number (beaten ignored (length (containers_on self.old number))) self.old }
+    {
+        self.nodes.beat(number, ignored);
+    }
+
+    /// A present node on which no container is live goes.
+    pub fn drop_node(&mut self, number: u64)
+        requires present { IsSome (node_at self.old number) }
+        requires empty { containers_on self.old number ≡ [] }
+        ensures { self.new ≡ without_node number self.old }
+    {
+        self.nodes.gone(number);
     }
 }

@@ -2,12 +2,13 @@
 #![tactic(auto)]
 
 mod cluster;
-mod node;
-mod queue;
-mod queues;
+mod places;
+mod report;
 #[cfg(test)]
 mod tests;
 
-pub use cap_model::{Event, Reply, Request};
+pub use cap_asks::App;
+pub use cap_model::{AllocateReply, Event, HeartbeatReply, Reply, Request};
+pub use cap_nodes::{Container, Node};
 pub use cluster::Cluster;
-pub use queue::Queue;
+pub use report::QueueReport;

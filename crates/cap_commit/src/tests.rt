@@ -19,44 +19,51 @@ fn cluster(alloc: Global) -> Result<Cluster<2>, Fail> {
 #[test]
 fn queues_are_those_of_the_settings(rt: HostRuntime) -> Result<(), Fail> {
     let cluster = cluster(rt.alloc())?;
-    let a = cluster.queue(b"root.a").ok_or("root.a")?;
-    assert_eq!(rt; a.path().as_bytes(), b"root.a".as_slice());
-    assert_eq!(rt; a.guaranteed().amounts(), [4096, 4]);
-    assert_eq!(rt; a.maximum().ok_or("a maximum")?.amounts(), [16384, 16]);
-    assert!(rt; a.is_running());
-    let x = cluster.queue(b"root.a.x").ok_or("root.a.x")?;
-    assert_eq!(rt; x.guaranteed().amounts(), [0, 0]);
-    assert_eq!(rt; x.maximum().ok_or("a maximum")?.amounts(), [16384, 16]);
-    let b = cluster.queue(b"root.b").ok_or("root.b")?;
-    assert!(rt; b.maximum().is_none());
-    assert!(rt; cluster.queue(b"root.c").is_none());
-    assert!(rt; cluster.queue(b"root.").is_none());
-    assert!(rt; cluster.has_children(b"root"));
-    assert!(rt; cluster.has_children(b"root.a"));
-    assert!(rt; !cluster.has_children(b"root.b"));
-    assert!(rt; !cluster.has_children(b"roo"));
-    assert_eq!(rt; cluster.use_of(b"root").amounts(), [0, 0]);
-    assert_eq!(rt; cluster.applications_under(b"root"), 0);
+    let a = cluster.report(b"root.a").ok_or("root.a")?;
+    assert_eq!(rt; a.guaranteed.amounts(), [4096, 4]);
+    assert_eq!(rt; a.maximum.ok_or("a maximum")?.amounts(), [16384, 16]);
+    assert!(rt; a.running && !a.leaf);
+    assert_eq!(rt; a.used.amounts(), [0, 0]);
+    let x = cluster.report(b"root.a.x").ok_or("root.a.x")?;
+    assert_eq!(rt; x.guaranteed.amounts(), [0, 0]);
+    assert_eq!(rt; x.maximum.ok_or("a maximum")?.amounts(), [16384, 16]);
+    assert!(rt; x.leaf);
+    let b = cluster.report(b"root.b").ok_or("root.b")?;
+    assert!(rt; b.leaf && b.maximum.is_none());
+    assert_eq!(rt; b.applications, 0);
+    assert!(rt; cluster.report(b"root.c").is_none());
+    assert!(rt; cluster.report(b"root.").is_none());
+    assert!(rt; cluster.report(b"roo").is_none());
+    Ok(())
+}
+
+#[test]
+fn a_new_cluster_is_empty(rt: HostRuntime) -> Result<(), Fail> {
+    let cluster = cluster(rt.alloc())?;
+    assert_eq!(rt; cluster.root_use().amounts(), [0, 0]);
+    assert_eq!(rt; cluster.minimum_allocation().amounts(), [1024, 1]);
+    assert_eq!(rt; cluster.maximum_allocation().amounts(), [8192, 4]);
     assert_eq!(rt; cluster.application_count(), 0);
     assert_eq!(rt; cluster.container_count(), 0);
+    assert_eq!(rt; cluster.node_count(), 0);
+    assert!(rt; cluster.app(1).is_none());
+    assert!(rt; cluster.node(1).is_none());
+    assert!(rt; cluster.container(1).is_none());
     Ok(())
 }
 
 #[test]
 fn a_stopped_queue_stops_those_under_it(rt: HostRuntime) -> Result<(), Fail> {
     let mut cluster = cluster(rt.alloc())?;
-    assert!(rt; cluster.is_running(b"root.a.x"));
+    assert!(rt; cluster.report(b"root.a.x").ok_or("root.a.x")?.running);
     cluster.set_state(b"root.a", false);
-    assert!(rt; !cluster.is_running(b"root.a"));
-    assert!(rt; !cluster.is_running(b"root.a.x"));
-    assert!(rt; cluster.queue(b"root.a.x").ok_or("root.a.x")?.is_running());
-    assert!(rt; cluster.is_running(b"root.b"));
-    assert!(rt; cluster.is_running(b"root"));
-    cluster.set_state(b"root.c", false);
-    assert!(rt; cluster.is_running(b"root"));
+    assert!(rt; !cluster.report(b"root.a").ok_or("root.a")?.running);
+    assert!(rt; !cluster.report(b"root.a.x").ok_or("root.a.x")?.running);
+    assert!(rt; cluster.report(b"root.b").ok_or("root.b")?.running);
+    assert!(rt; cluster.report(b"root").ok_or("root")?.running);
     cluster.set_state(b"root.a", true);
-    assert!(rt; cluster.is_running(b"root.a.x"));
+    assert!(rt; cluster.report(b"root.a.x").ok_or("root.a.x")?.running);
     cluster.set_state(b"root", false);
-    assert!(rt; !cluster.is_running(b"root.b"));
+    assert!(rt; !cluster.report(b"root.b").ok_or("root.b")?.running);
     Ok(())
 }

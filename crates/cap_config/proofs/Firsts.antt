@@ -92,7 +92,7 @@ to_other X Y None given h = h
 to_other X Y (Some fault) given h =
     fails_after given.kind given (let r : Result Y ConfigFault = Err fault in r) (let r : Result X ConfigFault = Err fault in r) (λ e. cc e) h
 
-no_fault : (Y : Type 0) (early : Option ConfigFault) (y : Y) → AnswersFault {X = Y} early (Ok y) → early ≡ None
+pub no_fault : (Y : Type 0) (early : Option ConfigFault) (y : Y) → AnswersFault {X = Y} early (Ok y) → early ≡ None
 no_fault Y None y h = refl
 no_fault Y (Some fault) y h = absurd h
 

@@ -11,16 +11,18 @@ use Rattle.std.proofs.lemmas.List.Sums.{AllPass-from_list_all}
 use Rattle.std.proofs.lemmas.Bool.{eqb-true}
 use Rattle.cap_vector.specs.Vector.{amount_max}
 use Rattle.cap_model.specs.Limits.{applications_max}
+use Rattle.cap_model.specs.Listing.{factor_max}
 use Rattle.cap_model.specs.Texts.{is_text, is_graphic}
 use Rattle.cap_config.specs.declared.entry.Entry.{Entry}
 use Rattle.cap_config.specs.declared.value.Value.{Value}
 use Rattle.cap_config.specs.declared.value.Value.TheVariants.{Names, Amounts, Number, Running}
-use Rattle.cap_config.specs.declared.setting.Setting.TheVariants.{Queues, MaximumApplications}
+use Rattle.cap_config.specs.declared.setting.Setting.TheVariants.{Queues, MaximumApplications, UserLimitFactor}
 use Rattle.cap_config.specs.declared.setting.Setting.{Setting}
 use Rattle.cap_config.specs.Values.{is_name_under, are_new}
 use Rattle.cap_config.specs.Seen.{is_among}
 use Rattle.cap_config.specs.Queues.{setting_number, child, entry_for, is_for, is_path_at, same_setting, names_below, names_or_none, names_in_value}
 use Rattle.cap_config.specs.Tests.{cluster_entry, number_or, number_in, line_where, too_deep_line, lists_deep, is_deep, level}
+use Rattle.cap_config.specs.Rows.{factor}
 use Rattle.cap_config.specs.Bounds.{most_of, is_kept, is_bounded, are_bounded, are_under}
 use Rattle.cap_config.proofs.Steps.{not_true}
 
@@ -122,11 +124,18 @@ number_in_kept most (Amounts amounts) queue default kept small = small
 number_in_kept most (Number n) queue default kept small = grind (arith, nat_tests)
 number_in_kept most (Running running) queue default kept small = small
 
+most_is : (a b : Setting) → same_setting a b ≡ true → most_of a ≡ most_of b
+most_is a b h =
+    ap (λ n. if n == setting_number MaximumApplications then applications_max else if n == setting_number UserLimitFactor then factor_max else amount_max) (eqb-true (setting_number a) (setting_number b) h)
+
+number_of_entry : (setting : Setting) (default : ℕ) (entry : Entry) → same_setting entry.setting setting ≡ true → is_bounded entry ≡ true → default ≤ most_of setting → number_in default entry.value ≤ most_of setting
+number_of_entry setting default entry same kept small =
+    number_in_kept (most_of setting) entry.value entry.queue default (subst (λ (most : ℕ). is_kept most entry.value entry.queue ≡ true) (most_is entry.setting setting same) kept) small
+
 number_at : (entries : List Entry) (setting : Setting) (default : ℕ) (o : Option Entry) → cluster_entry entries setting ≡ o → are_bounded entries ≡ true → default ≤ most_of setting → number_or o default ≤ most_of setting
 number_at entries setting default (Some entry) is all small =
     let has = found_has (λ e. same_setting e.setting setting) is_bounded entries entry is all in
-    let same : most_of entry.setting ≡ most_of setting = ap (λ n. if n == setting_number MaximumApplications then applications_max else amount_max) (eqb-true (setting_number entry.setting) (setting_number setting) has.0) in
-    number_in_kept (most_of setting) entry.value entry.queue default (subst (λ (most : ℕ). is_kept most entry.value entry.queue ≡ true) same has.1) small
+    number_of_entry setting default entry has.0 has.1 small
 number_at entries setting default None is all small = small
 
 -- a number that a line sets is at most the greatest for its setting, where the one that stands else is
@@ -134,6 +143,21 @@ pub number_small : (entries : List Entry) (setting : Setting) (default n : ℕ) 
 number_small entries setting default n all small e =
     let within : number_or (cluster_entry entries setting) default ≤ most_of setting = number_at entries setting default (cluster_entry entries setting) refl all small in
     rw e within
+
+set_for : (same : Bool) (queue : Option (List ℕ)) (path : List ℕ) → is_path_at (cond same queue None) path ≡ true → same ≡ true
+set_for true queue path h = refl
+set_for false queue path h = absurd (cc h)
+
+factor_at : (entries : List Entry) (path : List ℕ) (o : Option Entry) → entry_for entries UserLimitFactor path ≡ o → are_bounded entries ≡ true → number_or o 1 ≤ factor_max
+unfolding entry_for
+factor_at entries path (Some entry) is all =
+    let has = found_has (is_for UserLimitFactor path) is_bounded entries entry is all in
+    number_of_entry UserLimitFactor 1 entry (set_for (same_setting entry.setting UserLimitFactor) entry.queue path has.0) has.1 (omega arith)
+factor_at entries path None is all = omega arith
+
+-- a user limit factor is at most the greatest
+pub factor_small : (entries : List Entry) (path : List ℕ) → are_bounded entries ≡ true → factor entries path ≤ factor_max
+factor_small entries path all = factor_at entries path (entry_for entries UserLimitFactor path) refl all
 
 graphic_child : (path name : List ℕ) → list_all is_graphic path ≡ true → list_all is_graphic name ≡ true → list_all is_graphic (child path name) ≡ true
 graphic_child path name p n = rw (list_all-append is_graphic path (46 ∷ name), p, n) refl

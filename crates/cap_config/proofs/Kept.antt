@@ -7,6 +7,7 @@ use Rattle.std.proofs.lemmas.List.Folds.{list_all-append}
 use Rattle.std.proofs.lemmas.Bool.Decides.{nat_tests}
 use Rattle.cap_vector.specs.Vector.{amount_max}
 use Rattle.cap_model.specs.Limits.{applications_max}
+use Rattle.cap_model.specs.Listing.{factor_max}
 use Rattle.cap_config.specs.declared.entry.Entry.{Entry}
 use Rattle.cap_config.specs.declared.key.Key.{Key}
 use Rattle.cap_config.specs.declared.value.Value.{Value}
@@ -53,7 +54,7 @@ value_kept (Some path) Queues bytes v h = names_kept amount_max path (list_all (
 value_kept None Queues bytes v h = absurd (cc h)
 value_kept queue Capacity bytes v h = amounts_kept amount_max queue (amounts_of bytes) v h
 value_kept queue MaximumCapacity bytes v h = amounts_kept amount_max queue (amounts_of bytes) v h
-value_kept queue UserLimitFactor bytes v h = number_kept amount_max queue 1000 (number_of bytes) v (omega arith) h
+value_kept queue UserLimitFactor bytes v h = number_kept factor_max queue 1000 (number_of bytes) v (omega arith) h
 value_kept queue State bytes v h = state_kept amount_max queue _ _ v h
 value_kept queue MaximumApplications bytes v h = number_kept applications_max queue 1000000 (number_of bytes) v (omega arith) h
 value_kept queue MinimumMemory bytes v h = number_kept amount_max queue amount_max (number_of bytes) v (omega arith) h

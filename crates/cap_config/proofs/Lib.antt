@@ -24,5 +24,6 @@ pub mod RowCounts
 pub mod RowTrees
 pub mod RowOrder
 pub mod RowBounds
+pub mod Listing
 pub mod Fitting
 pub mod Fitted

@@ -31,7 +31,7 @@ both_no true b g h = g
 both_no false b g h = h
 
 -- a queue that is under another has its path, or a path that begins with it and a dot
-below_of_under : (path queue : List ℕ) → is_under path queue ≡ true → IsBelow path queue
+pub below_of_under : (path queue : List ℕ) → is_under path queue ≡ true → IsBelow path queue
 below_of_under path queue h =
     either (IsBelow path queue) (bytes_eq path queue) (starts_with nat_eq queue (path ++ 46 ∷ [])) h
     (λ same. record { rest = []; whole = sym (same_bytes path queue same) ∙ sym (append_none path); starts = refl })
@@ -44,7 +44,7 @@ starts_after [] ys first second = second
 starts_after (x ∷ xs) ys first second = first
 
 -- what is below a path below another is below the other
-below_both : (p q r : List ℕ) → IsBelow p q → IsBelow q r → IsBelow p r
+pub below_both : (p q r : List ℕ) → IsBelow p q → IsBelow q r → IsBelow p r
 below_both p q r one two =
     record { rest = one.rest ++ two.rest; whole = two.whole ∙ ap (λ (x : List ℕ). x ++ two.rest) one.whole ∙ append_assoc p one.rest two.rest; starts = starts_after one.rest two.rest one.starts two.starts }
 

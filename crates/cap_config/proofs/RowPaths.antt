@@ -168,17 +168,24 @@ many_is_none entries h =
     let after_levels = (no_other (too_deep_line entries) TooDeep many after_queues).1 in
     (no_other (too_many_line entries) TooManyQueues over after_levels).0
 
+pub queue_level : (entries : List Entry) → whole_fault entries ≡ None → (path : List ℕ) → is_queue entries path ≡ true → level path ≤ 16
+queue_level entries none path h = level_small entries (deep_is_none entries (shape_is_none entries none)) path h
+
 pub levels_are_few : (text : List ℕ) (entries : List Entry) → read_lines (lines text) ≡ Ok entries → whole_fault entries ≡ None → (path : List ℕ) → is_queue entries path ≡ true → level path ≤ 16
-levels_are_few text entries is none path h = level_small entries (deep_is_none entries (shape_is_none entries none)) path h
+levels_are_few text entries is none path h = queue_level entries none path h
 
 rows_of_settings : (entries : List Entry) → (settings_of entries).queues ≡ rows_under 16 entries root
 unfolding settings_of
 rows_of_settings entries = refl
 
+-- the rows from the root on are those of the queues
+pub queue_rows : (entries : List Entry) → are_bounded entries ≡ true → whole_fault entries ≡ None → (path : List ℕ) → is_among (paths_of (rows_under 16 entries root)) path ≡ is_queue entries path
+queue_rows entries all none path =
+    same_bools (is_among (paths_of (rows_under 16 entries root)) path) (is_queue entries path)
+    (λ h. row_is entries all 16 root path (root_is entries) h)
+    (λ h. row_of_queue entries path h 16 (queue_level entries none path h))
+
 pub rows_are_queues : (text : List ℕ) (entries : List Entry) → read_lines (lines text) ≡ Ok entries → whole_fault entries ≡ None → (path : List ℕ) →
     is_among (map (λ row. row.path) (settings_of entries).queues) path ≡ is_queue entries path
 rows_are_queues text entries is none path =
-    ap (λ (rows : List QueueRow). is_among (paths_of rows) path) (rows_of_settings entries)
-    ∙ same_bools (is_among (paths_of (rows_under 16 entries root)) path) (is_queue entries path)
-    (λ h. row_is entries (lines_kept (lines text) entries is) 16 root path (root_is entries) h)
-    (λ h. row_of_queue entries path h 16 (levels_are_few text entries is none path h))
+    ap (λ (rows : List QueueRow). is_among (paths_of rows) path) (rows_of_settings entries) ∙ queue_rows entries (lines_kept (lines text) entries is) none path

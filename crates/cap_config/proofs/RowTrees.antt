@@ -15,11 +15,13 @@ use Rattle.cap_config.specs.Seen.{is_among}
 use Rattle.cap_config.specs.Queues.{is_queue, child}
 use Rattle.cap_config.specs.Entries.{read_lines}
 use Rattle.cap_config.specs.Tests.{whole_fault}
-use Rattle.cap_config.specs.Rows.{settings_of}
+use Rattle.cap_config.specs.Rows.{settings_of, rows_under}
+use Rattle.cap_config.specs.Bounds.{are_bounded}
 use Rattle.cap_config.specs.First.{settings_in, settings_after, unless_fault}
 use Rattle.cap_config.proofs.Least.{of_queues}
-use Rattle.cap_config.proofs.RowPaths.{paths_of, first_of_two, second_of_two, same_is, rows_are_queues}
-use Rattle.cap_config.proofs.RowCounts.{rows_for, one_row_each, dotless_cons}
+use Rattle.cap_config.proofs.Kept.{lines_kept}
+use Rattle.cap_config.proofs.RowPaths.{paths_of, first_of_two, second_of_two, same_is, queue_rows}
+use Rattle.cap_config.proofs.RowCounts.{rows_for, rows_at_most, rows_of_settings, dotless_cons}
 
 -- where the settings of a text come from
 pub record IsMadeOf (text : List ℕ) (settings : Settings) : Type 0 where
@@ -81,7 +83,7 @@ is_there [] path h = absurd (cc h)
 is_there (row ∷ rows) path h = is_there_by (bytes_eq row.path path) row (find (λ r. bytes_eq r.path path) rows) (is_among (paths_of rows) path) h (is_there rows path)
 
 -- the path of each row is among those of the rows
-own_path : (rows : List QueueRow) (k : ℕ) (d : QueueRow) → k < length rows → is_among (paths_of rows) (slice_index_or rows k d).path ≡ true
+pub own_path : (rows : List QueueRow) (k : ℕ) (d : QueueRow) → k < length rows → is_among (paths_of rows) (slice_index_or rows k d).path ≡ true
 own_path [] k d h = absurd (omega arith)
 own_path (row ∷ rows) zero d h = first_of_two (bytes_eq row.path row.path) (is_among (paths_of rows) row.path) (same_is row.path)
 own_path (row ∷ rows) (suc k) d h =
@@ -116,23 +118,21 @@ fronts_are entries path h =
     (λ p name q in_list cut above front rest e. front_of_child (λ bytes. is_queue entries bytes ≡ true) p name front rest cut.dotless e q above)
     path h
 
-at_most_one : (b : Bool) (n : ℕ) → n ≡ cond b 1 0 → n ≤ 1
-at_most_one true n e = omega (arith, e)
-at_most_one false n e = omega (arith, e)
-
-rows_tree : (text : List ℕ) (entries : List Entry) → read_lines (lines text) ≡ Ok entries → whole_fault entries ≡ None → IsTree (settings_of entries).queues
-rows_tree text entries is none =
-    let rows = (settings_of entries).queues in
+-- the rows from the root on are a tree
+pub rows_tree : (entries : List Entry) → are_bounded entries ≡ true → whole_fault entries ≡ None → IsTree (rows_under 16 entries root)
+rows_tree entries all none =
+    let rows = rows_under 16 entries root in
     record {
-      distinct = distinct_rows rows (λ path. at_most_one (is_queue entries path) (rows_for rows path) (one_row_each text entries is none path));
+      distinct = distinct_rows rows (λ path. rows_at_most entries all 16 root path);
       above = λ k d h front rest e.
           let path = (slice_index_or rows k d).path in
-          let here : is_queue entries path ≡ true = sym (rows_are_queues text entries is none path) ∙ own_path rows k d h in
-          is_there rows front (rows_are_queues text entries is none front ∙ fronts_are entries path here front rest e);
+          let here : is_queue entries path ≡ true = sym (queue_rows entries all none path) ∙ own_path rows k d h in
+          is_there rows front (queue_rows entries all none front ∙ fronts_are entries path here front rest e);
     }
 
 -- the queues of the settings of a text are a tree
 pub settings_tree : (text : List ℕ) (settings : Settings) → settings_in text ≡ Some settings → IsTree settings.queues
 settings_tree text settings h =
     let of = made_of text settings h in
-    subst (λ (s : Settings). IsTree s.queues) of.made (rows_tree text of.entries of.read of.whole)
+    let rows : IsTree (settings_of of.entries).queues = subst IsTree (sym (rows_of_settings of.entries)) (rows_tree of.entries (lines_kept (lines text) of.entries of.read) of.whole) in
+    subst (λ (s : Settings). IsTree s.queues) of.made rows

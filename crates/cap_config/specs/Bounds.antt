@@ -3,8 +3,9 @@ use Rattle.std.specs.Prelude.{ℕ, List, [], ◌&&◌, Option, Some, None, Bool,
 use Rattle.std.specs.List.{list_all}
 use Rattle.cap_vector.specs.Vector.{amount_max}
 use Rattle.cap_model.specs.Limits.{applications_max}
+use Rattle.cap_model.specs.Listing.{factor_max}
 use Rattle.cap_config.specs.declared.setting.Setting.{Setting}
-use Rattle.cap_config.specs.declared.setting.Setting.TheVariants.{MaximumApplications}
+use Rattle.cap_config.specs.declared.setting.Setting.TheVariants.{MaximumApplications, UserLimitFactor}
 use Rattle.cap_config.specs.Queues.{same_setting}
 use Rattle.cap_config.specs.declared.entry.Entry.{Entry}
 use Rattle.cap_config.specs.declared.value.Value.{Value}
@@ -18,7 +19,9 @@ are_under None names = true
 
 -- the greatest number that a property may set
 abbrev pub most_of : Setting → ℕ
-most_of setting = if same_setting setting MaximumApplications then applications_max else amount_max
+most_of setting =
+    if same_setting setting MaximumApplications then applications_max else
+    if same_setting setting UserLimitFactor then factor_max else amount_max
 
 abbrev pub is_kept : ℕ → Value → Option (List ℕ) → Bool
 is_kept most (Names names) queue = are_under queue names

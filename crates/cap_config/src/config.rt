@@ -1,8 +1,9 @@
-ghost use Rattle.std.specs.Prelude.{◌≡◌, ◌≤◌, ◌++◌, ◌∷◌, [], IfOk, OnOk, true};
+ghost use Rattle.std.specs.Prelude.{◌≡◌, ◌≤◌, ◌++◌, ◌∷◌, [], IfOk, None, OnOk, true};
 ghost use Rattle.cap_vector.specs.Vector.{amount_max};
-ghost use Rattle.cap_model.specs.Limits.{applications_max};
+ghost use Rattle.cap_model.specs.Limits.{applications_max, resources_max};
 ghost use Rattle.cap_config.specs.Bounds.{are_bounded, most_of};
-ghost use Rattle.cap_config.specs.Tests.{cluster_entry, number_or};
+ghost use Rattle.cap_model.specs.Listing.{IsListing};
+ghost use Rattle.cap_config.specs.Tests.{cluster_entry, number_or, whole_fault};
 ghost use Rattle.cap_config.specs.Index.{IsIndex};
 ghost use Rattle.cap_config.specs.Rows.{row_of, rows_under, settings_of};
 
@@ -86,20 +87,23 @@ pub struct Config<const K: usize> {
 
 impl<const K: usize> Model for Config<K> {
     ghost use Rattle.std.specs.Prelude.{◌≤◌};
-    ghost use Rattle.cap_model.specs.Limits.{applications_max};
+    ghost use Rattle.cap_model.specs.Limits.{applications_max, resources_max};
     ghost use Rattle.cap_model.specs.Settings.{Settings};
+    ghost use Rattle.cap_model.specs.Listing.{IsListing};
 
     ghost Value = { Settings };
 
     ghost view = { λ c. record { queues = c.queues.items; minimum_allocation = c.minimum_allocation; maximum_allocation = c.maximum_allocation; application_limit = c.application_limit } };
 
-    ghost invariant = { λ c. c.application_limit ≤ applications_max };
+    ghost invariant = { λ c. (c.application_limit ≤ applications_max) × IsListing c.queues.items × (K ≤ resources_max) };
 }
 
 impl<const K: usize> Config<K> {
-    /// The queues: `root`, and each queue before those under it, siblings in the order of their parent's list.
+    /// The queues: `root`, and each queue before those under it, siblings in the order of their parent's list. They are
+    /// a tree of at most 16 levels, and each follows its parent or a queue under its parent.
     pub fn queues(&self) -> &[QueueRow<K>]
-        ensures { result.now ≡ self.now.queues }
+        ensures rows { result.now ≡ self.now.queues }
+        ensures listing { IsListing self.now.queues }
     {
         &self.queues
     }
@@ -122,16 +126,19 @@ impl<const K: usize> Config<K> {
     pub fn application_limit(&self) -> u64
         ensures value { result ≡ self.now.application_limit }
         ensures few { result ≤ applications_max }
+        // There are at most 1,000 kinds of resource.
+        ensures resources { K ≤ resources_max }
     {
         self.application_limit
     }
 }
 
-/// The settings that the lines make. Only want of memory is an error.
+/// The settings that lines without a fault make. Only want of memory is an error.
 #[tactic(auto, unfolding(crate::specs::Rows::settings_of, crate::specs::Keys::root))]
 pub fn config_of(alloc: Global, index: &Index) -> Result<Config<2>, AllocError>
     requires index { IsIndex index.now }
     requires bounded { are_bounded index.now.entries.now ≡ true }
+    requires whole { whole_fault index.now.entries.now ≡ None }
     ensures { IfOk result (λ config. config ≡ settings_of index.now.entries.now) }
 {
     let mut queues = Vec::new(alloc);

@@ -188,7 +188,7 @@ fn queues_are_told(rt: HostRuntime) -> Result<(), Fail> {
 
 #[test]
 fn applications_are_submitted(rt: HostRuntime) -> Result<(), Fail> {
-    // To `root.a`, to the parent queue `root`, to `root.c`, which is none, and to `root.b` once it is stopped.
+    // To `root.a`, to the parent queue `root`, to `root.c`, which is none, and to `root.b` once it is stopped. It counts in `root` too.
     plays_with_queues(
         &rt,
         "open 1\n\
@@ -199,7 +199,8 @@ fn applications_are_submitted(rt: HostRuntime) -> Result<(), Fail> {
         bytes 1 0000001001010000000506726f6f742e62027531\n\
         bytes 1 0000000d01080000000606726f6f742e61\n\
         bytes 1 0000000d01080000000706726f6f742e62\n\
-        bytes 1 00000006010a00000008\n",
+        bytes 1 00000006010a00000008\n\
+        bytes 1 0000000b01080000000904726f6f74\n",
         "opened 1\n\
         out 1 0000000f010100000001000000000000000001\n\
         out 1 0000000701010000000202\n\
@@ -208,7 +209,8 @@ fn applications_are_submitted(rt: HostRuntime) -> Result<(), Fail> {
         out 1 0000000701010000000503\n\
         out 1 0000003e0108000000060001010000000000001000000000000000000401000000000000400000000000000000100000000000000000000000000000000000000001\n\
         out 1 0000003e0108000000070000010000000000000800000000000000000800000000000000000000000000000000000000000000000000000000000000000000000000\n\
-        out 1 00000033010a00000008000000000000000001000000000000000000000000000000000000000000000000000000000000000000000000\n",
+        out 1 00000033010a00000008000000000000000001000000000000000000000000000000000000000000000000000000000000000000000000\n\
+        out 1 0000003e0108000000090001000000000000000000000000000000000000000000000000000000000000000000000000000000000000000000000000000000000001\n",
     )
 }
 
@@ -228,6 +230,107 @@ fn applications_have_a_limit(rt: HostRuntime) {
         out 1 0000000701010000000304\n",
         0,
     );
+}
+
+#[test]
+fn masters_register_and_finish(rt: HostRuntime) -> Result<(), Fail> {
+    // Each once, and there is no application 2. The master is told the allocations, from (1024, 1) to (8192, 4).
+    plays_with_queues(
+        &rt,
+        "open 1\n\
+        bytes 1 0000001001010000000106726f6f742e61027531\n\
+        bytes 1 0000000e0102000000020000000000000002\n\
+        bytes 1 0000000e0102000000030000000000000001\n\
+        bytes 1 0000000e0102000000030000000000000001\n\
+        bytes 1 0000000e0104000000040000000000000001\n\
+        bytes 1 0000000e0104000000040000000000000001\n\
+        bytes 1 00000006010a00000005\n",
+        "opened 1\n\
+        out 1 0000000f010100000001000000000000000001\n\
+        out 1 0000000701020000000205\n\
+        out 1 00000027010200000003000000000000000400000000000000000100000000000020000000000000000004\n\
+        out 1 0000000701020000000306\n\
+        out 1 0000000b0104000000040000000000\n\
+        out 1 0000000701040000000405\n\
+        out 1 00000033010a00000005000000000000000000000000000000000000000000000000000000000000000000000000000000000000000000\n",
+    )
+}
+
+#[test]
+fn an_allocate_is_answered_once_more(rt: HostRuntime) -> Result<(), Fail> {
+    // One container of (1024, 1) anywhere is asked for: before the master has registered, after it, and once more. A request of
+    // another call id has the same response id and asks for nothing: it gets the kept answer under its own call id.
+    plays_with_queues(
+        &rt,
+        "open 1\n\
+        bytes 1 0000001001010000000106726f6f742e61027531\n\
+        bytes 1 0000003801030000000500000000000000010000000000010000000100000000000000000000000100000000000004000000000000000001012a0000\n\
+        bytes 1 0000000e0102000000030000000000000001\n\
+        bytes 1 0000003801030000000500000000000000010000000000010000000100000000000000000000000100000000000004000000000000000001012a0000\n\
+        bytes 1 0000003801030000000500000000000000010000000000010000000100000000000000000000000100000000000004000000000000000001012a0000\n\
+        bytes 1 0000001601030000000800000000000000010000000000000000\n",
+        "opened 1\n\
+        out 1 0000000f010100000001000000000000000001\n\
+        out 1 0000000701030000000507\n\
+        out 1 00000027010200000003000000000000000400000000000000000100000000000020000000000000000004\n\
+        out 1 0000000f010300000005000000000100000000\n\
+        out 1 0000000f010300000005000000000100000000\n\
+        out 1 0000000f010300000008000000000100000000\n",
+    )
+}
+
+#[test]
+fn masters_go_on_by_response_ids(rt: HostRuntime) -> Result<(), Fail> {
+    // First the id before 0, under which nothing was answered. Then 0; 1 with a release of a container that is none; 2 with an
+    // ask of 9,000 MiB, which is over the maximum; 2 without it; and 1, whose answer is no longer kept.
+    plays_with_queues(
+        &rt,
+        "open 1\n\
+        bytes 1 0000001001010000000106726f6f742e61027531\n\
+        bytes 1 0000000e0102000000020000000000000001\n\
+        bytes 1 0000001601030000000300000000000000017fffffff00000000\n\
+        bytes 1 0000001601030000000400000000000000010000000000000000\n\
+        bytes 1 0000001e010300000005000000000000000100000001000000010000000000000009\n\
+        bytes 1 0000003801030000000600000000000000010000000200010000000100000000000000000000000100000000000023280000000000000001012a0000\n\
+        bytes 1 0000001601030000000700000000000000010000000200000000\n\
+        bytes 1 0000001601030000000800000000000000010000000100000000\n",
+        "opened 1\n\
+        out 1 0000000f010100000001000000000000000001\n\
+        out 1 00000027010200000002000000000000000400000000000000000100000000000020000000000000000004\n\
+        out 1 0000000701030000000308\n\
+        out 1 0000000f010300000004000000000100000000\n\
+        out 1 0000000f010300000005000000000200010000\n\
+        out 1 0000000701030000000609\n\
+        out 1 0000000f010300000007000000000300000000\n\
+        out 1 0000000701030000000808\n",
+    )
+}
+
+#[test]
+fn nodes_report_and_go(rt: HostRuntime) -> Result<(), Fail> {
+    // The node reports twice under the response id 0, which is one report, and under 1 a container that it does not have. Once
+    // it is gone there is no node 1, and the next one is node 2.
+    plays_with_queues(
+        &rt,
+        "open 1\n\
+        bytes 1 0000001d010500000002026e31032f723100000000000020000000000000000008\n\
+        bytes 1 000000140106000000050000000000000001000000000000\n\
+        bytes 1 000000140106000000050000000000000001000000000000\n\
+        bytes 1 0000001c01060000000600000000000000010000000100010000000000000009\n\
+        bytes 1 0000000e0107000000070000000000000001\n\
+        bytes 1 0000000e0107000000070000000000000001\n\
+        bytes 1 000000140106000000080000000000000001000000020000\n\
+        bytes 1 0000001d010500000009026e31032f723100000000000020000000000000000008\n",
+        "opened 1\n\
+        out 1 0000000f010500000002000000000000000001\n\
+        out 1 000000110106000000050000000001000000000000\n\
+        out 1 000000110106000000050000000001000000000000\n\
+        out 1 000000110106000000060000000002000100000000\n\
+        out 1 0000000b0107000000070000000000\n\
+        out 1 000000070107000000070b\n\
+        out 1 000000070106000000080b\n\
+        out 1 0000000f010500000009000000000000000002\n",
+    )
 }
 
 #[test]
@@ -487,5 +590,55 @@ fn refused_memory_is_told(rt: HostRuntime) {
         assert_eq!(rt; status, 3);
         assert!(rt; printed.ends_with(b"no memory\n"));
         assert!(rt; printed.starts_with(b"opened 1\n") || printed.len() == 10);
+    }
+}
+
+// Under `--fail-alloc` this passes whichever allocation fails: a call is answered as ever, or a Submit or an Allocate that memory
+// was refused; after such a Submit the others know no application; and a script that stops says so last.
+#[test]
+fn refused_memory_is_told_to_masters(rt: HostRuntime) {
+    let mut input = b"conf yarn.scheduler.capacity.root.queues=a\n\
+        open 1\n\
+        bytes 1 0000001001010000000106726f6f742e61027531\n\
+        bytes 1 0000000e0102000000030000000000000001\n\
+        bytes 1 0000003801030000000500000000000000010000000000010000000100000000000000000000000100000000000004000000000000000001012a0000\n\
+        bytes 1 0000003801030000000500000000000000010000000000010000000100000000000000000000000100000000000004000000000000000001012a0000\n\
+        bytes 1 0000000e0104000000040000000000000001\n"
+        .as_slice();
+    let answers: [&[u8]; 7] = [
+        b"opened 1",
+        b"out 1 0000000f010100000001000000000000000001",
+        b"out 1 00000027010200000003000000000000000400000000000000000100000000000020000000000000000004",
+        b"out 1 0000000f010300000005000000000100000000",
+        b"out 1 0000000f010300000005000000000100000000",
+        b"out 1 0000000b0104000000040000000000",
+        b"",
+    ];
+    let mut output = [0u8; 400];
+    let mut room = output.as_mut_slice();
+    let status = replay(
+        rt.alloc(),
+        &mut Counted::new(&mut input),
+        &mut Counted::new(&mut room),
+    );
+    let left = room.len();
+    let printed = output.get(..400 - left.min(400)).unwrap_or(&[]);
+    let mut is_unknown = false;
+    for (i, (line, answer)) in printed.split(|b| *b == b'\n').zip(answers).enumerate() {
+        let is_refused = matches!(i, 1 | 3 | 4) && line.ends_with(b"14");
+        is_unknown = is_unknown || is_refused && i == 1;
+        assert!(rt;
+            line == answer
+                || is_refused
+                || is_unknown && line.ends_with(b"05")
+                || status == 3 && (line.is_empty() || line == b"no memory".as_slice()),
+            "line {i}"
+        );
+    }
+    if status != 0 {
+        assert_eq!(rt; status, 3);
+        assert!(rt; printed.ends_with(b"no memory\n"));
+    } else {
+        assert_eq!(rt; printed.split(|b| *b == b'\n').count(), 7);
     }
 }

@@ -5,4 +5,7 @@ mod calls;
 #[cfg(test)]
 mod tests;
 
+pub use crate::calls::allocate::allocate;
+pub use crate::calls::finish_master::finish_master;
+pub use crate::calls::register_master::register_master;
 pub use crate::calls::submit::submit;

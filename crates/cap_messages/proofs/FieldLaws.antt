@@ -2,14 +2,14 @@
 use Rattle.std.proofs.Common.{◌≡◌, ℕ, zero, suc, ◌+◌, ◌^◌, ◌<◌, ◌≤◌, Bool, true, false, cond, List, [], ◌∷◌, ◌++◌, length, get_or, take, drop, Option, Some, None, refl, sym, ap, subst, ◌∙◌, append_assoc, arith, inl, inr, ◌⊎◌}
 use Rattle.std.specs.Prelude.{◌==◌, nat_lt, nat_le}
 use Rattle.std.specs.List.{flat_map, AllByRecursion}
-use Rattle.std.specs.Int.{Width, w32, w64, byte_len, from_be_bytes, to_be_bytes}
+use Rattle.std.specs.Int.{Width, w16, w32, w64, byte_len, from_be_bytes, to_be_bytes}
 use Rattle.std.proofs.lemmas.Bool.{cases_lt, eqb-true, ltb-false, le-ltb}
 use Rattle.std.proofs.lemmas.Bool.Decides.{nat_tests}
 use Rattle.std.proofs.lemmas.List.{take_at, drop_at, take-append-drop, length-append, length-take, get_or-drop, get_or-take, get_or_past, append-nil, nil_from_length}
-use Rattle.std.proofs.lemmas.Nat.{be_bytes_4, be_bytes_8, from_be_bytes-to_be_bytes_4, from_be_bytes-to_be_bytes_8}
+use Rattle.std.proofs.lemmas.Nat.{be_bytes_2, be_bytes_4, be_bytes_8, from_be_bytes-to_be_bytes_2, from_be_bytes-to_be_bytes_4, from_be_bytes-to_be_bytes_8}
 use Rattle.cap_vector.specs.Vector.{IsVector}
-use Rattle.cap_messages.specs.Spelling.{text, resource, flag}
-use Rattle.cap_messages.specs.Fields.{◌>>=◌, number_at, byte_at, flag_of_byte, flag_at, text_at, amount_at, amounts_at, pair_at, passing_at, times_at, all_at}
+use Rattle.cap_messages.specs.Spelling.{text, resource, flag, listed, FitsListed}
+use Rattle.cap_messages.specs.Fields.{◌>>=◌, number_at, byte_at, flag_of_byte, flag_at, text_at, amount_at, amounts_at, pair_at, passing_at, times_at, all_at, counted_at}
 
 abbrev pub AreBytes : List ℕ → Type 0
 AreBytes bytes = (i : ℕ) → get_or bytes i 0 < 256
@@ -183,6 +183,14 @@ pub record IsWide (w : Width) (limit : ℕ) : Type 0 where
   pub again : (n : ℕ) → n < limit → from_be_bytes w (to_be_bytes w n) ≡ n
   pub below : (bytes : List ℕ) → AreBytes bytes → from_be_bytes w bytes < limit
 
+pub wide16 : IsWide w16 (2 ^ 16)
+wide16 = record {
+  len = λ n. refl;
+  back = λ bytes len fits. be_bytes_2 bytes _ len fits refl;
+  again = λ n lt. from_be_bytes-to_be_bytes_2 n lt;
+  below = λ bytes fits. omega (arith, fits 0, fits 1);
+}
+
 pub wide32 : IsWide w32 (2 ^ 32)
 wide32 = record {
   len = λ n. refl;
@@ -222,6 +230,53 @@ is_u32 = is_number w32 (2 ^ 32) wide32
 
 pub is_u64 : IsField (number_at w64) (to_be_bytes w64) (λ n. n < 2 ^ 64)
 is_u64 = is_number w64 (2 ^ 64) wide64
+
+-- ---- lists
+
+-- a field whose value is made of another's
+pub is_made : {A B : Type 0} (f : A → B) (g : B → A) (field : List ℕ → Option (A × List ℕ)) (s : A → List ℕ) (F : A → Type 0) → ((x : A) → g (f x) ≡ x) → ((y : B) → f (g y) ≡ y) → IsField field s F →
+    IsField (λ bytes. field bytes >>= λ x. Some (f x.0, x.1)) (λ y. s (g y)) (λ y. F (g y))
+is_made {A} {B} f g field s F back forth is = record {
+  takes = λ bytes y rest fits e.
+      let a = bind_some (field bytes) (λ x. Some (f x.0, x.1)) (y, rest) e in
+      let t = is.takes bytes a.0.0 a.0.1 fits a.1 in
+      let made : B × List ℕ = (f a.0.0, a.0.1) in
+      let same : made ≡ (y, rest) = cc (a.2) in
+      subst (λ (p : B × List ℕ). Takes bytes (s (g p.0)) p.1 × F (g p.0)) same (rw (back a.0.0) t);
+  again = λ y rest fits. ap (λ (o : Option (A × List ℕ)). o >>= λ x. Some (f x.0, x.1)) (is.again (g y) rest fits) ∙ ap (λ (z : B). Some (z, rest)) (forth y);
+}
+
+pub is_u16 : IsField (number_at w16) (to_be_bytes w16) (λ n. n < 2 ^ 16)
+is_u16 = is_number w16 (2 ^ 16) wide16
+
+counted_takes : {A : Type 0} (most : ℕ) (field : List ℕ → Option (A × List ℕ)) (s : A → List ℕ) (F : A → Type 0) → IsField field s F → (bytes : List ℕ) (xs : List A) (rest : List ℕ) → AreBytes bytes →
+    counted_at most field bytes ≡ Some (xs, rest) → Takes bytes (listed s xs) rest × FitsListed most F xs
+unfolding counted_at listed
+counted_takes {A} most field s F is bytes xs rest fits e =
+    let count = is_passing (λ n. nat_le n most) (number_at w16) (to_be_bytes w16) (λ n. n < 2 ^ 16) is_u16 in
+    let a = bind_some (passing_at (λ n. nat_le n most) (number_at w16) bytes) (λ n. times_at n.0 field n.1) (xs, rest) e in
+    let first = count.takes bytes a.0.0 a.0.1 fits a.1 in
+    let more = (is_times a.0.0 field s F is).takes a.0.1 xs rest first.0.rest_fits a.2 in
+    let len : a.0.0 ≡ length xs = sym more.1.0 in
+    let small : nat_le a.0.0 most ≡ true = first.1.1 in (
+      subst (λ n. Takes bytes (to_be_bytes w16 n ++ flat_map s xs) rest) len (Takes-then bytes (to_be_bytes w16 a.0.0) a.0.1 (flat_map s xs) rest first.0 more.0),
+      record { few = grind (arith, nat_tests, small, len); each = more.1.1 },
+    )
+
+counted_again : {A : Type 0} (most : ℕ) (small : most < 2 ^ 16) (field : List ℕ → Option (A × List ℕ)) (s : A → List ℕ) (F : A → Type 0) → IsField field s F → (xs : List A) (rest : List ℕ) → FitsListed most F xs →
+    counted_at most field (listed s xs ++ rest) ≡ Some (xs, rest)
+unfolding counted_at listed
+counted_again {A} most small field s F is xs rest fits =
+    let count = is_passing (λ n. nat_le n most) (number_at w16) (to_be_bytes w16) (λ n. n < 2 ^ 16) is_u16 in
+    let few : length xs ≤ most = fits.few in
+    let passes : nat_le (length xs) most ≡ true = grind (arith, nat_tests, few) in
+    ap (λ (bs : List ℕ). passing_at (λ n. nat_le n most) (number_at w16) bs >>= λ n. times_at n.0 field n.1) (append_assoc (to_be_bytes w16 (length xs)) (flat_map s xs) rest)
+    ∙ ap (λ (o : Option (ℕ × List ℕ)). o >>= λ n. times_at n.0 field n.1) (count.again (length xs) (flat_map s xs ++ rest) (omega (arith, few, small), passes))
+    ∙ (is_times (length xs) field s F is).again xs rest (refl, fits.each)
+
+-- a list with its length before it
+pub is_counted : {A : Type 0} (most : ℕ) → most < 2 ^ 16 → (field : List ℕ → Option (A × List ℕ)) (s : A → List ℕ) (F : A → Type 0) → IsField field s F → IsField (counted_at most field) (listed s) (FitsListed most F)
+is_counted most small field s F is = record { takes = counted_takes most field s F is; again = counted_again most small field s F is }
 
 -- ---- texts
 

@@ -1,17 +1,23 @@
 -- A reply is read again from its spelling, so no two share one. No function reads replies: this reader serves the law alone.
-use Rattle.std.proofs.Common.{◌≡◌, ℕ, ◌^◌, ◌<◌, ◌≤◌, List, [], ◌∷◌, ◌++◌, length, Option, Some, None, refl, ap, ◌∙◌, append_assoc, arith, ◌⊎◌, inl, inr, zero, suc, Bool}
+use Rattle.std.proofs.Common.{◌≡◌, ℕ, ◌^◌, ◌<◌, ◌≤◌, List, [], ◌∷◌, ◌++◌, length, Option, Some, None, refl, sym, ap, ◌∙◌, append_assoc, true, arith, ◌⊎◌, inl, inr, zero, suc, Bool}
 use Rattle.std.specs.Prelude.{◌==◌, if◌then◌else◌, is_some, unwrap_or, IfSome}
-use Rattle.std.specs.Int.{w32, w64, to_be_bytes}
+use Rattle.std.specs.List.{flat_map, AllByRecursion}
+use Rattle.std.specs.Int.{w16, w32, w64, to_be_bytes}
+use Rattle.std.proofs.lemmas.List.{append-nil}
 use Rattle.cap_vector.specs.Vector.{IsResource, IsSum, amount, amount_max, sum_max, zeros}
 use Rattle.cap_model.specs.Refusals.{status_of}
 use Rattle.cap_model.specs.declared.refusal.Refusal.{Refusal}
-use Rattle.cap_model.specs.declared.refusal.Refusal.TheVariants.{UnknownQueue, NotLeaf, QueueStopped, TooManyApplications, HostTaken, TotalTooLarge, TooManyNodes, ZeroResource, NumbersSpent, NoMemory}
+use Rattle.cap_model.specs.declared.refusal.Refusal.TheVariants.{UnknownQueue, NotLeaf, QueueStopped, TooManyApplications, UnknownApplication, AlreadyRegistered, NotRegistered, BadResponseId, AskTooLarge, TooManyAsks, UnknownNode, HostTaken, TotalTooLarge, TooManyNodes, ZeroResource, NumbersSpent, NoMemory}
 use Rattle.cap_model.specs.declared.reply.Reply.{Reply}
-use Rattle.cap_model.specs.declared.reply.Reply.TheVariants.{Refused, Submit, RegisterNode, QueueInfo, SetQueueState, ClusterInfo}
-use Rattle.cap_messages.specs.Spelling.{resource, flag, counts, queue_report, reply_body, IsOfKind, FitsReply, IsReply, fault_reply}
-use Rattle.cap_messages.specs.Fields.{◌>>=◌, byte_at, flag_at, number_at, amounts_at, pair_at, all_at}
+use Rattle.cap_model.specs.declared.reply.Reply.TheVariants.{Refused, Submit, RegisterMaster, Allocate, FinishMaster, RegisterNode, Heartbeat, NodeGone, QueueInfo, SetQueueState, ClusterInfo}
+use Rattle.cap_model.specs.Calls.{GrantedContainer, EndedContainer, Cause, HeartbeatReply}
+use Rattle.cap_model.specs.News.{cause_number}
+use Rattle.cap_model.specs.declared.replies.AllocateReply.{AllocateReply}
+use Rattle.cap_messages.specs.Texts.{is_place}
+use Rattle.cap_messages.specs.Spelling.{told_max, told, FitsListed, grant, FitsGrant, end, FitsEnd, allocated, FitsAllocated, beat, FitsBeat, text, resource, flag, counts, queue_report, reply_body, IsOfKind, FitsReply, IsReply, fault_reply}
+use Rattle.cap_messages.specs.Fields.{◌>>=◌, byte_at, flag_at, number_at, amounts_at, text_at, pair_at, passing_at, times_at, all_at}
 use Rattle.cap_messages.specs.Reading.{head_at}
-use Rattle.cap_messages.proofs.FieldLaws.{some_is, IsField, is_pair, all_again, is_flag, is_u32, is_u64, is_amounts}
+use Rattle.cap_messages.proofs.FieldLaws.{some_is, IsField, is_pair, all_again, is_flag, is_byte, is_u16, is_u32, is_u64, is_amounts, is_text_passing, is_times, is_made, is_field_of, bind_some, guard_then, AreBytes, Takes}
 use Rattle.cap_messages.proofs.RequestLaws.{FitsHead, is_head}
 
 -- ---- refusals
@@ -22,6 +28,13 @@ refusal_at status =
     if status == 2 then Some NotLeaf else
     if status == 3 then Some QueueStopped else
     if status == 4 then Some TooManyApplications else
+    if status == 5 then Some UnknownApplication else
+    if status == 6 then Some AlreadyRegistered else
+    if status == 7 then Some NotRegistered else
+    if status == 8 then Some BadResponseId else
+    if status == 9 then Some AskTooLarge else
+    if status == 10 then Some TooManyAsks else
+    if status == 11 then Some UnknownNode else
     if status == 12 then Some HostTaken else
     if status == 13 then Some TotalTooLarge else
     if status == 14 then Some TooManyNodes else
@@ -35,6 +48,13 @@ refusal_again UnknownQueue = refl
 refusal_again NotLeaf = refl
 refusal_again QueueStopped = refl
 refusal_again TooManyApplications = refl
+refusal_again UnknownApplication = refl
+refusal_again AlreadyRegistered = refl
+refusal_again NotRegistered = refl
+refusal_again BadResponseId = refl
+refusal_again AskTooLarge = refl
+refusal_again TooManyAsks = refl
+refusal_again UnknownNode = refl
 refusal_again HostTaken = refl
 refusal_again TotalTooLarge = refl
 refusal_again TooManyNodes = refl
@@ -117,6 +137,165 @@ is_report =
     (is_amounts 2 sum_max (omega arith)))
     is_u32
 
+-- ---- the bounds of a container
+
+abbrev Bounds : Type 0
+Bounds = List ℕ × List ℕ
+
+abbrev bounds_at : List ℕ → Option (Bounds × List ℕ)
+bounds_at bytes = pair_at (amounts_at 2 amount_max) (amounts_at 2 amount_max) bytes
+
+abbrev bounds_of : Bounds → List ℕ
+bounds_of x = resource x.0 ++ resource x.1
+
+abbrev FitsBounds : Bounds → Type 0
+FitsBounds x = IsResource 2 x.0 × IsResource 2 x.1
+
+is_bounds : IsField bounds_at bounds_of FitsBounds
+is_bounds = is_pair (amounts_at 2 amount_max) resource (IsResource 2) (amounts_at 2 amount_max) resource (IsResource 2) (is_amounts 2 amount_max (omega arith)) (is_amounts 2 amount_max (omega arith))
+
+-- ---- lists with their length in one byte
+
+abbrev told_at : {A : Type 0} → (List ℕ → Option (A × List ℕ)) → List ℕ → Option (List A × List ℕ)
+told_at field bytes = do
+  n ← byte_at bytes
+  times_at n.0 field n.1
+
+told_again : {A : Type 0} (field : List ℕ → Option (A × List ℕ)) (s : A → List ℕ) (F : A → Type 0) → IsField field s F → (xs : List A) (rest : List ℕ) → FitsListed told_max F xs → told_at field (told s xs ++ rest) ≡ Some (xs, rest)
+told_again field s F is xs rest fits = (is_times (length xs) field s F is).again xs rest (refl, fits.each)
+
+-- ---- what an Allocate gives
+
+abbrev Grant : Type 0
+Grant = ℕ × (ℕ × (ℕ × (ℕ × (List ℕ × List ℕ))))
+
+abbrev FitsGrantParts : Grant → Type 0
+FitsGrantParts x = (x.0 < 2 ^ 64) × ((x.1.0 < 2 ^ 32) × ((x.1.1.0 < 2 ^ 64) × ((x.1.1.1.0 < 2 ^ 64) × ((is_place x.1.1.1.1.0 ≡ true) × IsResource 2 x.1.1.1.1.1))))
+
+abbrev grant_parts : Grant → List ℕ
+grant_parts x = to_be_bytes w64 x.0 ++ (to_be_bytes w32 x.1.0 ++ (to_be_bytes w64 x.1.1.0 ++ (to_be_bytes w64 x.1.1.1.0 ++ (text x.1.1.1.1.0 ++ resource x.1.1.1.1.1))))
+
+abbrev grant_parts_at : List ℕ → Option (Grant × List ℕ)
+grant_parts_at bytes = pair_at (number_at w64) (pair_at (number_at w32) (pair_at (number_at w64) (pair_at (number_at w64) (pair_at (passing_at is_place text_at) (amounts_at 2 amount_max))))) bytes
+
+is_grant_parts : IsField grant_parts_at grant_parts FitsGrantParts
+is_grant_parts =
+    is_pair _ _ _ _ _ _ is_u64
+    (is_pair _ _ _ _ _ _ is_u32
+    (is_pair _ _ _ _ _ _ is_u64
+    (is_pair _ _ _ _ _ _ is_u64
+    (is_pair (passing_at is_place text_at) text (λ t. is_place t ≡ true) (amounts_at 2 amount_max) resource (IsResource 2) (is_text_passing is_place) (is_amounts 2 amount_max (omega arith))))))
+
+abbrev grant_from : Grant → GrantedContainer
+grant_from x = record { container = x.0; key = record { priority = x.1.0; request = x.1.1.0 }; node = x.1.1.1.0; host = x.1.1.1.1.0; resource = x.1.1.1.1.1 }
+
+abbrev grant_to : GrantedContainer → Grant
+grant_to g = (g.container, (g.key.priority, (g.key.request, (g.node, (g.host, g.resource)))))
+
+abbrev grant_at : List ℕ → Option (GrantedContainer × List ℕ)
+grant_at bytes = do
+  x ← grant_parts_at bytes
+  Some (grant_from x.0, x.1)
+
+is_grant : IsField grant_at grant FitsGrant
+unfolding grant
+is_grant =
+    is_field_of grant_at grant (λ g. FitsGrantParts (grant_to g)) FitsGrant
+    (is_made grant_from grant_to grant_parts_at grant_parts FitsGrantParts (λ x. refl) (λ g. refl) is_grant_parts)
+    (λ g h. record { container = h.0; priority = h.1.0; request = h.1.1.0; node = h.1.1.1.0; host = h.1.1.1.1.0; resource = h.1.1.1.1.1 })
+    (λ g h. (h.container, (h.priority, (h.request, (h.node, (h.host, h.resource))))))
+
+abbrev cause_of : ℕ → Cause
+cause_of n = if n == 1 then Cause.released else if n == 2 then Cause.ended_on_node else Cause.node_lost
+
+cause_again : (c : Cause) → cause_of (cause_number c) ≡ c
+cause_again Cause.released = refl
+cause_again Cause.ended_on_node = refl
+cause_again Cause.node_lost = refl
+
+-- the end of a container, whatever the byte of its cause
+abbrev end_at : List ℕ → Option (EndedContainer × List ℕ)
+end_at bytes = do
+  n ← number_at w64 bytes
+  b ← byte_at n.1
+  Some (record { container = n.0; cause = cause_of b.0 }, b.1)
+
+end_again : (e : EndedContainer) (rest : List ℕ) → FitsEnd e → end_at (end e ++ rest) ≡ Some (e, rest)
+unfolding end
+end_again e rest fits =
+    ap end_at (append_assoc (to_be_bytes w64 e.container) (cause_number e.cause ∷ []) rest)
+    ∙ ap (λ (o : Option (ℕ × List ℕ)). o >>= λ n. byte_at n.1 >>= λ b. Some (record { container = n.0; cause = cause_of b.0 }, b.1)) (is_u64.again e.container (cause_number e.cause ∷ rest) fits)
+    ∙ ap (λ (c : Cause). Some (record { container = e.container; cause = c }, rest)) (cause_again e.cause)
+
+ends_again : (es : List EndedContainer) (rest : List ℕ) → AllByRecursion FitsEnd es → times_at (length es) end_at (flat_map end es ++ rest) ≡ Some (es, rest)
+ends_again [] rest fits = refl
+ends_again (e ∷ es) rest fits = ap (times_at (suc (length es)) end_at) (append_assoc (end e) (flat_map end es) rest) ∙ rw (end_again e (flat_map end es ++ rest) fits.0, ends_again es rest fits.1) refl
+
+abbrev Allocated : Type 0
+Allocated = (ℕ × ℕ) × (List GrantedContainer × List EndedContainer)
+
+abbrev allocated_at : List ℕ → Option (Allocated × List ℕ)
+allocated_at bytes = do
+  response ← number_at w32 bytes
+  ignored ← number_at w16 response.1
+  grants ← told_at grant_at ignored.1
+  ends ← told_at end_at grants.1
+  Some (((response.0, ignored.0), (grants.0, ends.0)), ends.1)
+
+abbrev from_response : Option (ℕ × List ℕ) → Option (Allocated × List ℕ)
+from_response o = do
+  response ← o
+  ignored ← number_at w16 response.1
+  grants ← told_at grant_at ignored.1
+  ends ← told_at end_at grants.1
+  Some (((response.0, ignored.0), (grants.0, ends.0)), ends.1)
+
+abbrev from_ignored : ℕ → Option (ℕ × List ℕ) → Option (Allocated × List ℕ)
+from_ignored response o = do
+  ignored ← o
+  grants ← told_at grant_at ignored.1
+  ends ← told_at end_at grants.1
+  Some (((response, ignored.0), (grants.0, ends.0)), ends.1)
+
+abbrev from_grants : ℕ → ℕ → Option (List GrantedContainer × List ℕ) → Option (Allocated × List ℕ)
+from_grants response ignored o = do
+  grants ← o
+  ends ← told_at end_at grants.1
+  Some (((response, ignored), (grants.0, ends.0)), ends.1)
+
+abbrev from_ends : ℕ → ℕ → List GrantedContainer → Option (List EndedContainer × List ℕ) → Option (Allocated × List ℕ)
+from_ends response ignored grants o = do
+  ends ← o
+  Some (((response, ignored), (grants, ends.0)), ends.1)
+
+allocated_again : (response ignored : ℕ) (grants : List GrantedContainer) (ends : List EndedContainer) → response < 2 ^ 32 → ignored < 2 ^ 16 → FitsListed told_max FitsGrant grants → FitsListed told_max FitsEnd ends →
+    allocated_at (to_be_bytes w32 response ++ (to_be_bytes w16 ignored ++ (told grant grants ++ told end ends))) ≡ Some (((response, ignored), (grants, ends)), [])
+allocated_again response ignored grants ends r i g e =
+    ap from_response (is_u32.again response (to_be_bytes w16 ignored ++ (told grant grants ++ told end ends)) r)
+    ∙ ap (from_ignored response) (is_u16.again ignored (told grant grants ++ told end ends) i)
+    ∙ ap (from_grants response ignored) (told_again grant_at grant FitsGrant is_grant grants (told end ends) g)
+    ∙ ap (from_ends response ignored grants) (ap (times_at (length ends) end_at) (sym (append-nil (flat_map end ends))) ∙ ends_again ends [] e.each)
+
+abbrev reply_from : Allocated → Reply 2
+reply_from x = Allocate (record { response = x.0.0; ignored = x.0.1; grants = record { items = x.1.0 }; ends = record { items = x.1.1 } })
+
+-- ---- what a Heartbeat gives
+
+abbrev Beat : Type 0
+Beat = ℕ × (ℕ × ℕ)
+
+abbrev beat_at : List ℕ → Option (Beat × List ℕ)
+beat_at bytes = pair_at (number_at w32) (pair_at (number_at w16) (number_at w32)) bytes
+
+abbrev beat_of : Beat → List ℕ
+beat_of x = to_be_bytes w32 x.0 ++ (to_be_bytes w16 x.1.0 ++ to_be_bytes w32 x.1.1)
+
+abbrev FitsBeatParts : Beat → Type 0
+FitsBeatParts x = (x.0 < 2 ^ 32) × ((x.1.0 < 2 ^ 16) × (x.1.1 < 2 ^ 32))
+
+is_beat : IsField beat_at beat_of FitsBeatParts
+is_beat = is_pair _ _ _ _ _ _ is_u32 (is_pair (number_at w16) (to_be_bytes w16) (λ n. n < 2 ^ 16) (number_at w32) (to_be_bytes w32) (λ n. n < 2 ^ 32) is_u16 is_u32)
+
 -- ---- what a ClusterInfo gives
 
 abbrev Counts : Type 0
@@ -162,13 +341,24 @@ submitted application = Some (Submit application)
 abbrev registered : ℕ → Option (Reply 2)
 registered node = Some (RegisterNode node)
 
+abbrev finished : ℕ → Option (Reply 2)
+finished ended = Some (FinishMaster ended)
+
+abbrev lost : ℕ → Option (Reply 2)
+lost ended = Some (NodeGone ended)
+
 abbrev reported : Report → Option (Reply 2)
 reported x = Some (QueueInfo x.0.0.0.0.0 x.0.0.0.0.1 x.0.0.0.1 (maximum_of x.0.0.1) x.0.1 x.1)
 
 abbrev granted_at : ℕ → List ℕ → Option (Reply 2)
 granted_at kind bytes =
     if kind == 1 then (all_at (number_at w64) bytes >>= submitted) else
+    if kind == 2 then (all_at bounds_at bytes >>= λ x. Some (RegisterMaster x.0 x.1)) else
+    if kind == 3 then (all_at allocated_at bytes >>= λ x. Some (reply_from x)) else
+    if kind == 4 then (all_at (number_at w32) bytes >>= finished) else
     if kind == 5 then (all_at (number_at w64) bytes >>= registered) else
+    if kind == 6 then (all_at beat_at bytes >>= λ x. Some (Heartbeat (record { response = x.0; ignored = x.1.0; live = x.1.1 }))) else
+    if kind == 7 then (all_at (number_at w32) bytes >>= lost) else
     if kind == 8 then (all_at report_at bytes >>= reported) else
     if kind == 9 then (if length bytes == 0 then Some SetQueueState else None) else
     if kind == 10 then (all_at info_at bytes >>= λ x. Some (ClusterInfo x.0.0 x.0.1.0 x.0.1.1 x.1.0 x.1.1)) else
@@ -184,6 +374,13 @@ refused_again kind UnknownQueue = refl
 refused_again kind NotLeaf = refl
 refused_again kind QueueStopped = refl
 refused_again kind TooManyApplications = refl
+refused_again kind UnknownApplication = refl
+refused_again kind AlreadyRegistered = refl
+refused_again kind NotRegistered = refl
+refused_again kind BadResponseId = refl
+refused_again kind AskTooLarge = refl
+refused_again kind TooManyAsks = refl
+refused_again kind UnknownNode = refl
 refused_again kind HostTaken = refl
 refused_again kind TotalTooLarge = refl
 refused_again kind TooManyNodes = refl
@@ -197,6 +394,29 @@ node_again node fits = ap (λ (o : Option ℕ). o >>= registered) (all_again (nu
 application_again : (application : ℕ) → application < 2 ^ 64 → granted_at 1 (to_be_bytes w64 application) ≡ Some (Submit application)
 application_again application fits = ap (λ (o : Option ℕ). o >>= submitted) (all_again (number_at w64) (to_be_bytes w64) (λ n. n < 2 ^ 64) is_u64 application fits)
 
+bounds_again : (minimum maximum : List ℕ) → IsResource 2 minimum → IsResource 2 maximum → granted_at 2 (resource minimum ++ resource maximum) ≡ Some (RegisterMaster minimum maximum)
+bounds_again minimum maximum a b =
+    let x : Bounds = (minimum, maximum) in
+    ap (λ (o : Option Bounds). o >>= λ x. Some (RegisterMaster x.0 x.1)) (all_again bounds_at bounds_of FitsBounds is_bounds x (a, b))
+
+allocate_again : (r : AllocateReply 2) → FitsAllocated r → granted_at 3 (allocated r) ≡ Some (Allocate r)
+unfolding allocated
+allocate_again r fits =
+    ap (λ (o : Option (Allocated × List ℕ)). (o >>= λ x. if length x.1 == 0 then Some x.0 else None) >>= λ x. Some (reply_from x))
+    (allocated_again r.response r.ignored r.grants.items r.ends.items fits.response fits.ignored fits.grants fits.ends)
+
+finish_again : (ended : ℕ) → ended < 2 ^ 32 → granted_at 4 (to_be_bytes w32 ended) ≡ Some (FinishMaster ended)
+finish_again ended fits = ap (λ (o : Option ℕ). o >>= finished) (all_again (number_at w32) (to_be_bytes w32) (λ n. n < 2 ^ 32) is_u32 ended fits)
+
+beat_again : (r : HeartbeatReply) → FitsBeat r → granted_at 6 (beat r) ≡ Some (Heartbeat r)
+unfolding beat
+beat_again r fits =
+    let x : Beat = (r.response, (r.ignored, r.live)) in
+    ap (λ (o : Option Beat). o >>= λ x. Some (Heartbeat (record { response = x.0; ignored = x.1.0; live = x.1.1 }))) (all_again beat_at beat_of FitsBeatParts is_beat x (fits.response, (fits.ignored, fits.live)))
+
+lost_again : (ended : ℕ) → ended < 2 ^ 32 → granted_at 7 (to_be_bytes w32 ended) ≡ Some (NodeGone ended)
+lost_again ended fits = ap (λ (o : Option ℕ). o >>= lost) (all_again (number_at w32) (to_be_bytes w32) (λ n. n < 2 ^ 32) is_u32 ended fits)
+
 report_again : (x : Report) → FitsReport x → granted_at 8 (report_of x) ≡ reported x
 report_again x fits = ap (λ (o : Option Report). o >>= reported) (all_again report_at report_of FitsReport is_report x fits)
 
@@ -207,7 +427,12 @@ reply_body_again : (kind : ℕ) (reply : Reply 2) → IsOfKind kind reply → Fi
 unfolding queue_report
 reply_body_again kind (Refused refusal) of_kind fits = refused_again kind refusal
 reply_body_again kind (Submit application) of_kind fits = rw of_kind (application_again application fits)
+reply_body_again kind (RegisterMaster minimum maximum) of_kind fits = rw of_kind (bounds_again minimum maximum fits.0 fits.1)
+reply_body_again kind (Allocate reply) of_kind fits = rw of_kind (allocate_again reply fits)
+reply_body_again kind (FinishMaster ended) of_kind fits = rw of_kind (finish_again ended fits)
 reply_body_again kind (RegisterNode node) of_kind fits = rw of_kind (node_again node fits)
+reply_body_again kind (Heartbeat reply) of_kind fits = rw of_kind (beat_again reply fits)
+reply_body_again kind (NodeGone ended) of_kind fits = rw of_kind (lost_again ended fits)
 reply_body_again kind (QueueInfo running leaf guaranteed maximum used applications) of_kind fits =
     let x : Report = (((((running, leaf), guaranteed), limit_to maximum), used), applications) in
     let ok : FitsReport x = (((((tt, tt), fits.0), limit_fits maximum fits.1), fits.2), fits.3) in

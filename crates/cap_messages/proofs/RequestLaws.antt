@@ -1,23 +1,26 @@
 -- What is read is spelled so, and what is spelled so is read.
 use Rattle.std.proofs.Common.{◌≡◌, ℕ, ◌^◌, ◌<◌, Bool, true, List, [], ◌∷◌, ◌++◌, length, Some, refl, sym, ap, subst, ◌∙◌, arith, inl, inr}
-use Rattle.std.specs.Prelude.{◌==◌, Result, Ok, Err, IfOk, IsErrOf, slice_index}
-use Rattle.std.specs.Int.{w32, to_be_bytes}
+use Rattle.std.specs.Prelude.{◌==◌, if◌then◌else◌, Option, None, Result, Ok, Err, IfOk, IsErrOf, slice_index}
+use Rattle.std.specs.Int.{w32, w64, to_be_bytes}
 use Rattle.std.proofs.lemmas.Bool.{eqb-true}
 use Rattle.std.proofs.lemmas.List.{nil_from_length}
 use Rattle.cap_vector.specs.Vector.{IsResource, amount_max}
 use Rattle.cap_model.specs.declared.request.Request.{Request}
-use Rattle.cap_model.specs.declared.request.Request.TheVariants.{Submit, RegisterNode, QueueInfo, SetQueueState, ClusterInfo}
+use Rattle.cap_model.specs.declared.request.Request.TheVariants.{Submit, RegisterMaster, Allocate, FinishMaster, RegisterNode, Heartbeat, NodeGone, QueueInfo, SetQueueState, ClusterInfo}
 use Rattle.cap_messages.specs.declared.fault.MessageFault.{MessageFault}
 use Rattle.cap_messages.specs.declared.fault.MessageFault.TheVariants as faults
-use Rattle.cap_messages.specs.Texts.{is_host, is_rack, is_path, is_user}
-use Rattle.cap_messages.specs.Spelling.{text, resource, flag, kind_of, request_body, FitsRequest, request_bytes, IsRequest, IsNoRequest}
-use Rattle.cap_messages.specs.Fields.{number_at, byte_at, text_at, flag_at, amounts_at, pair_at, passing_at, all_at}
+use Rattle.cap_messages.specs.Texts.{is_host, is_rack, is_path, is_user, is_place}
+use Rattle.cap_model.specs.Calls.{Ask}
+use Rattle.cap_messages.specs.Spelling.{asks_max, numbers_max, listed, FitsListed, ask, FitsAsk, FitsNumber, text, resource, flag, kind_of, request_body, FitsRequest, request_bytes, IsRequest, IsNoRequest}
+use Rattle.cap_messages.specs.Fields.{◌>>=◌, number_at, byte_at, text_at, flag_at, amounts_at, pair_at, passing_at, all_at, counted_at}
 use Rattle.cap_messages.specs.Submit.{submission_at, submit_at}
+use Rattle.cap_messages.specs.MasterCalls.{register_master_at, finish_master_at, wish_at, ask_of, ask_at, wishes_at, allocate_at}
+use Rattle.cap_messages.specs.NodeCalls.{report_at, heartbeat_at, node_gone_at}
 use Rattle.cap_messages.specs.RegisterNode.{registration_at, register_node_at}
 use Rattle.cap_messages.specs.QueueCalls.{path_at, queue_info_at, queue_state_at, set_queue_state_at}
 use Rattle.cap_messages.specs.ClusterInfo.{cluster_info_at}
 use Rattle.cap_messages.specs.Reading.{GivesInMemory, head_at, body_at, request_at}
-use Rattle.cap_messages.proofs.FieldLaws.{AreBytes, bind_some, bind_then, guard_then, chosen, some_is, IsField, is_pair, all_takes, all_again, is_byte, is_flag, is_u32, is_amounts, is_text_passing}
+use Rattle.cap_messages.proofs.FieldLaws.{AreBytes, bind_some, bind_then, guard_then, chosen, some_is, IsField, is_pair, all_takes, all_again, is_byte, is_flag, is_u32, is_u64, is_amounts, is_text_passing, is_made, is_counted, is_field_of}
 
 -- what is known of a body of this kind that was read
 pub record IsBody (kind : ℕ) (bytes : List ℕ) (request : Request 2) : Type 0 where
@@ -53,6 +56,141 @@ unfolding submit_at
 submit_again path user fits =
     let x : Submission = (path, user) in
     rw (all_again submission_at submission FitsSubmission is_submission x (fits.0, fits.1)) refl
+
+-- ---- a number alone: an application or a node
+
+abbrev of_number : (ℕ → Request 2) → List ℕ → Option (Request 2)
+of_number make bytes = all_at (number_at w64) bytes >>= λ n. Some (make n)
+
+number_takes : (kind : ℕ) (make : ℕ → Request 2) → ((n : ℕ) → n < 2 ^ 64 → IsBody kind (to_be_bytes w64 n) (make n)) → (bytes : List ℕ) (r : Request 2) → AreBytes bytes → of_number make bytes ≡ Some r → IsBody kind bytes r
+number_takes kind make is bytes r fits e =
+    let b = bind_some (all_at (number_at w64) bytes) (λ n. Some (make n)) r e in
+    let t = all_takes (number_at w64) (to_be_bytes w64) FitsNumber is_u64 bytes b.0 fits b.1 in
+    let same : make b.0 ≡ r = cc (b.2) in
+    subst (λ (q : Request 2). IsBody kind bytes q) same (subst (λ (bs : List ℕ). IsBody kind bs (make b.0)) (sym t.0) (is b.0 t.1))
+
+number_again : (make : ℕ → Request 2) (n : ℕ) → n < 2 ^ 64 → of_number make (to_be_bytes w64 n) ≡ Some (make n)
+number_again make n fits = ap (λ (o : Option ℕ). o >>= λ n. Some (make n)) (all_again (number_at w64) (to_be_bytes w64) FitsNumber is_u64 n fits)
+
+register_master_takes : (bytes : List ℕ) (r : Request 2) → AreBytes bytes → register_master_at bytes ≡ Some r → IsBody 2 bytes r
+unfolding register_master_at
+register_master_takes = number_takes 2 RegisterMaster (λ n fits. record { kind_is = refl; spelled = refl; fits = fits })
+
+register_master_again : (n : ℕ) → n < 2 ^ 64 → register_master_at (to_be_bytes w64 n) ≡ Some (RegisterMaster n)
+unfolding register_master_at
+register_master_again = number_again RegisterMaster
+
+finish_master_takes : (bytes : List ℕ) (r : Request 2) → AreBytes bytes → finish_master_at bytes ≡ Some r → IsBody 4 bytes r
+unfolding finish_master_at
+finish_master_takes = number_takes 4 FinishMaster (λ n fits. record { kind_is = refl; spelled = refl; fits = fits })
+
+finish_master_again : (n : ℕ) → n < 2 ^ 64 → finish_master_at (to_be_bytes w64 n) ≡ Some (FinishMaster n)
+unfolding finish_master_at
+finish_master_again = number_again FinishMaster
+
+node_gone_takes : (bytes : List ℕ) (r : Request 2) → AreBytes bytes → node_gone_at bytes ≡ Some r → IsBody 7 bytes r
+unfolding node_gone_at
+node_gone_takes = number_takes 7 NodeGone (λ n fits. record { kind_is = refl; spelled = refl; fits = fits })
+
+node_gone_again : (n : ℕ) → n < 2 ^ 64 → node_gone_at (to_be_bytes w64 n) ≡ Some (NodeGone n)
+unfolding node_gone_at
+node_gone_again = number_again NodeGone
+
+-- ---- Allocate
+
+abbrev Wish : Type 0
+Wish = ℕ × (ℕ × (ℕ × (List ℕ × List ℕ)))
+
+abbrev FitsWish : Wish → Type 0
+FitsWish x = (x.0 < 2 ^ 32) × ((x.1.0 < 2 ^ 64) × ((x.1.1.0 < 2 ^ 32) × (IsResource 2 x.1.1.1.0 × (is_place x.1.1.1.1 ≡ true))))
+
+abbrev wish : Wish → List ℕ
+wish x = to_be_bytes w32 x.0 ++ (to_be_bytes w64 x.1.0 ++ (to_be_bytes w32 x.1.1.0 ++ (resource x.1.1.1.0 ++ text x.1.1.1.1)))
+
+is_wish : IsField wish_at wish FitsWish
+is_wish =
+    is_pair _ _ _ _ _ _ is_u32
+    (is_pair _ _ _ _ _ _ is_u64
+    (is_pair _ _ _ _ _ _ is_u32
+    (is_pair (amounts_at 2 amount_max) resource (IsResource 2) (passing_at is_place text_at) text (λ t. is_place t ≡ true) (is_amounts 2 amount_max (omega arith)) (is_text_passing is_place))))
+
+abbrev wish_of : Ask → Wish
+wish_of a = (a.key.priority, (a.key.request, (a.count, (a.resource, a.place))))
+
+is_ask : IsField ask_at ask FitsAsk
+unfolding ask_at ask
+is_ask =
+    is_field_of ask_at ask (λ a. FitsWish (wish_of a)) FitsAsk
+    (is_made ask_of wish_of wish_at wish FitsWish (λ x. refl) (λ a. refl) is_wish)
+    (λ a h. record { priority = h.0; request = h.1.0; count = h.1.1.0; resource = h.1.1.1.0; place = h.1.1.1.1 })
+    (λ a h. (h.priority, (h.request, (h.count, (h.resource, h.place)))))
+
+abbrev Wishes : Type 0
+Wishes = ℕ × (ℕ × (List Ask × List ℕ))
+
+abbrev FitsWishes : Wishes → Type 0
+FitsWishes x = (x.0 < 2 ^ 64) × ((x.1.0 < 2 ^ 32) × (FitsListed asks_max FitsAsk x.1.1.0 × FitsListed numbers_max FitsNumber x.1.1.1))
+
+abbrev wishes : Wishes → List ℕ
+wishes x = to_be_bytes w64 x.0 ++ (to_be_bytes w32 x.1.0 ++ (listed ask x.1.1.0 ++ listed (to_be_bytes w64) x.1.1.1))
+
+is_numbers : IsField (counted_at numbers_max (number_at w64)) (listed (to_be_bytes w64)) (FitsListed numbers_max FitsNumber)
+is_numbers = is_counted numbers_max (omega arith) (number_at w64) (to_be_bytes w64) FitsNumber is_u64
+
+is_wishes : IsField wishes_at wishes FitsWishes
+is_wishes =
+    is_pair _ _ _ _ _ _ is_u64
+    (is_pair _ _ _ _ _ _ is_u32
+    (is_pair (counted_at asks_max ask_at) (listed ask) (FitsListed asks_max FitsAsk) (counted_at numbers_max (number_at w64)) (listed (to_be_bytes w64)) (FitsListed numbers_max FitsNumber)
+    (is_counted asks_max (omega arith) ask_at ask FitsAsk is_ask)
+    is_numbers))
+
+allocate_takes : (bytes : List ℕ) (r : Request 2) → AreBytes bytes → allocate_at bytes ≡ Some r → IsBody 3 bytes r
+unfolding allocate_at
+allocate_takes bytes r fits e =
+    let b = bind_some (all_at wishes_at bytes) (λ x. Some (Allocate x.0 x.1.0 x.1.1.0 x.1.1.1)) r e in
+    let t = all_takes wishes_at wishes FitsWishes is_wishes bytes b.0 fits b.1 in
+    let made : Request 2 = Allocate b.0.0 b.0.1.0 b.0.1.1.0 b.0.1.1.1 in
+    let same : made ≡ r = cc (b.2) in
+    subst (λ (q : Request 2). IsBody 3 bytes q) same (record { kind_is = refl; spelled = t.0; fits = (t.1.0, t.1.1.0, t.1.1.1.0, t.1.1.1.1) })
+
+allocate_again : (application response : ℕ) (asks : List Ask) (releases : List ℕ) → FitsRequest (Allocate application response asks releases) →
+    allocate_at (request_body (Allocate application response asks releases)) ≡ Some (Allocate application response asks releases)
+unfolding allocate_at
+allocate_again application response asks releases fits =
+    let x : Wishes = (application, (response, (asks, releases))) in
+    let ok : FitsWishes x = (fits.0, (fits.1, (fits.2, fits.3))) in
+    rw (all_again wishes_at wishes FitsWishes is_wishes x ok) refl
+
+-- ---- Heartbeat
+
+abbrev NodeReport : Type 0
+NodeReport = ℕ × (ℕ × List ℕ)
+
+abbrev FitsNodeReport : NodeReport → Type 0
+FitsNodeReport x = (x.0 < 2 ^ 64) × ((x.1.0 < 2 ^ 32) × FitsListed numbers_max FitsNumber x.1.1)
+
+abbrev node_report : NodeReport → List ℕ
+node_report x = to_be_bytes w64 x.0 ++ (to_be_bytes w32 x.1.0 ++ listed (to_be_bytes w64) x.1.1)
+
+is_node_report : IsField report_at node_report FitsNodeReport
+is_node_report = is_pair _ _ _ _ _ _ is_u64 (is_pair (number_at w32) (to_be_bytes w32) (λ n. n < 2 ^ 32) (counted_at numbers_max (number_at w64)) (listed (to_be_bytes w64)) (FitsListed numbers_max FitsNumber) is_u32 is_numbers)
+
+heartbeat_takes : (bytes : List ℕ) (r : Request 2) → AreBytes bytes → heartbeat_at bytes ≡ Some r → IsBody 6 bytes r
+unfolding heartbeat_at
+heartbeat_takes bytes r fits e =
+    let b = bind_some (all_at report_at bytes) (λ x. Some (Heartbeat x.0 x.1.0 x.1.1)) r e in
+    let t = all_takes report_at node_report FitsNodeReport is_node_report bytes b.0 fits b.1 in
+    let made : Request 2 = Heartbeat b.0.0 b.0.1.0 b.0.1.1 in
+    let same : made ≡ r = cc (b.2) in
+    subst (λ (q : Request 2). IsBody 6 bytes q) same (record { kind_is = refl; spelled = t.0; fits = (t.1.0, t.1.1.0, t.1.1.1) })
+
+heartbeat_again : (node response : ℕ) (ended : List ℕ) → FitsRequest (Heartbeat node response ended) → heartbeat_at (request_body (Heartbeat node response ended)) ≡ Some (Heartbeat node response ended)
+unfolding heartbeat_at
+heartbeat_again node response ended fits =
+    let x : NodeReport = (node, (response, ended)) in
+    let ok : FitsNodeReport x = (fits.0, (fits.1, fits.2)) in
+    rw (all_again report_at node_report FitsNodeReport is_node_report x ok) refl
 
 -- ---- RegisterNode
 
@@ -156,20 +294,50 @@ cluster_info_again = refl
 IsBody-same : (kind other : ℕ) (bytes : List ℕ) (r : Request 2) → (kind == other) ≡ true → IsBody other bytes r → IsBody kind bytes r
 IsBody-same kind other bytes r e is = record { kind_is = is.kind_is ∙ sym (eqb-true kind other e); spelled = is.spelled; fits = is.fits }
 
+-- those from 5 on
+abbrev later_at : ℕ → List ℕ → Option (Request 2)
+later_at kind bytes =
+    if kind == 5 then register_node_at bytes else
+    if kind == 6 then heartbeat_at bytes else
+    if kind == 7 then node_gone_at bytes else
+    if kind == 8 then queue_info_at bytes else
+    if kind == 9 then set_queue_state_at bytes else
+    if kind == 10 then cluster_info_at bytes else
+    None
+
+later_takes : (kind : ℕ) (bytes : List ℕ) (r : Request 2) → AreBytes bytes → later_at kind bytes ≡ Some r → IsBody kind bytes r
+later_takes kind bytes r fits e =
+    elim (chosen (kind == 5) (register_node_at bytes) _ (Some r) e) [
+      | inl t ↦ IsBody-same kind 5 bytes r t.0 (register_node_takes bytes r fits t.1)
+      | inr not-5 ↦ elim (chosen (kind == 6) (heartbeat_at bytes) _ (Some r) not-5.1) [
+        | inl t ↦ IsBody-same kind 6 bytes r t.0 (heartbeat_takes bytes r fits t.1)
+        | inr not-6 ↦ elim (chosen (kind == 7) (node_gone_at bytes) _ (Some r) not-6.1) [
+          | inl t ↦ IsBody-same kind 7 bytes r t.0 (node_gone_takes bytes r fits t.1)
+          | inr not-7 ↦ elim (chosen (kind == 8) (queue_info_at bytes) _ (Some r) not-7.1) [
+            | inl t ↦ IsBody-same kind 8 bytes r t.0 (queue_info_takes bytes r fits t.1)
+            | inr not-8 ↦ elim (chosen (kind == 9) (set_queue_state_at bytes) _ (Some r) not-8.1) [
+              | inl t ↦ IsBody-same kind 9 bytes r t.0 (set_queue_state_takes bytes r fits t.1)
+              | inr not-9 ↦
+                  let g = guard_then (kind == 10) (cluster_info_at bytes) r not-9.1 in
+                  IsBody-same kind 10 bytes r g.0 (cluster_info_takes bytes r g.1)
+            ]
+          ]
+        ]
+      ]
+    ]
+
 body_takes : (kind : ℕ) (bytes : List ℕ) (r : Request 2) → AreBytes bytes → body_at kind bytes ≡ Some r → IsBody kind bytes r
 unfolding body_at
 body_takes kind bytes r fits e =
     elim (chosen (kind == 1) (submit_at bytes) _ (Some r) e) [
       | inl t ↦ IsBody-same kind 1 bytes r t.0 (submit_takes bytes r fits t.1)
-      | inr not-1 ↦ elim (chosen (kind == 5) (register_node_at bytes) _ (Some r) not-1.1) [
-        | inl t ↦ IsBody-same kind 5 bytes r t.0 (register_node_takes bytes r fits t.1)
-        | inr not-5 ↦ elim (chosen (kind == 8) (queue_info_at bytes) _ (Some r) not-5.1) [
-          | inl t ↦ IsBody-same kind 8 bytes r t.0 (queue_info_takes bytes r fits t.1)
-          | inr not-8 ↦ elim (chosen (kind == 9) (set_queue_state_at bytes) _ (Some r) not-8.1) [
-            | inl t ↦ IsBody-same kind 9 bytes r t.0 (set_queue_state_takes bytes r fits t.1)
-            | inr not-9 ↦
-                let g = guard_then (kind == 10) (cluster_info_at bytes) r not-9.1 in
-                IsBody-same kind 10 bytes r g.0 (cluster_info_takes bytes r g.1)
+      | inr not-1 ↦ elim (chosen (kind == 2) (register_master_at bytes) _ (Some r) not-1.1) [
+        | inl t ↦ IsBody-same kind 2 bytes r t.0 (register_master_takes bytes r fits t.1)
+        | inr not-2 ↦ elim (chosen (kind == 3) (allocate_at bytes) _ (Some r) not-2.1) [
+          | inl t ↦ IsBody-same kind 3 bytes r t.0 (allocate_takes bytes r fits t.1)
+          | inr not-3 ↦ elim (chosen (kind == 4) (finish_master_at bytes) _ (Some r) not-3.1) [
+            | inl t ↦ IsBody-same kind 4 bytes r t.0 (finish_master_takes bytes r fits t.1)
+            | inr not-4 ↦ later_takes kind bytes r fits not-4.1
           ]
         ]
       ]
@@ -178,14 +346,24 @@ body_takes kind bytes r fits e =
 body_again : (r : Request 2) → FitsRequest r → body_at (kind_of r) (request_body r) ≡ Some r
 unfolding body_at
 body_again (Submit path user) fits = submit_again path user fits
+body_again (RegisterMaster application) fits = register_master_again application fits
+body_again (Allocate application response asks releases) fits = allocate_again application response asks releases fits
+body_again (FinishMaster application) fits = finish_master_again application fits
 body_again (RegisterNode host rack total) fits = register_node_again host rack total fits
+body_again (Heartbeat node response ended) fits = heartbeat_again node response ended fits
+body_again (NodeGone node) fits = node_gone_again node fits
 body_again (QueueInfo path) fits = queue_info_again path fits
 body_again (SetQueueState path running) fits = set_queue_state_again path running fits
 body_again ClusterInfo fits = cluster_info_again
 
 kind_fits : (r : Request 2) → kind_of r < 256
 kind_fits (Submit path user) = omega arith
+kind_fits (RegisterMaster application) = omega arith
+kind_fits (Allocate application response asks releases) = omega arith
+kind_fits (FinishMaster application) = omega arith
 kind_fits (RegisterNode host rack total) = omega arith
+kind_fits (Heartbeat node response ended) = omega arith
+kind_fits (NodeGone node) = omega arith
 kind_fits (QueueInfo path) = omega arith
 kind_fits (SetQueueState path running) = omega arith
 kind_fits ClusterInfo = omega arith

@@ -2,9 +2,11 @@ ghost use Rattle.cap_model.specs.Runs.{Replies};
 ghost use Rattle.cap_messages.specs.Spelling.{IsOfKind, kind_of};
 
 use cap_commit::Cluster;
-use cap_masters::submit;
+use cap_masters::{allocate, finish_master, register_master, submit};
 use cap_model::{Reply, Request};
-use cap_trackers::{cluster_info, queue_info, register_node, set_queue_state};
+use cap_trackers::{
+    cluster_info, heartbeat, node_gone, queue_info, register_node, set_queue_state,
+};
 use std::alloc::Global;
 
 /// Makes the call that the request names, and answers it. A refusal changes nothing, and neither does want of memory.
@@ -14,7 +16,21 @@ pub fn dispatch(_alloc: Global, cluster: &mut Cluster<2>, request: &Request<2>) 
 {
     match request {
         Request::Submit { path, user } => submit(cluster, path, user),
+        Request::RegisterMaster { application } => register_master(cluster, *application),
+        Request::Allocate {
+            application,
+            response,
+            asks,
+            releases,
+        } => allocate(cluster, *application, *response, asks, releases),
+        Request::FinishMaster { application } => finish_master(cluster, *application),
         Request::RegisterNode { host, rack, total } => register_node(cluster, host, rack, total),
+        Request::Heartbeat {
+            node,
+            response,
+            ended,
+        } => heartbeat(cluster, *node, *response, ended),
+        Request::NodeGone { node } => node_gone(cluster, *node),
         Request::QueueInfo { path } => queue_info(cluster, path),
         Request::SetQueueState { path, running } => set_queue_state(cluster, path, *running),
         Request::ClusterInfo => cluster_info(cluster),

@@ -1,6 +1,6 @@
 //! Fields at the front of bytes. Each is read with the bytes after it.
-ghost use Rattle.std.specs.Prelude.{◌≡◌, ◌≤◌, IfOk};
-ghost use Rattle.std.specs.Int.{w32, w64};
+ghost use Rattle.std.specs.Prelude.{◌≡◌, ◌≤◌, ◌<◌, ◌^◌, IfOk};
+ghost use Rattle.std.specs.Int.{w16, w32, w64};
 ghost use Rattle.cap_vector.specs.Vector.{amount_max, IsResource};
 ghost use Rattle.cap_messages.specs.Fields.{Gives, byte_at, flag_at, number_at, text_at, amount_at, amounts_at};
 
@@ -26,6 +26,17 @@ pub(crate) fn flag_of(bytes: &[u8]) -> Result<(bool, &[u8]), MessageFault>
         1 => Ok((true, rest)),
         _ => Err(MessageFault::Bad),
     }
+}
+
+pub(crate) fn u16_of(bytes: &[u8]) -> Result<(u16, &[u8]), MessageFault>
+    ensures { Gives (λ x. (x.0, x.1.now)) result (number_at w16 bytes.now) }
+{
+    if bytes.len() < 2 {
+        return Err(MessageFault::Bad);
+    }
+    let (front, rest) = bytes.split_at(2);
+    let number = u16::from_be_bytes([front[0], front[1]]);
+    Ok((number, rest))
 }
 
 pub(crate) fn u32_of(bytes: &[u8]) -> Result<(u32, &[u8]), MessageFault>

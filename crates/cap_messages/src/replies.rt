@@ -1,8 +1,9 @@
 ghost use Rattle.std.specs.Prelude.{◌≡◌, ◌≤◌, ◌<◌, ◌+◌, ◌++◌, ◌∷◌, length};
-ghost use Rattle.std.specs.Int.{w64, to_be_bytes};
+ghost use Rattle.std.specs.Int.{w32, w64, to_be_bytes};
 ghost use Rattle.cap_messages.specs.Spelling.{IsOfKind, FitsReply, IsReply, reply_bytes, reply_body, fault_reply};
 
 use crate::cluster_info::put_counts;
+use crate::news::{put_allocated, put_beat};
 use crate::output::{Out, REPLY_ROOM, put_amounts};
 use crate::queue_calls::put_queue_report;
 use cap_model::Reply;
@@ -18,7 +19,22 @@ fn put_reply_body(reply: &Reply<2>, out: &mut Out)
     match reply {
         Reply::Refused(refusal) => out.extend_reserved(&[refusal.status()]),
         Reply::Submit { application } => put_number(*application, out),
+        Reply::RegisterMaster { minimum, maximum } => {
+            out.extend_reserved(&[0]);
+            put_amounts(minimum, out);
+            put_amounts(maximum, out);
+        }
+        Reply::Allocate { reply } => {
+            out.extend_reserved(&[0]);
+            put_allocated(reply, out);
+        }
+        Reply::FinishMaster { ended } => put_count(*ended, out),
         Reply::RegisterNode { node } => put_number(*node, out),
+        Reply::Heartbeat { reply } => {
+            out.extend_reserved(&[0]);
+            put_beat(reply, out);
+        }
+        Reply::NodeGone { ended } => put_count(*ended, out),
         Reply::QueueInfo {
             running,
             leaf,
@@ -62,6 +78,16 @@ fn put_number(number: u64, out: &mut Out)
 {
     out.extend_reserved(&[0]);
     out.extend_reserved(&number.to_be_bytes());
+}
+
+// Success, and how many containers have ended.
+fn put_count(count: u32, out: &mut Out)
+    requires { 5 ≤ out.old.spare }
+    ensures appends { out.new.items ≡ out.old.items ++ 0 ∷ to_be_bytes w32 count }
+    ensures spare { out.new.spare + 5 ≡ out.old.spare }
+{
+    out.extend_reserved(&[0]);
+    out.extend_reserved(&count.to_be_bytes());
 }
 
 /// Appends the one spelling of a reply to a request of this call id and kind: the reply is a refusal or one of the

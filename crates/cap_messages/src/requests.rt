@@ -7,7 +7,12 @@ ghost use Rattle.cap_messages.specs.Reading.{GivesInMemory, head_at, body_at, re
 use crate::cluster_info::cluster_info_of;
 use crate::fault::MessageFault;
 use crate::fields::{byte_of, u32_of};
-use crate::kinds::{CLUSTER_INFO, QUEUE_INFO, REGISTER_NODE, SET_QUEUE_STATE, SUBMIT};
+use crate::kinds::{
+    ALLOCATE, CLUSTER_INFO, FINISH_MASTER, HEARTBEAT, NODE_GONE, QUEUE_INFO, REGISTER_MASTER,
+    REGISTER_NODE, SET_QUEUE_STATE, SUBMIT,
+};
+use crate::master_calls::{allocate_of, finish_master_of, register_master_of};
+use crate::node_calls::{heartbeat_of, node_gone_of};
 use crate::queue_calls::{queue_info_of, set_queue_state_of};
 use crate::register_node::register_node_of;
 use crate::submit::submit_of;
@@ -26,13 +31,18 @@ fn head_of(bytes: &[u8]) -> Result<((u8, u8, u32), &[u8]), MessageFault>
 }
 
 #[tactic(auto, unfolding(crate::specs::Reading::body_at))]
-fn body_of(_alloc: Global, kind: u8, bytes: &[u8]) -> Result<Request<2>, MessageFault>
+fn body_of(alloc: Global, kind: u8, bytes: &[u8]) -> Result<Request<2>, MessageFault>
     ensures gives { GivesInMemory (λ x. x) result (body_at kind bytes.now) }
     ensures memory { IsErrOf result MessageFault.NoMemory → IsListKind kind }
 {
     match kind {
         SUBMIT => submit_of(bytes),
+        REGISTER_MASTER => register_master_of(bytes),
+        ALLOCATE => allocate_of(alloc, bytes),
+        FINISH_MASTER => finish_master_of(bytes),
         REGISTER_NODE => register_node_of(bytes),
+        HEARTBEAT => heartbeat_of(alloc, bytes),
+        NODE_GONE => node_gone_of(bytes),
         QUEUE_INFO => queue_info_of(bytes),
         SET_QUEUE_STATE => set_queue_state_of(bytes),
         CLUSTER_INFO => cluster_info_of(bytes),
@@ -54,7 +64,7 @@ fn request_of(alloc: Global, bytes: &[u8]) -> Result<(u32, Request<2>), MessageF
 }
 
 /// The call id and the request that a payload spells, with all of its bytes. `Bad` exactly where it spells none: a
-/// version other than 1, another kind, a text or an amount over its bound, a text with length 0 or another byte, a host
+/// version other than 1, another kind, a text, a list or an amount over its bound, a text with length 0 or another byte, a host
 /// that is `*` or begins with `/`, a rack that does not, a state other than 0 and 1, bytes missing or left over. `NoMemory` where an allocation was
 /// refused, which only a kind that carries a list can meet. Amounts are in MiB of memory and in vcores.
 pub fn read_request(alloc: Global, bytes: &[u8]) -> Result<(u32, Request<2>), MessageFault>

@@ -1,8 +1,9 @@
 ghost use Rattle.std.specs.Prelude.{◌≤◌, length};
 
 use super::*;
+use arrayvec::ArrayVec;
 use bytes::BytesMut;
-use cap_model::Refusal;
+use cap_model::{AllocateReply, Grant, HeartbeatReply, Key, Refusal, ShortText};
 use cap_vector::{Resource, Sum};
 use std::alloc::{AllocError, Global};
 use std::test::Fail;
@@ -344,4 +345,146 @@ fn the_laws_are_called(rt: HostRuntime) {
     replies_have_one_spelling();
     let said = format!(in rt.alloc(); "{}", MessageFault::Bad);
     assert!(rt; said.is_ok());
+}
+
+/// Allocate of application 1 with call id 5 and response id 0: key (1, 0), one container of (1024, 1) anywhere, no release.
+const ALLOCATE: &[u8] = &[
+    1, 3, 0, 0, 0, 5, 0, 0, 0, 0, 0, 0, 0, 1, 0, 0, 0, 0, 0, 1, 0, 0, 0, 1, 0, 0, 0, 0, 0, 0, 0, 0,
+    0, 0, 0, 1, 0, 0, 0, 0, 0, 0, 4, 0, 0, 0, 0, 0, 0, 0, 0, 1, 1, 0x2a, 0, 0,
+];
+
+/// Its answer after container 1 of (1024, 1) was granted on `n1`, node 1, with call id 6 and the new response id 2.
+const ALLOCATE_REPLY: &[u8] = &[
+    1, 3, 0, 0, 0, 6, 0, 0, 0, 0, 2, 0, 0, 1, 0, 0, 0, 0, 0, 0, 0, 1, 0, 0, 0, 1, 0, 0, 0, 0, 0, 0,
+    0, 0, 0, 0, 0, 0, 0, 0, 0, 1, 2, 0x6e, 0x31, 0, 0, 0, 0, 0, 0, 4, 0, 0, 0, 0, 0, 0, 0, 0, 1, 0,
+];
+
+// A request of this kind with call id 1 and a number, and these bytes after it.
+fn numbered(alloc: Global, kind: u8, rest: &[u8]) -> Result<Vec<u8>, AllocError> {
+    let mut bytes = Vec::from_slice(alloc, &[1, kind, 0, 0, 0, 1, 0, 0, 0, 0, 0, 0, 0, 7])?;
+    bytes.extend_from_slice(rest)?;
+    Ok(bytes)
+}
+
+#[test]
+fn allocates_are_read(rt: HostRuntime) -> Result<(), Fail> {
+    let (call_id, request) = read_request(rt.alloc(), ALLOCATE)?;
+    assert_eq!(rt; call_id, 5);
+    assert_eq!(rt; kind(&request), 3);
+    // By reference: a pattern that moves the asks out is not covered by the borrow checker of today.
+    let Request::Allocate {
+        application,
+        response,
+        asks,
+        releases,
+    } = &request
+    else {
+        return Err("another kind".into());
+    };
+    assert_eq!(rt; *application, 1);
+    assert_eq!(rt; *response, 0);
+    assert_eq!(rt; releases.as_slice().len(), 0);
+    let [ask] = asks.as_slice() else {
+        return Err("another number of asks".into());
+    };
+    assert_eq!(rt; ask.key().priority(), 1);
+    assert_eq!(rt; ask.count(), 1);
+    assert_eq!(rt; ask.resource().amounts(), [1024, 1]);
+    assert!(rt; ask.place().as_bytes() == b"*".as_slice());
+    assert!(rt; is_bad(rt.alloc(), &ALLOCATE[..55]));
+    Ok(())
+}
+
+#[test]
+fn calls_of_one_number_are_read(rt: HostRuntime) -> Result<(), Fail> {
+    let (_, request) = read_request(rt.alloc(), &numbered(rt.alloc(), 2, &[])?)?;
+    assert!(rt; matches!(request, Request::RegisterMaster { application: 7 }));
+    let (_, request) = read_request(rt.alloc(), &numbered(rt.alloc(), 4, &[])?)?;
+    assert!(rt; matches!(request, Request::FinishMaster { application: 7 }));
+    let (_, request) = read_request(rt.alloc(), &numbered(rt.alloc(), 7, &[])?)?;
+    assert!(rt; matches!(request, Request::NodeGone { node: 7 }));
+    assert!(rt; is_bad(rt.alloc(), &numbered(rt.alloc(), 2, &[0])?));
+    assert!(rt; is_bad(rt.alloc(), &[1, 7, 0, 0, 0, 1, 0, 0, 0, 0, 0, 0, 7]));
+    Ok(())
+}
+
+#[test]
+fn heartbeats_are_read(rt: HostRuntime) -> Result<(), Fail> {
+    let beat: &[u8] = &[0, 0, 0, 3, 0, 1, 0, 0, 0, 0, 0, 0, 0, 9];
+    let (_, request) = read_request(rt.alloc(), &numbered(rt.alloc(), 6, beat)?)?;
+    let Request::Heartbeat {
+        node,
+        response,
+        ended,
+    } = request
+    else {
+        return Err("another kind".into());
+    };
+    assert_eq!(rt; node, 7);
+    assert_eq!(rt; response, 3);
+    assert_eq!(rt; ended.as_slice(), [9].as_slice());
+    assert!(rt; is_bad(rt.alloc(), &numbered(rt.alloc(), 6, &beat[..13])?));
+    assert!(rt;
+        is_bad(
+            rt.alloc(),
+            &numbered(rt.alloc(), 6, &[0, 0, 0, 3, 0, 0, 0])?
+        )
+    );
+    Ok(())
+}
+
+#[test]
+fn replies_to_masters_are_written(rt: HostRuntime) -> Result<(), Fail> {
+    let minimum = Resource::new([1024, 1]).ok_or("an allocation")?;
+    let maximum = Resource::new([8192, 4]).ok_or("an allocation")?;
+    let mut out = Out::with_capacity(rt.alloc(), REPLY_ROOM)?;
+    write_reply(3, 2, &Reply::RegisterMaster { minimum, maximum }, &mut out);
+    let bounds: &[u8] = &[
+        1, 2, 0, 0, 0, 3, 0, 0, 0, 0, 0, 0, 0, 4, 0, 0, 0, 0, 0, 0, 0, 0, 1, 0, 0, 0, 0, 0, 0,
+        0x20, 0, 0, 0, 0, 0, 0, 0, 0, 4,
+    ];
+    assert_eq!(rt; out.as_slice(), bounds);
+    let mut out = Out::with_capacity(rt.alloc(), REPLY_ROOM)?;
+    write_reply(1, 4, &Reply::FinishMaster { ended: 2 }, &mut out);
+    assert_eq!(rt;
+        out.as_slice(),
+        [1, 4, 0, 0, 0, 1, 0, 0, 0, 0, 2].as_slice()
+    );
+    Ok(())
+}
+
+#[test]
+fn news_is_written(rt: HostRuntime) -> Result<(), Fail> {
+    let host = ShortText::new(b"n1").ok_or("a host")?;
+    let resource = Resource::new([1024, 1]).ok_or("a resource")?;
+    let mut grants = ArrayVec::new();
+    let Ok(()) = grants.try_push(Grant::new(1, &Key::new(1, 0), 1, &host, &resource)) else {
+        return Err("room".into());
+    };
+    let reply = AllocateReply {
+        response: 2,
+        ignored: 0,
+        grants,
+        ends: ArrayVec::new(),
+    };
+    let mut out = Out::with_capacity(rt.alloc(), REPLY_ROOM)?;
+    write_reply(6, 3, &Reply::Allocate { reply }, &mut out);
+    assert_eq!(rt; out.as_slice(), ALLOCATE_REPLY);
+    Ok(())
+}
+
+#[test]
+fn replies_to_nodes_are_written(rt: HostRuntime) -> Result<(), Fail> {
+    let reply = HeartbeatReply::new(1, 2, 5);
+    let mut out = Out::with_capacity(rt.alloc(), REPLY_ROOM)?;
+    write_reply(1, 6, &Reply::Heartbeat { reply }, &mut out);
+    let beat: &[u8] = &[1, 6, 0, 0, 0, 1, 0, 0, 0, 0, 1, 0, 2, 0, 0, 0, 5];
+    assert_eq!(rt; out.as_slice(), beat);
+    let mut out = Out::with_capacity(rt.alloc(), REPLY_ROOM)?;
+    write_reply(1, 7, &Reply::NodeGone { ended: 3 }, &mut out);
+    assert_eq!(rt;
+        out.as_slice(),
+        [1, 7, 0, 0, 0, 1, 0, 0, 0, 0, 3].as_slice()
+    );
+    Ok(())
 }

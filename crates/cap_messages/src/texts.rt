@@ -1,4 +1,4 @@
-ghost use Rattle.cap_messages.specs.Texts.{is_host, is_rack, is_path, is_user};
+ghost use Rattle.cap_messages.specs.Texts.{is_host, is_rack, is_path, is_user, is_place};
 ghost use Rattle.cap_messages.specs.Fields.{Gives, passing};
 
 use crate::fault::MessageFault;
@@ -48,4 +48,14 @@ pub(crate) fn user_from(bytes: &[u8]) -> Result<ShortText, MessageFault>
         return Err(MessageFault::Bad);
     };
     Ok(user)
+}
+
+// Where an ask may be met: any text.
+pub(crate) fn place_from(bytes: &[u8]) -> Result<ShortText, MessageFault>
+    ensures { Gives (λ place. place) result (passing is_place bytes.now) }
+{
+    let Some(place) = ShortText::new(bytes) else {
+        return Err(MessageFault::Bad);
+    };
+    Ok(place)
 }

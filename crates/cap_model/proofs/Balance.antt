@@ -65,7 +65,7 @@ filter_whole f [] e = refl
 filter_whole f (x ∷ xs) e = ap (λ b. cond b (x ∷ filter f xs) (filter f xs)) (e x (inl refl)) ∙ ap (λ ys. x ∷ ys) (filter_whole f xs (λ y m. e y (inr m)))
 
 -- a container in a list in order has a number from the lower bound on
-in_above : (low : ℕ) (cs : List Container) (high : ℕ) (c : Container) → IsRising low (numbers_of cs) high → IsIn c cs → low ≤ c.number
+pub in_above : (low : ℕ) (cs : List Container) (high : ℕ) (c : Container) → IsRising low (numbers_of cs) high → IsIn c cs → low ≤ c.number
 in_above low [] high c r m = absurd m
 in_above low (d ∷ cs) high c r (inl e) = let n : d.number ≡ c.number = ap (λ (x : Container). x.number) e in omega (arith, n, r.0)
 in_above low (d ∷ cs) high c r (inr m) = omega (arith, r.0, in_above (d.number + 1) cs high c r.1 m)

@@ -128,7 +128,7 @@ module _ {K : ℕ} where
   }
 
   -- a queue to which a submit is not refused is a leaf
-  unrefused_leaf : (old : Flat K) (path : List ℕ) → submit_refusal old path ≡ None → IsLeaf old path
+  pub unrefused_leaf : (old : Flat K) (path : List ℕ) → submit_refusal old path ≡ None → IsLeaf old path
   unrefused_leaf old path e =
       let tests = none_holds
       ((is_none (queue_at old path), CallRefusal.unknown_queue)

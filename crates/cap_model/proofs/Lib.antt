@@ -3,6 +3,9 @@ pub mod Trees
 pub mod UsedNumbers
 pub mod Sizes
 pub mod UseSums
+pub mod Tallies
+pub mod EndsInOrder
+pub mod Draining
 pub mod EndsOfEnded
 pub mod NamedEnds
 pub mod ToldEnds

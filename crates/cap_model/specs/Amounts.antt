@@ -1,5 +1,5 @@
--- Comparing and rounding resource vectors.
-use Rattle.std.specs.Prelude.{ℕ, ◌+◌, ◌-◌, ◌*◌, ◌/◌, min, max, List, [], ◌∷◌, map, Bool, true, ◌&&◌, ◌==◌, nat_le, if◌then◌else◌}
+-- Comparing and summing resource vectors.
+use Rattle.std.specs.Prelude.{ℕ, ◌*◌, List, [], ◌∷◌, map, Bool, true, ◌&&◌, ◌==◌, nat_le, if◌then◌else◌}
 use Rattle.std.specs.List.{sum_by}
 use Rattle.cap_vector.specs.Vector.{amount, by_amount}
 
@@ -20,11 +20,3 @@ part test of items k = sum_by (λ x. if test x then amount (of x) k else 0) item
 -- the filtered sum of vectors of K amounts
 abbrev pub sum_where : {X : Type 0} → ℕ → (X → Bool) → (X → List ℕ) → List X → List ℕ
 sum_where K test of items = by_amount K (part test of items)
-
--- the least multiple of the step that is at least the amount and at least the step; a step of 0 raises nothing
-abbrev pub raised : ℕ → ℕ → ℕ
-raised x step = if step == 0 then x else ((max x 1 + (step - 1)) / step) * step
-
--- what an ask's resource is kept as: each amount raised to a multiple of the minimum allocation, then cut to the maximum allocation
-abbrev pub round_up : ℕ → List ℕ → List ℕ → List ℕ → List ℕ
-round_up K v step most = by_amount K (λ k. min (raised (amount v k) (amount step k)) (amount most k))

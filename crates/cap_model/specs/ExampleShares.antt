@@ -1,7 +1,7 @@
 -- Worked examples: fullness, rounding, and the order of two children.
 use Rattle.std.specs.Prelude.{◌≡◌, ℕ, [], ◌∷◌, Some}
 use Rattle.std.specs.declared.cmp.Ordering.TheVariants.{Less, Greater}
-use Rattle.cap_model.specs.Amounts.{round_up}
+use Rattle.cap_vector.specs.Rounding.{round_up}
 use Rattle.cap_model.specs.Fullness.{Share, shares, shares_cmp}
 use Rattle.cap_model.specs.Sight.{sight_of}
 use Rattle.cap_model.specs.Candidates.{choice_on}

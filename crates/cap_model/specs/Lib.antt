@@ -2,6 +2,7 @@ pub mod Texts
 pub mod Refusals
 pub mod Settings
 pub mod Limits
+pub mod Listing
 pub mod Cascade
 pub mod Amounts
 pub mod Fullness
@@ -25,6 +26,7 @@ pub mod NodeGone
 pub mod QueueCalls
 pub mod Replies
 pub mod Events
+pub mod News
 pub mod Messages
 pub mod Runs
 pub mod Bounds

@@ -12,3 +12,7 @@ nodes_max = 4096
 -- the greatest number of applications that settings may allow to be active
 abbrev pub applications_max : ℕ
 applications_max = 1000000
+
+-- the greatest number of kinds of resource
+abbrev pub resources_max : ℕ
+resources_max = 1000

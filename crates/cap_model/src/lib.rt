@@ -1,24 +1,30 @@
 //! The vocabulary of the allocation engine and what it means: the plain data that travels between the crates, and in
-//! `specs/` the flat cluster, the reply to each request, and runs. There is no engine code here, but for tests of paths and
-//! of refusals that several crates need.
+//! `specs/` the flat cluster, the reply to each request, and runs. There is no engine code here, but for tests of
+//! refusals that several crates need.
 #![tactic(auto)]
 
+mod ask;
 mod event;
 pub mod examples;
 pub mod laws;
+mod list;
+mod news;
 mod no_memory;
-mod path;
 mod refusal;
+mod replies;
 mod reply;
 mod request;
 #[cfg(test)]
 mod tests;
 mod text;
 
+pub use ask::{Ask, Key};
 pub use event::Event;
+pub use list::{Asks, List, Numbers};
+pub use news::{Cause, End, Grant};
 pub use no_memory::NoMemory;
-pub use path::{is_below, is_under};
 pub use refusal::{Refusal, first_refusal};
+pub use replies::{AllocateReply, HeartbeatReply, NEWS_MAX};
 pub use reply::Reply;
 pub use request::Request;
 pub use text::{PathText, ShortText, Text};

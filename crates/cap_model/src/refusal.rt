@@ -13,6 +13,20 @@ pub enum Refusal {
     QueueStopped = 3,
     /// As many applications are active as `yarn.scheduler.capacity.maximum-applications` allows.
     TooManyApplications = 4,
+    /// No active application has this number.
+    UnknownApplication = 5,
+    /// The application's master is registered.
+    AlreadyRegistered = 6,
+    /// The application's master is not registered.
+    NotRegistered = 7,
+    /// The response id is neither the last one answered, nor one before it with a kept reply.
+    BadResponseId = 8,
+    /// An ask passes the maximum allocation.
+    AskTooLarge = 9,
+    /// More than 256 keys of the application would stand.
+    TooManyAsks = 10,
+    /// No node of this number is present.
+    UnknownNode = 11,
     /// A present node has this host.
     HostTaken = 12,
     /// The sum of all nodes' totals would pass 2^40 in some resource.

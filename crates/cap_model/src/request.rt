@@ -1,3 +1,4 @@
+use crate::list::{Asks, Numbers};
 use crate::text::{PathText, ShortText};
 use cap_vector::Resource;
 
@@ -9,11 +10,36 @@ pub enum Request<const K: usize> {
         path: PathText,
         user: ShortText,
     },
+    /// The master of an application reports, once.
+    RegisterMaster {
+        application: u64,
+    },
+    /// A master asks for containers, releases some, and is told what was granted and what has ended.
+    Allocate {
+        application: u64,
+        response: u32,
+        asks: Asks<K>,
+        releases: Numbers,
+    },
+    /// An application ends, and its containers with it.
+    FinishMaster {
+        application: u64,
+    },
     /// A node manager joins the cluster.
     RegisterNode {
         host: ShortText,
         rack: ShortText,
         total: Resource<K>,
+    },
+    /// A node manager reports which containers have ended on it.
+    Heartbeat {
+        node: u64,
+        response: u32,
+        ended: Numbers,
+    },
+    /// A node is declared lost.
+    NodeGone {
+        node: u64,
     },
     /// What an operator sees of a queue.
     QueueInfo {

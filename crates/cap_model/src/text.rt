@@ -5,7 +5,7 @@ ghost use Rattle.cap_model.specs.Texts.{is_graphic, is_text};
 use std::marker::Model;
 
 /// A text of a message: 1 to `MAX` bytes, each from 0x21 to 0x7E, held inline. Contracts see it as its bytes.
-#[derive(Clone, Copy, Debug, PartialEq, Eq)]
+#[derive(Clone, Copy, Debug, PartialEq, Eq, Hash)]
 pub struct Text<const MAX: usize> {
     bytes: [u8; MAX],
     len: usize,
@@ -31,6 +31,20 @@ impl<const MAX: usize> Model for Text<MAX> {
     ghost inverse = { λ text. record { bytes = padded MAX text; len = length text } };
 
     ghost inverse_ok = { λ t h i. record { bytes = sym h.padding i; len = length_held MAX t.len t.bytes h i } };
+}
+
+impl ShortText {
+    ghost use Rattle.std.specs.Prelude.{◌∷◌, []};
+
+    /// `*`: the place that is anywhere.
+    pub fn any() -> ShortText
+        ensures { result ≡ 42 ∷ [] }
+    {
+        let Some(any) = ShortText::new(b"*") else {
+            unreachable!()
+        };
+        any
+    }
 }
 
 impl<const MAX: usize> Text<MAX> {

@@ -1,2 +1,5 @@
+pub mod Answering
+pub mod Beating
+pub mod EndingOn
+pub mod Losing
 pub mod Refusing
-pub mod Reporting

@@ -1,5 +1,7 @@
 //! One module for each call.
 pub mod cluster_info;
+pub mod heartbeat;
+pub mod node_gone;
 pub mod queue_info;
 pub mod register_node;
 pub mod set_queue_state;

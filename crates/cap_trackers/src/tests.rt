@@ -1,7 +1,7 @@
 use super::*;
 use cap_commit::Cluster;
 use cap_config::read_config;
-use cap_model::{PathText, Refusal, Reply, ShortText};
+use cap_model::{HeartbeatReply, Numbers, PathText, Refusal, Reply, ShortText};
 use cap_vector::{AMOUNT_MAX, Resource, Sum};
 use std::alloc::Global;
 use std::test::Fail;
@@ -175,5 +175,57 @@ fn the_cluster_is_counted(rt: HostRuntime) -> Result<(), Fail> {
         used: Sum::zero(),
     };
     assert_eq!(rt; cluster_info(&cluster), report);
+    Ok(())
+}
+
+/// The number of one container.
+fn named(alloc: Global, number: u64) -> Option<Numbers> {
+    let mut items = Vec::new(alloc);
+    let Ok(()) = items.push(number) else {
+        return None;
+    };
+    Some(Numbers::of(items))
+}
+
+#[test]
+fn nodes_report_what_has_ended(rt: HostRuntime) -> Result<(), Fail> {
+    let mut cluster = cluster(rt.alloc())?;
+    let ended = named(rt.alloc(), 9).ok_or("a number")?;
+    assert_eq!(rt;
+        heartbeat(&mut cluster, 1, 0, &ended),
+        Reply::Refused(Refusal::UnknownNode)
+    );
+    join(&mut cluster, b"n1", [8192, 8]).ok_or("a node")?;
+    let answer = Reply::Heartbeat {
+        reply: HeartbeatReply::new(1, 1, 0),
+    };
+    assert_eq!(rt; heartbeat(&mut cluster, 1, 0, &ended), answer);
+    assert_eq!(rt; heartbeat(&mut cluster, 1, 0, &ended), answer);
+    assert_eq!(rt;
+        heartbeat(&mut cluster, 1, 5, &ended),
+        Reply::Refused(Refusal::BadResponseId)
+    );
+    assert_eq!(rt;
+        heartbeat(&mut cluster, 1, 1, &ended),
+        Reply::Heartbeat {
+            reply: HeartbeatReply::new(2, 1, 0),
+        }
+    );
+    Ok(())
+}
+
+#[test]
+fn nodes_are_lost(rt: HostRuntime) -> Result<(), Fail> {
+    let mut cluster = cluster(rt.alloc())?;
+    join(&mut cluster, b"n1", [8192, 8]).ok_or("a node")?;
+    assert_eq!(rt; node_gone(&mut cluster, 1), Reply::NodeGone { ended: 0 });
+    assert_eq!(rt;
+        node_gone(&mut cluster, 1),
+        Reply::Refused(Refusal::UnknownNode)
+    );
+    assert_eq!(rt;
+        join(&mut cluster, b"n1", [8192, 8]).ok_or("a node")?,
+        Reply::RegisterNode { node: 2 }
+    );
     Ok(())
 }

@@ -1,9 +1,11 @@
 -- The amounts of a sum and of a difference, for lists of any lengths.
 use Rattle.std.proofs.Common.{inl, inr, ◌≡◌, ℕ, zero, suc, ◌+◌, ◌-◌, ◌≤◌, ◌<◌, List, [], ◌∷◌, length, get_or, refl, sym, ◌∙◌, arith, true}
-use Rattle.std.specs.Prelude.{nat_le}
+use Rattle.std.specs.Prelude.{nat_le, min}
 use Rattle.std.proofs.lemmas.List.{ext_get_or, get_or_past}
+use Rattle.std.proofs.lemmas.List.FromFn.{length-map-range_with_len, get_or-map-range_with_len}
 use Rattle.std.proofs.lemmas.Bool.{cases_lt, and_parts, leb-true, le-leb}
-use Rattle.cap_vector.specs.Vector.{plus, less, IsWithin, is_within}
+use Rattle.cap_vector.specs.Vector.{plus, less, amount, IsWithin, is_within}
+use Rattle.cap_vector.specs.Rounding.{raised, round_up}
 
 pub amount-plus : (a b : List ℕ) (k : ℕ) → get_or (plus a b) k 0 ≡ get_or a k 0 + get_or b k 0
 unfolding plus
@@ -70,3 +72,11 @@ pub test_from_within : (bound : ℕ) (v : List ℕ) → IsWithin bound v → is_
 test_from_within bound [] h = refl
 test_from_within bound (x ∷ v) h =
     rw (le-leb x bound (h 0), test_from_within bound v (λ k. h (suc k))) refl
+
+-- a list of the raised amounts is the vector rounded up
+pub is_rounded : (v step most r : List ℕ) (n : ℕ) → length r ≡ n →
+    ((k : ℕ) → k < n → get_or r k 0 ≡ min (raised (get_or v k 0) (get_or step k 0)) (get_or most k 0)) → r ≡ round_up n v step most
+is_rounded v step most r n hr each =
+    let f = λ (k : ℕ). min (raised (amount v k) (amount step k)) (amount most k) in
+    let long : length (round_up n v step most) ≡ n = length-map-range_with_len f 0 n in
+    ext_get_or 0 r (round_up n v step most) (hr ∙ sym long) (λ k h. each k (omega (arith, hr)) ∙ sym (get_or-map-range_with_len f 0 n k k 0 (omega (arith, hr)) (omega arith)))

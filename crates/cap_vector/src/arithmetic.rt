@@ -1,7 +1,8 @@
 ghost use Rattle.std.specs.Prelude.{◌≡◌, ℕ, ◌+◌, ◌-◌, ◌↔◌, ◌≤◌, IfSome, IsSome, IsTrue, length};
-ghost use Rattle.cap_vector.specs.Vector.{Fits, IsVector, plus, less};
+ghost use Rattle.cap_vector.specs.Vector.{Fits, IsVector, plus, less, amount_max};
+ghost use Rattle.cap_vector.specs.Rounding.{raised, round_up};
 
-use crate::vector::Amounts;
+use crate::vector::{Amounts, Resource};
 
 /// Whether each amount of `a` is at most that of `b`.
 pub fn fits<const K: usize, const A: u64, const B: u64>(
@@ -53,4 +54,32 @@ pub fn minus<const K: usize, const A: u64, const B: u64>(
         amounts[k] = a.amounts[k].saturating_sub(b.amounts[k]);
     }
     Amounts { amounts }
+}
+
+/// Each amount raised to the least multiple of `step` that is at least it and at least `step`, and then cut to `most`. A
+/// step of 0 raises nothing.
+pub fn round_up<const K: usize>(
+    amounts: &Resource<K>,
+    step: &Resource<K>,
+    most: &Resource<K>,
+) -> Resource<K>
+    ensures { result ≡ round_up K amounts.now step.now most.now }
+{
+    let mut rounded = [0; K];
+    for k in 0..K {
+        rounded[k] = raised(amounts.amounts[k], step.amounts[k]).min(most.amounts[k]);
+    }
+    Amounts { amounts: rounded }
+}
+
+/// One amount, raised to a multiple of `step`.
+fn raised(amount: u64, step: u64) -> u64
+    requires amount { amount ≤ amount_max }
+    requires step { step ≤ amount_max }
+    ensures { result ≡ raised amount step }
+{
+    if step == 0 {
+        return amount;
+    }
+    (amount.max(1) + (step - 1)) / step * step
 }

@@ -1,4 +1,4 @@
-//! Vectors of resource amounts (memory in MiB, vcores, ..), and how they add, subtract and fit.
+//! Vectors of resource amounts (memory in MiB, vcores, ..), and how they add, subtract, fit and round up.
 #![tactic(auto)]
 
 mod arithmetic;
@@ -6,5 +6,5 @@ mod arithmetic;
 mod tests;
 mod vector;
 
-pub use arithmetic::{checked_add, fits, minus};
+pub use arithmetic::{checked_add, fits, minus, round_up};
 pub use vector::{AMOUNT_MAX, Amounts, Resource, SUM_MAX, Sum};

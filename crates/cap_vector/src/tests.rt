@@ -40,3 +40,24 @@ fn amounts_add_subtract_and_fit(rt: HostRuntime) -> Result<(), Fail> {
     }
     Ok(())
 }
+
+#[test]
+fn amounts_round_up(rt: HostRuntime) -> Result<(), Fail> {
+    let step = Resource::new([1024, 1]).ok_or("a step")?;
+    let most = Resource::new([8192, 4]).ok_or("a maximum")?;
+    let low = Resource::new([8000, 4]).ok_or("a maximum that is no multiple")?;
+    let ask = Resource::new([1500, 1]).ok_or("an ask")?;
+    let big = Resource::new([7900, 1]).ok_or("an ask near the maximum")?;
+    assert_eq!(rt; round_up(&ask, &step, &most).amounts(), [2048, 1]);
+    assert_eq!(rt; round_up(&big, &step, &low).amounts(), [8000, 1]);
+    assert_eq!(rt; round_up(&most, &step, &most).amounts(), [8192, 4]);
+    assert_eq!(rt;
+        round_up(&Resource::zero(), &step, &most).amounts(),
+        [1024, 1]
+    );
+    assert_eq!(rt;
+        round_up(&ask, &Resource::zero(), &most).amounts(),
+        [1500, 1]
+    );
+    Ok(())
+}

@@ -29,11 +29,12 @@ pub fn submit<const K: usize>(
 fn refusal<const K: usize>(cluster: &Cluster<K>, path: &PathText) -> Option<Refusal>
     ensures { option_map as_refusal result ≡ submit_refusal cluster.now path.now }
 {
-    let bytes = path.as_bytes();
+    let Some(queue) = cluster.report(path.as_bytes()) else {
+        return Some(Refusal::UnknownQueue);
+    };
     first_refusal(&[
-        (cluster.queue(bytes).is_none(), Refusal::UnknownQueue),
-        (cluster.has_children(bytes), Refusal::NotLeaf),
-        (!cluster.is_running(bytes), Refusal::QueueStopped),
+        (!queue.leaf, Refusal::NotLeaf),
+        (!queue.running, Refusal::QueueStopped),
         (
             cluster.application_limit() <= cluster.application_count() as u64,
             Refusal::TooManyApplications,

@@ -14,6 +14,6 @@ pub fn cluster_info<const K: usize>(cluster: &Cluster<K>) -> Reply<K>
         applications: cluster.application_count(),
         containers: cluster.container_count(),
         totals: cluster.node_total(),
-        used: cluster.use_of(b"root"),
+        used: cluster.root_use(),
     }
 }

@@ -10,16 +10,15 @@ use cap_model::{PathText, Refusal, Reply};
 pub fn queue_info<const K: usize>(cluster: &Cluster<K>, path: &PathText) -> Reply<K>
     ensures { RepliesAlways cluster.now (QueueInfo path.now) result cluster.now }
 {
-    let bytes = path.as_bytes();
-    match cluster.queue(bytes) {
+    match cluster.report(path.as_bytes()) {
         None => Reply::Refused(Refusal::UnknownQueue),
         Some(queue) => Reply::QueueInfo {
-            running: cluster.is_running(bytes),
-            leaf: !cluster.has_children(bytes),
-            guaranteed: queue.guaranteed(),
-            maximum: queue.maximum(),
-            used: cluster.use_of(bytes),
-            applications: cluster.applications_under(bytes),
+            running: queue.running,
+            leaf: queue.leaf,
+            guaranteed: queue.guaranteed,
+            maximum: queue.maximum,
+            used: queue.used,
+            applications: queue.applications,
         },
     }
 }

@@ -14,7 +14,7 @@ pub fn set_queue_state<const K: usize>(
 ) -> Reply<K>
     ensures { RepliesAlways cluster.old (SetQueueState path.now running) result cluster.new }
 {
-    match cluster.queue(path.as_bytes()) {
+    match cluster.report(path.as_bytes()) {
         None => Reply::Refused(Refusal::UnknownQueue),
         Some(_) => {
             cluster.set_state(path.as_bytes(), running);

@@ -5,7 +5,7 @@ use Rattle.cap_config.specs.Entries.{read_lines}
 use Rattle.cap_config.specs.First.{first_fault}
 use Rattle.cap_config.proofs.Kept.{lines_kept}
 use Rattle.cap_config.specs.Bounds.{are_bounded}
-use Rattle.cap_config.proofs.Firsts.{early_by_line, line_fault, shape_answers, shape_passes, settings_answer}
+use Rattle.cap_config.proofs.Firsts.{early_by_line, no_fault, line_fault, shape_answers, shape_passes, settings_answer}
 use Rattle.cap_config.proofs.reading.read_config.Goals as goal
 
 pub returns-in_err-entries-clause-fault : goal.returns-in_err-entries-clause-fault
@@ -39,3 +39,6 @@ returns-clause-settings c =
 pub config_of-requires-clause-bounded : goal.config_of-requires-clause-bounded
 config_of-requires-clause-bounded c =
     ap are_bounded (c.in_ok-index.ensures.1 ∙ c.deref.ensures.value) ∙ lines_kept (lines c.args.text.now) c.in_ok-entries.entries.items c.in_ok-entries.ensures
+
+pub config_of-requires-clause-whole : goal.config_of-requires-clause-whole
+config_of-requires-clause-whole c = no_fault _ _ c.in_ok-check.field-0 c.in_ok-check.ensures

@@ -7,7 +7,7 @@ use Rattle.cap_messages.proofs.laws.replies_have_one_spelling.Goals as goal
 pub returns-clause-some : goal.returns-clause-some
 returns-clause-some c = λ id kind reply id_fits kind_fits of_kind fits. (
   reply_bytes id kind reply,
-  reply_is_bytes id kind reply kind_fits,
+  reply_is_bytes id kind reply kind_fits fits,
   record { spelled = refl; id_fits = id_fits; kind_fits = kind_fits; of_kind = of_kind; fits = fits },
 )
 

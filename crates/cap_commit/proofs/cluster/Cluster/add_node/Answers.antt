@@ -1,30 +1,29 @@
-use Rattle.std.proofs.Common.{◌≡◌, ◌∙◌, ◌++◌, ◌∷◌, [], ap, sym, arith, length, false, true, length-append}
-use Rattle.cap_vector.specs.Vector.{plus}
-use Rattle.cap_model.specs.Flat.{ClusterNode}
-use Rattle.cap_model.specs.RegisterNode.{sum_of_totals}
-use Rattle.cap_model.proofs.NodeTotals.{totals-push}
+use Rattle.std.proofs.Common.{◌≡◌, ℕ, List, refl, ap, ◌∙◌, arith}
+use Rattle.std.specs.Prelude.{Result, Ok, Err, IfOk, OnErr}
+use Rattle.cap_model.specs.declared.no_memory.NoMemory.{NoMemory}
+use Rattle.cap_model.specs.Flat.{NodeTable}
 use Rattle.cap_model.proofs.Registering.{may_join}
+use Rattle.cap_commit.proofs.Holding.{held_nodes}
 use Rattle.cap_commit.proofs.cluster.Cluster.add_node.Goals as goal
 
-pub unreachable-requires : goal.unreachable-requires
-unreachable-requires g c =
+pub register-requires : goal.register-requires
+register-requires g c =
     let may = may_join c.args.self.now c.args.host.now c.args.total.now c.requires in
-    let within = rw (← c.self.view_is, ← c.self.invariant.0) at may.within in
-    let some : false ≡ true = c.in_default.ensures.variant.1 (record { count = c.checked_add.ensures.count; within = within }) in
-    cc
-
-pub overflow_add-self : goal.overflow_add-self
-overflow_add-self g c =
-    let may = may_join c.args.self.now c.args.host.now c.args.total.now c.requires in
-    let below = rw (← c.self.view_is) at may.numbered in
-    omega (arith, below)
-
-pub invariant_of-self-2 : goal.invariant_of-self-2
-invariant_of-self-2 g c =
-    let may = may_join c.args.self.now c.args.host.now c.args.total.now c.requires in
+    let kinds = c.self.invariant.resources in
     let few = rw (← c.self.view_is) at may.few in
-    let count : length (plus (sum_of_totals g.row.K c.self.inside.nodes.items) c.args.total.now) ≡ g.row.K = rw c.self.invariant.0 at c.checked_add.ensures.count in
-    let same : c.new.result.total ≡ c.args.total.now = ap (λ (n : ClusterNode). n.total) c.new.ensures in
-    let push : sum_of_totals g.row.K (c.self.inside.nodes.items ++ c.new.result ∷ []) ≡ plus (sum_of_totals g.row.K c.self.inside.nodes.items) c.new.result.total = totals-push g.row.K c.self.inside.nodes.items c.new.result (rw same count) in
-    let is : c.in-Some.sum ≡ sum_of_totals g.row.K (c.self.inside.nodes.items ++ c.new.result ∷ []) = c.in-Some.ensures.some ∙ ap (λ v. plus v c.args.total.now) c.self.invariant.0 ∙ ap (λ v. plus (sum_of_totals g.row.K c.self.inside.nodes.items) v) (sym same) ∙ sym push in
-    rw c.in-Ok.ensures.items (is, omega (arith, few, length-append c.self.inside.nodes.items (c.new.result ∷ [])), c.self.invariant.2, c.self.invariant.3)
+    let numbered = rw (← c.self.view_is) at may.numbered in
+    let within = rw (← c.self.view_is) at may.within in
+    (omega (arith, kinds), (omega (arith, kinds), (few, (numbered, within))))
+
+-- whether a node joins or not, what is live and what is reserved stays
+stays : {A : Type 0} (f : NodeTable → List A) (r : Result ℕ NoMemory) (old new made : NodeTable) (P : ℕ → Type 0) → IfOk r (λ n. P n × (new ≡ made)) → OnErr r (new ≡ old) → f made ≡ f old → f new ≡ f old
+stays f (Ok n) old new made P a b e = ap f a.1 ∙ e
+stays f (Err x) old new made P a b e = ap f b
+
+pub invariant_of-self : goal.invariant_of-self
+invariant_of-self g c =
+    let x = c.self.inside in
+    let new = c.register.new.self in
+    held_nodes x.minimum_allocation x.maximum_allocation x.application_limit x.tree.value x.apps.table x.nodes c.self.invariant new
+    (stays (λ t. t.live) c.register.result x.nodes new _ _ c.register.ensures.ok c.register.ensures.err refl ∙ c.self.invariant.idle)
+    (stays (λ t. t.reserved) c.register.result x.nodes new _ _ c.register.ensures.ok c.register.ensures.err refl ∙ c.self.invariant.unreserved)

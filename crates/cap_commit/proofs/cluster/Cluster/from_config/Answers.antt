@@ -1,7 +1,20 @@
-use Rattle.std.proofs.Common.{◌∙◌, sym, arith}
-use Rattle.cap_model.proofs.NodeTotals.{totals-none}
+use Rattle.std.proofs.Common.{ap, arith}
+use Rattle.cap_model.specs.Flat.{AppTable, NodeTable}
+use Rattle.cap_commit.proofs.Holding.{held_opened}
+use Rattle.cap_commit.proofs.Sizes.{queue_fits, tree_fits}
 use Rattle.cap_commit.proofs.cluster.Cluster.from_config.Goals as goal
+
+pub from_config-requires : goal.from_config-requires
+from_config-requires g c = let k = c.application_limit-application_limit.ensures.resources in (omega (arith, k), (tree_fits _ k, record { path = omega (arith, k); queue = queue_fits _ k }))
+
+pub minimum_allocation-requires : goal.minimum_allocation-requires
+minimum_allocation-requires g c = let k = c.application_limit-application_limit.ensures.resources in (omega (arith, k), omega (arith, k))
+
+pub maximum_allocation-requires : goal.maximum_allocation-requires
+maximum_allocation-requires g c = let k = c.application_limit-application_limit.ensures.resources in (omega (arith, k), omega (arith, k))
 
 pub invariant_of-result : goal.invariant_of-result
 invariant_of-result g c =
-    rw (c.new-2.ensures.items, c.new.ensures) (c.zero.ensures ∙ sym (totals-none g.row.K), omega arith, c.application_limit.ensures.few, omega arith)
+    rw (c.in-Ok-new.ensures.ok)
+    (held_opened _ _ _ c.in-Ok.tree c.new-2.result.table c.new-3.result (ap (λ (t : AppTable). t.active) c.new-2.ensures.table) (ap (λ (t : NodeTable). t.live) c.new-3.ensures) (ap (λ (t : NodeTable). t.reserved) c.new-3.ensures)
+    c.in-Ok.ensures.unused c.application_limit-application_limit.ensures.few c.application_limit-application_limit.ensures.resources)

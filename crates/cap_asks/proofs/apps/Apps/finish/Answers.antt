@@ -1,0 +1,11 @@
+use Rattle.cap_asks.proofs.Entries.{still_without, table_without, rest_without}
+use Rattle.cap_asks.proofs.apps.Apps.finish.Goals as goal
+
+pub invariant_of-self : goal.invariant_of-self
+invariant_of-self g c = rw c.shift_remove.ensures.entries (still_without 1 c.args.n c.self.inside.next c.self.inside.active.entries c.self.invariant)
+
+pub returns-clause-table : goal.returns-clause-table
+returns-clause-table g c = rw (← c.self.view_is) (table_without c.args.n c.self.inside.next c.self.inside.active.entries c.shift_remove.new.self.entries c.self.invariant c.shift_remove.ensures.entries)
+
+pub returns-clause-rooms : goal.returns-clause-rooms
+returns-clause-rooms g c = rw (← c.self.view_is) (rest_without c.args.n c.self.inside.next c.self.inside.active.entries c.shift_remove.new.self.entries c.self.invariant c.shift_remove.ensures.entries)

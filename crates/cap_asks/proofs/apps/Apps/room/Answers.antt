@@ -1,0 +1,42 @@
+use Rattle.std.proofs.Common.{◌≡◌, true, ap, sym, ◌∙◌}
+use Rattle.std.specs.Prelude.{Result, Ok, Err, OnOk, is_some, find, ◌==◌}
+use Rattle.cap_model.specs.declared.no_memory.NoMemory.{NoMemory}
+use Rattle.cap_model.specs.Flat.{App}
+use Rattle.cap_asks.proofs.Entries.{apps_of, same_apps, still_numbered, one_uses, has_rooms, none_there}
+use Rattle.cap_asks.proofs.apps.Apps.room.Goals as goal
+
+on_ok : {P Q : Type 0} (r : Result (Unit {0}) NoMemory) → (P → Q) → OnOk r P → OnOk r Q
+on_ok (Ok x) f p = f p
+on_ok (Err e) f p = tt
+
+pub unreachable-requires : goal.unreachable-requires
+unreachable-requires g c =
+    let none = none_there c.args.n c.self.inside.next c.self.inside.active.entries c.self.invariant (sym c.in_default.ensures.value) in
+    let there : is_some (find (λ (app : App). app.number == c.args.n) (apps_of c.self.inside.active.entries)) ≡ true = rw (← c.self.view_is) at c.requires in
+    cc (sym none ∙ there)
+
+pub invariant_of-self : goal.invariant_of-self
+invariant_of-self g c =
+    let found = sym c.in-Some.ensures.value in
+    let entries = (c.get_mut.follows.holds c.reserve.new.self).0 in
+    rw entries (still_numbered 1 c.args.n c.self.inside.next c.self.inside.active.entries c.in-Some.app.now c.reserve.new.self c.self.invariant found (ap (λ (a : App). a.number) c.reserve.ensures.app) c.reserve.ensures.stays.number)
+
+pub returns-clause-table : goal.returns-clause-table
+returns-clause-table g c =
+    let found = sym c.in-Some.ensures.value in
+    let entries = (c.get_mut.follows.holds c.reserve.new.self).0 in
+    let same = ap apps_of entries ∙ same_apps c.args.n c.self.inside.active.entries c.in-Some.app.now c.reserve.new.self found c.reserve.ensures.app in
+    rw (← c.self.view_is) (ap (λ xs. record { active = xs; next = c.self.inside.next }) same)
+
+pub returns-clause-stays : goal.returns-clause-stays
+returns-clause-stays g c =
+    let found = sym c.in-Some.ensures.value in
+    let entries = (c.get_mut.follows.holds c.reserve.new.self).0 in
+    rw (← c.self.view_is, entries) (one_uses 1 c.args.n c.self.inside.next 0 0 0 c.self.inside.active.entries c.in-Some.app.now c.reserve.new.self c.self.invariant found c.reserve.ensures.stays)
+
+pub returns-clause-ok : goal.returns-clause-ok
+returns-clause-ok g c =
+    let found = sym c.in-Some.ensures.value in
+    let entries = (c.get_mut.follows.holds c.reserve.new.self).0 in
+    let numbered = still_numbered 1 c.args.n c.self.inside.next c.self.inside.active.entries c.in-Some.app.now c.reserve.new.self c.self.invariant found (ap (λ (a : App). a.number) c.reserve.ensures.app) c.reserve.ensures.stays.number in
+    on_ok c.reserve.result (λ has. rw entries (has_rooms 1 c.args.n c.self.inside.next c.args.asks c.args.grants c.args.ends c.self.inside.active.entries c.in-Some.app.now c.reserve.new.self numbered found has)) c.reserve.ensures.ok

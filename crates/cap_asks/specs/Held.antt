@@ -1,0 +1,60 @@
+-- What an application holds in memory: its row in the flat cluster, and how many more asks, grants and ends it may take.
+use Rattle.std.specs.Prelude.{◌≡◌, ℕ, ◌+◌, ◌≤◌, Bool, true, List, [], ◌∷◌, if◌then◌else◌}
+use Rattle.std.specs.Ordering.{is_lt}
+use Rattle.cap_model.specs.Calls.{Key, ask_key_cmp, Ask}
+use Rattle.cap_model.specs.Flat.{App}
+
+-- asks in order of key, and how many more keys fit with no memory
+pub record HeldAsks : Type 0 where
+  pub asks : List Ask
+  pub room : ℕ
+
+-- news of one kind: what the last reply told, what waits, and how many more fit with no memory
+pub record HeldNews (T : Type 0) : Type 0 where
+  pub told : List T
+  pub waiting : List T
+  pub room : ℕ
+
+-- how many more asks, grants and ends the application of this number may take with no memory
+pub record Room : Type 0 where
+  pub number : ℕ
+  pub asks : ℕ
+  pub grants : ℕ
+  pub ends : ℕ
+
+-- an application and its room
+pub record HeldApp : Type 0 where
+  pub app : App
+  pub room : Room
+
+-- one key stands before another
+abbrev pub is_before : Key → Key → Bool
+is_before a b = is_lt (ask_key_cmp a b)
+
+-- asks of keys that are all greater than one
+abbrev pub AreAfter : Key → List Ask → Type 0
+AreAfter key [] = Unit {0}
+AreAfter key (ask ∷ asks) = (is_before key ask.key ≡ true) × AreAfter key asks
+
+-- asks in order of key, each for at least one container
+abbrev pub AreKept : List Ask → Type 0
+AreKept [] = Unit {0}
+AreKept (ask ∷ asks) = (1 ≤ ask.count) × AreAfter ask.key asks × AreKept asks
+
+-- where in the order of keys a key stands, or would stand
+abbrev pub place_of : Key → List Ask → ℕ
+place_of key [] = 0
+place_of key (ask ∷ asks) = if is_before ask.key key then place_of key asks + 1 else 0
+
+-- room falls by at most so much
+pub record TakesRoom (asks_taken grants_taken ends_taken : ℕ) (old new : Room) : Type 0 where
+  pub number : new.number ≡ old.number
+  pub asks : old.asks ≤ new.asks + asks_taken
+  pub grants : old.grants ≤ new.grants + grants_taken
+  pub ends : old.ends ≤ new.ends + ends_taken
+
+-- room for at least so many
+pub record HasRoom (more_asks more_grants more_ends : ℕ) (room : Room) : Type 0 where
+  pub asks : more_asks ≤ room.asks
+  pub grants : more_grants ≤ room.grants
+  pub ends : more_ends ≤ room.ends

@@ -1,0 +1,79 @@
+-- The row of a queue, by its path and by its place.
+use Rattle.std.proofs.Common.{◌≡◌, ℕ, ◌≤◌, Bool, true, false, cond, List, [], ◌∷◌, Some, refl, sym, ◌∙◌, ap, subst, inl, inr, arith}
+use Rattle.std.specs.Prelude.{IsSome, bytes_eq, find, is_some, ◌||◌}
+use Rattle.std.specs.List.{list_any}
+use Rattle.std.proofs.lemmas.Slice.Eq.{bytes_eq-Decides}
+use Rattle.std.proofs.lemmas.List.Sums.{count_by-le-length}
+use Rattle.cap_model.specs.Settings.{QueueRow}
+use Rattle.cap_model.specs.Limits.{applications_max}
+use Rattle.cap_model.specs.Flat.{Flat, App, is_under}
+use Rattle.cap_model.specs.Bounds.{HasDistinctPaths}
+use Rattle.cap_model.specs.QueueCalls.{root_path}
+use Rattle.cap_model.specs.Listing.{IsListedFromRoot}
+use Rattle.cap_model.proofs.Choosing.{IsIn}
+use Rattle.cap_model.proofs.Members.{each_of, in_map}
+use Rattle.cap_tree.specs.Spot.{item_at}
+use Rattle.cap_tree.specs.Rows.{Row, AreRows, IsAt, queues_of, settings_of_row, active_in}
+use Rattle.cap_tree.proofs.RowPaths.{at_place}
+use Rattle.cap_commit.specs.Held.{IsHeld, IsRowOf}
+
+-- of paths that are all others, each is found
+or_no : (a b : Bool) → a || b ≡ false → (a ≡ false) × (b ≡ false)
+or_no true b h = absurd (cc h)
+or_no false b h = (refl, h)
+
+not_among : (qs : List QueueRow) (path : List ℕ) (q : QueueRow) → list_any (λ (r : QueueRow). bytes_eq r.path path) qs ≡ false → IsIn q qs → bytes_eq q.path path ≡ false
+not_among [] path q h m = absurd m
+not_among (x ∷ qs) path q h (inl e) = subst (λ y. bytes_eq y.path path ≡ false) e (or_no (bytes_eq x.path path) (list_any (λ (r : QueueRow). bytes_eq r.path path) qs) h).0
+not_among (x ∷ qs) path q h (inr m) = not_among qs path q (or_no (bytes_eq x.path path) (list_any (λ (r : QueueRow). bytes_eq r.path path) qs) h).1 m
+
+itself : (p : List ℕ) → bytes_eq p p ≡ true
+itself p = (bytes_eq-Decides p p).1 refl
+
+pub found_by_path : (qs : List QueueRow) → HasDistinctPaths qs → (q : QueueRow) → IsIn q qs → find (λ r. bytes_eq r.path q.path) qs ≡ Some q
+found_by_path [] d q m = absurd m
+found_by_path (x ∷ qs) d q (inl e) = subst (λ y. find (λ (r : QueueRow). bytes_eq r.path y.path) (x ∷ qs) ≡ Some y) e (ap (λ b. cond b (Some x) (find (λ (r : QueueRow). bytes_eq r.path x.path) qs)) (itself x.path))
+found_by_path (x ∷ qs) d q (inr m) = other (bytes_eq x.path q.path) refl (found_by_path qs d.1 q m)
+  where
+    other : (b : Bool) → bytes_eq x.path q.path ≡ b → find (λ r. bytes_eq r.path q.path) qs ≡ Some q → cond (bytes_eq x.path q.path) (Some x) (find (λ (r : QueueRow). bytes_eq r.path q.path) qs) ≡ Some q
+    other true e f =
+        let same = (bytes_eq-Decides x.path q.path).0 e in
+        absurd (let no = not_among qs x.path q d.0 m in let yes : bytes_eq q.path x.path ≡ true = (bytes_eq-Decides q.path x.path).1 (sym same) in cc (no, yes))
+    other false e f = ap (λ b. cond b (Some x) (find (λ (r : QueueRow). bytes_eq r.path q.path) qs)) e ∙ f
+
+-- the row of a path and a place
+pub record IsRowAt (rows : List Row) (path place : List ℕ) : Type 0 where
+  pub row : Row
+  pub member : IsIn row rows
+  pub path_is : row.path ≡ path
+  pub item_is : item_at place rows ≡ Some row.item
+
+pub row_at : (rows : List Row) (path place : List ℕ) → IsAt rows path place → IsRowAt rows path place
+row_at rows path place h =
+    let t = at_place place rows h.present in
+    record { row = t.row; member = t.member; path_is = sym t.path_is ∙ h.path_is; item_is = t.item_is }
+
+-- its settings are those of the path
+pub found_row : (rows : List Row) (path place : List ℕ) → AreRows rows → (r : IsRowAt rows path place) → find (λ q. bytes_eq q.path path) (queues_of rows) ≡ Some (settings_of_row r.row)
+found_row rows path place a r =
+    ap (λ p. find (λ (q : QueueRow). bytes_eq q.path p) (queues_of rows)) (sym r.path_is) ∙ found_by_path (queues_of rows) a.listing.tree.distinct (settings_of_row r.row) (in_map settings_of_row rows r.row r.member)
+
+-- the root is there
+root_of : (qs : List QueueRow) → IsListedFromRoot qs → is_some (find (λ q. bytes_eq q.path root_path) qs) ≡ true
+root_of [] l = absurd l
+root_of (q ∷ qs) l = ap (λ b. is_some (cond b (Some q) (find (λ (r : QueueRow). bytes_eq r.path root_path) qs))) ((bytes_eq-Decides q.path root_path).1 l.0)
+
+pub root_there : (rows : List Row) → AreRows rows → IsSome (find (λ q. bytes_eq q.path root_path) (queues_of rows))
+root_there rows a = root_of (queues_of rows) a.listing.listed
+
+-- no queue has more applications than are allowed
+pub active_few : {K : ℕ} (rows : List Row) (cluster : Flat K) → IsHeld rows cluster → (r : Row) → IsIn r rows → r.item.active ≤ applications_max
+active_few rows cluster h r m =
+    let t = (each_of (IsRowOf cluster) rows h.tied r m).active in
+    let few = h.few in
+    let limit = h.limit in
+    omega (arith, t, few, limit, count_by-le-length (λ (app : App). is_under r.path app.leaf) cluster.apps.active)
+
+pub all_few : {K : ℕ} (rows : List Row) (cluster : Flat K) → IsHeld rows cluster → active_in rows ≤ applications_max
+all_few [] cluster h = omega arith
+all_few (r ∷ rows) cluster h = active_few (r ∷ rows) cluster h r (inl refl)

@@ -1,0 +1,113 @@
+-- The parts of a cluster are no larger than memory, where there are not too many kinds of resource.
+use Rattle.std.proofs.Common.{ℕ, ◌+◌, ◌*◌, ◌≤◌, ◌<◌, arith}
+use Rattle.std.specs.Prelude.{max}
+use Rattle.cap_model.specs.Limits.{resources_max}
+
+-- rounding up to a boundary of 8 bytes adds less than 8, to one of 4 less than 4, to one of 1 byte nothing
+pub record Rounds (u v w : ℕ → ℕ) : Type 0 where
+  pub eights : (x : ℕ) → u x ≤ x + 8
+  pub fours : (x : ℕ) → w x ≤ x + 4
+  pub ones : (x : ℕ) → v x ≤ x
+
+pub up_rounds : Rounds (prog.Memory.up 8) (prog.Memory.up 1) (prog.Memory.up 4)
+up_rounds = record { eights = λ x. omega arith; fours = λ x. omega arith; ones = λ x. omega arith }
+
+module _ (u v w : ℕ → ℕ) (r : Rounds u v w) (n : ℕ) (few : n ≤ resources_max) where
+  abbrev amounts : ℕ
+  amounts = u (0 + n * 8)
+
+  abbrev maximum : ℕ
+  maximum = u (max 1 (max (8 + amounts) 1))
+
+  abbrev fields : ℕ
+  fields = u (u (v (u (u (24 + amounts) + maximum) + 8) + 1) + amounts)
+
+  abbrev queue : ℕ
+  queue = u (u (fields + 8) + 112)
+
+  amounts_few : amounts ≤ 9000
+  amounts_few = let a = r.eights (0 + n * 8) in let f : n ≤ 1000 = few in omega (arith, a, f)
+
+  maximum_few : maximum ≤ 10000
+  maximum_few = let a = r.eights (max 1 (max (8 + amounts) 1)) in let f = amounts_few in omega (arith, a, f)
+
+  fields_few : fields ≤ 40000
+  fields_few =
+      let a = amounts_few in
+      let m = maximum_few in
+      let b = r.eights (24 + amounts) in
+      let c = r.eights (u (24 + amounts) + maximum) in
+      let d = r.ones (u (u (24 + amounts) + maximum) + 8) in
+      let e = r.eights (v (u (u (24 + amounts) + maximum) + 8) + 1) in
+      let f = r.eights (u (v (u (u (24 + amounts) + maximum) + 8) + 1) + amounts) in
+      omega (arith, a, m, b, c, d, e, f)
+
+  queue_few : queue ≤ 50000
+  queue_few = let a = r.eights (fields + 8) in let b = r.eights (u (fields + 8) + 112) in let f = fields_few in omega (arith, a, b, f)
+
+  queue_is_small : queue < 9223372036854775808
+  queue_is_small = let a = queue_few in omega (arith, a)
+
+  abbrev tree : ℕ
+  tree = u (u (0 + u (u (0 + queue) + 24)) + 80)
+
+  tree_is_small : tree < 9223372036854775808
+  tree_is_small =
+      let a = queue_few in
+      let b = r.eights (0 + queue) in
+      let c = r.eights (u (0 + queue) + 24) in
+      let d = r.eights (0 + u (u (0 + queue) + 24)) in
+      let e = r.eights (u (0 + u (u (0 + queue) + 24)) + 80) in
+      omega (arith, a, b, c, d, e)
+
+  abbrev report : ℕ
+  report = u (w (u (u (8 + amounts) + maximum) + amounts) + 4)
+
+  report_is_small : report < 9223372036854775808
+  report_is_small =
+      let a = amounts_few in
+      let m = maximum_few in
+      let b = r.eights (8 + amounts) in
+      let c = r.eights (u (8 + amounts) + maximum) in
+      let d = r.fours (u (u (8 + amounts) + maximum) + amounts) in
+      let e = r.eights (w (u (u (8 + amounts) + maximum) + amounts) + 4) in
+      omega (arith, a, m, b, c, d, e)
+
+  abbrev last_reply : ℕ
+  last_reply = u (0 + u (w (w (152 + amounts) + 4) + 16))
+
+  abbrev one_node : ℕ
+  one_node = u (w (last_reply + amounts) + 4)
+
+  abbrev nodes : ℕ
+  nodes = u (u (u (0 + u (120 + one_node)) + 32) + amounts)
+
+  nodes_are_small : nodes < 9223372036854775808
+  nodes_are_small =
+      let a = amounts_few in
+      let b = r.fours (152 + amounts) in
+      let c = r.fours (w (152 + amounts) + 4) in
+      let d = r.eights (w (w (152 + amounts) + 4) + 16) in
+      let e = r.eights (0 + u (w (w (152 + amounts) + 4) + 16)) in
+      let f = r.fours (last_reply + amounts) in
+      let i = r.eights (w (last_reply + amounts) + 4) in
+      let j = r.eights (120 + one_node) in
+      let k = r.eights (0 + u (120 + one_node)) in
+      let l = r.eights (u (0 + u (120 + one_node)) + 32) in
+      let m = r.eights (u (u (0 + u (120 + one_node)) + 32) + amounts) in
+      omega (arith, a, b, c, d, e, f, i, j, k, l, m)
+
+abbrev pub up8 : ℕ → ℕ
+up8 = prog.Memory.up 8
+
+pub queue_fits : (n : ℕ) (few : n ≤ resources_max) → queue up8 (prog.Memory.up 1) (prog.Memory.up 4) up_rounds n few < 9223372036854775808
+queue_fits n few = queue_is_small up8 (prog.Memory.up 1) (prog.Memory.up 4) up_rounds n few
+
+pub tree_fits : (n : ℕ) (few : n ≤ resources_max) → tree up8 (prog.Memory.up 1) (prog.Memory.up 4) up_rounds n few < 9223372036854775808
+tree_fits n few = tree_is_small up8 (prog.Memory.up 1) (prog.Memory.up 4) up_rounds n few
+
+pub report_fits : (n : ℕ) (few : n ≤ resources_max) → report up8 (prog.Memory.up 1) (prog.Memory.up 4) up_rounds n few < 9223372036854775808
+report_fits n few = report_is_small up8 (prog.Memory.up 1) (prog.Memory.up 4) up_rounds n few
+
+pub nodes_fit : (n : ℕ) (few : n ≤ resources_max) → nodes up8 (prog.Memory.up 1) (prog.Memory.up 4) up_rounds n few < 9223372036854775808
+nodes_fit n few = nodes_are_small up8 (prog.Memory.up 1) (prog.Memory.up 4) up_rounds n few

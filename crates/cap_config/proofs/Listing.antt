@@ -1,0 +1,157 @@
+-- The rows are listed from the root, each queue before those under it.
+use Rattle.std.proofs.Common.{◌≡◌, ℕ, zero, suc, ◌≤◌, List, [], ◌∷◌, ◌++◌, append_assoc, true, false, cond, None, refl, sym, ap, ◌∙◌, arith, subst, eq-eqb}
+use Rattle.std.specs.Prelude.{◌==◌, nat_eq, slice_index_or}
+use Rattle.std.specs.List.{All, flat_map, list_all, list_any, starts_with}
+use Rattle.std.specs.Str.{bytes_eq}
+use Rattle.std.proofs.lemmas.Bool.{eqb-true}
+use Rattle.std.proofs.lemmas.List.{append-nil}
+use Rattle.std.proofs.lemmas.List.Folds.{list_any-append}
+use Rattle.std.proofs.lemmas.List.Elements.{All-append, All-nil, All-cons}
+use Rattle.std.proofs.lemmas.List.Splits.{length-slice_split}
+use Rattle.std.proofs.lemmas.Slice.Eq.{bytes_eq-Decides}
+use Rattle.cap_model.specs.Settings.{QueueRow}
+use Rattle.cap_model.specs.Flat.{is_under, is_child_of, name_of}
+use Rattle.cap_model.specs.Bounds.{depth}
+use Rattle.cap_model.specs.QueueCalls.{root_path}
+use Rattle.cap_model.specs.Listing.{MayFollow, IsListed, IsListedFromRoot, IsListing, factor_max}
+use Rattle.cap_config.specs.declared.entry.Entry.{Entry}
+use Rattle.cap_config.specs.Keys.{root, last_dot, is_dot}
+use Rattle.cap_config.specs.Values.{is_name_under}
+use Rattle.cap_config.specs.Queues.{names_below, child}
+use Rattle.cap_config.specs.Tests.{whole_fault, level}
+use Rattle.cap_config.specs.Rows.{rows_under, row_of}
+use Rattle.cap_config.specs.Bounds.{are_bounded}
+use Rattle.cap_config.proofs.Found.{both, under_path, factor_small}
+use Rattle.cap_config.proofs.Children.{name_no_dot}
+use Rattle.cap_config.proofs.RowPaths.{first_of_two, second_of_two, same_is, queue_level, queue_rows}
+use Rattle.cap_config.proofs.RowCounts.{IsBelow, starts_dot, append_none, dotless_cons}
+use Rattle.cap_config.proofs.RowTrees.{rows_tree, own_path}
+use Rattle.cap_config.proofs.RowOrder.{below_of_under, below_both}
+
+begins_with : (p rest : List ℕ) → starts_with nat_eq (p ++ rest) p ≡ true
+begins_with [] [] = refl
+begins_with [] (b ∷ rest) = refl
+begins_with (b ∷ p) rest = rw (eq-eqb b b refl, begins_with p rest) refl
+
+dot_first : (b : ℕ) → is_dot b ≡ true → b ≡ 46
+dot_first b h = eqb-true b 46 h
+
+-- a queue below another is under it
+under_by : (p queue rest : List ℕ) → queue ≡ p ++ rest → starts_dot rest ≡ true → is_under p queue ≡ true
+under_by p queue [] e h = first_of_two (bytes_eq p queue) _ ((bytes_eq-Decides p queue).1 (sym (append_none p) ∙ sym e))
+under_by p queue (b ∷ rest) e h =
+    let whole : queue ≡ (p ++ 46 ∷ []) ++ rest = e ∙ ap (λ x. p ++ x ∷ rest) (dot_first b h) ∙ sym (append_assoc p (46 ∷ []) rest) in
+    second_of_two (bytes_eq p queue) (starts_with nat_eq queue (p ++ 46 ∷ [])) (ap (λ q. starts_with nat_eq q (p ++ 46 ∷ [])) whole ∙ begins_with (p ++ 46 ∷ []) rest)
+
+under_below : (p queue : List ℕ) → IsBelow p queue → is_under p queue ≡ true
+under_below p queue below = under_by p queue below.rest below.whole below.starts
+
+under_itself : (p : List ℕ) → is_under p p ≡ true
+under_itself p = first_of_two (bytes_eq p p) _ (same_is p)
+
+-- what is under a child of a queue is under the queue
+under_child : (p name queue : List ℕ) → is_under (child p name) queue ≡ true → is_under p queue ≡ true
+under_child p name queue h =
+    under_below p queue (below_both p (child p name) queue (record { rest = 46 ∷ name; whole = refl; starts = refl }) (below_of_under (child p name) queue h))
+
+no_dot_in : (bytes : List ℕ) → last_dot bytes ≡ None → list_any (λ b. b == 46) bytes ≡ false
+no_dot_in [] h = refl
+no_dot_in (b ∷ bytes) h =
+    let parts = dotless_cons (is_dot b) (last_dot bytes) h in
+    rw (parts.0, no_dot_in bytes parts.1) refl
+
+name_itself : (name : List ℕ) → list_any (λ b. b == 46) name ≡ false → name_of name ≡ name
+name_itself [] h = refl
+name_itself (b ∷ name) h = ap (λ c. cond c (name_of name) (b ∷ name)) h
+
+dot_in : (path name : List ℕ) → list_any (λ b. b == 46) (child path name) ≡ true
+dot_in path name = list_any-append (λ b. b == 46) path (46 ∷ name) ∙ second_of_two (list_any (λ b. b == 46) path) true refl
+
+child_name : (path name : List ℕ) → list_any (λ b. b == 46) name ≡ false → name_of (child path name) ≡ name
+child_name [] name h = name_itself name h
+child_name (b ∷ path) name h = ap (λ c. cond c (name_of (child path name)) (b ∷ child path name)) (dot_in (b ∷ path) name) ∙ child_name path name h
+
+child_is : (path name : List ℕ) → last_dot name ≡ None → is_child_of path (child path name) ≡ true
+child_is path name none = (bytes_eq-Decides (child path name) (path ++ 46 ∷ name_of (child path name))).1 (ap (λ (n : List ℕ). path ++ 46 ∷ n) (sym (child_name path name (no_dot_in name none))))
+
+-- the rows of names, one name after another, and rows after them
+all_listed : (f : List ℕ → List QueueRow) (p : List ℕ) →
+    ((name before : List ℕ) (rest : List QueueRow) → is_name_under p name ≡ true → is_under p before ≡ true → ((last : List ℕ) → is_under p last ≡ true → IsListed last rest) → IsListed before (f name ++ rest)) →
+    (names : List (List ℕ)) → list_all (is_name_under p) names ≡ true → (before : List ℕ) (rest : List QueueRow) → is_under p before ≡ true →
+    ((last : List ℕ) → is_under p last ≡ true → IsListed last rest) → IsListed before (flat_map f names ++ rest)
+all_listed f p each [] all before rest under after = after before under
+all_listed f p each (name ∷ names) all before rest under after =
+    let has = both (is_name_under p name) (list_all (is_name_under p) names) all in
+    subst (IsListed before) (sym (append_assoc (f name) (flat_map f names) rest))
+    (each name before (flat_map f names ++ rest) has.0 under (λ last below. all_listed f p each names has.1 last rest below after))
+
+rows_none : (entries : List Entry) (p before : List ℕ) (rest : List QueueRow) → IsListed before rest → IsListed before (rows_under zero entries p ++ rest)
+unfolding rows_under
+rows_none entries p before rest h = h
+
+rows_first : (entries : List Entry) (n : ℕ) (p before : List ℕ) (rest : List QueueRow) → MayFollow before p →
+    IsListed p (flat_map (λ name. rows_under n entries (child p name)) (names_below entries p) ++ rest) → IsListed before (rows_under (suc n) entries p ++ rest)
+unfolding rows_under row_of
+rows_first entries n p before rest may later = (may, later)
+
+-- the rows of a child of a queue, and rows after them
+rows_listed : (entries : List Entry) → are_bounded entries ≡ true → (n : ℕ) (p name before : List ℕ) (rest : List QueueRow) → is_name_under p name ≡ true → is_under p before ≡ true →
+    ((last : List ℕ) → is_under p last ≡ true → IsListed last rest) → IsListed before (rows_under n entries (child p name) ++ rest)
+rows_listed entries all zero p name before rest named under after = rows_none entries (child p name) before rest (after before under)
+rows_listed entries all (suc n) p name before rest named under after =
+    let q = child p name in
+    rows_first entries n q before rest (record { parent = p; child = child_is p name (name_no_dot p name named); above = under })
+    (all_listed (λ m. rows_under n entries (child q m)) q (λ m. rows_listed entries all n q m) (names_below entries q) (under_path entries q all) q rest (under_itself q)
+    (λ last below. after last (under_child p name last below)))
+
+root_is_path : root ≡ root_path
+unfolding root
+root_is_path = refl
+
+from_root : (entries : List Entry) (n : ℕ) (p : List ℕ) → p ≡ root_path → IsListed p (flat_map (λ name. rows_under n entries (child p name)) (names_below entries p)) → IsListedFromRoot (rows_under (suc n) entries p)
+unfolding rows_under row_of
+from_root entries n p is later = (is, subst (λ (path : List ℕ). IsListed path (flat_map (λ name. rows_under n entries (child p name)) (names_below entries p))) is later)
+
+listed_from_root : (entries : List Entry) → are_bounded entries ≡ true → IsListedFromRoot (rows_under 16 entries root)
+listed_from_root entries all =
+    let rows = flat_map (λ name. rows_under 15 entries (child root name)) (names_below entries root) in
+    from_root entries 15 root root_is_path
+    (subst (IsListed root) (append-nil rows)
+    (all_listed (λ m. rows_under 15 entries (child root m)) root (λ m. rows_listed entries all 15 root m) (names_below entries root) (under_path entries root all) root [] (under_itself root) (λ last below. tt)))
+
+-- the levels of the rows
+few_dots : (path : List ℕ) → level path ≤ 16 → depth path ≤ 15
+few_dots path few = let e = length-slice_split is_dot path in omega (arith, e, few)
+
+levels_few : (entries : List Entry) → are_bounded entries ≡ true → whole_fault entries ≡ None → All (λ q. depth q.path ≤ 15) (rows_under 16 entries root)
+levels_few entries all none = λ k d h.
+    let path = (slice_index_or (rows_under 16 entries root) k d).path in
+    few_dots path (queue_level entries none path (sym (queue_rows entries all none path) ∙ own_path (rows_under 16 entries root) k d h))
+
+-- their factors
+all_small : (P : QueueRow → Type 0) (f : List ℕ → List QueueRow) → ((name : List ℕ) → All P (f name)) → (names : List (List ℕ)) → All P (flat_map f names)
+all_small P f each [] = All-nil P
+all_small P f each (name ∷ names) = All-append P (f name) (flat_map f names) (each name) (all_small P f each names)
+
+no_factors : (entries : List Entry) (p : List ℕ) → All (λ q. q.factor ≤ factor_max) (rows_under zero entries p)
+unfolding rows_under
+no_factors entries p = All-nil (λ (q : QueueRow). q.factor ≤ factor_max)
+
+first_factor : (entries : List Entry) (n : ℕ) (p : List ℕ) → are_bounded entries ≡ true → All (λ q. q.factor ≤ factor_max) (flat_map (λ name. rows_under n entries (child p name)) (names_below entries p)) →
+    All (λ q. q.factor ≤ factor_max) (rows_under (suc n) entries p)
+unfolding rows_under row_of
+first_factor entries n p all later = All-cons (λ (q : QueueRow). q.factor ≤ factor_max) (row_of entries p) (flat_map (λ name. rows_under n entries (child p name)) (names_below entries p)) (factor_small entries p all) later
+
+factors_small : (entries : List Entry) → are_bounded entries ≡ true → (n : ℕ) (p : List ℕ) → All (λ q. q.factor ≤ factor_max) (rows_under n entries p)
+factors_small entries all zero p = no_factors entries p
+factors_small entries all (suc n) p =
+    first_factor entries n p all (all_small (λ (q : QueueRow). q.factor ≤ factor_max) (λ name. rows_under n entries (child p name)) (λ name. factors_small entries all n (child p name)) (names_below entries p))
+
+-- the rows from the root on
+pub rows_are_listing : (entries : List Entry) → are_bounded entries ≡ true → whole_fault entries ≡ None → IsListing (rows_under 16 entries root)
+rows_are_listing entries all none = record {
+  tree = rows_tree entries all none;
+  listed = listed_from_root entries all;
+  levels = levels_few entries all none;
+  factors = factors_small entries all 16 root;
+}

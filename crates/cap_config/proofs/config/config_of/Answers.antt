@@ -1,0 +1,15 @@
+use Rattle.std.proofs.Common.{rules, arith, sym, subst, ◌≡◌, ◌≤◌}
+use Rattle.cap_model.specs.Limits.{applications_max}
+use Rattle.cap_model.specs.Listing.{IsListing}
+use Rattle.cap_config.specs.Keys.{root}
+use Rattle.cap_config.specs.Rows.{rows_under}
+use Rattle.cap_config.proofs.Listing.{rows_are_listing}
+use Rattle.cap_config.proofs.config.config_of.Goals as goal
+
+pub invariant_of-result : goal.invariant_of-result
+unfolding root
+invariant_of-result c =
+    let entries = c.args.index.now.entries.now in
+    let few : c.cluster_number-5.result ≤ applications_max = omega arith in
+    let rows : c.add_queues.new.queues.items ≡ rows_under 16 entries root = search rules in
+    (few, subst IsListing (sym rows) (rows_are_listing entries c.requires.bounded c.requires.whole), omega arith)

@@ -1,0 +1,138 @@
+-- An allocate that is processed, and its answer.
+use Rattle.std.proofs.Common.{◌≡◌, ℕ, ◌+◌, ◌-◌, Bool, true, false, List, [], ◌∷◌, length, refl, sym, ◌∙◌, ap, subst, inl, inr, arith}
+use Rattle.std.specs.Prelude.{Option, Some, None, IsSome, IfSome, cond, not, ◌==◌, ◌&&◌, ◌||◌, is_some, is_none, find, filter, option_map, option_and_then, nat_lt, if◌then◌else◌}
+use Rattle.std.specs.List.{list_any}
+use Rattle.std.proofs.lemmas.Bool.Decides.{nat_tests}
+use Rattle.cap_model.specs.Calls.{Ask, AllocateReply, Cause, CallRequest, CallReply, CallRefusal}
+use Rattle.cap_model.specs.Cascade.{earliest, holds_of}
+use Rattle.cap_model.specs.Flat.{Flat, App, Container, app_at, with_app}
+use Rattle.cap_model.specs.ResponseIds.{response_end, next_response, is_current, is_repeated, is_bad_id}
+use Rattle.cap_model.specs.Asking.{after_asks, after_ask, rounded, put_ask}
+use Rattle.cap_model.specs.Ending.{after_ends, with_ends, named_among}
+use Rattle.cap_model.specs.Allocate.{allocate_refusal, is_repeated_allocate, is_too_large, has_too_many_keys, released_by, after_wishes, after_telling, after_allocate, kept_reply}
+use Rattle.cap_model.specs.Replies.{refused_or, reply_to, after_request}
+use Rattle.cap_model.specs.Replies as flat_replies
+use Rattle.cap_model.proofs.Members.{find_changed}
+use Rattle.cap_model.proofs.ContainerNumbers.{asks_keep}
+use Rattle.cap_commit.specs.Changes.{IsAt}
+use Rattle.cap_masters.specs.Processed.{after_processed, IsKept}
+
+kept_by : (f : App → App) → ((a : App) → (f a).response ≡ a.response) → (o : Option App) → option_map (λ (a : App). a.response) (option_map f o) ≡ option_map (λ a. a.response) o
+kept_by f r None = refl
+kept_by f r (Some a) = ap (λ n. Some n) (r a)
+
+same_if : {B : Type 0} (b : Bool) (g : App → B) (x y : App) → g x ≡ g y → g (if b then x else y) ≡ g y
+same_if true g x y e = e
+same_if false g x y e = refl
+
+or_parts : (a b : Bool) → not (a || b) ≡ false → b ≡ false → a ≡ true
+or_parts true b e f = refl
+or_parts false true e f = absurd (cc f)
+or_parts false false e f = absurd (cc e)
+
+none_of_five : {A : Type 0} (a b c d e : Bool) (p q r s t : A) → earliest ((a, p) ∷ (b, q) ∷ (c, r) ∷ (d, s) ∷ (e, t) ∷ []) ≡ None → (a ≡ false) × (c ≡ false)
+none_of_five true b c d e p q r s t h = absurd (cc h)
+none_of_five false true c d e p q r s t h = absurd (cc h)
+none_of_five false false true d e p q r s t h = absurd (cc h)
+none_of_five false false false d e p q r s t h = (refl, refl)
+
+has_some : {A : Type 0} (o : Option A) (b c : Bool) → (is_some o && b) && c ≡ true → IsSome o
+has_some None b c h = absurd (cc h)
+has_some (Some x) b c h = refl
+
+app_is : (x y : App) → Some y ≡ Some x → y ≡ x
+app_is x y e = cc e
+
+module _ {K : ℕ} where
+  -- asks and ends leave it
+  asks_leave : (n : ℕ) (asks : List Ask) (old : Flat K) (m : ℕ) → option_map (λ (a : App). a.response) (app_at (after_asks n asks old) m) ≡ option_map (λ a. a.response) (app_at old m)
+  asks_leave n [] old m = refl
+  asks_leave n (ask ∷ asks) old m =
+      let kept = rounded K old.settings ask in
+      let f : App → App = λ app. if app.number == n then record app { asks = put_ask kept app.asks } else app in
+      asks_leave n asks (after_ask n old kept) m
+      ∙ ap (option_map (λ (a : App). a.response)) (find_changed (λ (a : App). a.number) f (λ a. same_if (a.number == n) (λ (x : App). x.number) (record a { asks = put_ask kept a.asks }) a refl) m old.apps.active)
+      ∙ kept_by f (λ a. same_if (a.number == n) (λ (x : App). x.response) (record a { asks = put_ask kept a.asks }) a refl) (app_at old m)
+
+  ends_leave : (cause : Cause) (gone : List Container) (old : Flat K) (m : ℕ) → option_map (λ (a : App). a.response) (app_at (after_ends cause gone old) m) ≡ option_map (λ a. a.response) (app_at old m)
+  ends_leave cause gone old m =
+      ap (option_map (λ (a : App). a.response)) (find_changed (λ (a : App). a.number) (with_ends cause gone) (λ a. refl) m old.apps.active)
+      ∙ kept_by (with_ends cause gone) (λ a. refl) (app_at old m)
+
+  -- the application is there, with the same response id, before it is told
+  still_at : (old new : Flat K) (n id : ℕ) → option_map (λ (a : App). a.response) (app_at new n) ≡ option_map (λ a. a.response) (app_at old n) → IsAt old n id → IsAt new n id
+  still_at old new n id e (a, f, r) = by (app_at new n) refl
+    where
+      by : (o : Option App) → app_at new n ≡ o → IsAt new n id
+      by (Some b) g = (b, g, (let same : Some b.response ≡ Some a.response = sym (ap (option_map (λ (x : App). x.response)) g) ∙ e ∙ ap (option_map (λ (x : App). x.response)) f in cc (same, r)))
+      by None g = let none : None ≡ Some a.response = sym (ap (option_map (λ (x : App). x.response)) g) ∙ e ∙ ap (option_map (λ (x : App). x.response)) f in absurd (cc none)
+
+  -- after asks, releases and the telling
+  pub processed : (old asked ended told : Flat K) (n id ignored : ℕ) (asks : List Ask) (releases : List ℕ) → IsAt old n id → asked ≡ after_asks n asks old → ended ≡ after_ends Cause.released (released_by asked n releases) asked →
+      ignored + length (released_by asked n releases) ≡ length releases → IfSome (app_at ended n) (λ app. told ≡ with_app n (after_telling app.response ignored) ended) → told ≡ after_processed n id asks releases old
+  processed old asked ended told n id ignored asks releases at a e i t =
+      let live : asked.nodes.live ≡ old.nodes.live = ap (λ (c : Flat K). c.nodes.live) a ∙ (asks_keep n asks old).live in
+      let named : released_by asked n releases ≡ released_by old n releases = ap (λ cs. named_among releases (filter (λ (c : Container). c.app == n) cs)) live in
+      let wishes : ended ≡ after_wishes old n asks releases = e ∙ (λ j. after_ends Cause.released (named j) (a j)) in
+      let count : ignored ≡ length releases - length (released_by old n releases) = (let len = ap length named in omega (arith, i, len)) in
+      let there = still_at old ended n id
+      (ap (λ (c : Flat K). option_map (λ (x : App). x.response) (app_at c n)) e ∙ ends_leave Cause.released (released_by asked n releases) asked n
+      ∙ ap (λ (c : Flat K). option_map (λ (x : App). x.response) (app_at c n)) a ∙ asks_leave n asks old n) at in
+      at_some (app_at ended n) (there.0) (there.1) t
+      ∙ (λ j. with_app n (after_telling (there.2 j) (count j)) (wishes j))
+    where
+      at_some : (o : Option App) (x : App) → o ≡ Some x → IfSome o (λ app. told ≡ with_app n (after_telling app.response ignored) ended) → told ≡ with_app n (after_telling x.response ignored) ended
+      at_some None x f h = absurd (cc f)
+      at_some (Some y) x f h = h ∙ ap (λ (z : App). with_app n (after_telling z.response ignored) ended) (app_is x y f)
+
+  -- what is known of an allocate that is not refused
+  unrefused : (cluster : Flat K) (n id : ℕ) (asks : List Ask) → allocate_refusal cluster n id asks ≡ None → (is_none (app_at cluster n) ≡ false) × (holds_of (λ a. is_bad_id a.response a.kept id) (app_at cluster n) ≡ false)
+  unrefused cluster n id asks e =
+      let fresh = not (is_repeated_allocate cluster n id) in
+      none_of_five (is_none (app_at cluster n)) (not (holds_of (λ a. a.registered) (app_at cluster n))) (holds_of (λ a. is_bad_id a.response a.kept id) (app_at cluster n))
+      (fresh && list_any (is_too_large cluster) asks) (fresh && holds_of (λ a. has_too_many_keys a asks) (app_at cluster n))
+      CallRefusal.unknown_application CallRefusal.not_registered CallRefusal.bad_response_id CallRefusal.ask_too_large CallRefusal.too_many_asks e
+
+  -- one that repeats nothing has the id that was given last
+  pub fresh_at : (cluster : Flat K) (n id : ℕ) (asks : List Ask) → allocate_refusal cluster n id asks ≡ None → is_repeated_allocate cluster n id ≡ false → IsAt cluster n id
+  fresh_at cluster n id asks e f = by (app_at cluster n) refl ((unrefused cluster n id asks e).0) ((unrefused cluster n id asks e).1) f
+    where
+      by : (o : Option App) → app_at cluster n ≡ o → is_none o ≡ false → holds_of (λ (a : App). is_bad_id a.response a.kept id) o ≡ false → holds_of (λ (a : App). is_repeated a.response a.kept id) o ≡ false → IsAt cluster n id
+      by None g a b c = absurd (cc a)
+      by (Some x) g a b c = (x, g, (let same = or_parts (is_current x.response id) (is_repeated x.response x.kept id) b c in grind (arith, nat_tests, same)))
+
+  -- the application keeps a reply afterwards
+  pub kept_after : (old : Flat K) (n id : ℕ) (asks : List Ask) (releases : List ℕ) → IsAt old n id → IsKept (after_processed n id asks releases old) n
+  kept_after old n id asks releases at =
+      let mid = after_wishes old n asks releases in
+      let f = after_telling id (length releases - length (released_by old n releases)) in
+      let change : App → App = λ app. if app.number == n then f app else app in
+      let there = still_at old mid n id (ends_leave Cause.released (released_by old n releases) (after_asks n asks old) n ∙ asks_leave n asks old n) at in
+      let found : app_at (with_app n f mid) n ≡ Some (change (there.0)) =
+      find_changed (λ (a : App). a.number) change (λ a. same_if (a.number == n) (λ (x : App). x.number) (f a) a refl) n mid.apps.active ∙ ap (option_map change) (there.1) in
+      let number : (there.0).number == n ≡ true = (Rattle.cap_model.proofs.Choosing.found (λ (a : App). a.number == n) mid.apps.active (there.0) (there.1)).1 in
+      let kept : (change (there.0)).kept ≡ (f (there.0)).kept = ap (λ b. (if b then f (there.0) else there.0).kept) number in
+      subst IsSome (sym (ap (option_and_then (λ (a : App). a.kept)) found ∙ kept)) refl
+
+  pub kept_already : (cluster : Flat K) (n id : ℕ) → is_repeated_allocate cluster n id ≡ true → IsKept cluster n
+  kept_already cluster n id e = by (app_at cluster n) e
+    where
+      by : (o : Option App) → holds_of (λ (a : App). is_repeated a.response a.kept id) o ≡ true → IsSome (option_and_then (λ (a : App). a.kept) o)
+      by None h = absurd (cc h)
+      by (Some a) h = has_some a.kept (nat_lt id response_end) (next_response id == a.response) h
+
+  -- the answer is the kept reply of the new cluster
+  pub answered : (old new : Flat K) (n id : ℕ) (asks : List Ask) (releases : List ℕ) (reply : CallReply) → allocate_refusal old n id asks ≡ None → new ≡ after_allocate old n id asks releases → reply ≡ CallReply.allocate (kept_reply new n) →
+      flat_replies.Replies old (CallRequest.allocate n id asks releases) reply new
+  answered old new n id asks releases reply none is told =
+      inl (
+        told ∙ ap (λ (c : Flat K). CallReply.allocate (kept_reply c n)) is ∙ sym (ap (λ o. refused_or o (λ r. CallReply.refused r) (CallReply.allocate (kept_reply (after_allocate old n id asks releases) n))) none),
+        is ∙ sym (ap (λ o. refused_or o (λ r. old) (after_allocate old n id asks releases)) none),
+      )
+
+  -- where it repeats the last one nothing changes, else it is processed
+  pub repeated_same : (old : Flat K) (n id : ℕ) (asks : List Ask) (releases : List ℕ) → is_repeated_allocate old n id ≡ true → old ≡ after_allocate old n id asks releases
+  repeated_same old n id asks releases e = sym (ap (λ b. if b then old else after_processed n id asks releases old) e)
+
+  pub fresh_processed : (old new : Flat K) (n id : ℕ) (asks : List Ask) (releases : List ℕ) → is_repeated_allocate old n id ≡ false → new ≡ after_processed n id asks releases old → new ≡ after_allocate old n id asks releases
+  fresh_processed old new n id asks releases e is = is ∙ sym (ap (λ b. if b then old else after_processed n id asks releases old) e)

@@ -1,0 +1,7 @@
+use Rattle.std.proofs.Common.{◌≡◌, drop}
+use Rattle.std.specs.List.{list_any}
+use Rattle.cap_model.specs.Allocate.{is_too_large}
+use Rattle.cap_masters.proofs.calls.allocate.has_too_large.Given as goal
+
+abbrev pub invariant-loop-ask : goal.invariant-loop-ask
+invariant-loop-ask g l = list_any (is_too_large l.cluster) l.asks ≡ list_any (is_too_large l.cluster) (drop l.ask-index l.asks)

@@ -1,0 +1,13 @@
+-- The parts of a processed allocate.
+use Rattle.std.specs.Prelude.{ℕ, ◌-◌, List, IsSome, length, option_and_then}
+use Rattle.cap_model.specs.Calls.{Ask}
+use Rattle.cap_model.specs.Flat.{Flat, app_at, with_app}
+use Rattle.cap_model.specs.Allocate.{after_telling, after_wishes, released_by}
+
+-- the cluster after the asks and the releases, where the application was told the news in answer to a request of this response id
+abbrev pub after_processed : {K : ℕ} → ℕ → ℕ → List Ask → List ℕ → Flat K → Flat K
+after_processed n id asks releases cluster = with_app n (after_telling id (length releases - length (released_by cluster n releases))) (after_wishes cluster n asks releases)
+
+-- the application keeps a reply
+abbrev pub IsKept : {K : ℕ} → Flat K → ℕ → Type 0
+IsKept cluster n = IsSome (option_and_then (λ app. app.kept) (app_at cluster n))

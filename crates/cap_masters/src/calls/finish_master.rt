@@ -1,0 +1,36 @@
+ghost use Rattle.std.specs.Prelude.{◌≡◌, option_map};
+ghost use Rattle.cap_model.specs.declared.request.Request.TheVariants.{FinishMaster};
+ghost use Rattle.cap_model.specs.Messages.{as_refusal};
+ghost use Rattle.cap_model.specs.FinishMaster.{finish_master_refusal};
+ghost use Rattle.cap_model.specs.Runs.{RepliesAlways};
+
+use cap_commit::Cluster;
+use cap_model::{Refusal, Reply};
+
+/// An application ends: its containers end, its asks are dropped, and what it was not told is forgotten. Its number is unknown
+/// from then on. The reply gives how many containers ended. Refused with `UnknownApplication` or `NotRegistered`, which changes
+/// nothing. It takes no memory.
+pub fn finish_master<const K: usize>(cluster: &mut Cluster<K>, application: u64) -> Reply<K>
+    ensures { RepliesAlways cluster.old (FinishMaster application) result cluster.new }
+{
+    match refusal(cluster, application) {
+        Some(refusal) => Reply::Refused(refusal),
+        None => {
+            cluster.containers_are_numbered();
+            Reply::FinishMaster {
+                ended: cluster.finish(application),
+            }
+        }
+    }
+}
+
+/// The first refusal that holds for such an application.
+fn refusal<const K: usize>(cluster: &Cluster<K>, application: u64) -> Option<Refusal>
+    ensures { option_map as_refusal result ≡ finish_master_refusal cluster.now application }
+{
+    match cluster.app(application) {
+        None => Some(Refusal::UnknownApplication),
+        Some(app) if !app.is_registered() => Some(Refusal::NotRegistered),
+        Some(_) => None,
+    }
+}

@@ -1,0 +1,36 @@
+ghost use Rattle.std.specs.Prelude.{◌≡◌, option_map};
+ghost use Rattle.cap_model.specs.declared.request.Request.TheVariants.{RegisterMaster};
+ghost use Rattle.cap_model.specs.Messages.{as_refusal};
+ghost use Rattle.cap_model.specs.RegisterMaster.{register_master_refusal};
+ghost use Rattle.cap_model.specs.Runs.{RepliesAlways};
+
+use cap_commit::Cluster;
+use cap_model::{Refusal, Reply};
+
+/// The master of an application reports, once; the reply gives the least and the most that a container may have, in MiB and
+/// vcores. Refused with `UnknownApplication` or `AlreadyRegistered`, which changes nothing. It takes no memory.
+pub fn register_master<const K: usize>(cluster: &mut Cluster<K>, application: u64) -> Reply<K>
+    ensures { RepliesAlways cluster.old (RegisterMaster application) result cluster.new }
+{
+    match refusal(cluster, application) {
+        Some(refusal) => Reply::Refused(refusal),
+        None => {
+            cluster.register(application);
+            Reply::RegisterMaster {
+                minimum: cluster.minimum_allocation(),
+                maximum: cluster.maximum_allocation(),
+            }
+        }
+    }
+}
+
+/// The first refusal that holds for the master of such an application.
+fn refusal<const K: usize>(cluster: &Cluster<K>, application: u64) -> Option<Refusal>
+    ensures { option_map as_refusal result ≡ register_master_refusal cluster.now application }
+{
+    match cluster.app(application) {
+        None => Some(Refusal::UnknownApplication),
+        Some(app) if app.is_registered() => Some(Refusal::AlreadyRegistered),
+        Some(_) => None,
+    }
+}

@@ -1,0 +1,133 @@
+ghost use Rattle.std.specs.Prelude.{◌≡◌, ◌==◌, ◌&&◌};
+ghost use Rattle.cap_model.specs.Calls.{same_key};
+
+use crate::text::ShortText;
+use cap_vector::Resource;
+use std::marker::Model;
+
+/// The key of an ask within its application: the priority of the request, of which the smaller number is served first, and the
+/// allocation request id.
+#[derive(Clone, Copy, Debug, PartialEq, Eq)]
+pub struct Key {
+    priority: u32,
+    request: u64,
+}
+
+impl Model for Key {
+    ghost use Rattle.cap_model.specs.Calls.{Key as Pair};
+
+    ghost Value = { Pair };
+
+    ghost view = { λ k. record { priority = k.priority; request = k.request } };
+
+    ghost inverse = { λ k. record { priority = k.priority; request = k.request } };
+}
+
+impl Key {
+    /// The key of this priority and allocation request id.
+    pub fn new(priority: u32, request: u64) -> Key
+        ensures { result ≡ record { priority = priority; request = request } }
+    {
+        Key { priority, request }
+    }
+
+    /// The priority: the smaller number is served first.
+    pub fn priority(&self) -> u32
+        ensures { result ≡ self.now.priority }
+    {
+        self.priority
+    }
+
+    /// The allocation request id.
+    pub fn request(&self) -> u64
+        ensures { result ≡ self.now.request }
+    {
+        self.request
+    }
+
+    /// Whether it is the same key.
+    pub fn is_same(&self, other: &Key) -> bool
+        ensures { result ≡ same_key self.now other.now }
+    {
+        self.priority == other.priority && self.request == other.request
+    }
+}
+
+/// An ask of an application: how many containers of this resource, in MiB and vcores, are still wanted for the key, and where.
+/// A place is a host, a rack, or `*` for anywhere. A count of 0 takes the key away.
+#[derive(Clone, Copy, Debug, PartialEq, Eq)]
+pub struct Ask<const K: usize> {
+    key: Key,
+    count: u32,
+    resource: Resource<K>,
+    place: ShortText,
+}
+
+impl<const K: usize> Model for Ask<K> {
+    ghost use Rattle.cap_model.specs.Calls.{Ask as Wish};
+
+    ghost Value = { Wish };
+
+    ghost view = { λ a. record { key = a.key; count = a.count; resource = a.resource; place = a.place } };
+
+    ghost inverse = { λ a. record { key = a.key; count = a.count; resource = a.resource; place = a.place } };
+}
+
+impl<const K: usize> Ask<K> {
+    /// The ask for so many containers of this resource, in MiB and vcores, at this place.
+    pub fn new(key: &Key, count: u32, resource: &Resource<K>, place: &ShortText) -> Ask<K>
+        ensures { result ≡ record { key = key.now; count = count; resource = resource.now; place = place.now } }
+    {
+        Ask {
+            key: *key,
+            count,
+            resource: *resource,
+            place: *place,
+        }
+    }
+
+    /// Its key.
+    pub fn key(&self) -> Key
+        ensures { result ≡ self.now.key }
+    {
+        self.key
+    }
+
+    /// How many containers are still wanted.
+    pub fn count(&self) -> u32
+        ensures { result ≡ self.now.count }
+    {
+        self.count
+    }
+
+    /// What each is to have, in MiB and vcores.
+    pub fn resource(&self) -> Resource<K>
+        ensures { result ≡ self.now.resource }
+    {
+        self.resource
+    }
+
+    /// Where they may be: a host, a rack, or `*`.
+    pub fn place(&self) -> ShortText
+        ensures { result ≡ self.now.place }
+    {
+        self.place
+    }
+
+    /// The same ask for another resource, in MiB and vcores.
+    pub fn with_resource(&self, resource: &Resource<K>) -> Ask<K>
+        ensures { result ≡ record self.now { resource = resource.now } }
+    {
+        Ask {
+            resource: *resource,
+            ..*self
+        }
+    }
+
+    /// The same ask for another number of containers.
+    pub fn with_count(&self, count: u32) -> Ask<K>
+        ensures { result ≡ record self.now { count = count } }
+    {
+        Ask { count, ..*self }
+    }
+}

@@ -1,0 +1,301 @@
+-- The table as nodes and containers come and go.
+use Rattle.std.proofs.Common.{◌≡◌, ℕ, ◌+◌, ◌≤◌, ◌<◌, Bool, true, false, cond, List, [], ◌∷◌, ◌++◌, length, map, not, sym, ap, ◌∙◌, arith, subst, refl, Option, Some, None}
+use Rattle.std.specs.Prelude.{filter, find, count_by, ◌==◌, IsSome, ◌||◌}
+use Rattle.std.specs.List.{All, sum_by, list_any, AllByRecursion}
+use Rattle.std.proofs.lemmas.List.Elements.{All-from_recursion}
+use Rattle.cap_model.proofs.Measures.{amounts_fit}
+use Rattle.std.proofs.lemmas.Bool.{eqb-true}
+use Rattle.std.proofs.lemmas.Bool.Decides.{nat_tests}
+use Rattle.std.proofs.lemmas.List.Sums.{length-filter, sum_by-cons}
+use Rattle.std.proofs.lemmas.List.{ext_get_or}
+use Rattle.cap_vector.specs.Vector.{amount, plus, less, Fits, IsWithin, amount_max, zeros}
+use Rattle.cap_model.specs.Amounts.{fits, sum_where}
+use Rattle.cap_model.specs.Bounds.{IsRising}
+use Rattle.cap_model.specs.Flat.{ClusterNode, Container}
+use Rattle.cap_model.specs.RegisterNode.{sum_of_totals}
+use Rattle.cap_nodes.specs.Tables.{left_of, beaten, change_node}
+use Rattle.cap_nodes.specs.Places.{Place, IsTied, AreTied, place_at, change_place, held_more, held_less, beaten_place, HasOne}
+use Rattle.cap_nodes.proofs.Numbered.{none_at_end}
+use Rattle.cap_nodes.proofs.Sums.{where-none, filter-none, none-filter, zeros-fit, where-less-own, where-had, sum-without, length-where, amount-where}
+use Rattle.cap_nodes.proofs.Ties.{is_found, all_changed, all_mapped, all_kept, all_each, all_pushed, still_there, there_pushed, tied_beside, tied_with, room_fits, untied_beside, untied_from, has_one}
+
+abbrev pub nodes_of : List Place → List ClusterNode
+nodes_of places = map (λ p. p.node) places
+
+-- the node of a place
+pub node_of_place : (places : List Place) (n : ℕ) (p : Place) → place_at places n ≡ Some p → find (λ x. x.number == n) (nodes_of places) ≡ Some p.node
+node_of_place [] n p there = absurd (cc there)
+node_of_place (q ∷ places) n p there = by (q.node.number == n) there (node_of_place places n p)
+  where
+    by : (b : Bool) → cond b (Some q) (place_at places n) ≡ Some p → (place_at places n ≡ Some p → find (λ x. x.number == n) (nodes_of places) ≡ Some p.node) →
+        cond b (Some q.node) (find (λ x. x.number == n) (nodes_of places)) ≡ Some p.node
+    by true h more = let e : q ≡ p = cc h in ap (λ (x : Place). Some x.node) e
+    by false h more = more h
+
+pub node_of_none : (places : List Place) (n : ℕ) → place_at places n ≡ None → find (λ x. x.number == n) (nodes_of places) ≡ None
+node_of_none [] n there = refl
+node_of_none (q ∷ places) n there = by (q.node.number == n) there (node_of_none places n)
+  where
+    by : (b : Bool) → cond b (Some q) (place_at places n) ≡ None → (place_at places n ≡ None → find (λ x. x.number == n) (nodes_of places) ≡ None) →
+        cond b (Some q.node) (find (λ x. x.number == n) (nodes_of places)) ≡ None
+    by true h more = absurd (cc h)
+    by false h more = more h
+
+some_is : (o : Option ClusterNode) → o ≡ None → IsSome o → ⊥
+some_is None e h = absurd (cc h)
+some_is (Some x) e h = absurd (cc e)
+
+-- a node that is there has a place
+pub record IsAt (places : List Place) (n : ℕ) : Type 0 where
+  pub place : Place
+  pub at : place_at places n ≡ Some place
+
+pub place_of_node : (places : List Place) (n : ℕ) → IsSome (find (λ x. x.number == n) (nodes_of places)) → IsAt places n
+place_of_node places n h = by (place_at places n) refl
+  where
+    by : (o : Option Place) → place_at places n ≡ o → IsAt places n
+    by (Some p) e = record { place = p; at = e }
+    by None e = absurd (some_is (find (λ x. x.number == n) (nodes_of places)) (node_of_none places n e) h)
+
+pub no_place : (places : List Place) (n : ℕ) → place_at places n ≡ None → IsSome (find (λ x. x.number == n) (nodes_of places)) → ⊥
+no_place places n e h = some_is (find (λ x. x.number == n) (nodes_of places)) (node_of_none places n e) h
+
+pub is_at : (places : List Place) (n : ℕ) (p : Place) → place_at places n ≡ Some p → IsSome (place_at places n)
+is_at places n p e = rw e refl
+
+same_node : (n m : ℕ) → n ≡ m → (n == m) ≡ true
+same_node n m e = grind (arith, nat_tests)
+
+module _ (K : ℕ) (places : List Place) (live : List Container) (tied : AreTied K places live) where
+  -- the tie of a place
+  pub tie_of : (n : ℕ) (p : Place) → place_at places n ≡ Some p → IsTied K live p × (p.node.number ≡ n)
+  tie_of n p there = let f = is_found (IsTied K live) (λ (q : Place). q.node.number == n) places p there tied.ties in (f.0, eqb-true p.node.number n f.1)
+
+  -- no container is live where no node is
+  pub none_there : (n : ℕ) → place_at places n ≡ None → AllByRecursion (λ (c : Container). (c.node == n) ≡ false) live
+  none_there n e = all_each (λ (c : Container). IsSome (place_at places c.node)) (λ (c : Container). (c.node == n) ≡ false) live (λ c h. by c h (c.node == n) refl) tied.homes
+    where
+      none_some : (o : Option Place) → o ≡ None → IsSome o → ⊥
+      none_some None e h = absurd (cc h)
+      none_some (Some x) e h = absurd (cc e)
+
+      by : (c : Container) → IsSome (place_at places c.node) → (b : Bool) → (c.node == n) ≡ b → (c.node == n) ≡ false
+      by c h true is = absurd (none_some (place_at places c.node) (ap (place_at places) (eqb-true c.node n is) ∙ e) h)
+      by c h false is = is
+
+  pub live_of : (n : ℕ) (p : Place) → place_at places n ≡ Some p → p.live ≡ length (filter (λ c. c.node == n) live)
+  live_of n p there =
+      let t = tie_of n p there in
+      t.0.count ∙ ap (λ m. count_by (λ (c : Container). c.node == m) live) t.1 ∙ sym (length-filter (λ (c : Container). c.node == n) live)
+
+  pub none_of : (n : ℕ) → place_at places n ≡ None → 0 ≡ length (filter (λ c. c.node == n) live)
+  none_of n e = ap (λ (cs : List Container). length cs) (sym (filter-none (λ (c : Container). c.node == n) live (none_there n e)))
+
+  pub free_is : (n : ℕ) (p : Place) → place_at places n ≡ Some p → less p.node.total p.held ≡ left_of (find (λ x. x.number == n) (nodes_of places)) (sum_where K (λ c. c.node == n) (λ c. c.resource) live)
+  free_is n p there =
+      let t = tie_of n p there in
+      ap (less p.node.total) (t.0.held ∙ ap (λ m. sum_where K (λ (c : Container). c.node == m) (λ c. c.resource) live) t.1)
+      ∙ ap (λ o. left_of o (sum_where K (λ (c : Container). c.node == n) (λ c. c.resource) live)) (sym (node_of_place places n p there))
+
+  -- one more node
+  pub with_node : (next : ℕ) (node : ClusterNode) → IsRising 1 (map (λ p. p.node.number) places) next → node.number ≡ next → IsWithin amount_max node.total →
+      AreTied K (places ++ record { node = node; held = zeros K; live = 0 } ∷ []) live
+  with_node next node rising is within =
+      let p : Place = record { node = node; held = zeros K; live = 0 } in
+      let none : AllByRecursion (λ (c : Container). (c.node == node.number) ≡ false) live = none_there node.number (ap (place_at places) is ∙ none_at_end (λ (q : Place). q.node.number) next 1 places rising) in
+      record {
+        ties = all_pushed (IsTied K live) places p tied.ties (record {
+          held = sym (where-none K (λ (c : Container). c.node == node.number) (λ c. c.resource) live none);
+          count = ap (λ (cs : List Container). length cs) (sym (filter-none (λ (c : Container). c.node == node.number) live none)) ∙ length-filter (λ (c : Container). c.node == node.number) live;
+          fits = zeros-fit K node.total;
+          within = within;
+        });
+        homes = all_each (λ (c : Container). IsSome (place_at places c.node)) (λ (c : Container). IsSome (place_at (places ++ p ∷ []) c.node)) live (λ c h. there_pushed places p c.node h) tied.homes;
+      }
+
+  -- one more container
+  pub with_one : (next n : ℕ) (p : Place) (c : Container) → IsRising 1 (map (λ q. q.node.number) places) next → place_at places n ≡ Some p → c.node ≡ n → Fits c.resource (less p.node.total p.held) →
+      length (plus p.held c.resource) ≡ K → AreTied K (change_place n (held_more c.resource) places) (live ++ c ∷ [])
+  with_one next n p c rising there home room count =
+      let t = tie_of n p there in
+      let there_still : (m : ℕ) → IsSome (place_at places m) → IsSome (place_at (change_place n (held_more c.resource) places) m) = λ m h. still_there places n m (held_more c.resource) (λ q. refl) h in
+      record {
+        ties = all_changed (IsTied K live) (IsTied K (live ++ c ∷ [])) n 1 (held_more c.resource) p places next rising there
+            (λ tie. tied_with K live c p tie (same_node c.node p.node.number (home ∙ sym t.1)) count (room_fits K live c.resource p tie room))
+            (λ q tie other. tied_beside K live c q tie (grind (arith, nat_tests, other, home)))
+            tied.ties;
+        homes = all_pushed (λ (x : Container). IsSome (place_at (change_place n (held_more c.resource) places) x.node)) live c
+            (all_each (λ (x : Container). IsSome (place_at places x.node)) (λ (x : Container). IsSome (place_at (change_place n (held_more c.resource) places) x.node)) live (λ x h. there_still x.node h) tied.homes)
+            (there_still c.node (subst (λ m. IsSome (place_at places m)) (sym home) (is_at places n p there)));
+      }
+
+  -- the home of a live container
+  pub home_of : (n : ℕ) (c : Container) → find (λ x. x.number == n) live ≡ Some c → IsSome (place_at places c.node)
+  home_of n c there = (is_found (λ (x : Container). IsSome (place_at places x.node)) (λ x. x.number == n) live c there tied.homes).0
+
+  pub has_it : (next n : ℕ) (c : Container) (p : Place) → IsRising 1 (map (λ x. x.number) live) next → find (λ x. x.number == n) live ≡ Some c → place_at places c.node ≡ Some p → length c.resource ≤ K → HasOne c.resource p
+  has_it next n c p rising there at short =
+      let t = tie_of c.node p at in
+      has_one K live n next rising c there p t.0 (same_node c.node p.node.number (sym t.1)) short
+
+  -- one container less
+  pub without_one : (next high n : ℕ) (c : Container) (p : Place) → IsRising 1 (map (λ q. q.node.number) places) next → IsRising 1 (map (λ x. x.number) live) high → find (λ x. x.number == n) live ≡ Some c →
+      place_at places c.node ≡ Some p → AreTied K (change_place c.node (held_less c.resource) places) (filter (λ x. not (x.number == n)) live)
+  without_one next high n c p rising numbers there at =
+      let t = tie_of c.node p at in
+      let left = filter (λ (x : Container). not (x.number == n)) live in
+      record {
+        ties = all_changed (IsTied K live) (IsTied K left) c.node 1 (held_less c.resource) p places next rising at
+            (λ tie. untied_from K live n high numbers c there p tie (same_node c.node p.node.number (sym t.1)))
+            (λ q tie other. untied_beside K live n high numbers c there q tie (grind (arith, nat_tests, other)))
+            tied.ties;
+        homes = all_kept (λ (x : Container). IsSome (place_at places x.node)) (λ (x : Container). IsSome (place_at (change_place c.node (held_less c.resource) places) x.node)) (λ x. not (x.number == n)) live
+            (λ x h _. still_there places c.node x.node (held_less c.resource) (λ q. refl) h) tied.homes;
+      }
+
+  -- one more heartbeat
+  pub with_beat : (n ignored : ℕ) → AreTied K (change_place n (beaten_place ignored) places) live
+  with_beat n ignored = record {
+    ties = all_mapped (IsTied K live) (IsTied K live) n (beaten_place ignored) places (λ q tie. record { held = tie.held; count = tie.count; fits = tie.fits; within = tie.within }) (λ q tie. tie) tied.ties;
+    homes = all_each (λ (x : Container). IsSome (place_at places x.node)) (λ (x : Container). IsSome (place_at (change_place n (beaten_place ignored) places) x.node)) live
+        (λ x h. still_there places n x.node (beaten_place ignored) (λ q. refl) h) tied.homes;
+  }
+
+  -- one node less
+  pub without_empty : (n : ℕ) → filter (λ c. c.node == n) live ≡ [] → AreTied K (filter (λ p. not (p.node.number == n)) places) live
+  without_empty n none = record {
+    ties = all_kept (IsTied K live) (IsTied K live) (λ (p : Place). not (p.node.number == n)) places (λ p tie _. tie) tied.ties;
+    homes = both live tied.homes (none-filter (λ (c : Container). c.node == n) live none);
+  }
+    where
+      there : (m : ℕ) (ps : List Place) → (m == n) ≡ false → IsSome (place_at ps m) → IsSome (place_at (filter (λ p. not (p.node.number == n)) ps) m)
+      there m [] other h = h
+      there m (q ∷ ps) other h = step (q.node.number == n) (q.node.number == m) refl refl h (there m ps other)
+        where
+          step : (b e : Bool) → (q.node.number == n) ≡ b → (q.node.number == m) ≡ e → IsSome (cond e (Some q) (place_at ps m)) → (IsSome (place_at ps m) → IsSome (place_at (filter (λ p. not (p.node.number == n)) ps) m)) →
+              IsSome (place_at (cond (not b) (q ∷ filter (λ p. not (p.node.number == n)) ps) (filter (λ p. not (p.node.number == n)) ps)) m)
+          step true true x y h more = absurd (grind (arith, nat_tests, x, y, other))
+          step true false x y h more = more h
+          step false true x y h more = rw y refl
+          step false false x y h more = rw y (more h)
+
+      both : (cs : List Container) → AllByRecursion (λ (c : Container). IsSome (place_at places c.node)) cs → AllByRecursion (λ (c : Container). (c.node == n) ≡ false) cs →
+          AllByRecursion (λ (c : Container). IsSome (place_at (filter (λ p. not (p.node.number == n)) places) c.node)) cs
+      both [] a b = tt
+      both (c ∷ cs) a b = (there c.node places b.0 a.0, both cs a.1 b.1)
+
+-- changes that leave the nodes as they are
+pub same_nodes : (n : ℕ) (change : Place → Place) (places : List Place) → ((p : Place) → (change p).node ≡ p.node) → nodes_of (change_place n change places) ≡ nodes_of places
+same_nodes n change [] keeps = refl
+same_nodes n change (p ∷ places) keeps = by (p.node.number == n) (same_nodes n change places keeps)
+  where
+    by : (b : Bool) → nodes_of (change_place n change places) ≡ nodes_of places → (cond b (change p) p).node ∷ nodes_of (change_place n change places) ≡ p.node ∷ nodes_of places
+    by true e = rw (keeps p, e) refl
+    by false e = rw e refl
+
+pub nodes_pushed : (places : List Place) (p : Place) → nodes_of (places ++ p ∷ []) ≡ nodes_of places ++ p.node ∷ []
+nodes_pushed [] p = refl
+nodes_pushed (q ∷ places) p = ap (λ ns. q.node ∷ ns) (nodes_pushed places p)
+
+pub nodes_kept : (n : ℕ) (places : List Place) → nodes_of (filter (λ p. not (p.node.number == n)) places) ≡ filter (λ x. not (x.number == n)) (nodes_of places)
+nodes_kept n [] = refl
+nodes_kept n (q ∷ places) = by (not (q.node.number == n)) (nodes_kept n places)
+  where
+    by : (b : Bool) → nodes_of (filter (λ p. not (p.node.number == n)) places) ≡ filter (λ x. not (x.number == n)) (nodes_of places) →
+        nodes_of (cond b (q ∷ filter (λ p. not (p.node.number == n)) places) (filter (λ p. not (p.node.number == n)) places)) ≡ cond b (q.node ∷ filter (λ x. not (x.number == n)) (nodes_of places)) (filter (λ x. not (x.number == n)) (nodes_of places))
+    by true e = ap (λ ns. q.node ∷ ns) e
+    by false e = e
+
+numbers_of_nodes : (places : List Place) → map (λ (x : ClusterNode). x.number) (nodes_of places) ≡ map (λ p. p.node.number) places
+numbers_of_nodes [] = refl
+numbers_of_nodes (p ∷ places) = ap (λ ns. p.node.number ∷ ns) (numbers_of_nodes places)
+
+-- the nodes after a heartbeat
+pub nodes_beaten : (K n ignored : ℕ) (live : List Container) (places : List Place) → AllByRecursion (IsTied K live) places →
+    nodes_of (change_place n (beaten_place ignored) places) ≡ change_node n (beaten ignored (length (filter (λ c. c.node == n) live))) (nodes_of places)
+nodes_beaten K n ignored live [] all = refl
+nodes_beaten K n ignored live (p ∷ places) all = by (p.node.number == n) refl (nodes_beaten K n ignored live places all.1)
+  where
+    by : (b : Bool) → (p.node.number == n) ≡ b → nodes_of (change_place n (beaten_place ignored) places) ≡ change_node n (beaten ignored (length (filter (λ c. c.node == n) live))) (nodes_of places) →
+        (cond b (beaten_place ignored p) p).node ∷ nodes_of (change_place n (beaten_place ignored) places)
+        ≡ cond b (beaten ignored (length (filter (λ c. c.node == n) live)) p.node) p.node ∷ change_node n (beaten ignored (length (filter (λ c. c.node == n) live))) (nodes_of places)
+    by true e more =
+        let same : p.live ≡ length (filter (λ (c : Container). c.node == n) live) = all.0.count ∙ ap (λ m. count_by (λ (c : Container). c.node == m) live) (eqb-true p.node.number n e) ∙ sym (length-filter (λ (c : Container). c.node == n) live) in
+        rw (same, more) refl
+    by false e more = rw more refl
+
+-- what the nodes have together after it
+totals_by : (K : ℕ) (f g : List ClusterNode) → ((i : ℕ) → sum_by (λ x. amount x.total i) f ≡ sum_by (λ x. amount x.total i) g) → sum_of_totals K f ≡ sum_of_totals K g
+totals_by K f g e =
+    ext_get_or 0 (sum_of_totals K f) (sum_of_totals K g) (omega (arith, length-where K (λ (x : ClusterNode). true) (λ x. x.total) f, length-where K (λ (x : ClusterNode). true) (λ x. x.total) g))
+    (λ i h.
+    let b : i < K = omega (arith, length-where K (λ (x : ClusterNode). true) (λ x. x.total) f) in
+    amount-where K (λ (x : ClusterNode). true) (λ x. x.total) f i b ∙ e i ∙ sym (amount-where K (λ (x : ClusterNode). true) (λ x. x.total) g i b))
+
+pub totals_beaten : (K n ignored : ℕ) (places : List Place) → sum_of_totals K (nodes_of (change_place n (beaten_place ignored) places)) ≡ sum_of_totals K (nodes_of places)
+totals_beaten K n ignored places = totals_by K (nodes_of (change_place n (beaten_place ignored) places)) (nodes_of places) (λ i. same i places)
+  where
+    same : (i : ℕ) (ps : List Place) → sum_by (λ x. amount x.total i) (nodes_of (change_place n (beaten_place ignored) ps)) ≡ sum_by (λ x. amount x.total i) (nodes_of ps)
+    same i [] = refl
+    same i (p ∷ ps) =
+        let h = λ (x : ClusterNode). amount x.total i in
+        sum_by-cons h (cond (p.node.number == n) (beaten_place ignored p) p).node (nodes_of (change_place n (beaten_place ignored) ps))
+        ∙ ap (λ m. h (cond (p.node.number == n) (beaten_place ignored p) p).node + m) (same i ps)
+        ∙ ap (λ m. m + sum_by h (nodes_of ps)) (head (p.node.number == n))
+        ∙ sym (sum_by-cons h p.node (nodes_of ps))
+      where
+        head : (b : Bool) → amount (cond b (beaten_place ignored p) p).node.total i ≡ amount p.node.total i
+        head true = refl
+        head false = refl
+
+module _ (K next n : ℕ) (places : List Place) (p : Place) (rising : IsRising 1 (map (λ q. q.node.number) places) next) (there : place_at places n ≡ Some p) where
+  node_moved : (h : ClusterNode → ℕ) → sum_by h (nodes_of places) ≡ sum_by h (filter (λ x. not (x.number == n)) (nodes_of places)) + h p.node
+  node_moved h = sum-without (λ (x : ClusterNode). x.number) h n 1 (nodes_of places) next (subst (λ ns. IsRising 1 ns next) (sym (numbers_of_nodes places)) rising) p.node (node_of_place places n p there)
+
+  -- what the nodes have together without one
+  pub total_fits : length p.node.total ≤ K → Fits p.node.total (sum_of_totals K (nodes_of places))
+  total_fits short = where-had K (λ (x : ClusterNode). true) (λ x. x.total) (nodes_of places) (filter (λ x. not (x.number == n)) (nodes_of places)) p.node node_moved refl short
+
+  pub total_without : less (sum_of_totals K (nodes_of places)) p.node.total ≡ sum_of_totals K (nodes_of (filter (λ q. not (q.node.number == n)) places))
+  total_without =
+      sym (where-less-own K (λ (x : ClusterNode). true) (λ x. x.total) (nodes_of places) (filter (λ x. not (x.number == n)) (nodes_of places)) p.node node_moved refl)
+      ∙ ap (sum_of_totals K) (sym (nodes_kept n places))
+
+pub any_node : (test : List ℕ → Bool) (places : List Place) → list_any (λ p. test p.node.host) places ≡ list_any (λ x. test x.host) (nodes_of places)
+any_node test [] = refl
+any_node test (p ∷ places) = by (test p.node.host) (any_node test places)
+  where
+    by : (b : Bool) → list_any (λ p. test p.node.host) places ≡ list_any (λ x. test x.host) (nodes_of places) → (b || list_any (λ p. test p.node.host) places) ≡ (b || list_any (λ x. test x.host) (nodes_of places))
+    by true e = refl
+    by false e = e
+
+pub length-nodes : (places : List Place) → length (nodes_of places) ≡ length places
+length-nodes [] = refl
+length-nodes (p ∷ places) = let e = length-nodes places in omega (arith, e)
+
+pub at_of : (places : List Place) (n : ℕ) → IsSome (place_at places n) → IsAt places n
+at_of places n h = by (place_at places n) refl h
+  where
+    by : (o : Option Place) → place_at places n ≡ o → IsSome o → IsAt places n
+    by (Some p) e h = record { place = p; at = e }
+    by None e h = absurd (cc h)
+
+-- what is true of every table
+pub homes_all : (K : ℕ) (places : List Place) (live : List Container) → AreTied K places live → All (λ (c : Container). IsSome (find (λ x. x.number == c.node) (nodes_of places))) live
+homes_all K places live tied =
+    All-from_recursion (λ (c : Container). IsSome (find (λ x. x.number == c.node) (nodes_of places))) live
+    (all_each (λ (c : Container). IsSome (place_at places c.node)) (λ (c : Container). IsSome (find (λ x. x.number == c.node) (nodes_of places))) live
+    (λ c h. let at = at_of places c.node h in rw (node_of_place places c.node at.place at.at) refl)
+    tied.homes)
+
+pub held_all : (K : ℕ) (live : List Container) (places : List Place) → AllByRecursion (IsTied K live) places →
+    All (λ (x : ClusterNode). fits (sum_where K (λ (c : Container). c.node == x.number) (λ c. c.resource) live) x.total ≡ true) (nodes_of places)
+held_all K live places ties = All-from_recursion (λ (x : ClusterNode). fits (sum_where K (λ (c : Container). c.node == x.number) (λ c. c.resource) live) x.total ≡ true) (nodes_of places) (each places ties)
+  where
+    each : (ps : List Place) → AllByRecursion (IsTied K live) ps → AllByRecursion (λ (x : ClusterNode). fits (sum_where K (λ (c : Container). c.node == x.number) (λ c. c.resource) live) x.total ≡ true) (nodes_of ps)
+    each [] all = tt
+    each (p ∷ ps) all =
+        (amounts_fit (sum_where K (λ (c : Container). c.node == p.node.number) (λ c. c.resource) live) p.node.total (subst (λ (h : List ℕ). Fits h p.node.total) all.0.held all.0.fits), each ps all.1)
+
+pub rising_nodes : (places : List Place) (next : ℕ) → IsRising 1 (map (λ p. p.node.number) places) next → IsRising 1 (map (λ (x : ClusterNode). x.number) (nodes_of places)) next
+rising_nodes places next rising = subst (λ ns. IsRising 1 ns next) (sym (numbers_of_nodes places)) rising

@@ -1,0 +1,110 @@
+-- Items by their numbers, which rise.
+use Rattle.std.proofs.Common.{◌≡◌, ℕ, ◌+◌, ◌≤◌, ◌<◌, Bool, true, false, List, [], ◌∷◌, ◌++◌, length, cond, not, map, refl, sym, ap, ◌∙◌, arith, Some, None}
+use Rattle.std.specs.Prelude.{find, filter, ◌==◌, nat_eq}
+use Rattle.std.specs.Ordering.{nat_cmp}
+use Rattle.std.specs.declared.cmp.Ordering.TheVariants.{Greater}
+use Rattle.std.specs.Map.{lookup, remove_entry, set_value, values_of}
+use Rattle.std.specs.BTreeMap.{insert_entry, is_at}
+use Rattle.std.specs.Cmp.{unsigned_ties, nat_cmp_is}
+use Rattle.std.proofs.lemmas.Bool.Decides.{nat_tests}
+use Rattle.cap_model.specs.Bounds.{IsRising}
+use Rattle.cap_model.proofs.Members.{rising_ends}
+use Rattle.cap_nodes.specs.Places.{tagged}
+
+-- the tests of maps by number
+pub same_number : (n k : ℕ) → nat_eq n k ≡ (k == n)
+same_number n k = grind (arith, nat_tests)
+
+pub same_place : (n k : ℕ) → is_at (nat_cmp n) k ≡ (k == n)
+same_place n k = sym (unsigned_ties n k) ∙ same_number n k
+
+greater : (n k : ℕ) → k < n → nat_cmp n k ≡ Greater
+greater n k h = sym (nat_cmp_is n k Greater h)
+
+module _ {X : Type 0} (num : X → ℕ) where
+  pub values-tagged : (xs : List X) → values_of (tagged num xs) ≡ xs
+  values-tagged [] = refl
+  values-tagged (x ∷ xs) = ap (λ ys. x ∷ ys) (values-tagged xs)
+
+  pub lookup-tagged : (test : ℕ → Bool) (n : ℕ) → ((k : ℕ) → test k ≡ (k == n)) → (xs : List X) → lookup test (tagged num xs) ≡ find (λ x. num x == n) xs
+  lookup-tagged test n same [] = refl
+  lookup-tagged test n same (x ∷ xs) = rw (same (num x), lookup-tagged test n same xs) refl
+
+  -- no later item has an earlier number
+  pub not_later : (n low : ℕ) (xs : List X) (high : ℕ) → IsRising low (map num xs) high → n < low → filter (λ x. not (num x == n)) xs ≡ xs
+  not_later n low [] high r h = refl
+  not_later n low (x ∷ xs) high r h =
+      let no : (num x == n) ≡ false = grind (arith, nat_tests, r.0, h) in
+      rw (no, not_later n (num x + 1) xs high r.1 (omega (arith, r.0, h))) refl
+
+  pub none_at_end : (n low : ℕ) (xs : List X) → IsRising low (map num xs) n → find (λ x. num x == n) xs ≡ None
+  none_at_end n low [] r = refl
+  none_at_end n low (x ∷ xs) r =
+      let below : num x + 1 ≤ n = rising_ends num (num x + 1) xs n r.1 in
+      let no : (num x == n) ≡ false = grind (arith, nat_tests, below) in
+      rw (no, none_at_end n (num x + 1) xs r.1) refl
+
+  same_later : (n low : ℕ) (xs : List X) (high : ℕ) (change : X → X) → IsRising low (map num xs) high → n < low → map (λ x. cond (num x == n) (change x) x) xs ≡ xs
+  same_later n low [] high change r h = refl
+  same_later n low (x ∷ xs) high change r h =
+      let no : (num x == n) ≡ false = grind (arith, nat_tests, r.0, h) in
+      rw (no, same_later n (num x + 1) xs high change r.1 (omega (arith, r.0, h))) refl
+
+  -- without the item of a number
+  pub remove-tagged : (test : ℕ → Bool) (n : ℕ) → ((k : ℕ) → test k ≡ (k == n)) → (low : ℕ) (xs : List X) (high : ℕ) → IsRising low (map num xs) high →
+      remove_entry test (tagged num xs) ≡ tagged num (filter (λ x. not (num x == n)) xs)
+  remove-tagged test n same low [] high r = refl
+  remove-tagged test n same low (x ∷ xs) high r = by (num x == n) refl (remove-tagged test n same (num x + 1) xs high r.1)
+    where
+      by : (b : Bool) → (num x == n) ≡ b → remove_entry test (tagged num xs) ≡ tagged num (filter (λ y. not (num y == n)) xs) →
+          remove_entry test (tagged num (x ∷ xs)) ≡ tagged num (filter (λ y. not (num y == n)) (x ∷ xs))
+      by true e more = rw (same (num x), e) (sym (ap (tagged num) (not_later n (num x + 1) xs high r.1 (grind (arith, nat_tests, e)))))
+      by false e more = rw (same (num x), e) (ap (λ ys. (num x, x) ∷ ys) more)
+
+  -- one more of the next number
+  pub insert-tagged : (low : ℕ) (xs : List X) (n : ℕ) (x : X) → num x ≡ n → IsRising low (map num xs) n → insert_entry nat_cmp (tagged num xs) n x ≡ tagged num (xs ++ x ∷ [])
+  insert-tagged low [] n x e r = ap (λ k. (k, x) ∷ []) (sym e)
+  insert-tagged low (y ∷ xs) n x e r =
+      let below : num y < n = omega (arith, rising_ends num (num y + 1) xs n r.1) in
+      rw (greater n (num y) below) (ap (λ ys. (num y, y) ∷ ys) (insert-tagged (num y + 1) xs n x e r.1))
+
+  pub push-tagged : (xs : List X) (n : ℕ) (x : X) → num x ≡ n → tagged num xs ++ (n, x) ∷ [] ≡ tagged num (xs ++ x ∷ [])
+  push-tagged [] n x e = ap (λ k. (k, x) ∷ []) (sym e)
+  push-tagged (y ∷ xs) n x e = ap (λ ys. (num y, y) ∷ ys) (push-tagged xs n x e)
+
+  -- the item of a number, changed
+  pub set-tagged : (test : ℕ → Bool) (n : ℕ) → ((k : ℕ) → test k ≡ (k == n)) → (change : X → X) → ((x : X) → num (change x) ≡ num x) → (w : X) (low : ℕ) (xs : List X) (high : ℕ) →
+      IsRising low (map num xs) high → ((x : X) → find (λ y. num y == n) xs ≡ Some x → w ≡ change x) →
+      set_value test (tagged num xs) w ≡ tagged num (map (λ x. cond (num x == n) (change x) x) xs)
+  set-tagged test n same change keeps w low [] high r is = refl
+  set-tagged test n same change keeps w low (x ∷ xs) high r is = by (num x == n) refl (λ later. set-tagged test n same change keeps w (num x + 1) xs high r.1 later)
+    where
+      by : (b : Bool) → (num x == n) ≡ b →
+          (((y : X) → find (λ z. num z == n) xs ≡ Some y → w ≡ change y) → set_value test (tagged num xs) w ≡ tagged num (map (λ y. cond (num y == n) (change y) y) xs)) →
+          set_value test (tagged num (x ∷ xs)) w ≡ tagged num (map (λ y. cond (num y == n) (change y) y) (x ∷ xs))
+      by true e more =
+          let later = same_later n (num x + 1) xs high change r.1 (grind (arith, nat_tests, e)) in
+          let here : w ≡ change x = is x (rw e refl) in
+          rw (same (num x), e, later, here, keeps x) refl
+      by false e more = rw (same (num x), e) (ap (λ ys. (num x, x) ∷ ys) (more (λ y h. is y (rw e h))))
+
+  pub numbers-change : (n : ℕ) (change : X → X) → ((x : X) → num (change x) ≡ num x) → (xs : List X) → map num (map (λ x. cond (num x == n) (change x) x) xs) ≡ map num xs
+  numbers-change n change keeps [] = refl
+  numbers-change n change keeps (x ∷ xs) = by (num x == n) (numbers-change n change keeps xs)
+    where
+      by : (b : Bool) → map num (map (λ y. cond (num y == n) (change y) y) xs) ≡ map num xs →
+          num (cond b (change x) x) ∷ map num (map (λ y. cond (num y == n) (change y) y) xs) ≡ num x ∷ map num xs
+      by true e = rw (keeps x, e) refl
+      by false e = rw e refl
+
+  pub length-change : (n : ℕ) (change : X → X) (xs : List X) → length (map (λ x. cond (num x == n) (change x) x) xs) ≡ length xs
+  length-change n change [] = refl
+  length-change n change (x ∷ xs) = let e = length-change n change xs in omega (arith, e)
+
+pub length-kept : {X : Type 0} (t : X → Bool) (xs : List X) → length (filter t xs) ≤ length xs
+length-kept t [] = omega arith
+length-kept t (x ∷ xs) = by (t x) (length-kept t xs)
+  where
+    by : (b : Bool) → length (filter t xs) ≤ length xs → length (cond b (x ∷ filter t xs) (filter t xs)) ≤ length (x ∷ xs)
+    by true h = omega (arith, h)
+    by false h = omega (arith, h)

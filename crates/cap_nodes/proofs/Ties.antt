@@ -1,0 +1,171 @@
+-- Nodes and what their containers hold, as a container comes and goes.
+use Rattle.std.proofs.Common.{◌≡◌, ℕ, ◌+◌, ◌-◌, ◌≤◌, ◌<◌, Bool, true, false, cond, List, [], ◌∷◌, ◌++◌, length, map, not, sym, ap, ◌∙◌, arith, subst, refl, Some}
+use Rattle.std.specs.Prelude.{filter, find, count_by, ◌==◌, IsSome}
+use Rattle.std.specs.List.{sum_by, AllByRecursion}
+use Rattle.std.proofs.lemmas.Option.{same_Some}
+use Rattle.std.proofs.lemmas.Bool.Decides.{nat_tests}
+use Rattle.std.proofs.lemmas.List.Sums.{count_by-le-length}
+use Rattle.cap_vector.specs.Vector.{plus, less, Fits}
+use Rattle.cap_vector.proofs.AmountLemmas.{amount-plus, amount-less}
+use Rattle.cap_model.specs.Admission.{live_max}
+use Rattle.cap_model.specs.Amounts.{sum_where}
+use Rattle.cap_model.specs.Bounds.{IsRising}
+use Rattle.cap_model.specs.Flat.{Container}
+use Rattle.cap_nodes.specs.Places.{Place, IsTied, place_at, change_place, held_more, held_less, HasRoom, HasOne}
+use Rattle.cap_nodes.proofs.Sums.{where-push-other, where-push-own, where-less-other, where-less-own, where-had, sum-without, count-push, once}
+
+-- what holds of each holds of the one that is found
+pub is_found : {X : Type 0} (P : X → Type 0) (t : X → Bool) (xs : List X) (x : X) → find t xs ≡ Some x → AllByRecursion P xs → P x × (t x ≡ true)
+is_found P t [] x there all = absurd (cc there)
+is_found P t (y ∷ xs) x there all = by (t y) refl (λ later. is_found P t xs x later all.1)
+  where
+    by : (b : Bool) → t y ≡ b → (find t xs ≡ Some x → P x × (t x ≡ true)) → P x × (t x ≡ true)
+    by true e more =
+        let this : y ≡ x = same_Some y x (subst (λ b. cond b (Some y) (find t xs) ≡ Some x) e there) in
+        (subst P this all.0, subst (λ z. t z ≡ true) this e)
+    by false e more = more (subst (λ b. cond b (Some y) (find t xs) ≡ Some x) e there)
+
+-- what holds of each place still does after a change of one
+all_later : (P Q : Place → Type 0) (n low : ℕ) (change : Place → Place) (places : List Place) (high : ℕ) → IsRising low (map (λ p. p.node.number) places) high → n < low →
+    ((q : Place) → P q → (q.node.number == n) ≡ false → Q q) → AllByRecursion P places → AllByRecursion Q (change_place n change places)
+all_later P Q n low change [] high r h other all = tt
+all_later P Q n low change (q ∷ places) high r h other all =
+    let no : (q.node.number == n) ≡ false = grind (arith, nat_tests, r.0, h) in
+    (subst (λ b. Q (cond b (change q) q)) (sym no) (other q all.0 no), all_later P Q n (q.node.number + 1) change places high r.1 (omega (arith, r.0, h)) other all.1)
+
+pub all_changed : (P Q : Place → Type 0) (n low : ℕ) (change : Place → Place) (p : Place) (places : List Place) (high : ℕ) → IsRising low (map (λ q. q.node.number) places) high →
+    place_at places n ≡ Some p → (P p → Q (change p)) → ((q : Place) → P q → (q.node.number == n) ≡ false → Q q) → AllByRecursion P places → AllByRecursion Q (change_place n change places)
+all_changed P Q n low change p [] high r there own other all = tt
+all_changed P Q n low change p (q ∷ places) high r there own other all = by (q.node.number == n) refl (λ later. all_changed P Q n (q.node.number + 1) change p places high r.1 later own other all.1)
+  where
+    by : (b : Bool) → (q.node.number == n) ≡ b → (place_at places n ≡ Some p → AllByRecursion Q (change_place n change places)) → AllByRecursion Q (change_place n change (q ∷ places))
+    by true e more =
+        let this : q ≡ p = same_Some q p (subst (λ b. cond b (Some q) (place_at places n) ≡ Some p) e there) in (
+          subst (λ b. Q (cond b (change q) q)) (sym e) (subst (λ (x : Place). Q (change x)) (sym this) (own (subst P this all.0))),
+          all_later P Q n (q.node.number + 1) change places high r.1 (grind (arith, nat_tests, e)) other all.1,
+        )
+    by false e more = (subst (λ b. Q (cond b (change q) q)) (sym e) (other q all.0 e), more (subst (λ b. cond b (Some q) (place_at places n) ≡ Some p) e there))
+
+pub all_mapped : (P Q : Place → Type 0) (n : ℕ) (change : Place → Place) (places : List Place) → ((q : Place) → P q → Q (change q)) → ((q : Place) → P q → Q q) → AllByRecursion P places →
+    AllByRecursion Q (change_place n change places)
+all_mapped P Q n change [] own other all = tt
+all_mapped P Q n change (q ∷ places) own other all = (by (q.node.number == n), all_mapped P Q n change places own other all.1)
+  where
+    by : (b : Bool) → Q (cond b (change q) q)
+    by true = own q all.0
+    by false = other q all.0
+
+pub all_kept : {X : Type 0} (P Q : X → Type 0) (t : X → Bool) (xs : List X) → ((x : X) → P x → t x ≡ true → Q x) → AllByRecursion P xs → AllByRecursion Q (filter t xs)
+all_kept P Q t [] each all = tt
+all_kept P Q t (x ∷ xs) each all = by (t x) refl (all_kept P Q t xs each all.1)
+  where
+    by : (b : Bool) → t x ≡ b → AllByRecursion Q (filter t xs) → AllByRecursion Q (cond b (x ∷ filter t xs) (filter t xs))
+    by true e more = (each x all.0 e, more)
+    by false e more = more
+
+pub all_each : {X : Type 0} (P Q : X → Type 0) (xs : List X) → ((x : X) → P x → Q x) → AllByRecursion P xs → AllByRecursion Q xs
+all_each P Q [] each all = tt
+all_each P Q (x ∷ xs) each all = (each x all.0, all_each P Q xs each all.1)
+
+pub all_pushed : {X : Type 0} (P : X → Type 0) (xs : List X) (x : X) → AllByRecursion P xs → P x → AllByRecursion P (xs ++ x ∷ [])
+all_pushed P [] x all h = (h, tt)
+all_pushed P (y ∷ xs) x all h = (all.0, all_pushed P xs x all.1 h)
+
+-- a place that is there is still there
+pub still_there : (places : List Place) (n m : ℕ) (change : Place → Place) → ((p : Place) → (change p).node.number ≡ p.node.number) → IsSome (place_at places m) → IsSome (place_at (change_place n change places) m)
+still_there [] n m change keeps there = there
+still_there (q ∷ places) n m change keeps there = by (q.node.number == n) (q.node.number == m) refl (keeps q) (λ later. still_there places n m change keeps later) there
+  where
+    by : (b e : Bool) → (q.node.number == m) ≡ e → (change q).node.number ≡ q.node.number → (IsSome (place_at places m) → IsSome (place_at (change_place n change places) m)) →
+        IsSome (cond e (Some q) (place_at places m)) →
+        IsSome (cond ((cond b (change q) q).node.number == m) (Some (cond b (change q) q)) (place_at (change_place n change places) m))
+    by true true is k more h = let y : ((change q).node.number == m) ≡ true = ap (λ x. x == m) k ∙ is in rw y refl
+    by true false is k more h = let y : ((change q).node.number == m) ≡ false = ap (λ x. x == m) k ∙ is in rw y (more h)
+    by false true is k more h = rw is refl
+    by false false is k more h = rw is (more h)
+
+pub there_pushed : (places : List Place) (p : Place) (m : ℕ) → IsSome (place_at places m) → IsSome (place_at (places ++ p ∷ []) m)
+there_pushed [] p m there = absurd (cc there)
+there_pushed (q ∷ places) p m there = by (q.node.number == m) there (there_pushed places p m)
+  where
+    by : (b : Bool) → IsSome (cond b (Some q) (place_at places m)) → (IsSome (place_at places m) → IsSome (place_at (places ++ p ∷ []) m)) → IsSome (cond b (Some q) (place_at (places ++ p ∷ []) m))
+    by true h more = refl
+    by false h more = more h
+
+module _ (K : ℕ) (live : List Container) where
+  -- a container that comes
+  pub tied_beside : (c : Container) (p : Place) → IsTied K live p → (c.node == p.node.number) ≡ false → IsTied K (live ++ c ∷ []) p
+  tied_beside c p tie e =
+      let t = λ (x : Container). x.node == p.node.number in
+      let z : once (t c) ≡ 0 = ap once e in
+      record {
+        held = tie.held ∙ sym (where-push-other K t (λ x. x.resource) live c e);
+        count = (let a = count-push t live c in let b = tie.count in let r : p.live ≡ count_by t (live ++ c ∷ []) = omega (arith, a, b, z) in r);
+        fits = tie.fits;
+        within = tie.within;
+      }
+
+  pub tied_with : (c : Container) (p : Place) → IsTied K live p → (c.node == p.node.number) ≡ true → length (plus p.held c.resource) ≡ K → Fits (plus p.held c.resource) p.node.total →
+      IsTied K (live ++ c ∷ []) (held_more c.resource p)
+  tied_with c p tie e count fits =
+      let t = λ (x : Container). x.node == p.node.number in
+      let z : once (t c) ≡ 1 = ap once e in
+      let long : length (plus (sum_where K t (λ x. x.resource) live) c.resource) ≡ K = subst (λ (h : List ℕ). length (plus h c.resource) ≡ K) tie.held count in
+      record {
+        held = ap (λ (h : List ℕ). plus h c.resource) tie.held ∙ sym (where-push-own K t (λ x. x.resource) live c e long);
+        count = (let a = count-push t live c in let b = tie.count in let r : p.live + 1 ≡ count_by t (live ++ c ∷ []) = omega (arith, a, b, z) in r);
+        fits = fits;
+        within = tie.within;
+      }
+
+  -- room on a node
+  pub room_fits : (r : List ℕ) (p : Place) → IsTied K live p → Fits r (less p.node.total p.held) → Fits (plus p.held r) p.node.total
+  room_fits r p tie room k = omega (arith, amount-plus p.held r k, amount-less p.node.total p.held k, room k, tie.fits k)
+
+  pub has_room : (r : List ℕ) (p : Place) → IsTied K live p → Fits r (less p.node.total p.held) → length live < live_max → HasRoom r p
+  has_room r p tie room few = record {
+    within = λ k. omega (arith, room_fits r p tie room k, tie.within k);
+    few = omega (arith, tie.count, count_by-le-length (λ (x : Container). x.node == p.node.number) live, few);
+  }
+
+  module _ (n : ℕ) (high : ℕ) (rising : IsRising 1 (map (λ c. c.number) live) high) (c : Container) (there : find (λ x. x.number == n) live ≡ Some c) where
+    moved : (h : Container → ℕ) → sum_by h live ≡ sum_by h (filter (λ x. not (x.number == n)) live) + h c
+    moved h = sum-without (λ (x : Container). x.number) h n 1 live high rising c there
+
+    -- a container that goes
+    pub untied_beside : (p : Place) → IsTied K live p → (c.node == p.node.number) ≡ false → IsTied K (filter (λ x. not (x.number == n)) live) p
+    untied_beside p tie e =
+        let t = λ (x : Container). x.node == p.node.number in
+        let left = filter (λ (x : Container). not (x.number == n)) live in
+        let z : once (t c) ≡ 0 = ap once e in
+        let m : count_by t live ≡ count_by t left + once (t c) = moved (λ x. once (t x)) in
+        record {
+          held = tie.held ∙ sym (where-less-other K t (λ x. x.resource) live left c moved e);
+          count = (let b = tie.count in let r : p.live ≡ count_by t left = omega (arith, m, b, z) in r);
+          fits = tie.fits;
+          within = tie.within;
+        }
+
+    pub has_one : (p : Place) → IsTied K live p → (c.node == p.node.number) ≡ true → length c.resource ≤ K → HasOne c.resource p
+    has_one p tie e short =
+        let t = λ (x : Container). x.node == p.node.number in
+        let left = filter (λ (x : Container). not (x.number == n)) live in
+        let z : once (t c) ≡ 1 = ap once e in
+        let m : count_by t live ≡ count_by t left + once (t c) = moved (λ x. once (t x)) in
+        record {
+          held = subst (λ (h : List ℕ). Fits c.resource h) (sym tie.held) (where-had K t (λ x. x.resource) live left c moved e short);
+          some = (let b = tie.count in let r : 0 < p.live = omega (arith, m, b, z) in r);
+        }
+
+    pub untied_from : (p : Place) → IsTied K live p → (c.node == p.node.number) ≡ true → IsTied K (filter (λ x. not (x.number == n)) live) (held_less c.resource p)
+    untied_from p tie e =
+        let t = λ (x : Container). x.node == p.node.number in
+        let left = filter (λ (x : Container). not (x.number == n)) live in
+        let z : once (t c) ≡ 1 = ap once e in
+        let m : count_by t live ≡ count_by t left + once (t c) = moved (λ x. once (t x)) in
+        record {
+          held = ap (λ (h : List ℕ). less h c.resource) tie.held ∙ sym (where-less-own K t (λ x. x.resource) live left c moved e);
+          count = (let b = tie.count in let r : p.live - 1 ≡ count_by t left = omega (arith, m, b, z) in r);
+          fits = λ k. omega (arith, amount-less p.held c.resource k, tie.fits k);
+          within = tie.within;
+        }

@@ -1,0 +1,22 @@
+use Rattle.std.proofs.Common.{◌∙◌, [], ap, sym, List, arith}
+use Rattle.cap_model.specs.Flat.{ClusterNode, NodeTable}
+use Rattle.cap_nodes.proofs.Changes.{place_of_node, is_at, with_beat, nodes_beaten, totals_beaten}
+use Rattle.cap_nodes.proofs.nodes.Nodes.beat.Goals as goal
+
+pub beat-requires : goal.beat-requires
+beat-requires g c =
+    let at = place_of_node c.self.inside.present.places c.args.number (rw (← c.self.view_is) at c.requires) in
+    (omega arith, is_at c.self.inside.present.places c.args.number at.place at.at)
+
+pub invariant_of-self : goal.invariant_of-self
+invariant_of-self g c =
+    rw c.beat.ensures (
+      with_beat g.row.K c.self.inside.present.places c.self.inside.live.live c.self.invariant.0 c.args.number c.args.ignored,
+      c.self.invariant.1 ∙ sym (totals_beaten g.row.K c.args.number c.args.ignored c.self.inside.present.places),
+    )
+
+pub returns : goal.returns
+returns g c =
+    rw (← c.self.view_is, c.beat.ensures)
+    (ap (λ (ns : List ClusterNode). let t : NodeTable = record { present = ns; live = c.self.inside.live.live; reserved = []; next_node = c.self.inside.present.next; next_container = c.self.inside.live.next } in t)
+    (nodes_beaten g.row.K c.args.number c.args.ignored c.self.inside.live.live c.self.inside.present.places c.self.invariant.0.ties))

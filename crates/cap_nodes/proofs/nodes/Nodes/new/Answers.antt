@@ -1,0 +1,9 @@
+use Rattle.std.proofs.Common.{[], sym}
+use Rattle.cap_model.proofs.NodeTotals.{totals-none}
+use Rattle.cap_nodes.specs.Places.{AreTied}
+use Rattle.cap_nodes.proofs.nodes.Nodes.new.Goals as goal
+
+pub invariant_of-result : goal.invariant_of-result
+invariant_of-result g c =
+    let tied : AreTied g.row.K [] [] = record { ties = tt; homes = tt } in
+    rw (c.new.ensures, c.new-2.ensures, c.zero.ensures) (tied, sym (totals-none g.row.K))

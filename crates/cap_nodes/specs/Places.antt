@@ -1,0 +1,66 @@
+-- The nodes with what their containers hold, and the live containers.
+use Rattle.std.specs.Prelude.{◌≡◌, ℕ, ◌+◌, ◌-◌, ◌<◌, List, Option, IsSome, map, find, count_by, ◌==◌, if◌then◌else◌}
+use Rattle.std.specs.List.{AllByRecursion}
+use Rattle.cap_vector.specs.Vector.{Fits, IsWithin, amount_max, plus, less}
+use Rattle.cap_model.specs.Admission.{live_max}
+use Rattle.cap_model.specs.Amounts.{sum_where}
+use Rattle.cap_model.specs.Flat.{ClusterNode, Container}
+use Rattle.cap_nodes.specs.Tables.{beaten}
+
+-- a node, what its live containers hold, and how many they are
+pub record Place : Type 0 where
+  pub node : ClusterNode
+  pub held : List ℕ
+  pub live : ℕ
+
+-- the nodes in order of number, and the number of the next
+pub record PlaceTable : Type 0 where
+  pub places : List Place
+  pub next : ℕ
+
+-- the live containers in order of number, and the number of the next
+pub record LiveTable : Type 0 where
+  pub live : List Container
+  pub next : ℕ
+
+abbrev pub place_at : List Place → ℕ → Option Place
+place_at places n = find (λ p. p.node.number == n) places
+
+abbrev pub change_place : ℕ → (Place → Place) → List Place → List Place
+change_place n change places = map (λ p. if p.node.number == n then change p else p) places
+
+-- a node with one more container, of this resource, with one less, and after a heartbeat
+abbrev pub held_more : List ℕ → Place → Place
+held_more resource p = record p { held = plus p.held resource; live = p.live + 1 }
+
+abbrev pub held_less : List ℕ → Place → Place
+held_less resource p = record p { held = less p.held resource; live = p.live - 1 }
+
+abbrev pub beaten_place : ℕ → Place → Place
+beaten_place ignored p = record p { node = beaten ignored p.live p.node }
+
+-- room for one more container of this resource
+pub record HasRoom (resource : List ℕ) (p : Place) : Type 0 where
+  pub within : IsWithin amount_max (plus p.held resource)
+  pub few : p.live < live_max
+
+-- one container of this resource
+pub record HasOne (resource : List ℕ) (p : Place) : Type 0 where
+  pub held : Fits resource p.held
+  pub some : 0 < p.live
+
+-- items by their numbers
+abbrev pub tagged : {X : Type 0} → (X → ℕ) → List X → List (ℕ × X)
+tagged num xs = map (λ x. (num x, x)) xs
+
+-- a node holds what the live containers on it hold, which fits its total
+pub record IsTied (K : ℕ) (live : List Container) (p : Place) : Type 0 where
+  pub held : p.held ≡ sum_where K (λ c. c.node == p.node.number) (λ c. c.resource) live
+  pub count : p.live ≡ count_by (λ c. c.node == p.node.number) live
+  pub fits : Fits p.held p.node.total
+  pub within : IsWithin amount_max p.node.total
+
+-- so does each node, and each live container is on one of them
+pub record AreTied (K : ℕ) (places : List Place) (live : List Container) : Type 0 where
+  pub ties : AllByRecursion (IsTied K live) places
+  pub homes : AllByRecursion (λ c. IsSome (place_at places c.node)) live

@@ -1,0 +1,144 @@
+ghost use Rattle.std.specs.Prelude.{◌≡◌, ◌<◌, None};
+ghost use Rattle.cap_vector.specs.Vector.{IsResource};
+ghost use Rattle.cap_model.specs.ResponseIds.{response_end, next_response, is_repeated, is_bad_id};
+ghost use Rattle.cap_nodes.specs.Tables.{beaten};
+
+use cap_model::{HeartbeatReply, ShortText};
+use cap_vector::Resource;
+use std::marker::Model;
+
+/// Response ids stay below this, and begin again at 0.
+const RESPONSE_END: u32 = 1 << 31;
+
+/// A node that is present. Contracts see it as its row in the flat cluster.
+#[derive(Debug, Drop)]
+pub struct Node<const K: usize> {
+    number: u64,
+    host: ShortText,
+    rack: ShortText,
+    total: Resource<K>,
+    response: u32,
+    kept: Option<HeartbeatReply>,
+}
+
+impl<const K: usize> Model for Node<K> {
+    ghost use Rattle.std.specs.Prelude.{◌<◌};
+    ghost use Rattle.cap_model.specs.Flat.{ClusterNode};
+    ghost use Rattle.cap_vector.specs.Vector.{IsResource};
+    ghost use Rattle.cap_model.specs.ResponseIds.{response_end};
+
+    ghost Value = { ClusterNode };
+
+    ghost view = { λ n. record { number = n.number; host = n.host; rack = n.rack; total = n.total; response = n.response; kept = n.kept } };
+
+    ghost invariant = { λ n. n.response < response_end };
+}
+
+impl<const K: usize> Node<K> {
+    /// A node of this number, host, rack and total, in MiB and vcores, that was registered just now.
+    pub(crate) fn new(
+        number: u64,
+        host: &ShortText,
+        rack: &ShortText,
+        total: &Resource<K>,
+    ) -> Node<K>
+        ensures { result ≡ record { number = number; host = host.now; rack = rack.now; total = total.now; response = 0; kept = None } }
+    {
+        Node {
+            number,
+            host: *host,
+            rack: *rack,
+            total: *total,
+            response: 0,
+            kept: None,
+        }
+    }
+
+    /// A node that is none.
+    pub(crate) fn blank() -> Node<K> {
+        Node {
+            number: 0,
+            host: ShortText::any(),
+            rack: ShortText::any(),
+            total: Resource::zero(),
+            response: 0,
+            kept: None,
+        }
+    }
+
+    /// Its number.
+    pub fn number(&self) -> u64
+        ensures { result ≡ self.now.number }
+    {
+        self.number
+    }
+
+    /// Its host.
+    pub fn host(&self) -> &ShortText
+        ensures { result.now ≡ self.now.host }
+    {
+        &self.host
+    }
+
+    /// Its rack.
+    pub fn rack(&self) -> &ShortText
+        ensures { result.now ≡ self.now.rack }
+    {
+        &self.rack
+    }
+
+    /// What it has in all, in MiB and vcores.
+    pub fn total(&self) -> Resource<K>
+        ensures value { result ≡ self.now.total }
+        ensures vector { IsResource K self.now.total }
+    {
+        let _amounts = self.total.amounts();
+        self.total
+    }
+
+    /// The response id that answered the last heartbeat, and 0 before the first.
+    pub fn response(&self) -> u32
+        ensures { result ≡ self.now.response }
+    {
+        self.response
+    }
+
+    /// The reply to the last heartbeat, none before the first.
+    pub fn kept(&self) -> Option<HeartbeatReply>
+        ensures { result ≡ self.now.kept }
+    {
+        self.kept
+    }
+
+    /// Whether a heartbeat of this response id repeats the last one, whose reply is kept.
+    pub fn is_repeated(&self, id: u32) -> bool
+        ensures { result ≡ is_repeated self.now.response self.now.kept id }
+    {
+        self.kept.is_some() && id < RESPONSE_END && next_response(id) == self.response
+    }
+
+    /// Whether a heartbeat of this response id is neither the next one nor a repetition of the last.
+    pub fn is_bad_id(&self, id: u32) -> bool
+        ensures { result ≡ is_bad_id self.now.response self.now.kept id }
+    {
+        !(id == self.response || self.is_repeated(id))
+    }
+
+    /// Answers one more heartbeat: so many of the ends that it told named no container live there, and so many are live there
+    /// now.
+    pub(crate) fn beat(&mut self, ignored: u16, live: u32)
+        ensures { self.new ≡ beaten ignored live self.old }
+    {
+        let response = next_response(self.response);
+        self.response = response;
+        self.kept = Some(HeartbeatReply::new(response, ignored, live));
+    }
+}
+
+/// The response id that answers a heartbeat of this one.
+fn next_response(id: u32) -> u32
+    requires { id < response_end }
+    ensures { result ≡ next_response id }
+{
+    (id + 1) % RESPONSE_END
+}

@@ -1,0 +1,248 @@
+ghost use Rattle.std.specs.Prelude.{◌≡◌, ◌+◌, ◌<◌, ◌≤◌, ◌==◌, ◌&&◌, nat_lt, [], IsSome, IfOk, OnErr, bytes_eq, length, map, find, true};
+ghost use Rattle.std.specs.List.{All, list_any};
+ghost use Rattle.std.specs.Option.{option_copied};
+ghost use Rattle.cap_vector.specs.Vector.{Fits, IsWithin, amount_max, plus};
+ghost use Rattle.cap_model.specs.Admission.{live_max};
+ghost use Rattle.cap_model.specs.Amounts.{fits};
+ghost use Rattle.cap_model.specs.Bounds.{IsRising};
+ghost use Rattle.cap_model.specs.Limits.{nodes_max, number_end};
+ghost use Rattle.cap_model.specs.RegisterNode.{sum_of_totals};
+ghost use Rattle.cap_nodes.specs.Tables.{none, node_in, container_in, containers_on, held_on, free_on, with_new_node, with_container, without_container, beaten, change_node, without_node};
+
+use crate::container::Container;
+use crate::live::Live;
+use crate::node::Node;
+use crate::present::Present;
+use cap_model::{Key, NoMemory, ShortText};
+use cap_vector::{Resource, checked_add, minus};
+use std::alloc::Global;
+use std::marker::Model;
+
+/// The nodes that are present and the containers that are live on them, each in order of number. Contracts see them as the
+/// table of the flat cluster, with no reservation.
+#[derive(Drop)]
+pub struct Nodes<const K: usize> {
+    present: Present<K>,
+    live: Live<K>,
+    total: Resource<K>,
+}
+
+impl<const K: usize> Model for Nodes<K> {
+    ghost use Rattle.std.specs.Prelude.{◌≡◌, [], map};
+    ghost use Rattle.cap_model.specs.Flat.{NodeTable};
+    ghost use Rattle.cap_model.specs.RegisterNode.{sum_of_totals};
+    ghost use Rattle.cap_nodes.specs.Places.{AreTied};
+
+    ghost Value = { NodeTable };
+
+    ghost view = { λ n. record { present = map (λ p. p.node) n.present.places; live = n.live.live; reserved = []; next_node = n.present.next; next_container = n.live.next } };
+
+    ghost invariant = { λ n. (AreTied K n.present.places n.live.live) × (n.total ≡ sum_of_totals K (map (λ p. p.node) n.present.places)) };
+}
+
+impl<const K: usize> Nodes<K> {
+    /// No node and no container; both will be numbered from 1 on. It takes no memory.
+    pub fn new(alloc: Global) -> Nodes<K>
+        ensures { result ≡ none }
+    {
+        Nodes {
+            present: Present::new(alloc),
+            live: Live::new(alloc),
+            total: Resource::zero(),
+        }
+    }
+
+    /// The node of this number, none where none is present.
+    pub fn node(&self, number: u64) -> Option<&Node<K>>
+        ensures { option_copied result ≡ node_in self.now number }
+    {
+        match self.present.get(number) {
+            Some(place) => Some(place.node()),
+            None => None,
+        }
+    }
+
+    /// How many nodes are present.
+    pub fn count(&self) -> usize
+        ensures value { result ≡ length self.now.present }
+        ensures few { result ≤ nodes_max }
+    {
+        self.present.count()
+    }
+
+    /// What all nodes have together, in MiB and vcores.
+    pub fn total(&self) -> Resource<K>
+        ensures { result ≡ sum_of_totals K self.now.present }
+    {
+        self.total
+    }
+
+    /// The number of the next node.
+    pub fn next_node(&self) -> u64
+        ensures { result ≡ self.now.next_node }
+    {
+        self.present.next()
+    }
+
+    /// The number of the next container.
+    pub fn next_container(&self) -> u64
+        ensures { result ≡ self.now.next_container }
+    {
+        self.live.next()
+    }
+
+    /// Whether a present node has the host.
+    pub fn is_host_taken(&self, host: &[u8]) -> bool
+        ensures { result ≡ list_any (λ node. bytes_eq node.host host.now) self.now.present }
+    {
+        self.present.is_host_taken(host)
+    }
+
+    /// The live container of this number, none where none is live.
+    pub fn container(&self, number: u64) -> Option<Container<K>>
+        ensures { result ≡ container_in self.now number }
+    {
+        self.live.get(number)
+    }
+
+    /// How many containers are live.
+    pub fn live_count(&self) -> usize
+        ensures value { result ≡ length self.now.live }
+        ensures few { result ≤ live_max }
+    {
+        self.live.count()
+    }
+
+    /// How many containers are live on a node: 0 where the node is not present.
+    pub fn live_on(&self, number: u64) -> u32
+        ensures { result ≡ length (containers_on self.now number) }
+    {
+        match self.present.get(number) {
+            Some(place) => place.live(),
+            None => 0,
+        }
+    }
+
+    /// What a present node has left, in MiB and vcores.
+    pub fn free_of(&self, number: u64) -> Resource<K>
+        requires { IsSome (node_in self.now number) }
+        ensures { result ≡ free_on K self.now number }
+    {
+        match self.present.get(number) {
+            Some(place) => place.free(),
+            None => unreachable!(),
+        }
+    }
+
+    /// Takes a node in under the next number, of a total in MiB and vcores, with no container. `NoMemory` changes nothing.
+    pub fn register(
+        &mut self,
+        host: &ShortText,
+        rack: &ShortText,
+        total: &Resource<K>,
+    ) -> Result<u64, NoMemory>
+        requires few { length self.old.present < nodes_max }
+        requires numbered { self.old.next_node < number_end }
+        requires within { IsWithin amount_max (plus (sum_of_totals K self.old.present) total.now) }
+        ensures ok { IfOk result (λ number. (number ≡ self.old.next_node) × (self.new ≡ with_new_node host.now rack.now total.now self.old)) }
+        ensures err { OnErr result (self.new ≡ self.old) }
+    {
+        let Some(sum) = checked_add(&self.total, total) else {
+            unreachable!()
+        };
+        let number = match self.present.push(host, rack, total) {
+            Ok(number) => number,
+            Err(_) => return Err(NoMemory),
+        };
+        self.total = sum;
+        Ok(number)
+    }
+
+    /// A container of this resource, in MiB and vcores, becomes live on a present node that has room for it, for the key of an
+    /// application, under the next number. `NoMemory` changes nothing.
+    pub fn place(
+        &mut self,
+        app: u64,
+        key: &Key,
+        node: u64,
+        resource: &Resource<K>,
+    ) -> Result<u64, NoMemory>
+        requires present { IsSome (node_in self.old node) }
+        requires room { Fits resource.now (free_on K self.old node) }
+        requires numbered { self.old.next_container < number_end }
+        requires few { length self.old.live < live_max }
+        ensures ok { IfOk result (λ number. (number ≡ self.old.next_container) × (self.new ≡ with_container app key.now node resource.now self.old)) }
+        ensures err { OnErr result (self.new ≡ self.old) }
+    {
+        let number = match self.live.push(app, key, node, resource) {
+            Ok(number) => number,
+            Err(_) => return Err(NoMemory),
+        };
+        self.present.hold(node, resource);
+        Ok(number)
+    }
+
+    /// A live container ends: its node has its resource back.
+    pub fn lift(&mut self, number: u64)
+        requires { IsSome (container_in self.old number) }
+        ensures { self.new ≡ without_container number self.old }
+    {
+        let Some(container) = self.live.get(number) else {
+            unreachable!()
+        };
+        self.live.remove(number);
+        self.present.lift(container.node(), &container.resource());
+    }
+
+    /// A present node answers one more heartbeat, of which so many ends named no container that was live there: it keeps the
+    /// reply, which tells how many are live there now.
+    pub fn beat(&mut self, number: u64, ignored: u16)
+        requires { IsSome (node_in self.old number) }
+        ensures { self.new ≡ record self.old { present = change_node number (beaten ignored (length (containers_on self.old number))) self.old.present } }
+    {
+        self.present.beat(number, ignored);
+    }
+
+    /// A present node goes, on which no container is live.
+    pub fn gone(&mut self, number: u64)
+        requires present { IsSome (node_in self.old number) }
+        requires empty { containers_on self.old number ≡ [] }
+        ensures { self.new ≡ without_node number self.old }
+    {
+        let Some(place) = self.present.get(number) else {
+            unreachable!()
+        };
+        self.total = minus(&self.total, &place.node().total());
+        self.present.remove(number);
+    }
+
+    /// The live container of an application with the least number above `after`.
+    pub fn next_of_app(&self, app: u64, after: u64) -> Option<Container<K>>
+        ensures { result ≡ find (λ c. c.app == app && nat_lt after c.number) self.now.live }
+    {
+        self.live.next_of_app(app, after)
+    }
+
+    /// The live container on a node with the least number above `after`.
+    pub fn next_on_node(&self, node: u64, after: u64) -> Option<Container<K>>
+        ensures { result ≡ find (λ c. c.node == node && nat_lt after c.number) self.now.live }
+    {
+        self.live.next_on_node(node, after)
+    }
+
+    /// What is true of every table: each live container is on a present node, numbers rise and are below the next, what the live
+    /// containers on a node hold fits its total, and neither nodes, nor containers, nor what all nodes have are too many.
+    pub fn law(&self)
+        ensures homes { All (λ c. IsSome (node_in self.now c.node)) self.now.live }
+        ensures nodes { IsRising 1 (map (λ node. node.number) self.now.present) self.now.next_node }
+        ensures containers { IsRising 1 (map (λ c. c.number) self.now.live) self.now.next_container }
+        ensures held { All (λ node. fits (held_on K self.now node.number) node.total ≡ true) self.now.present }
+        ensures few_nodes { length self.now.present ≤ nodes_max }
+        ensures few_live { length self.now.live ≤ live_max }
+        ensures total { IsWithin amount_max (sum_of_totals K self.now.present) }
+    {
+        let _nodes = (self.present.count(), self.present.next());
+        let _live = (self.live.count(), self.live.next());
+        let _total = self.total.amounts();
+    }
+}

@@ -1,0 +1,85 @@
+ghost use Rattle.std.specs.Prelude.{◌≡◌, length};
+ghost use Rattle.cap_vector.specs.Vector.{Fits, plus, less};
+ghost use Rattle.cap_nodes.specs.Places.{HasRoom, HasOne, held_more, held_less, beaten_place};
+
+use crate::node::Node;
+use cap_vector::{Resource, checked_add, minus};
+use std::marker::Model;
+
+/// A node, with what its live containers hold, and how many they are.
+#[derive(Debug, Drop)]
+pub(crate) struct Place<const K: usize> {
+    pub(crate) node: Node<K>,
+    pub(crate) held: Resource<K>,
+    pub(crate) live: u32,
+}
+
+impl<const K: usize> Model for Place<K> {
+    ghost use Rattle.cap_nodes.specs.Places.{Place as Row};
+
+    ghost Value = { Row };
+
+    ghost view = { λ p. record { node = p.node; held = p.held; live = p.live } };
+}
+
+impl<const K: usize> Place<K> {
+    /// A place of no node.
+    pub(crate) fn blank() -> Place<K> {
+        Place {
+            node: Node::blank(),
+            held: Resource::zero(),
+            live: 0,
+        }
+    }
+
+    /// The node.
+    pub(crate) fn node(&self) -> &Node<K>
+        ensures { result.now ≡ self.now.node }
+    {
+        &self.node
+    }
+
+    /// How many containers are live on it.
+    pub(crate) fn live(&self) -> u32
+        ensures { result ≡ self.now.live }
+    {
+        self.live
+    }
+
+    /// What it has left.
+    pub(crate) fn free(&self) -> Resource<K>
+        requires { Fits self.now.held self.now.node.total }
+        ensures { result ≡ less self.now.node.total self.now.held }
+    {
+        minus(&self.node.total(), &self.held)
+    }
+
+    /// One more container of this resource is live on it.
+    pub(crate) fn hold(&mut self, resource: &Resource<K>)
+        requires { HasRoom resource.now self.old }
+        ensures more { self.new ≡ held_more resource.now self.old }
+        ensures count { length (plus self.old.held resource.now) ≡ K }
+    {
+        let Some(held) = checked_add(&self.held, resource) else {
+            unreachable!()
+        };
+        self.held = held;
+        self.live += 1;
+    }
+
+    /// One container of this resource is live on it no longer.
+    pub(crate) fn lift(&mut self, resource: &Resource<K>)
+        requires { HasOne resource.now self.old }
+        ensures { self.new ≡ held_less resource.now self.old }
+    {
+        self.held = minus(&self.held, resource);
+        self.live -= 1;
+    }
+
+    /// It answers one more heartbeat, of which so many ends named no container that was live on it.
+    pub(crate) fn beat(&mut self, ignored: u16)
+        ensures { self.new ≡ beaten_place ignored self.old }
+    {
+        self.node.beat(ignored, self.live);
+    }
+}

@@ -1,0 +1,160 @@
+-- A heartbeat that is not refused.
+use Rattle.std.proofs.Common.{◌≡◌, ℕ, ◌+◌, ◌-◌, Bool, true, false, List, [], ◌∷◌, length, map, Option, Some, None, refl, sym, ◌∙◌, ap, subst, inl, inr, arith}
+use Rattle.std.specs.Prelude.{nat_lt, is_some, IsSome, cond, not, filter, find, count_by, option_map, option_and_then, ◌==◌, ◌&&◌, ◌||◌, if◌then◌else◌}
+use Rattle.std.proofs.lemmas.Bool.Decides.{nat_tests}
+use Rattle.std.proofs.lemmas.List.Sums.{length-filter}
+use Rattle.std.proofs.lemmas.List.Filters.{length-filter_both}
+use Rattle.cap_model.specs.Calls.{Cause, CallRequest, CallReply, CallRefusal, HeartbeatReply}
+use Rattle.cap_model.specs.Flat.{Flat, ClusterNode, Container, node_at, with_node}
+use Rattle.cap_model.specs.Bounds.{IsRising}
+use Rattle.cap_model.specs.Cascade.{earliest}
+use Rattle.cap_model.specs.ResponseIds.{response_end, next_response, is_current, is_repeated, is_bad_id}
+use Rattle.cap_model.specs.Ending.{is_among, named_among, after_ends}
+use Rattle.cap_model.specs.Heartbeat.{heartbeat_refusal, is_repeated_heartbeat, containers_on, ended_by, beat_of, after_processed_heartbeat, after_heartbeat}
+use Rattle.cap_model.specs.EngineLaws.{HasDistinctNumbers}
+use Rattle.cap_model.specs.Replies.{reply_to, after_request}
+use Rattle.cap_model.proofs.Choosing.{IsIn, found}
+use Rattle.cap_model.proofs.Members.{rising_kept, found_by_number, find_changed}
+use Rattle.cap_model.proofs.Balance.{filter_same, filter_twice, filter_whole, among_itself}
+use Rattle.cap_model.proofs.NamedEnds.{is_named, count_named, among_named}
+use Rattle.cap_trackers.specs.Beats.{IsKept, kept_beat}
+use Rattle.cap_trackers.proofs.Answering.{granted_is}
+
+-- a node that answered one more heartbeat
+abbrev beaten : ℕ → ℕ → ClusterNode → ClusterNode
+beaten ignored live node = record node {
+  response = next_response node.response;
+  kept = Some (record { response = next_response node.response; ignored = ignored; live = live });
+}
+
+and_true : (b : Bool) → b && true ≡ b
+and_true true = refl
+and_true false = refl
+
+turn : (a b : Bool) → cond (not a) b false ≡ cond b (not a) false
+turn true true = refl
+turn true false = refl
+turn false true = refl
+turn false false = refl
+
+counted : (xs : List Container) → length xs ≡ count_by (λ c. true) xs
+counted xs = ap length (sym (filter_whole (λ c. true) xs (λ c m. refl))) ∙ length-filter (λ c. true) xs
+
+map_same : {A B : Type 0} (f g : A → B) (xs : List A) → ((x : A) → IsIn x xs → f x ≡ g x) → map f xs ≡ map g xs
+map_same f g [] e = refl
+map_same f g (x ∷ xs) e = λ i. e x (inl refl) i ∷ map_same f g xs (λ y m. e y (inr m)) i
+
+first_false : (a b : Bool) → a && b ≡ true → a ≡ true
+first_false true b e = refl
+first_false false b e = absurd (cc e)
+
+is_not_bad : (b : Bool) → earliest ((b, CallRefusal.bad_response_id) ∷ (false, CallRefusal.unknown_node) ∷ []) ≡ None → b ≡ false
+is_not_bad true e = absurd (cc e)
+is_not_bad false e = refl
+
+is_current_one : (a b : Bool) → not (a || b) ≡ false → b ≡ false → a ≡ true
+is_current_one true b e f = refl
+is_current_one false true e f = absurd (cc f)
+is_current_one false false e f = absurd (cc e)
+
+module _ {K : ℕ} (cluster : Flat K) (n : ℕ) where
+  -- a node that was present keeps a reply when it has answered
+  pub kept_then : (ignored live : ℕ) → IsSome (node_at cluster n) → IsKept (with_node n (beaten ignored live) cluster) n
+  kept_then ignored live there = by (node_at cluster n) refl
+    where
+      change : ClusterNode → ClusterNode
+      change node = if node.number == n then beaten ignored live node else node
+
+      same : (b : Bool) (x : ClusterNode) → (if b then beaten ignored live x else x).number ≡ x.number
+      same true x = refl
+      same false x = refl
+
+      kept : (b : Bool) (x : ClusterNode) → b ≡ true → IsSome ((if b then beaten ignored live x else x).kept)
+      kept true x e = refl
+      kept false x e = absurd (cc e)
+
+      by : (o : Option ClusterNode) → node_at cluster n ≡ o → IsKept (with_node n (beaten ignored live) cluster) n
+      by None e = absurd (cc (there, e))
+      by (Some x) e =
+          rw (find_changed (λ (y : ClusterNode). y.number) change (λ y. same (y.number == n) y) n cluster.nodes.present, e)
+          (kept (x.number == n) x (found (λ (y : ClusterNode). y.number == n) cluster.nodes.present x e).1)
+
+module _ {K : ℕ} (cluster : Flat K) (n id : ℕ) where
+  -- a heartbeat that repeats the last one finds its reply
+  pub kept_repeated : is_repeated_heartbeat cluster n id ≡ true → IsKept cluster n
+  kept_repeated repeated = by (node_at cluster n) refl
+    where
+      by : (o : Option ClusterNode) → node_at cluster n ≡ o → IsKept cluster n
+      by None e = absurd (cc (rw e at repeated))
+      by (Some x) e = rw e (first_false (is_some x.kept) (nat_lt id response_end) (first_false (is_some x.kept && nat_lt id response_end) (next_response id == x.response) (rw e at repeated)))
+
+  pub there_is : heartbeat_refusal cluster n id ≡ None → IsSome (node_at cluster n)
+  there_is none = by (node_at cluster n) refl
+    where
+      by : (o : Option ClusterNode) → node_at cluster n ≡ o → IsSome (node_at cluster n)
+      by None e = absurd (cc (rw e at none))
+      by (Some x) e = rw e refl
+
+  -- the id is the one that the node answered last
+  answered_last : heartbeat_refusal cluster n id ≡ None → is_repeated_heartbeat cluster n id ≡ false → (x : ClusterNode) → node_at cluster n ≡ Some x → x.response ≡ id
+  answered_last none fresh x e =
+      let good : is_bad_id x.response x.kept id ≡ false = is_not_bad (is_bad_id x.response x.kept id) (rw e at none) in
+      let new : is_repeated x.response x.kept id ≡ false = rw e at fresh in
+      let current : id == x.response ≡ true = is_current_one (is_current x.response id) (is_repeated x.response x.kept id) good new in
+      grind (arith, nat_tests, current)
+
+  module _ (ended : List ℕ) where
+    abbrev pub heard : Flat K
+    heard = after_ends Cause.ended_on_node (ended_by cluster n ended) cluster
+
+    -- those that are left on the node
+    pub left_there : HasDistinctNumbers cluster → length (containers_on heard n) + length (ended_by cluster n ended) ≡ length (containers_on cluster n)
+    left_there rising =
+        let there = containers_on cluster n in
+        let gone = ended_by cluster n ended in
+        let left : containers_on heard n ≡ filter (λ c. not (is_among gone c)) there =
+        filter_twice (λ c. c.node == n) (λ c. not (is_among gone c)) (λ c. cond (not (is_among gone c)) (c.node == n) false) cluster.nodes.live (λ c. refl)
+        ∙ filter_same (λ c. cond (not (is_among gone c)) (c.node == n) false) (λ c. cond (c.node == n) (not (is_among gone c)) false) cluster.nodes.live (λ c m. turn (is_among gone c) (c.node == n))
+        ∙ sym (filter_twice (λ c. not (is_among gone c)) (λ c. c.node == n) (λ c. cond (c.node == n) (not (is_among gone c)) false) cluster.nodes.live (λ c. refl)) in
+        let named : filter (is_among gone) there ≡ filter (is_named ended) there =
+        filter_same (is_among gone) (is_named ended) there (λ c m. among_named ended there c ∙ ap (λ b. is_named ended c && b) (among_itself there c m) ∙ and_true (is_named ended c)) in
+        let ordered = rising_kept (λ (x : Container). x.number) (λ c. c.node == n) 1 cluster.nodes.live cluster.nodes.next_container rising in
+        let count : length gone ≡ length (filter (is_named ended) there) = counted gone ∙ count_named (λ c. true) ended 1 there cluster.nodes.next_container ordered ∙ sym (counted (filter (is_named ended) there)) in
+        let all = length-filter_both (is_among gone) (λ c. not (is_among gone c)) (λ c. refl) there in
+        let l = ap length left in
+        let m = ap length named in
+        omega (arith, count, all, l, m)
+
+    -- where nodes have distinct numbers, a heartbeat that is processed is answered by the next id
+    pub processed : IsRising 1 (map (λ node. node.number) cluster.nodes.present) cluster.nodes.next_node → HasDistinctNumbers cluster → heartbeat_refusal cluster n id ≡ None → is_repeated_heartbeat cluster n id ≡ false →
+        (left new : Flat K) (ignored : ℕ) → left ≡ heard → ignored + length (ended_by cluster n ended) ≡ length ended →
+        new ≡ with_node n (beaten ignored (length (containers_on left n))) left → new ≡ after_processed_heartbeat cluster n id ended
+    processed nodes rising none fresh left new ignored left_is count is =
+        is
+        ∙ ap (λ x. with_node n (beaten ignored (length (containers_on x n))) x) left_is
+        ∙ ap (λ ps. record heard { nodes = record heard.nodes { present = ps } }) (map_same (change (beaten ignored (length (containers_on heard n)))) (change (λ node. record node { response = next_response id; kept = Some (beat_of cluster n id ended) })) cluster.nodes.present (λ x m. by x m (x.number == n) refl))
+      where
+        change : (ClusterNode → ClusterNode) → ClusterNode → ClusterNode
+        change f node = if node.number == n then f node else node
+
+        ignored_is : ignored ≡ length ended - length (ended_by cluster n ended)
+        ignored_is = omega (arith, count)
+
+        live_is : length (containers_on heard n) ≡ length (containers_on cluster n) - length (ended_by cluster n ended)
+        live_is = let l = left_there rising in omega (arith, l)
+
+        by : (x : ClusterNode) → IsIn x cluster.nodes.present → (b : Bool) → x.number == n ≡ b →
+            (if b then beaten ignored (length (containers_on heard n)) x else x) ≡ (if b then record x { response = next_response id; kept = Some (beat_of cluster n id ended) } else x)
+        by x m true e =
+            let same : x.number ≡ n = grind (arith, nat_tests, e) in
+            let there : node_at cluster n ≡ Some x = subst (λ k. find (λ (y : ClusterNode). y.number == k) cluster.nodes.present ≡ Some x) same (found_by_number (λ (y : ClusterNode). y.number) 1 cluster.nodes.present cluster.nodes.next_node x nodes m) in
+            let last : x.response ≡ id = answered_last none fresh x there in
+            λ i. record x { response = next_response (last i); kept = Some (record { response = next_response (last i); ignored = ignored_is i; live = live_is i }) }
+        by x m false e = refl
+
+    -- the reply is the kept one
+    pub told_is : (new : Flat K) (reply : CallReply) → heartbeat_refusal cluster n id ≡ None → reply ≡ CallReply.heartbeat (kept_beat new n) → new ≡ after_heartbeat cluster n id ended →
+        (reply ≡ reply_to cluster (CallRequest.heartbeat n id ended)) × (new ≡ after_request cluster (CallRequest.heartbeat n id ended))
+    told_is new reply none told is =
+        let granted = granted_is cluster (CallRequest.heartbeat n id ended) none in
+        (told ∙ ap (λ (x : Flat K). CallReply.heartbeat (kept_beat x n)) is ∙ granted.0, is ∙ granted.1)

@@ -1,0 +1,94 @@
+-- The queue that is found at a path.
+use Rattle.std.proofs.Common.{◌≡◌, ℕ, Bool, true, false, cond, ◌&&◌, List, [], ◌∷◌, ◌++◌, Some, None, refl, sym, ◌∙◌, ap, subst, arith, inl, inr}
+use Rattle.std.specs.Prelude.{◌⊎◌, bytes_eq, nat_eq, ◌==◌, ◌||◌, not, find}
+use Rattle.std.specs.List.{starts_with}
+use Rattle.std.proofs.lemmas.Bool.Decides.{nat_tests}
+use Rattle.std.proofs.lemmas.Slice.Eq.{bytes_eq-Decides}
+use Rattle.cap_model.specs.Flat.{is_under}
+use Rattle.cap_model.proofs.Choosing.{IsIn}
+use Rattle.cap_tree.specs.Spot.{leads_to, leads_below, place_of, has_below, item_at, HoldsOfItem, IsPlace}
+use Rattle.cap_tree.specs.Rows.{Row, PlacesArePaths, queues_of, has_children, IsAt}
+use Rattle.cap_tree.proofs.RowPaths.{at_place, agree, same_row, same_path, under_itself}
+
+-- the row of a path
+
+pub record OfPath (path place : List ℕ) (rows : List Row) : Type 0 where
+  pub row : Row
+  pub member : IsIn row rows
+  pub place_is : row.place ≡ place
+  pub path_is : row.path ≡ path
+
+of_cases : (c : Bool) (path place : List ℕ) (s : Row) (ss : List Row) → bytes_eq s.path path ≡ c → cond c (Some s.place) (place_of path ss) ≡ Some place → (place_of path ss ≡ Some place → OfPath path place ss) → OfPath path place (s ∷ ss)
+of_cases true path place s ss e h r = record { row = s; member = inl refl; place_is = cc; path_is = (bytes_eq-Decides s.path path).0 e }
+of_cases false path place s ss e h r = let a = r h in record { row = a.row; member = inr a.member; place_is = a.place_is; path_is = a.path_is }
+
+of_path : (path place : List ℕ) (rows : List Row) → place_of path rows ≡ Some place → OfPath path place rows
+of_path path place [] h = absurd (cc)
+of_path path place (s ∷ ss) h = of_cases (bytes_eq s.path path) path place s ss refl h (of_path path place ss)
+
+there_cases : (c : Bool) (place : List ℕ) (s r : Row) (ss : List Row) → bytes_eq s.place place ≡ c → r.place ≡ place → (s ≡ r) ⊎ IsIn r ss → (IsIn r ss → IsPlace ss place) → HoldsOfItem (λ _. Unit {0}) (cond c (Some s.item) (item_at place ss))
+there_cases true place s r ss e p m f = tt
+there_cases false place s r ss e p (inl m) f = absurd (let t = (bytes_eq-Decides s.place place).1 (ap (λ (x : Row). x.place) m ∙ p) in cc (t, e))
+there_cases false place s r ss e p (inr m) f = f m
+
+there : (place : List ℕ) (r : Row) (rows : List Row) → r.place ≡ place → IsIn r rows → IsPlace rows place
+there place r [] p m = absurd m
+there place r (s ∷ ss) p m = there_cases (bytes_eq s.place place) place s r ss refl p m (there place r ss p)
+
+pub found_at : (rows : List Row) (path place : List ℕ) → PlacesArePaths rows → place_of path rows ≡ Some place → IsAt rows path place
+found_at rows path place a h =
+    let r = of_path path place rows h in
+    let p = there place r.row rows r.place_is r.member in
+    let t = at_place place rows p in
+    let e : bytes_eq t.row.place r.row.place ≡ true = (bytes_eq-Decides t.row.place r.row.place).1 (t.place_is ∙ sym r.place_is) in
+    let f = (bytes_eq-Decides t.row.path r.row.path).0 (sym (same_row rows a t.row r.row t.member r.member) ∙ e) in
+    record { present = p; path_is = t.path_is ∙ f ∙ r.path_is }
+
+-- what is below
+
+below_is : (p q : List ℕ) → leads_below p q ≡ leads_to p q && not (leads_to q p)
+below_is [] [] = refl
+below_is [] (y ∷ q) = refl
+below_is (x ∷ p) [] = refl
+below_is (x ∷ p) (y ∷ q) = let e : (y == x) ≡ (x == y) = grind (arith, nat_tests) in by (x == y) (y == x) (sym e) (below_is p q)
+  where
+    by : (c d : Bool) → c ≡ d → leads_below p q ≡ leads_to p q && not (leads_to q p) → c && leads_below p q ≡ (c && leads_to p q) && not (d && leads_to q p)
+    by true true e r = r
+    by false false e r = refl
+    by true false e r = absurd (cc e)
+    by false true e r = absurd (cc e)
+
+child_is : (x y : List ℕ) → starts_with nat_eq y (x ++ 46 ∷ []) ≡ is_under x y && not (is_under y x)
+child_is x y = by (bytes_eq x y) (starts_with nat_eq y (x ++ 46 ∷ [])) (is_under y x) (same_path x y) refl (λ e. let s = (bytes_eq-Decides x y).0 e in subst (λ z. is_under z x ≡ true) s (under_itself x)) (λ e. let s = (bytes_eq-Decides x y).0 e in subst (λ z. starts_with nat_eq z (x ++ 46 ∷ []) ≡ false) s (not_itself x))
+  where
+    not_itself : (z : List ℕ) → starts_with nat_eq z (z ++ 46 ∷ []) ≡ false
+    not_itself [] = refl
+    not_itself (b ∷ z) = let e : (b == b) ≡ true = grind (arith, nat_tests) in ap (λ c. c && starts_with nat_eq z (z ++ 46 ∷ [])) e ∙ not_itself z
+
+    by : (b s u : Bool) → b ≡ (b || s) && u → bytes_eq x y ≡ b → (b ≡ true → u ≡ true) → (b ≡ true → s ≡ false) → s ≡ (b || s) && not u
+    by true s u e z f g = let h = f refl in let k = g refl in cc (h, k)
+    by false true true e z f g = absurd (cc e)
+    by false true false e z f g = refl
+    by false false u e z f g = refl
+
+same_below : (t : Row) (rows ss : List Row) → PlacesArePaths rows → IsIn t rows → ((r : Row) → IsIn r ss → IsIn r rows) → has_below t.place ss ≡ has_children ss t.path
+same_below t rows [] a m f = refl
+same_below t rows (s ∷ ss) a m f =
+    let n = f s (inl refl) in
+    let e : leads_below t.place s.place ≡ starts_with nat_eq s.path (t.path ++ 46 ∷ []) =
+    below_is t.place s.place ∙ ap (λ c. c && not (leads_to s.place t.place)) (agree rows a t s m n) ∙ ap (λ c. is_under t.path s.path && not c) (agree rows a s t n m) ∙ sym (child_is t.path s.path) in
+    ap (λ c. c || has_below t.place ss) e ∙ ap (λ c. starts_with nat_eq s.path (t.path ++ 46 ∷ []) || c) (same_below t rows ss a m (λ r k. f r (inr k)))
+
+pub children_at : (rows : List Row) (path place : List ℕ) → PlacesArePaths rows → place_of path rows ≡ Some place → has_children rows path ≡ has_below place rows
+children_at rows path place a h =
+    let r = of_path path place rows h in
+    ap (has_children rows) (sym r.path_is) ∙ sym (same_below r.row rows rows a r.member (λ x m. m)) ∙ ap (λ p. has_below p rows) r.place_is
+
+missing_cases : (c : Bool) (path : List ℕ) (s : Row) (ss : List Row) → cond c (Some s.place) (place_of path ss) ≡ None → (place_of path ss ≡ None → find (λ q. bytes_eq q.path path) (queues_of ss) ≡ None) →
+    cond c (Some (Rattle.cap_tree.specs.Rows.settings_of_row s)) (find (λ q. bytes_eq q.path path) (queues_of ss)) ≡ None
+missing_cases true path s ss h r = absurd (cc)
+missing_cases false path s ss h r = r h
+
+pub missing : (rows : List Row) (path : List ℕ) → place_of path rows ≡ None → find (λ q. bytes_eq q.path path) (queues_of rows) ≡ None
+missing [] path h = refl
+missing (s ∷ ss) path h = missing_cases (bytes_eq s.path path) path s ss h (missing ss path)

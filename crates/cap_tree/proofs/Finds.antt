@@ -1,0 +1,105 @@
+-- What a search for a path finds, as the code tells it.
+use Rattle.std.proofs.Common.{◌≡◌, ℕ, ◌+◌, ◌-◌, ◌≤◌, ◌<◌, Bool, true, false, List, [], ◌∷◌, ◌++◌, zero, suc, map, length, get_or, Option, Some, None, sym, ◌∙◌, ap, arith, ◌≢◌, subst, take, drop, inl, inr}
+use Rattle.std.specs.Prelude.{nat_eq, bytes_eq, cond}
+use Rattle.std.specs.Cmp.Lexicographic.{pointwise}
+use Rattle.smallvec.specs.SmallVec.{SmallVec, HasRoomFor}
+use Rattle.cap_tree.specs.Spot.{Spot, place_of, has_below, spots, under, below}
+use Rattle.cap_tree.specs.Finding.{IsStart, IsFoundAt, IsMissing, is_parent}
+use Rattle.cap_tree.specs.declared.found.Kind.{Kind}
+use Rattle.std.specs.Prelude.{◌⊎◌}
+use Rattle.std.specs.List.{All, AllByRecursion}
+use Rattle.std.proofs.lemmas.List.Elements.{recursion_from_All}
+use Rattle.cap_model.proofs.Choosing.{IsIn, in_left, in_right}
+use Rattle.cap_model.proofs.Members.{each_of, of_each, in_map}
+use Rattle.std.proofs.lemmas.List.{get_or_default, length-append, length-map}
+use Rattle.cap_tree.proofs.Looking.{NoneBefore, IsInside, missing_by_name, found_here, missing_by_dot, inside, missing_inside, found_inside, below_inside}
+
+-- the path begins with the name, and this is the rest
+pub record IsSplit (name path rest : List ℕ) : Type 0 where
+  pub begins : pointwise nat_eq (take (length name) path) name ≡ true
+  pub rest_is : rest ≡ drop (length name) path
+
+pub split : (name word path rest : List ℕ) → word ≡ name → pointwise nat_eq (take (length word) path) word ≡ true → rest ≡ drop (length word) path → IsSplit name path rest
+split name word path rest e b r = subst (λ n. IsSplit n path rest) e (record { begins = b; rest_is = r })
+
+pub inside_of : (name path rest : List ℕ) → IsSplit name path rest → 1 ≤ length rest → get_or rest 0 0 ≡ 46 → IsInside name path (take (length rest - 1) (drop 1 rest))
+inside_of name path rest s l d =
+    subst (λ r. 1 ≤ length r → get_or r 0 0 ≡ 46 → IsInside name path (take (length r - 1) (drop 1 r))) (sym s.rest_is) (inside name path s.begins) l d
+
+module _ {T : Type 0} (name : T → List ℕ) (item : T) (kids : List (List (Spot T))) (value : List (Spot T)) (e : spots name item kids ≡ value) (path : List ℕ) where
+  pub other_name : (word : List ℕ) (place : SmallVec ℕ) → word ≡ name item → pointwise nat_eq (take (length word) path) word ≡ false → IsStart place → IsMissing path value place
+  other_name word place w h s = record { is = missing_by_name name item kids value path e (subst (λ n. pointwise nat_eq (take (length n) path) n ≡ false) w h); start = s }
+
+  pub at_name : (rest : List ℕ) (place : SmallVec ℕ) (kind : Kind) → IsSplit (name item) path rest → length rest < 1 → IsStart place → is_parent kind ≡ has_below [] value → IsFoundAt path value place kind
+  at_name rest place kind p l s k = record {
+    is = found_here name item kids value path e p.begins (subst (λ r. length r < 1) p.rest_is l) ∙ ap (λ x. Some x) (sym s.empty);
+    room = s.room;
+    below = k ∙ ap (λ x. has_below x value) (sym s.empty);
+  }
+
+  pub other_byte : (rest : List ℕ) (place : SmallVec ℕ) → IsSplit (name item) path rest → 1 ≤ length rest → get_or rest 0 0 ≢ 46 → IsStart place → IsMissing path value place
+  other_byte rest place p l n s = record {
+    is = subst (λ r. 1 ≤ length r → get_or r 0 0 ≢ 46 → place_of path value ≡ None) (sym p.rest_is) (missing_by_dot name item kids value path e p.begins) l n;
+    start = s;
+  }
+
+  pub in_no_child : (q : List ℕ) (place : SmallVec ℕ) → IsInside (name item) path q → NoneBefore q kids (length kids) → IsStart place → IsMissing path value place
+  in_no_child q place i n s = record { is = missing_inside name item kids value path q e i n; start = s }
+
+  pub in_this_child : (q : List ℕ) (n : ℕ) (child : List (Spot T)) (found place : SmallVec ℕ) (kind : Kind) → IsInside (name item) path q → NoneBefore q kids n → n < length kids → child ≡ get_or kids n child →
+      IsFoundAt q child found kind → place.items ≡ n ∷ found.items → place.capacity ≡ found.capacity → IsFoundAt path value place kind
+  in_this_child q n child found place kind i none w c f items capacity = record {
+    is = found_inside name item kids value path q n child found.items e i none w (ap (place_of q) (sym c) ∙ f.is) ∙ ap (λ x. Some x) (sym items);
+    room = capacity ∙ f.room;
+    below = f.below ∙ ap (has_below found.items) c ∙ below_inside name item kids value n child found.items e w ∙ ap (λ p. has_below p value) (sym items);
+  }
+
+none_more_cases : {T : Type 0} (q : List ℕ) (kids : List (List (Spot T))) (n : ℕ) (child : List (Spot T)) → NoneBefore q kids n → child ≡ get_or kids n child → place_of q child ≡ None →
+    (m : ℕ) (d : List (Spot T)) → m < length kids → (m < n) ⊎ (m ≡ n) → place_of q (get_or kids m d) ≡ None
+none_more_cases q kids n child none c e m d w (inl l) = none m d l w
+none_more_cases q kids n child none c e m d w (inr l) = ap (place_of q) (get_or_default kids m d child w ∙ ap (λ k. get_or kids k child) l ∙ sym c) ∙ e
+
+pub none_more : {T : Type 0} (q : List ℕ) (kids : List (List (Spot T))) (n k : ℕ) (child : List (Spot T)) → NoneBefore q kids n → child ≡ get_or kids n child → place_of q child ≡ None → k ≡ n + 1 → NoneBefore q kids k
+none_more q kids n k child none c e s m d l w = none_more_cases q kids n child none c e m d w (grind arith)
+
+in_below : {T : Type 0} (name : List ℕ) (i j n : ℕ) (kids : List (List (Spot T))) (d : List (Spot T)) (s : Spot T) → i ≡ j + n → n < length kids → IsIn s (get_or kids n d) → IsIn (under name i s) (below name j kids)
+in_below name i j n [] d s h w m = absurd (omega arith)
+in_below name i j zero (k ∷ ks) d s h w m =
+    let e : j ≡ i = omega arith in
+    subst (λ x. IsIn (under name i s) (map (under name x) k ++ below name (suc x) ks)) (sym e) (in_left (under name i s) (map (under name i) k) (below name (suc i) ks) (in_map (under name i) k s m))
+in_below name i j (suc n) (k ∷ ks) d s h w m = in_right (under name i s) (map (under name j) k) (below name (suc j) ks) (in_below name i (suc j) n ks d s (omega arith) (omega arith) m)
+
+-- the places of a child are shorter
+pub short_child : {T : Type 0} (name : T → List ℕ) (item : T) (kids : List (List (Spot T))) (value : List (Spot T)) (n bound : ℕ) (child : List (Spot T)) → spots name item kids ≡ value → n < length kids → child ≡ get_or kids n child →
+    All (λ s. length s.place ≤ bound) value → All (λ s. length s.place + 1 ≤ bound) child
+short_child name item kids value n bound child e w c a =
+    of_each (λ s. length s.place + 1 ≤ bound) child (λ s m.
+    let here = each_of (λ s. length s.place ≤ bound) value a (under (name item) n s) (subst (IsIn (under (name item) n s)) e (inr (in_below (name item) n 0 n kids child s (omega arith) w (subst (IsIn s) c m)))) in
+    omega (arith, here))
+
+pub shorter : {T : Type 0} (bound : ℕ) (ss : List (Spot T)) → All (λ s. length s.place + 1 ≤ bound) ss → All (λ s. length s.place ≤ bound) ss
+shorter bound ss a = of_each (λ s. length s.place ≤ bound) ss (λ s m. let h = each_of (λ s. length s.place + 1 ≤ bound) ss a s m in omega (arith, h))
+
+place_cases : {T : Type 0} (b : Bool) (s : Spot T) (o : Option (List ℕ)) (p : List ℕ) (bound : ℕ) → cond b (Some s.place) o ≡ Some p → length s.place + 1 ≤ bound → (o ≡ Some p → length p + 1 ≤ bound) → length p + 1 ≤ bound
+place_cases true s o p bound e h f = let q : s.place ≡ p = cc in let l = ap length q in omega (arith, l)
+place_cases false s o p bound e h f = f e
+
+short_place : {T : Type 0} (q : List ℕ) (ss : List (Spot T)) (p : List ℕ) (bound : ℕ) → AllByRecursion (λ s. length s.place + 1 ≤ bound) ss → place_of q ss ≡ Some p → length p + 1 ≤ bound
+short_place q [] p bound a e = absurd (cc)
+short_place q (s ∷ ss) p bound a e = place_cases (bytes_eq s.path q) s (place_of q ss) p bound e a.0 (short_place q ss p bound a.1)
+
+-- so a found place has room for one more step
+pub room_for_step : {T : Type 0} (q : List ℕ) (child : List (Spot T)) (found : SmallVec ℕ) (kind : Kind) → All (λ s. length s.place + 1 ≤ 15) child → IsFoundAt q child found kind → HasRoomFor found 1
+room_for_step q child found kind a f = let l = short_place q child found.items 15 (recursion_from_All (λ s. length s.place + 1 ≤ 15) child a) f.is in omega (arith, f.room)
+
+length-in_below : {T : Type 0} (name : List ℕ) (j n : ℕ) (kids : List (List (Spot T))) (d : List (Spot T)) → n < length kids → length (get_or kids n d) ≤ length (below name j kids)
+length-in_below name j n [] d w = absurd (omega arith)
+length-in_below name j zero (k ∷ ks) d w = let l = length-append (map (under name j) k) (below name (suc j) ks) in let m = length-map k (under name j) in omega arith
+length-in_below name j (suc n) (k ∷ ks) d w = let l = length-append (map (under name j) k) (below name (suc j) ks) in let r = length-in_below name (suc j) n ks d (omega arith) in omega arith
+
+pub child-lt : {T : Type 0} (name : T → List ℕ) (item : T) (kids : List (List (Spot T))) (value : List (Spot T)) (n : ℕ) (child : List (Spot T)) → spots name item kids ≡ value → n < length kids → child ≡ get_or kids n child → length child < length value
+child-lt name item kids value n child e w c =
+    let v = ap length e in
+    let k = ap length c in
+    let b = length-in_below (name item) 0 n kids child w in
+    omega (arith, v, k, b)

@@ -1,0 +1,13 @@
+pub mod Adding
+pub mod Callers
+pub mod Changes
+pub mod Finding
+pub mod Finds
+pub mod Growing
+pub mod Listings
+pub mod Looking
+pub mod Names
+pub mod Rooms
+pub mod RowPaths
+pub mod Spots
+pub mod Users

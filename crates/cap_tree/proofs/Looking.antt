@@ -1,0 +1,252 @@
+-- What is on the way to a place, and below it.
+use Rattle.std.proofs.Common.{◌≡◌, ℕ, zero, suc, ◌+◌, ◌-◌, ◌≤◌, ◌<◌, Bool, true, false, cond, ◌&&◌, List, [], ◌∷◌, ◌++◌, length, get_or, Option, Some, None, refl, sym, ◌∙◌, ap, arith, map, ◌≢◌, subst, take, drop}
+use Rattle.std.specs.Prelude.{bytes_eq, nat_eq, filter, ◌||◌, ◌==◌}
+use Rattle.std.specs.List.{All, list_all}
+use Rattle.std.specs.Cmp.Lexicographic.{pointwise}
+use Rattle.std.proofs.lemmas.Bool.Decides.{nat_tests}
+use Rattle.std.proofs.lemmas.List.Elements.{All-get_or}
+use Rattle.std.proofs.lemmas.Bool.{eq-eqb, ne_eqb}
+use Rattle.std.proofs.lemmas.List.{get_or_default, append-nil}
+use Rattle.cap_tree.specs.Spot.{Spot, leads_to, leads_below, under, below, spots, place_of, all_along, has_below}
+use Rattle.cap_tree.proofs.Spots.{steps-is, rest-is, steps-empty}
+
+abbrev placed : ℕ → Option (List ℕ) → Option (List ℕ) → Option (List ℕ)
+placed i None rest = rest
+placed i (Some p) rest = Some (i ∷ p)
+
+placed_cases : (b : Bool) (i : ℕ) (p : List ℕ) (o rest : Option (List ℕ)) → cond b (Some (i ∷ p)) (placed i o rest) ≡ placed i (cond b (Some p) o) rest
+placed_cases true i p o rest = refl
+placed_cases false i p o rest = refl
+
+same_rest : (name a b : List ℕ) → bytes_eq (name ++ a) (name ++ b) ≡ bytes_eq a b
+same_rest [] a b = refl
+same_rest (x ∷ name) a b = rw (eq-eqb x x refl) (same_rest name a b)
+
+-- the path is not the name with more behind it
+other_start : (name path x : List ℕ) → pointwise nat_eq (take (length name) path) name ≡ false → bytes_eq (name ++ x) path ≡ false
+other_start [] path x h = absurd (cc h)
+other_start (b ∷ name) [] x h = refl
+other_start (b ∷ name) (d ∷ path) x h = by (d == b) refl h (other_start name path x)
+  where
+    by : (c : Bool) → (d == b) ≡ c → c && pointwise nat_eq (take (length name) path) name ≡ false → (pointwise nat_eq (take (length name) path) name ≡ false → bytes_eq (name ++ x) path ≡ false) → (b == d) && bytes_eq (name ++ x) path ≡ false
+    by true e g r = let s : b ≡ d = grind (arith, nat_tests, e) in rw (eq-eqb b d s) (r g)
+    by false e g r = let s : b == d ≡ false = grind (arith, nat_tests, e) in rw s refl
+
+whole : (name path : List ℕ) → pointwise nat_eq (take (length name) path) name ≡ true → path ≡ name ++ drop (length name) path
+whole [] path h = refl
+whole (b ∷ name) [] h = absurd (cc h)
+whole (b ∷ name) (d ∷ path) h = by (d == b) refl h (whole name path)
+  where
+    by : (c : Bool) → (d == b) ≡ c → c && pointwise nat_eq (take (length name) path) name ≡ true → (pointwise nat_eq (take (length name) path) name ≡ true → path ≡ name ++ drop (length name) path) → d ∷ path ≡ b ∷ name ++ drop (length name) path
+    by true e g r = let s : d ≡ b = grind (arith, nat_tests, e) in λ i. s i ∷ r g i
+    by false e g r = absurd (cc g)
+
+longer_differs : (name : List ℕ) (b : ℕ) (x : List ℕ) → bytes_eq (name ++ b ∷ x) name ≡ false
+longer_differs [] b x = refl
+longer_differs (a ∷ name) b x = rw (eq-eqb a a refl) (longer_differs name b x)
+
+shorter_differs : (name : List ℕ) (b : ℕ) (x : List ℕ) → bytes_eq name (name ++ b ∷ x) ≡ false
+shorter_differs [] b x = refl
+shorter_differs (a ∷ name) b x = rw (eq-eqb a a refl) (shorter_differs name b x)
+
+itself : (name : List ℕ) → bytes_eq name name ≡ true
+itself [] = refl
+itself (a ∷ name) = rw (eq-eqb a a refl) (itself name)
+
+bytes_differ : (a b : ℕ) (x y : List ℕ) → a ≢ b → bytes_eq (a ∷ x) (b ∷ y) ≡ false
+bytes_differ a b x y h = rw (ne_eqb a b h) refl
+
+-- a dot and more are behind it: the path in the children
+pub record IsInside (name : List ℕ) (path q : List ℕ) : Type 0 where
+  pub is : path ≡ name ++ 46 ∷ q
+
+pub inside : (name path : List ℕ) → pointwise nat_eq (take (length name) path) name ≡ true → 1 ≤ length (drop (length name) path) → get_or (drop (length name) path) 0 0 ≡ 46 →
+    IsInside name path (take (length (drop (length name) path) - 1) (drop 1 (drop (length name) path)))
+inside name path h l n =
+    let rest = drop (length name) path in
+    record { is = whole name path h ∙ ap (λ r. name ++ r) (steps-is rest l) ∙ ap (λ b. name ++ (b ∷ take (length rest - 1) (drop 1 rest))) n }
+
+module _ {T : Type 0} where
+  -- what passes on the way
+
+  module _ (test : T → Bool) where
+    abbrev along : List ℕ → List (Spot T) → Bool
+    along p ss = list_all (λ s. test s.item) (filter (λ s. leads_to s.place p) ss)
+
+    along-none_under : (name : List ℕ) (i j : ℕ) (p : List ℕ) (ss rest : List (Spot T)) → j ≢ i → along (i ∷ p) (map (under name j) ss ++ rest) ≡ along (i ∷ p) rest
+    along-none_under name i j p [] rest h = refl
+    along-none_under name i j p (s ∷ ss) rest h = rw (ne_eqb j i h) (along-none_under name i j p ss rest h)
+
+    along-under_cases : (b : Bool) (s : Spot T) (xs ys : List (Spot T)) → list_all (λ t. test t.item) xs ≡ list_all (λ t. test t.item) ys → (name : List ℕ) (i : ℕ) →
+        list_all (λ t. test t.item) (cond b (under name i s ∷ xs) xs) ≡ list_all (λ t. test t.item) (cond b (s ∷ ys) ys)
+    along-under_cases true s xs ys e name i = ap (λ c. test s.item && c) e
+    along-under_cases false s xs ys e name i = e
+
+    along-under : (name : List ℕ) (i : ℕ) (p : List ℕ) (ss rest : List (Spot T)) → along (i ∷ p) rest ≡ true → along (i ∷ p) (map (under name i) ss ++ rest) ≡ along p ss
+    along-under name i p [] rest h = h
+    along-under name i p (s ∷ ss) rest h =
+        rw (eq-eqb i i refl) (along-under_cases (leads_to s.place p) s (filter (λ t. leads_to t.place (i ∷ p)) (map (under name i) ss ++ rest)) (filter (λ t. leads_to t.place p) ss) (along-under name i p ss rest h) name i)
+
+    along-none_below : (name : List ℕ) (i j : ℕ) (p : List ℕ) (kids : List (List (Spot T))) → i < j → along (i ∷ p) (below name j kids) ≡ true
+    along-none_below name i j p [] h = refl
+    along-none_below name i j p (k ∷ ks) h =
+        along-none_under name i j p k (below name (suc j) ks) (λ e. absurd (omega arith)) ∙ along-none_below name i (suc j) p ks (omega arith)
+
+    along-below : (name : List ℕ) (i j n : ℕ) (p : List ℕ) (kids : List (List (Spot T))) → i ≡ j + n → along (i ∷ p) (below name j kids) ≡ along p (get_or kids n [])
+    along-below name i j n p [] h = refl
+    along-below name i j zero p (k ∷ ks) h =
+        let e : j ≡ i = omega arith in
+        rw e (along-under name i p k (below name (suc i) ks) (along-none_below name i (suc i) p ks (omega arith)))
+    along-below name i j (suc n) p (k ∷ ks) h =
+        along-none_under name i j p k (below name (suc j) ks) (λ e. absurd (omega arith)) ∙ along-below name i (suc j) n p ks (omega arith)
+
+    along-root_under : (name : List ℕ) (j : ℕ) (ss rest : List (Spot T)) → along [] (map (under name j) ss ++ rest) ≡ along [] rest
+    along-root_under name j [] rest = refl
+    along-root_under name j (s ∷ ss) rest = along-root_under name j ss rest
+
+    along-root_below : (name : List ℕ) (j : ℕ) (kids : List (List (Spot T))) → along [] (below name j kids) ≡ true
+    along-root_below name j [] = refl
+    along-root_below name j (k ∷ ks) = along-root_under name j k (below name (suc j) ks) ∙ along-root_below name (suc j) ks
+
+    pub along-at_root : (name : T → List ℕ) (item : T) (kids : List (List (Spot T))) (value : List (Spot T)) (steps : List ℕ) → spots name item kids ≡ value → length steps < 1 → test item ≡ true →
+        true ≡ all_along test steps value
+    along-at_root name item kids value steps e h t = rw (steps-empty steps h, ← e, t) (sym (along-root_below (name item) 0 kids))
+
+    along-spots : (name : T → List ℕ) (item : T) (kids : List (List (Spot T))) (steps : List ℕ) → 1 ≤ length steps → get_or steps 0 0 < length kids → (d : List (Spot T)) → test item ≡ true →
+        all_along test (take (length steps - 1) (drop 1 steps)) (get_or kids (get_or steps 0 0) d) ≡ all_along test steps (spots name item kids)
+    along-spots name item kids [] h w d t = absurd (omega arith)
+    along-spots name item kids (i ∷ p) h w d t =
+        let e = get_or_default kids i [] d w in
+        rw (rest-is i p, ← e, t) (sym (along-below (name item) i 0 i p kids (omega arith)))
+
+    pub along-in_child : (name : T → List ℕ) (item : T) (kids : List (List (Spot T))) (value : List (Spot T)) (steps : List ℕ) (child : List (Spot T)) → spots name item kids ≡ value → 1 ≤ length steps →
+        get_or steps 0 0 < length kids → child ≡ get_or kids (get_or steps 0 0) child → test item ≡ true → all_along test (take (length steps - 1) (drop 1 steps)) child ≡ all_along test steps value
+    along-in_child name item kids value steps child e h w c t =
+        subst (λ v. all_along test (take (length steps - 1) (drop 1 steps)) child ≡ all_along test steps v) e
+        (ap (all_along test (take (length steps - 1) (drop 1 steps))) c ∙ along-spots name item kids steps h w child t)
+
+    pub along-fails : (name : T → List ℕ) (item : T) (kids : List (List (Spot T))) (value : List (Spot T)) (steps : List ℕ) → spots name item kids ≡ value → test item ≡ false →
+        false ≡ all_along test steps value
+    along-fails name item kids value steps e t = rw (← e, t) refl
+
+  -- what is below
+
+  below-none_under : (name : List ℕ) (i j : ℕ) (p : List ℕ) (ss rest : List (Spot T)) → j ≢ i → has_below (i ∷ p) (map (under name j) ss ++ rest) ≡ has_below (i ∷ p) rest
+  below-none_under name i j p [] rest h = refl
+  below-none_under name i j p (s ∷ ss) rest h = rw (ne_eqb i j (λ e. h (sym e))) (below-none_under name i j p ss rest h)
+
+  below-under : (name : List ℕ) (i : ℕ) (p : List ℕ) (ss rest : List (Spot T)) → has_below (i ∷ p) rest ≡ false → has_below (i ∷ p) (map (under name i) ss ++ rest) ≡ has_below p ss
+  below-under name i p [] rest h = h
+  below-under name i p (s ∷ ss) rest h = rw (eq-eqb i i refl) (ap (λ c. leads_below p s.place || c) (below-under name i p ss rest h))
+
+  below-none_below : (name : List ℕ) (i j : ℕ) (p : List ℕ) (kids : List (List (Spot T))) → i < j → has_below (i ∷ p) (below name j kids) ≡ false
+  below-none_below name i j p [] h = refl
+  below-none_below name i j p (k ∷ ks) h =
+      below-none_under name i j p k (below name (suc j) ks) (λ e. absurd (omega arith)) ∙ below-none_below name i (suc j) p ks (omega arith)
+
+  below-below : (name : List ℕ) (i j n : ℕ) (p : List ℕ) (kids : List (List (Spot T))) → i ≡ j + n → has_below (i ∷ p) (below name j kids) ≡ has_below p (get_or kids n [])
+  below-below name i j n p [] h = refl
+  below-below name i j zero p (k ∷ ks) h =
+      let e : j ≡ i = omega arith in
+      rw e (below-under name i p k (below name (suc i) ks) (below-none_below name i (suc i) p ks (omega arith)))
+  below-below name i j (suc n) p (k ∷ ks) h =
+      below-none_under name i j p k (below name (suc j) ks) (λ e. absurd (omega arith)) ∙ below-below name i (suc j) n p ks (omega arith)
+
+  below-spots : (name : T → List ℕ) (item : T) (i : ℕ) (p : List ℕ) (kids : List (List (Spot T))) (d : List (Spot T)) → i < length kids → has_below (i ∷ p) (spots name item kids) ≡ has_below p (get_or kids i d)
+  below-spots name item i p kids d w = below-below (name item) i 0 i p kids (omega arith) ∙ ap (has_below p) (get_or_default kids i [] d w)
+
+  first_below : (name : List ℕ) (i : ℕ) (k : List (Spot T)) (rest : List (Spot T)) → 1 ≤ length k → has_below [] (map (under name i) k ++ rest) ≡ true
+  first_below name i [] rest h = absurd (omega arith)
+  first_below name i (s ∷ ss) rest h = refl
+
+  parent-below : (name : T → List ℕ) (item : T) (kids : List (List (Spot T))) → All (λ kid. 1 ≤ length kid) kids → 1 ≤ length kids → true ≡ has_below [] (spots name item kids)
+  parent-below name item [] f h = absurd (omega arith)
+  parent-below name item (k ∷ ks) f h = sym (first_below (name item) 0 k (below (name item) 1 ks) (All-get_or (λ kid. 1 ≤ length kid) (k ∷ ks) 0 k (omega arith) f))
+
+  pub parent_has_below : (name : T → List ℕ) (item : T) (kids : List (List (Spot T))) (value : List (Spot T)) → spots name item kids ≡ value → All (λ kid. 1 ≤ length kid) kids → 1 ≤ length kids → true ≡ has_below [] value
+  parent_has_below name item kids value e f h = parent-below name item kids f h ∙ ap (has_below []) e
+
+  -- the place of a path
+
+  place-under : (name : List ℕ) (i : ℕ) (q : List ℕ) (ss rest : List (Spot T)) →
+      place_of (name ++ 46 ∷ q) (map (under name i) ss ++ rest) ≡ placed i (place_of q ss) (place_of (name ++ 46 ∷ q) rest)
+  place-under name i q [] rest = refl
+  place-under name i q (s ∷ ss) rest =
+      ap (λ b. cond b (Some (i ∷ s.place)) (place_of (name ++ 46 ∷ q) (map (under name i) ss ++ rest))) (same_rest name (46 ∷ s.path) (46 ∷ q))
+      ∙ ap (λ o. cond (bytes_eq s.path q) (Some (i ∷ s.place)) o) (place-under name i q ss rest)
+      ∙ placed_cases (bytes_eq s.path q) i s.place (place_of q ss) (place_of (name ++ 46 ∷ q) rest)
+
+  -- none of the children up to n has the path
+  abbrev pub NoneBefore : List ℕ → List (List (Spot T)) → ℕ → Type 0
+  NoneBefore q kids n = (m : ℕ) (d : List (Spot T)) → m < n → m < length kids → place_of q (get_or kids m d) ≡ None
+
+  place-below : (name : List ℕ) (j n : ℕ) (q : List ℕ) (kids : List (List (Spot T))) (d : List (Spot T)) (p : List ℕ) → n < length kids → NoneBefore q kids n → place_of q (get_or kids n d) ≡ Some p →
+      place_of (name ++ 46 ∷ q) (below name j kids) ≡ Some ((j + n) ∷ p)
+  place-below name j n q [] d p h none e = absurd (omega arith)
+  place-below name j zero q (k ∷ ks) d p h none e =
+      let z : j ≡ j + 0 = omega arith in
+      place-under name j q k (below name (suc j) ks) ∙ ap (λ o. placed j o (place_of (name ++ 46 ∷ q) (below name (suc j) ks))) e ∙ ap (λ x. Some (x ∷ p)) z
+  place-below name j (suc n) q (k ∷ ks) d p h none e =
+      let z : suc j + n ≡ j + suc n = omega arith in
+      place-under name j q k (below name (suc j) ks)
+      ∙ ap (λ o. placed j o (place_of (name ++ 46 ∷ q) (below name (suc j) ks))) (none 0 d (omega arith) (omega arith))
+      ∙ place-below name (suc j) n q ks d p (omega arith) (λ m c l w. none (suc m) c (omega arith) (omega arith)) e
+      ∙ ap (λ x. Some (x ∷ p)) z
+
+  place-none_below : (name : List ℕ) (j : ℕ) (q : List ℕ) (kids : List (List (Spot T))) → NoneBefore q kids (length kids) → place_of (name ++ 46 ∷ q) (below name j kids) ≡ None
+  place-none_below name j q [] none = refl
+  place-none_below name j q (k ∷ ks) none =
+      place-under name j q k (below name (suc j) ks)
+      ∙ ap (λ o. placed j o (place_of (name ++ 46 ∷ q) (below name (suc j) ks))) (none 0 k (omega arith) (omega arith))
+      ∙ place-none_below name (suc j) q ks (λ m c l w. none (suc m) c (omega arith) (omega arith))
+
+  no_place-under : (name path : List ℕ) (i : ℕ) (ss rest : List (Spot T)) → ((x : List ℕ) → bytes_eq (name ++ 46 ∷ x) path ≡ false) → place_of path (map (under name i) ss ++ rest) ≡ place_of path rest
+  no_place-under name path i [] rest f = refl
+  no_place-under name path i (s ∷ ss) rest f = rw (f s.path) (no_place-under name path i ss rest f)
+
+  no_place-below : (name path : List ℕ) (i : ℕ) (kids : List (List (Spot T))) → ((x : List ℕ) → bytes_eq (name ++ 46 ∷ x) path ≡ false) → place_of path (below name i kids) ≡ None
+  no_place-below name path i [] f = refl
+  no_place-below name path i (k ∷ ks) f = no_place-under name path i k (below name (suc i) ks) f ∙ no_place-below name path (suc i) ks f
+
+  pub missing_by_name : (name : T → List ℕ) (item : T) (kids : List (List (Spot T))) (value : List (Spot T)) (path : List ℕ) → spots name item kids ≡ value → pointwise nat_eq (take (length (name item)) path) (name item) ≡ false →
+      place_of path value ≡ None
+  missing_by_name name item kids value path e h =
+      let f : (x : List ℕ) → bytes_eq (name item ++ x) path ≡ false = λ x. other_start (name item) path x h in
+      let z : bytes_eq (name item) path ≡ false = subst (λ l. bytes_eq l path ≡ false) (append-nil (name item)) (f []) in
+      ap (place_of path) (sym e) ∙ ap (λ b. cond b (Some []) (place_of path (below (name item) 0 kids))) z ∙ no_place-below (name item) path 0 kids (λ x. f (46 ∷ x))
+
+  -- nothing is behind the name
+  pub found_here : (name : T → List ℕ) (item : T) (kids : List (List (Spot T))) (value : List (Spot T)) (path : List ℕ) → spots name item kids ≡ value → pointwise nat_eq (take (length (name item)) path) (name item) ≡ true →
+      length (drop (length (name item)) path) < 1 → place_of path value ≡ Some []
+  found_here name item kids value path e h l =
+      let p : path ≡ name item ++ [] = whole (name item) path h ∙ ap (λ r. name item ++ r) (steps-empty (drop (length (name item)) path) l) in
+      let q : path ≡ name item = p ∙ append-nil (name item) in
+      ap (place_of path) (sym e) ∙ ap (λ b. cond b (Some []) (place_of path (below (name item) 0 kids))) (ap (bytes_eq (name item)) q ∙ itself (name item))
+
+  -- another byte than a dot is behind it
+  pub missing_by_dot : (name : T → List ℕ) (item : T) (kids : List (List (Spot T))) (value : List (Spot T)) (path : List ℕ) → spots name item kids ≡ value → pointwise nat_eq (take (length (name item)) path) (name item) ≡ true →
+      1 ≤ length (drop (length (name item)) path) → get_or (drop (length (name item)) path) 0 0 ≢ 46 → place_of path value ≡ None
+  missing_by_dot name item kids value path e h l n =
+      let rest = drop (length (name item)) path in
+      let p : path ≡ name item ++ (get_or rest 0 0 ∷ take (length rest - 1) (drop 1 rest)) = whole (name item) path h ∙ ap (λ r. name item ++ r) (steps-is rest l) in
+      let z : bytes_eq (name item) path ≡ false = ap (bytes_eq (name item)) p ∙ shorter_differs (name item) (get_or rest 0 0) (take (length rest - 1) (drop 1 rest)) in
+      let f : (x : List ℕ) → bytes_eq (name item ++ 46 ∷ x) path ≡ false = λ x. ap (bytes_eq (name item ++ 46 ∷ x)) p ∙ same_rest (name item) (46 ∷ x) (get_or rest 0 0 ∷ take (length rest - 1) (drop 1 rest)) ∙ bytes_differ 46 (get_or rest 0 0) x (take (length rest - 1) (drop 1 rest)) (λ d. n (sym d)) in
+      ap (place_of path) (sym e) ∙ ap (λ b. cond b (Some []) (place_of path (below (name item) 0 kids))) z ∙ no_place-below (name item) path 0 kids f
+
+  place-inside : (name : T → List ℕ) (item : T) (kids : List (List (Spot T))) (value : List (Spot T)) (path q : List ℕ) → spots name item kids ≡ value → IsInside (name item) path q →
+      place_of path value ≡ place_of (name item ++ 46 ∷ q) (below (name item) 0 kids)
+  place-inside name item kids value path q e i =
+      ap (place_of path) (sym e) ∙ ap (λ b. cond b (Some []) (place_of path (below (name item) 0 kids))) (ap (bytes_eq (name item)) i.is ∙ shorter_differs (name item) 46 q)
+      ∙ ap (λ p. place_of p (below (name item) 0 kids)) i.is
+
+  pub missing_inside : (name : T → List ℕ) (item : T) (kids : List (List (Spot T))) (value : List (Spot T)) (path q : List ℕ) → spots name item kids ≡ value → IsInside (name item) path q →
+      NoneBefore q kids (length kids) → place_of path value ≡ None
+  missing_inside name item kids value path q e i none = place-inside name item kids value path q e i ∙ place-none_below (name item) 0 q kids none
+
+  pub found_inside : (name : T → List ℕ) (item : T) (kids : List (List (Spot T))) (value : List (Spot T)) (path q : List ℕ) (n : ℕ) (d : List (Spot T)) (p : List ℕ) → spots name item kids ≡ value → IsInside (name item) path q →
+      NoneBefore q kids n → n < length kids → place_of q (get_or kids n d) ≡ Some p → place_of path value ≡ Some (n ∷ p)
+  found_inside name item kids value path q n d p e i none w at = place-inside name item kids value path q e i ∙ place-below (name item) 0 n q kids d p w none at ∙ (let z : 0 + n ≡ n = omega arith in ap (λ x. Some (x ∷ p)) z)
+
+  pub below_inside : (name : T → List ℕ) (item : T) (kids : List (List (Spot T))) (value : List (Spot T)) (n : ℕ) (d : List (Spot T)) (p : List ℕ) → spots name item kids ≡ value → n < length kids →
+      has_below p (get_or kids n d) ≡ has_below (n ∷ p) value
+  below_inside name item kids value n d p e w = sym (below-spots name item n p kids d w) ∙ ap (has_below (n ∷ p)) e

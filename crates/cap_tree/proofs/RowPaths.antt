@@ -1,0 +1,173 @@
+-- The rows of a tree by place and by path.
+use Rattle.std.proofs.Common.{◌≡◌, ℕ, ◌≤◌, Bool, true, false, cond, ◌&&◌, List, [], ◌∷◌, ◌++◌, length, map, Some, refl, sym, ◌∙◌, ap, subst, arith, inl, inr}
+use Rattle.std.specs.Prelude.{bytes_eq, ◌==◌, filter}
+use Rattle.std.specs.List.{All, list_all}
+use Rattle.std.proofs.lemmas.Bool.Decides.{nat_tests}
+use Rattle.std.proofs.lemmas.List.{length-append}
+use Rattle.std.proofs.lemmas.Slice.Eq.{bytes_eq-Decides}
+use Rattle.cap_model.specs.Settings.{QueueRow}
+use Rattle.cap_model.specs.Flat.{is_under}
+use Rattle.cap_model.proofs.Choosing.{IsIn}
+use Rattle.cap_model.proofs.Members.{each_of, of_each, of_map}
+use Rattle.cap_model.proofs.Paths.{IsUnder, under_is, is_under_it}
+use Rattle.cap_tree.specs.Spot.{leads_to, item_at, path_at, change_along, all_along, HoldsOfItem, IsPlace}
+use Rattle.cap_tree.specs.Queue.{Queue}
+use Rattle.cap_tree.specs.Rows.{Row, PlacesArePaths, settings_of_row, queues_of, changed_at, is_running}
+
+-- two are the same where each leads to the other
+
+same_both : (c a b : Bool) → (c ≡ true → a ≡ true) → (c ≡ true → b ≡ true) → (a ≡ true → b ≡ true → c ≡ true) → c ≡ a && b
+same_both true a b f g h = let x = f refl in let y = g refl in cc (x, y)
+same_both false true true f g h = h refl refl
+same_both false true false f g h = refl
+same_both false false b f g h = refl
+
+pub leads_itself : (p : List ℕ) → leads_to p p ≡ true
+leads_itself [] = refl
+leads_itself (x ∷ p) = let e : (x == x) ≡ true = grind (arith, nat_tests) in ap (λ c. c && leads_to p p) e ∙ leads_itself p
+
+leads_back : (p q : List ℕ) → leads_to p q ≡ true → leads_to q p ≡ true → p ≡ q
+leads_back [] [] f g = refl
+leads_back [] (y ∷ q) f g = absurd (cc g)
+leads_back (x ∷ p) [] f g = absurd (cc f)
+leads_back (x ∷ p) (y ∷ q) f g = by (x == y) refl f (back (y == x) (leads_to q p) g) (leads_back p q)
+  where
+    back : (a b : Bool) → a && b ≡ true → b ≡ true
+    back true b h = h
+    back false b h = absurd (cc h)
+
+    by : (c : Bool) → (x == y) ≡ c → c && leads_to p q ≡ true → leads_to q p ≡ true → (leads_to p q ≡ true → leads_to q p ≡ true → p ≡ q) → x ∷ p ≡ y ∷ q
+    by true e h k r = let s : x ≡ y = grind (arith, nat_tests, e) in λ i. s i ∷ r h k i
+    by false e h k r = absurd (cc h)
+
+pub same_place : (p q : List ℕ) → bytes_eq p q ≡ leads_to p q && leads_to q p
+same_place p q =
+    same_both (bytes_eq p q) (leads_to p q) (leads_to q p)
+    (λ e. let s = (bytes_eq-Decides p q).0 e in subst (λ x. leads_to p x ≡ true) s (leads_itself p))
+    (λ e. let s = (bytes_eq-Decides p q).0 e in subst (λ x. leads_to x p ≡ true) s (leads_itself p))
+    (λ f g. (bytes_eq-Decides p q).1 (leads_back p q f g))
+
+pub under_itself : (p : List ℕ) → is_under p p ≡ true
+under_itself p = is_under_it p p (inl refl)
+
+under_back : (p q : List ℕ) → IsUnder p q → IsUnder q p → p ≡ q
+under_back p q (inl e) g = sym e
+under_back p q (inr (rest, e)) (inl f) = f
+under_back p q (inr (rest, e)) (inr (more, f)) =
+    let a : length q ≡ length (p ++ 46 ∷ rest) = ap length e in
+    let b : length p ≡ length (q ++ 46 ∷ more) = ap length f in
+    let c = length-append p (46 ∷ rest) in
+    let d = length-append q (46 ∷ more) in
+    absurd (omega (arith, a, b, c, d))
+
+pub same_path : (p q : List ℕ) → bytes_eq p q ≡ is_under p q && is_under q p
+same_path p q =
+    same_both (bytes_eq p q) (is_under p q) (is_under q p)
+    (λ e. let s = (bytes_eq-Decides p q).0 e in subst (λ x. is_under p x ≡ true) s (under_itself p))
+    (λ e. let s = (bytes_eq-Decides p q).0 e in subst (λ x. is_under x p ≡ true) s (under_itself p))
+    (λ f g. (bytes_eq-Decides p q).1 (under_back p q (under_is p q f) (under_is q p g)))
+
+-- the row at a place
+
+pub record AtPlace (place : List ℕ) (rows : List Row) : Type 0 where
+  pub row : Row
+  pub member : IsIn row rows
+  pub place_is : row.place ≡ place
+  pub path_is : path_at place rows ≡ row.path
+  pub item_is : item_at place rows ≡ Some row.item
+
+at_cases : (c : Bool) (place : List ℕ) (s : Row) (ss : List Row) → bytes_eq s.place place ≡ c → HoldsOfItem (λ _. Unit {0}) (cond c (Some s.item) (item_at place ss)) → (IsPlace ss place → AtPlace place ss) → AtPlace place (s ∷ ss)
+at_cases true place s ss e h r = record {
+  row = s;
+  member = inl refl;
+  place_is = (bytes_eq-Decides s.place place).0 e;
+  path_is = ap (λ c. cond c s.path (path_at place ss)) e;
+  item_is = ap (λ c. cond c (Some s.item) (item_at place ss)) e;
+}
+at_cases false place s ss e h r = let a = r h in record {
+  row = a.row;
+  member = inr a.member;
+  place_is = a.place_is;
+  path_is = ap (λ c. cond c s.path (path_at place ss)) e ∙ a.path_is;
+  item_is = ap (λ c. cond c (Some s.item) (item_at place ss)) e ∙ a.item_is;
+}
+
+pub at_place : (place : List ℕ) (rows : List Row) → IsPlace rows place → AtPlace place rows
+at_place place [] h = absurd h
+at_place place (s ∷ ss) h = at_cases (bytes_eq s.place place) place s ss refl h (at_place place ss)
+
+-- a place leads as its path does
+
+pub agree : (rows : List Row) → PlacesArePaths rows → (r s : Row) → IsIn r rows → IsIn s rows → leads_to r.place s.place ≡ is_under r.path s.path
+agree rows a r s m n = each_of (λ t. leads_to r.place t.place ≡ is_under r.path t.path) rows (each_of (λ t. All (λ u. leads_to t.place u.place ≡ is_under t.path u.path) rows) rows a r m) s n
+
+pub same_row : (rows : List Row) → PlacesArePaths rows → (r s : Row) → IsIn r rows → IsIn s rows → bytes_eq r.place s.place ≡ bytes_eq r.path s.path
+same_row rows a r s m n = same_place r.place s.place ∙ ap (λ c. c && leads_to s.place r.place) (agree rows a r s m n) ∙ ap (λ c. is_under r.path s.path && c) (agree rows a s r n m) ∙ sym (same_path r.path s.path)
+
+map_same : {A B : Type 0} (f g : A → B) (xs : List A) → ((x : A) → IsIn x xs → f x ≡ g x) → map f xs ≡ map g xs
+map_same f g [] h = refl
+map_same f g (x ∷ xs) h = λ i. h x (inl refl) i ∷ map_same f g xs (λ y m. h y (inr m)) i
+
+pub changed_rows : (above at : Queue → Queue) (place : List ℕ) (rows : List Row) → PlacesArePaths rows → IsPlace rows place → map (change_along above at place) rows ≡ map (changed_at above at (path_at place rows)) rows
+changed_rows above at place rows a h =
+    let t = at_place place rows h in
+    map_same (change_along above at place) (changed_at above at (path_at place rows)) rows (λ r m.
+    let same : bytes_eq r.place place ≡ bytes_eq r.path (path_at place rows) = ap (bytes_eq r.place) (sym t.place_is) ∙ same_row rows a r t.row m t.member ∙ ap (bytes_eq r.path) (sym t.path_is) in
+    let leads : leads_to r.place place ≡ is_under r.path (path_at place rows) = ap (leads_to r.place) (sym t.place_is) ∙ agree rows a r t.row m t.member ∙ ap (is_under r.path) (sym t.path_is) in
+    λ i. cond (same i) (record r { item = at r.item }) (cond (leads i) (record r { item = above r.item }) r))
+
+-- what runs on the way
+
+running_same : (place path : List ℕ) (ss : List Row) → ((r : Row) → IsIn r ss → leads_to r.place place ≡ is_under r.path path) → all_along (λ (q : Queue). q.running) place ss ≡ is_running ss path
+running_same place path [] h = refl
+running_same place path (s ∷ ss) h = by (leads_to s.place place) (is_under s.path path) (h s (inl refl)) (running_same place path ss (λ r m. h r (inr m)))
+  where
+    by : (b c : Bool) → b ≡ c → all_along (λ (q : Queue). q.running) place ss ≡ is_running ss path →
+        list_all (λ (t : Row). t.item.running) (cond b (s ∷ filter (λ t. leads_to t.place place) ss) (filter (λ t. leads_to t.place place) ss))
+        ≡ list_all (λ (q : QueueRow). q.running) (cond c (settings_of_row s ∷ filter (λ q. is_under q.path path) (queues_of ss)) (filter (λ q. is_under q.path path) (queues_of ss)))
+    by true true e r = ap (λ x. s.item.running && x) r
+    by false false e r = r
+    by true false e r = absurd (cc e)
+    by false true e r = absurd (cc e)
+
+pub running_rows : (place : List ℕ) (rows : List Row) → PlacesArePaths rows → IsPlace rows place → all_along (λ (q : Queue). q.running) place rows ≡ is_running rows (path_at place rows)
+running_rows place rows a h =
+    let t = at_place place rows h in
+    running_same place (path_at place rows) rows (λ r m. ap (leads_to r.place) (sym t.place_is) ∙ agree rows a r t.row m t.member ∙ ap (is_under r.path) (sym t.path_is))
+
+-- a change keeps places and paths
+
+place_kept : (above at : Queue → Queue) (place : List ℕ) (r : Row) → (change_along above at place r).place ≡ r.place
+place_kept above at place r = by (bytes_eq r.place place) (leads_to r.place place)
+  where
+    by : (b c : Bool) → (cond b (record r { item = at r.item }) (cond c (record r { item = above r.item }) r)).place ≡ r.place
+    by true c = refl
+    by false true = refl
+    by false false = refl
+
+path_kept : (above at : Queue → Queue) (place : List ℕ) (r : Row) → (change_along above at place r).path ≡ r.path
+path_kept above at place r = by (bytes_eq r.place place) (leads_to r.place place)
+  where
+    by : (b c : Bool) → (cond b (record r { item = at r.item }) (cond c (record r { item = above r.item }) r)).path ≡ r.path
+    by true c = refl
+    by false true = refl
+    by false false = refl
+
+pub short_kept : (above at : Queue → Queue) (place : List ℕ) (rows : List Row) (n : ℕ) → All (λ r. length r.place ≤ n) rows → All (λ r. length r.place ≤ n) (map (change_along above at place) rows)
+short_kept above at place rows n a =
+    of_each (λ r. length r.place ≤ n) (map (change_along above at place) rows) (λ r m.
+    let w = of_map (change_along above at place) rows r m in
+    let e : (w.0).place ≡ r.place = sym (place_kept above at place (w.0)) ∙ ap (λ (x : Row). x.place) (w.2) in
+    subst (λ p. length p ≤ n) e (each_of (λ r. length r.place ≤ n) rows a (w.0) (w.1)))
+
+pub paths_kept : (above at : Queue → Queue) (place : List ℕ) (rows : List Row) → PlacesArePaths rows → PlacesArePaths (map (change_along above at place) rows)
+paths_kept above at place rows a =
+    of_each (λ r. All (λ s. leads_to r.place s.place ≡ is_under r.path s.path) (map (change_along above at place) rows)) (map (change_along above at place) rows) (λ r m.
+    of_each (λ s. leads_to r.place s.place ≡ is_under r.path s.path) (map (change_along above at place) rows) (λ s n.
+    let w = of_map (change_along above at place) rows r m in
+    let v = of_map (change_along above at place) rows s n in
+    let rp : r.place ≡ (w.0).place = ap (λ (x : Row). x.place) (sym (w.2)) ∙ place_kept above at place (w.0) in
+    let rq : r.path ≡ (w.0).path = ap (λ (x : Row). x.path) (sym (w.2)) ∙ path_kept above at place (w.0) in
+    let sp : s.place ≡ (v.0).place = ap (λ (x : Row). x.place) (sym (v.2)) ∙ place_kept above at place (v.0) in
+    let sq : s.path ≡ (v.0).path = ap (λ (x : Row). x.path) (sym (v.2)) ∙ path_kept above at place (v.0) in
+    (λ i. leads_to (rp i) (sp i)) ∙ agree rows a (w.0) (v.0) (w.1) (v.1) ∙ sym (λ i. is_under (rq i) (sq i))))

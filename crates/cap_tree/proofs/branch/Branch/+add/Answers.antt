@@ -1,0 +1,35 @@
+use Rattle.std.proofs.Common.{arith, ◌≡◌, ◌≤◌, ◌-◌, length, refl}
+use Rattle.std.specs.Vec.{vec_len}
+use Rattle.std.proofs.lemmas.Result.{on_ok_weaker}
+use Rattle.std.proofs.lemmas.List.{length-set}
+use Rattle.std.proofs.lemmas.List.Elements.{All-set}
+use Rattle.cap_tree.specs.Spot.{first_of}
+use Rattle.cap_tree.proofs.Spots.{sum-set_child}
+use Rattle.cap_tree.proofs.Adding.{added_below}
+use Rattle.cap_tree.proofs.branch.Branch.+add.Goals as goal
+
+pub invariant_of-self : goal.invariant_of-self
+invariant_of-self g t c =
+    let kids = c.self.inside.children.items in
+    let n = vec_len c.self.inside.children - 1 in
+    let some = c.in-Some.ensures.variant.0 refl in
+    let l : vec_len c.self.inside.children ≡ length kids = omega arith in
+    let ls = length-set kids n c.add.new.self in
+    record {
+      sums = λ m.
+          let s = c.self.invariant.sums m in
+          let e = sum-set_child (first_of (λ x. g.T.Held.stored x m)) kids n c.in-Some.last.now c.add.new.self (omega arith) c.in-Some.ensures.value in
+          let k = c.add.ensures.kept m in
+          omega arith;
+      filled = All-set (λ kid. 1 ≤ length kid) kids n c.add.new.self c.add.ensures.filled c.self.invariant.filled;
+      few = omega (arith, ls, c.self.invariant.few);
+    }
+
+pub returns-in-Some-clause-ok : goal.returns-in-Some-clause-ok
+returns-in-Some-clause-ok g t c =
+    let some = c.in-Some.ensures.variant.0 refl in
+    let l : vec_len c.self.inside.children ≡ length c.self.inside.children.items = omega arith in
+    on_ok_weaker c.add.result
+    (added_below c.args.levels (vec_len c.self.inside.children - 1) (g.T.Held.name c.args.item) g.T.Held.name c.self.inside.item c.args.item c.self.inside.children.items c.args.self.now c.in-Some.last.now c.add.new.self c.self.view_is c.self.invariant.filled
+    (omega arith) (omega arith) c.in-Some.ensures.value (omega arith))
+    c.add.ensures.ok

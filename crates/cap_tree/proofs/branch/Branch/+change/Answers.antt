@@ -1,0 +1,105 @@
+use Rattle.std.proofs.Common.{rules, ap, arith, get_or, drop, ◌≤◌, ◌-◌, take, length, subst, sym}
+use Rattle.std.proofs.lemmas.Result.{on_ok_weaker}
+use Rattle.std.proofs.lemmas.List.{length-map, length-set}
+use Rattle.std.proofs.lemmas.List.Elements.{All-set, All-get_or}
+use Rattle.cap_tree.specs.Spot.{HoldsOfItem, first_of, change_along}
+use Rattle.cap_tree.proofs.Spots.{as_in_child, changed_at_root, in_child, changed_in_child, child-le-sum, sum-set_child}
+use Rattle.cap_tree.proofs.Rooms.{room_in_child}
+use Rattle.cap_tree.proofs.branch.Branch.+change.Goals as goal
+
+pub index_mut-child-requires : goal.index_mut-child-requires
+index_mut-child-requires g t c =
+    let into = in_child (g.C.Change.can c.args.change.now) g.T.Held.name c.self.inside.item c.self.inside.children.items c.args.self.now c.args.steps.now c.self.view_is c.in-len1-up.len_at_least c.requires.can in
+    let w = into.within in
+    omega arith
+
+pub change-requires : goal.change-requires
+change-requires g t c =
+    let into = in_child (g.C.Change.can c.args.change.now) g.T.Held.name c.self.inside.item c.self.inside.children.items c.args.self.now c.args.steps.now c.self.view_is c.in-len1-up.len_at_least c.requires.can in
+    λ κs l. (
+      search rules,
+      (
+        search rules,
+        (
+          search rules,
+          (
+            search rules,
+            (
+              rw c.index_mut-child.ensures.value (into.holds c.index_mut-child.result.now),
+              λ m.
+                  let w = rw (← c.self.view_is) at (c.requires.within m) in
+                  let s = c.self.invariant.sums m in
+                  let b = child-le-sum (first_of (λ x. g.T.Held.stored x m)) c.self.inside.children.items (get_or c.args.steps.now 0 0) c.index_mut-child.result.now into.within c.index_mut-child.ensures.value in
+                  room_in_child _ _ _ _ _ (omega arith) w,
+            ),
+          ),
+        ),
+      ),
+    )
+
+pub change_at-requires-clause-sums : goal.change_at-requires-clause-sums
+change_at-requires-clause-sums g t c m = let s = c.self.invariant.sums m in omega arith
+
+pub change_above-requires-clause-fits : goal.change_above-requires-clause-fits
+change_above-requires-clause-fits g t c m =
+    let into = in_child (g.C.Change.can c.args.change.now) g.T.Held.name c.self.inside.item c.self.inside.children.items c.args.self.now c.args.steps.now c.self.view_is c.in-len1-up.len_at_least c.requires.can in
+    let s = c.self.invariant.sums m in
+    let b = child-le-sum (first_of (λ x. g.T.Held.stored x m)) c.self.inside.children.items (get_or c.args.steps.now 0 0) c.index_mut-child.result.now into.within c.index_mut-child.ensures.value in
+    let f = c.change.ensures.fitted m in
+    omega arith
+
+pub returns-in-Ok-clause-changed : goal.returns-in-Ok-clause-changed
+returns-in-Ok-clause-changed g t c =
+    let into = in_child (g.C.Change.can c.args.change.now) g.T.Held.name c.self.inside.item c.self.inside.children.items c.args.self.now c.args.steps.now c.self.view_is c.in-len1-up.len_at_least c.requires.can in
+    changed_in_child (g.C.Change.above c.args.change.now) (g.C.Change.at c.args.change.now) g.T.Held.name c.self.inside.item c.change_above.new.item c.self.inside.children.items c.args.self.now c.args.steps.now
+    c.index_mut-child.result.now c.change.new.self c.self.view_is c.in-len1-up.len_at_least (g.met.C.Change.name_above c.args.change.now c.self.inside.item) c.change_above.ensures
+    into.within c.index_mut-child.ensures.value c.in-Ok.ensures.changed
+
+pub returns-in-Ok-clause-fitted : goal.returns-in-Ok-clause-fitted
+returns-in-Ok-clause-fitted g t c m =
+    let into = in_child (g.C.Change.can c.args.change.now) g.T.Held.name c.self.inside.item c.self.inside.children.items c.args.self.now c.args.steps.now c.self.view_is c.in-len1-up.len_at_least c.requires.can in
+    let s = c.self.invariant.sums m in
+    let b = child-le-sum (first_of (λ x. g.T.Held.stored x m)) c.self.inside.children.items (get_or c.args.steps.now 0 0) c.index_mut-child.result.now into.within c.index_mut-child.ensures.value in
+    let f = c.change.ensures.fitted m in
+    rw (← c.self.view_is) (omega arith)
+
+pub returns-in-Err-clause-fitted : goal.returns-in-Err-clause-fitted
+returns-in-Err-clause-fitted g t c m =
+    let into = in_child (g.C.Change.can c.args.change.now) g.T.Held.name c.self.inside.item c.self.inside.children.items c.args.self.now c.args.steps.now c.self.view_is c.in-len1-up.len_at_least c.requires.can in
+    let s = c.self.invariant.sums m in
+    let b = child-le-sum (first_of (λ x. g.T.Held.stored x m)) c.self.inside.children.items (get_or c.args.steps.now 0 0) c.index_mut-child.result.now into.within c.index_mut-child.ensures.value in
+    let f = c.change.ensures.fitted m in
+    rw (← c.self.view_is) (omega arith)
+
+pub invariant_of-self-in-Ok : goal.invariant_of-self-in-Ok
+invariant_of-self-in-Ok g t c =
+    let into = in_child (g.C.Change.can c.args.change.now) g.T.Held.name c.self.inside.item c.self.inside.children.items c.args.self.now c.args.steps.now c.self.view_is c.in-len1-up.len_at_least c.requires.can in
+    let i = get_or c.args.steps.now 0 0 in
+    let filled = All-get_or (λ kid. 1 ≤ length kid) c.self.inside.children.items i c.index_mut-child.result.now into.within c.self.invariant.filled in
+    let same = c.index_mut-child.ensures.value in
+    let longer : 1 ≤ length c.change.new.self = rw c.in-Ok.ensures.changed (let n = length-map c.index_mut-child.result.now (change_along (g.C.Change.above c.args.change.now) (g.C.Change.at c.args.change.now) (take (length c.args.steps.now - 1) (drop 1 c.args.steps.now))) in let s = ap length same in omega arith) in
+    record {
+      sums = λ m.
+          let s = c.self.invariant.sums m in
+          let b = child-le-sum (first_of (λ x. g.T.Held.stored x m)) c.self.inside.children.items i c.index_mut-child.result.now into.within same in
+          let e = sum-set_child (first_of (λ x. g.T.Held.stored x m)) c.self.inside.children.items i c.index_mut-child.result.now c.change.new.self into.within same in
+          let f = c.change.ensures.fitted m in
+          let k = c.in-Ok.ensures.moved m in
+          let u = g.met.C.Change.stored_above c.args.change.now c.self.inside.item m in
+          let v = g.met.C.Change.own_above c.args.change.now c.self.inside.item m in
+          rw c.change_above.ensures (omega arith);
+      filled = All-set (λ kid. 1 ≤ length kid) c.self.inside.children.items i c.change.new.self longer c.self.invariant.filled;
+      few = let l = length-set c.self.inside.children.items i c.change.new.self in omega (arith, l, c.self.invariant.few);
+    }
+
+pub returns-in-empty-clause-changed : goal.returns-in-empty-clause-changed
+returns-in-empty-clause-changed g t c =
+    on_ok_weaker c.change_at.result
+    (changed_at_root (g.C.Change.above c.args.change.now) (g.C.Change.at c.args.change.now) g.T.Held.name c.self.inside.item c.change_at.new.item c.self.inside.children.items c.args.self.now c.args.steps.now c.self.view_is c.in-empty.len_below (g.met.C.Change.name_at c.args.change.now c.self.inside.item))
+    c.change_at.ensures.ok
+
+pub returns-in-Err-clause-grows : goal.returns-in-Err-clause-grows
+returns-in-Err-clause-grows g t c =
+    let into = in_child (g.C.Change.can c.args.change.now) g.T.Held.name c.self.inside.item c.self.inside.children.items c.args.self.now c.args.steps.now c.self.view_is c.in-len1-up.len_at_least c.requires.can in
+    let same = as_in_child g.T.Held.name c.self.inside.item c.self.inside.children.items c.args.self.now c.args.steps.now c.index_mut-child.result.now c.self.view_is c.in-len1-up.len_at_least into.within c.index_mut-child.ensures.value in
+    subst (HoldsOfItem (g.C.Change.grows c.args.change.now)) (sym same) c.in-Err.ensures.grows

@@ -1,0 +1,10 @@
+use Rattle.std.proofs.Common.{length}
+use Rattle.cap_tree.specs.Finding.{IsStart}
+use Rattle.cap_tree.proofs.Looking.{NoneBefore}
+use Rattle.cap_tree.proofs.branch.Branch.+find.Given as goal
+
+abbrev pub decreases-find : goal.decreases-find
+decreases-find g l = length l.self.now
+
+abbrev pub invariant-loop-i : goal.invariant-loop-i
+invariant-loop-i g l = record { start : IsStart l.place; none : NoneBefore l.below l.self-inside.children.items l.i }

@@ -1,0 +1,13 @@
+use Rattle.std.proofs.Common.{sym, ◌∙◌, ap}
+use Rattle.std.specs.Prelude.{option_map}
+use Rattle.cap_tree.specs.Queue.{use_of}
+use Rattle.cap_tree.proofs.Users.{row_of, user_row-entries}
+use Rattle.cap_tree.proofs.queue.Queue.user_use.Goals as goal
+
+pub returns-in-None : goal.returns-in-None
+returns-in-None g c =
+    rw (← c.self.view_is) (c.zero.ensures ∙ sym (ap (use_of g.row.K) (user_row-entries (λ v. v.used) (λ v. v.active) c.args.user.now c.self.inside.users.entries ∙ ap (option_map (row_of (λ v. v.used) (λ v. v.active) c.args.user.now)) (sym c.in-None.ensures.value))))
+
+pub returns-in-Some : goal.returns-in-Some
+returns-in-Some g c =
+    rw (← c.self.view_is) (sym (ap (use_of g.row.K) (user_row-entries (λ v. v.used) (λ v. v.active) c.args.user.now c.self.inside.users.entries ∙ ap (option_map (row_of (λ v. v.used) (λ v. v.active) c.args.user.now)) (sym c.in-Some.ensures.value))))

@@ -1,0 +1,48 @@
+use Rattle.std.proofs.Common.{rules, ◌∙◌, ◌≡◌, ◌∷◌, ◌++◌, ◌-◌, ap, refl, sym, subst, take, drop, length}
+use Rattle.cap_model.specs.Listing.{IsListing}
+use Rattle.cap_tree.specs.Growth.{IsGrowing}
+use Rattle.cap_tree.specs.Rows.{queues_of}
+use Rattle.cap_tree.proofs.Growing.{start, finished, none_listed, split_list, unused_stored, unused_own}
+use Rattle.cap_tree.proofs.tree.QueueTree.from_config.Goals as goal
+
+pub unreachable-requires : goal.unreachable-requires
+unreachable-requires g c = none_listed c.queues.result.now c.in_default.len_below (subst IsListing (sym c.queues.ensures.rows) c.queues.ensures.listing)
+
+pub new-requires : goal.new-requires
+new-requires g c = (search rules, (c.requires.queue, c.path.ensures))
+
+pub leaf-root-requires : goal.leaf-root-requires
+leaf-root-requires g c m = unused_stored g.row.K c.in-Ok.queue m c.in-Ok.ensures.1 ∙ sym (unused_own g.row.K c.in-Ok.queue m c.in-Ok.ensures.1)
+
+pub add_all-requires : goal.add_all-requires
+add_all-requires g c =
+    let qs = c.queues.result.now in
+    let others = take (length qs - 1) (drop 1 qs) in
+    let e : qs ≡ c.first-item.result ∷ others = split_list qs c.first-item.result c.in-len1-up.len_at_least c.first-item.is in
+    let s = start g.row.K qs others c.first-item.result c.in-Ok.queue e (subst IsListing (sym c.queues.ensures.rows) c.queues.ensures.listing) c.in-Ok.ensures.0 c.in-Ok.ensures.1 in
+    (search rules, (search rules, subst (λ r. IsGrowing g.row.K r others) (sym c.leaf-root.ensures) s.growing))
+
+pub same-root : goal.same-root
+same-root g c = refl
+
+pub new-requires-2 : goal.new-requires-2
+new-requires-2 g c = c.requires.path
+
+pub invariant_of-result : goal.invariant_of-result
+invariant_of-result g c =
+    let qs = c.queues.result.now in
+    let others = take (length qs - 1) (drop 1 qs) in
+    let e : qs ≡ c.first-item.result ∷ others = split_list qs c.first-item.result c.in-len1-up.len_at_least c.first-item.is in
+    let l = subst IsListing (sym c.queues.ensures.rows) c.queues.ensures.listing in
+    let s = start g.row.K qs others c.first-item.result c.in-Ok.queue e l c.in-Ok.ensures.0 c.in-Ok.ensures.1 in
+    let q : queues_of c.add_all.new.root ≡ qs = c.in-Ok-add_all.ensures.queues ∙ ap (λ r. queues_of r ++ others) c.leaf-root.ensures ∙ ap (λ x. x ++ others) s.queues ∙ sym e in
+    record { rows_are = finished g.row.K c.add_all.new.root qs c.in-Ok-add_all.ensures.grown q l; start_is = record { empty = c.new-2.ensures.items; room = c.new-2.ensures.capacity } }
+
+pub returns-clause-queues : goal.returns-clause-queues
+returns-clause-queues g c =
+    let qs = c.queues.result.now in
+    let others = take (length qs - 1) (drop 1 qs) in
+    let e : qs ≡ c.first-item.result ∷ others = split_list qs c.first-item.result c.in-len1-up.len_at_least c.first-item.is in
+    let l = subst IsListing (sym c.queues.ensures.rows) c.queues.ensures.listing in
+    let s = start g.row.K qs others c.first-item.result c.in-Ok.queue e l c.in-Ok.ensures.0 c.in-Ok.ensures.1 in
+    c.in-Ok-add_all.ensures.queues ∙ ap (λ r. queues_of r ++ others) c.leaf-root.ensures ∙ ap (λ x. x ++ others) s.queues ∙ sym e ∙ c.queues.ensures.rows

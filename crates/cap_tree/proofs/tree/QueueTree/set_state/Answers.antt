@@ -1,0 +1,28 @@
+use Rattle.std.proofs.Common.{◌∙◌, sym, subst}
+use Rattle.cap_tree.specs.Queue.{with_running}
+use Rattle.cap_tree.specs.Rows.{AreRows}
+use Rattle.cap_tree.specs.Spot.{path_at, IsPlace}
+use Rattle.cap_tree.proofs.Callers.{never_grows}
+use Rattle.cap_tree.proofs.Listings.{state_rows, state_kept}
+use Rattle.cap_tree.proofs.RowPaths.{changed_rows}
+use Rattle.cap_tree.proofs.tree.QueueTree.set_state.Goals as goal
+
+pub invariant_of-self : goal.invariant_of-self
+invariant_of-self g c =
+    let place = c.as_slice.result.now in
+    let there : IsPlace c.self.inside.root place = rw c.as_slice.ensures (rw (← c.self.view_is) at c.requires) in
+    let same = changed_rows (λ x. x) (with_running c.args.running) place c.self.inside.root c.self.invariant.rows_are.paths there in
+    record {
+      rows_are = subst AreRows (sym c.in-Ok.ensures.changed)
+          (state_kept c.args.running place (path_at place c.self.inside.root) c.self.inside.root (state_rows c.args.running place (path_at place c.self.inside.root) c.self.inside.root same) c.self.invariant.rows_are);
+      start_is = c.self.invariant.start_is;
+    }
+
+pub returns : goal.returns
+returns g c =
+    rw (← c.self.view_is, ← c.as_slice.ensures)
+    (c.in-Ok.ensures.changed ∙ state_rows c.args.running c.as_slice.result.now (path_at c.as_slice.result.now c.self.inside.root) c.self.inside.root
+    (changed_rows (λ x. x) (with_running c.args.running) c.as_slice.result.now c.self.inside.root c.self.invariant.rows_are.paths (rw c.as_slice.ensures (rw (← c.self.view_is) at c.requires))))
+
+pub unreachable-requires : goal.unreachable-requires
+unreachable-requires g c = never_grows c.as_slice.result.now c.self.inside.root c.in_default.ensures.grows

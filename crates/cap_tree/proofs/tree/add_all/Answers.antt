@@ -1,0 +1,20 @@
+use Rattle.std.proofs.Common.{◌∙◌, ap, arith, ◌-◌, ◌≡◌}
+use Rattle.cap_model.specs.Bounds.{depth}
+use Rattle.cap_tree.proofs.Growing.{grow_next, next_level, unused_stored}
+use Rattle.cap_tree.proofs.tree.add_all.Goals as goal
+
+pub overflow_sub-levels : goal.overflow_sub-levels
+overflow_sub-levels g c =
+    let l = next_level g.row.K c.loop-row.root c.args.rows.now c.loop-row.row-index c.row-item.result c.loop-row-test.true c.row-item.is c.loop-row.invariant.growing in
+    let d : c.depth-levels.result ≡ depth c.row-item.result.path = c.depth-levels.ensures ∙ ap depth (c.as_bytes.ensures.value ∙ c.path-path.ensures) in
+    omega (arith, l, d)
+
+pub add-requires-clause-stored : goal.add-requires-clause-stored
+add-requires-clause-stored g c m = unused_stored g.row.K c.in-Ok.queue m c.in-Ok.ensures.1
+
+pub loop-row-preserved : goal.loop-row-preserved
+loop-row-preserved g c =
+    let d : c.depth-levels.result ≡ depth c.row-item.result.path = c.depth-levels.ensures ∙ ap depth (c.as_bytes.ensures.value ∙ c.path-path.ensures) in
+    let n = grow_next g.row.K c.loop-row.root c.add.new.self c.args.root.now c.args.rows.now c.loop-row.row-index (c.depth-levels.result - 1) c.row-item.result c.in-Ok.queue c.loop-row-test.true c.row-item.is
+    c.loop-row.invariant.growing c.loop-row.invariant.queues (ap (λ k. k - 1) d) c.in-Ok.ensures.0 c.in-Ok.ensures.1 c.in-Ok-add.ensures.ok in
+    record { growing = n.0.growing; queues = n.1 }

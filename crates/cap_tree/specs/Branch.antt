@@ -1,0 +1,11 @@
+-- What holds at each level of a tree.
+use Rattle.std.specs.Prelude.{◌≡◌, ℕ, ◌+◌, ◌≤◌, List, length, sum_by}
+use Rattle.std.specs.List.{All}
+use Rattle.cap_tree.specs.Measure.{Measure}
+use Rattle.cap_tree.specs.Spot.{Spot, first_of}
+
+-- the counts are those of the item itself and of the children together; no child is empty, and their indexes are short
+pub record IsBranch {T : Type 0} (stored own : T → Measure → ℕ) (item : T) (kids : List (List (Spot T))) : Type 0 where
+  pub sums : (m : Measure) → stored item m ≡ own item m + sum_by (first_of (λ x. stored x m)) kids
+  pub filled : All (λ kid. 1 ≤ length kid) kids
+  pub few : length kids ≤ 4294967295

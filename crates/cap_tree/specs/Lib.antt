@@ -1,0 +1,10 @@
+pub mod Branch
+pub mod Finding
+pub mod Growth
+pub mod Measure
+pub mod Paths
+pub mod Queue
+pub mod QueueLaws
+pub mod Rows
+pub mod Spot
+pub mod UserLaws

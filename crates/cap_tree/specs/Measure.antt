@@ -1,0 +1,20 @@
+-- What is counted of a queue and of all under it: the use of a resource, or active applications.
+use Rattle.std.specs.Prelude.{ℕ, ◌+◌, ◌-◌, ◌≤◌, ◌⊎◌}
+use Rattle.cap_vector.specs.Vector.{sum_max}
+
+pub data Measure : Type 0 where
+  uses : ℕ → Measure
+  active : Measure
+
+-- active applications
+abbrev pub applications : Measure
+applications = Measure.active
+
+-- the most that is counted
+abbrev pub most : Measure → ℕ
+most (Measure.uses k) = sum_max
+most Measure.active = 18446744073709551615
+
+-- where old goes away and new comes, it grows no more, or stays within the most
+abbrev pub HasRoom : (stored old new bound : ℕ) → Type 0
+HasRoom stored old new bound = (new ≤ old) ⊎ ((stored - old) + new ≤ bound)

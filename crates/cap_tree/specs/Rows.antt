@@ -1,0 +1,91 @@
+-- The rows of a tree of queues.
+use Rattle.std.specs.Prelude.{◌≡◌, ℕ, ◌≤◌, Bool, true, false, if◌then◌else◌, ◌++◌, ◌∷◌, [], bytes_eq, nat_eq, List, Option, None, map, filter, find, length}
+use Rattle.smallvec.specs.SmallVec.{SmallVec}
+use Rattle.std.specs.Option.{option_map_or}
+use Rattle.std.specs.List.{All, list_all, list_any, starts_with}
+use Rattle.cap_model.specs.Settings.{QueueRow}
+use Rattle.cap_model.specs.Flat.{is_under}
+use Rattle.cap_model.specs.Listing.{IsListing}
+use Rattle.cap_tree.specs.Finding.{IsStart}
+use Rattle.cap_tree.specs.declared.found.Found.{Found}
+use Rattle.cap_tree.specs.declared.found.Found.TheVariants.{Leaf, Parent, Missing}
+use Rattle.cap_tree.specs.Spot.{Spot, first_of, leads_to, item_at, path_at, IsPlace}
+use Rattle.cap_tree.specs.Queue.{Queue, UserRow, user_row, entered_above, entered_at, left_above, left_at, lowered_above, lowered_at, with_running}
+
+-- a row: the queue's place, its dotted path, and what it holds
+abbrev pub Row : Type 0
+Row = Spot Queue
+
+-- the settings that the rows show
+abbrev pub settings_of_row : Row → QueueRow
+settings_of_row r = record { path = r.path; guaranteed = r.item.guaranteed; maximum = r.item.maximum; factor = r.item.factor; running = r.item.running }
+
+abbrev pub queues_of : List Row → List QueueRow
+queues_of rows = map settings_of_row rows
+
+-- a place leads to another exactly where the path is the other's, or begins it before a dot
+abbrev pub PlacesArePaths : List Row → Type 0
+PlacesArePaths rows = All (λ r. All (λ s. leads_to r.place s.place ≡ is_under r.path s.path) rows) rows
+
+-- the rows of a tree: each path once, each queue before those under it, at most 15 levels under the root
+pub record AreRows (rows : List Row) : Type 0 where
+  pub listing : IsListing (queues_of rows)
+  pub paths : PlacesArePaths rows
+  pub short : All (λ r. length r.place ≤ 15) rows
+
+-- the row after a change at the queue of that path, and at those above it
+abbrev pub changed_at : (Queue → Queue) → (Queue → Queue) → List ℕ → Row → Row
+changed_at above at path r =
+    if bytes_eq r.path path then record r { item = at r.item } else (if is_under r.path path then record r { item = above r.item } else r)
+
+-- after one more application of a user has entered the leaf of that path
+abbrev pub entered : ℕ → List ℕ → List ℕ → Row → Row
+entered K path user = changed_at entered_above (entered_at K user) path
+
+-- after an application of a user has left it
+abbrev pub left : List ℕ → List ℕ → Row → Row
+left path user = changed_at left_above (left_at user) path
+
+-- after a user has given some of its use there back
+abbrev pub lowered : List ℕ → List ℕ → List ℕ → Row → Row
+lowered path user r = changed_at (lowered_above r) (lowered_at user r) path
+
+-- with the queue's own state
+abbrev pub with_state : List ℕ → Bool → Row → Row
+with_state path running r = if bytes_eq r.path path then record r { item = with_running running r.item } else r
+
+-- the row of a user in the queue of a place
+abbrev pub user_row_at : List ℕ → List ℕ → List Row → Option UserRow
+user_row_at place user rows = option_map_or (λ q. user_row user q.users) (item_at place rows) None
+
+-- how many applications are active in all
+abbrev pub active_in : List Row → ℕ
+active_in rows = first_of (λ q. q.active) rows
+
+-- what is used at the queue of a place
+abbrev pub used_at : List ℕ → List Row → List ℕ
+used_at place rows = option_map_or (λ q. q.used) (item_at place rows) []
+
+-- whether the queue of that path, and each above it, runs
+abbrev pub is_running : List Row → List ℕ → Bool
+is_running rows path = list_all (λ q. q.running) (filter (λ q. is_under q.path path) (queues_of rows))
+
+-- whether a queue stands below the path
+abbrev pub has_children : List Row → List ℕ → Bool
+has_children rows path = list_any (λ q. starts_with nat_eq q.path (path ++ 46 ∷ [])) (queues_of rows)
+
+-- the place is that of the queue with the path
+pub record IsAt (rows : List Row) (path place : List ℕ) : Type 0 where
+  pub present : IsPlace rows place
+  pub path_is : path_at place rows ≡ path
+
+-- what is found at a path: the place of its queue, which has children or has none, or nothing
+abbrev pub FindsQueue : {A : Type 0} → List ℕ → List Row → Found A → Type 0
+FindsQueue path rows (Leaf place) = IsAt rows path place.items × (has_children rows path ≡ false)
+FindsQueue path rows (Parent place) = IsAt rows path place.items × (has_children rows path ≡ true)
+FindsQueue path rows Missing = find (λ q. bytes_eq q.path path) (queues_of rows) ≡ None
+
+-- a tree of queues, with the place from which a search starts
+pub record IsQueueTree (rows : List Row) (start : SmallVec ℕ) : Type 0 where
+  pub rows_are : AreRows rows
+  pub start_is : IsStart start

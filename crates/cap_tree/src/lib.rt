@@ -1,0 +1,14 @@
+//! The tree of queues: each queue keeps its running use, its active applications, and a leaf its users.
+#![tactic(auto)]
+
+mod branch;
+mod change;
+mod found;
+mod queue;
+#[cfg(test)]
+mod tests;
+mod tree;
+
+pub use found::{Found, Path};
+pub use queue::Queue;
+pub use tree::QueueTree;

@@ -1,0 +1,209 @@
+//! The tree of queues, seen as the list of its rows.
+ghost use Rattle.std.specs.Prelude.{◌≡◌, ◌<◌, ◌++◌, ◌∷◌, [], map, None, Some, IfOk, OnOk, OnErr};
+ghost use Rattle.std.specs.List.{All};
+ghost use Rattle.cap_model.specs.Limits.{number_end};
+ghost use Rattle.cap_model.specs.Bounds.{depth};
+ghost use Rattle.cap_tree.specs.Finding.{IsStart};
+ghost use Rattle.cap_tree.specs.Growth.{IsGrowing};
+ghost use Rattle.cap_tree.specs.Paths.{TreeFitsInMemory};
+ghost use Rattle.cap_tree.specs.Queue.{IsUnused, MayGive, MayLeave, use_of};
+ghost use Rattle.cap_tree.specs.Rows.{AreRows, FindsQueue, active_in, entered, is_running, left, lowered, queues_of, used_at, user_row_at, with_state};
+ghost use Rattle.cap_tree.specs.Spot.{HoldsOfItem, IsPlace, item_at, path_at};
+
+use crate::branch::Branch;
+use crate::change::{Enter, GiveBack, Leave, Running, SetState};
+use crate::found::{Found, Kind, Path};
+use crate::queue::Queue;
+use cap_config::{Config, QueueRow};
+use cap_model::{NoMemory, ShortText};
+use cap_vector::{Resource, Sum};
+use smallvec::SmallVec;
+use std::alloc::Allocator;
+use std::marker::Model;
+
+/// A tree of queues. Each queue keeps what is used and active in it and under it, and a leaf its users. Contracts see the
+/// list of rows, each queue before those under it.
+#[derive(Drop)]
+pub struct QueueTree<const K: usize, A: Allocator> {
+    root: Branch<Queue<K, A>, A>,
+    start: Path<A>,
+}
+
+impl<const K: usize, A: Allocator> Model for QueueTree<K, A> {
+    ghost use Rattle.std.specs.Prelude.{List};
+    ghost use Rattle.cap_tree.specs.Rows.{IsQueueTree, Row};
+
+    ghost Value = { List Row };
+
+    ghost view = { λ t. t.root };
+
+    ghost invariant = { λ t. IsQueueTree t.root t.start };
+}
+
+impl<const K: usize, A: Allocator + Copy> QueueTree<K, A> {
+    /// The tree of the settings' queues, with nothing in it. Only want of memory is an error.
+    pub fn from_config(alloc: A, config: &Config<K>) -> Result<QueueTree<K, A>, NoMemory>
+        requires { TreeFitsInMemory K.row A.row A.Allocator }
+        ensures queues { IfOk result (λ tree. queues_of tree ≡ config.now.queues) }
+        ensures unused { IfOk result (λ tree. All (λ r. IsUnused K r.item) tree) }
+    {
+        let [first, others @ ..] = config.queues() else {
+            unreachable!()
+        };
+        let queue = match Queue::new(alloc, &first.path(), first) {
+            Ok(queue) => queue,
+            Err(NoMemory) => return Err(NoMemory),
+        };
+        let mut root = Branch::leaf(alloc, queue);
+        match add_all(alloc, &mut root, others) {
+            Ok(()) => {}
+            Err(NoMemory) => return Err(NoMemory),
+        }
+        Ok(QueueTree {
+            root,
+            start: SmallVec::new(alloc),
+        })
+    }
+
+    /// What holds of the rows of every tree: each path stands once and each queue before those under it, at most 15 levels
+    /// under the root, and a place leads to another exactly where the path is the other's or begins it before a dot. It does
+    /// nothing.
+    pub fn rows_are_a_tree(&self)
+        ensures { AreRows self.now }
+    {
+        let _ = &self.root;
+    }
+
+    /// What stands at a dotted path. It takes no memory, and looks only at the queues on the way and at their siblings.
+    pub fn find(&self, path: &[u8]) -> Found<A>
+        ensures { FindsQueue path.now self.now result }
+    {
+        let mut place = SmallVec::new(*self.start.allocator());
+        match self.root.find(path, &mut place) {
+            None => Found::Missing,
+            Some(Kind::Leaf) => Found::Leaf(place),
+            Some(Kind::Parent) => Found::Parent(place),
+        }
+    }
+
+    /// Whether the queue and all above it are RUNNING.
+    pub fn running(&self, path: &Path<A>) -> bool
+        requires { IsPlace self.now path.now.items }
+        ensures { result ≡ is_running self.now (path_at path.now.items self.now) }
+    {
+        self.root.all_along(path.as_slice(), &Running)
+    }
+
+    /// Sets the queue's own state, and nothing else.
+    pub fn set_state(&mut self, path: &Path<A>, running: bool)
+        requires { IsPlace self.old path.now.items }
+        ensures { self.new ≡ map (with_state (path_at path.now.items self.old) running) self.old }
+    {
+        let change = SetState { running };
+        let Ok(()) = self.root.change(path.as_slice(), &change) else {
+            unreachable!()
+        };
+    }
+
+    /// One more application of the user becomes active in the leaf: it counts there, at each queue above, and for the user.
+    /// `NoMemory` changes nothing, and comes only where the user has no application there yet.
+    pub fn enter(&mut self, path: &Path<A>, user: &ShortText) -> Result<(), NoMemory>
+        requires place { IsPlace self.old path.now.items }
+        requires few { active_in self.old < number_end }
+        ensures ok { OnOk result (self.new ≡ map (entered K (path_at path.now.items self.old) user.now) self.old) }
+        ensures err { OnErr result (self.new ≡ self.old) }
+        ensures absent { OnErr result (user_row_at path.now.items user.now self.old ≡ None) }
+    {
+        match self.root.change(path.as_slice(), &Enter { user }) {
+            Ok(()) => {}
+            Err(NoMemory) => return Err(NoMemory),
+        }
+        Ok(())
+    }
+
+    /// One application of the user in the leaf is active no more: it goes from the leaf, from each queue above and from the
+    /// user, whose row goes with the last.
+    pub fn leave(&mut self, path: &Path<A>, user: &ShortText)
+        requires { MayLeave (user_row_at path.now.items user.now self.old) }
+        ensures { self.new ≡ map (left (path_at path.now.items self.old) user.now) self.old }
+    {
+        let Ok(()) = self.root.change(path.as_slice(), &Leave { user }) else {
+            unreachable!()
+        };
+    }
+
+    /// The user gives so much, in MiB and vcores, of its use in the leaf back: the use of the leaf, of each queue above and of
+    /// the user falls by it.
+    pub fn give_back(&mut self, path: &Path<A>, user: &ShortText, r: &Resource<K>)
+        requires { MayGive r.now (user_row_at path.now.items user.now self.old) }
+        ensures { self.new ≡ map (lowered (path_at path.now.items self.old) user.now r.now) self.old }
+    {
+        let change = GiveBack { user, r };
+        let Ok(()) = self.root.change(path.as_slice(), &change) else {
+            unreachable!()
+        };
+    }
+
+    /// How many applications are active in all.
+    pub fn active(&self) -> u64
+        ensures { result ≡ active_in self.now }
+    {
+        self.root.item().active()
+    }
+
+    /// The queue.
+    pub fn row(&self, path: &Path<A>) -> &Queue<K, A>
+        requires { IsPlace self.now path.now.items }
+        ensures { item_at path.now.items self.now ≡ Some result.now }
+    {
+        self.root.get(path.as_slice())
+    }
+
+    /// What is used in the queue and under it, in MiB and vcores.
+    pub fn use_of(&self, path: &Path<A>) -> Sum<K>
+        requires { IsPlace self.now path.now.items }
+        ensures { result ≡ used_at path.now.items self.now }
+    {
+        self.root.get(path.as_slice()).used()
+    }
+
+    /// What a user uses in the leaf, in MiB and vcores: 0 of each where the user has no row.
+    pub fn user_use(&self, path: &Path<A>, user: &ShortText) -> Sum<K>
+        requires { IsPlace self.now path.now.items }
+        ensures { result ≡ use_of K (user_row_at path.now.items user.now self.now) }
+    {
+        self.root.get(path.as_slice()).user_use(user)
+    }
+}
+
+/// Adds a queue for each row, each under the one that its path names.
+fn add_all<const K: usize, A: Allocator + Copy>(
+    alloc: A,
+    root: &mut Branch<Queue<K, A>, A>,
+    rows: &[QueueRow<K>],
+) -> Result<(), NoMemory>
+    requires { IsGrowing K root.old rows.now }
+    ensures grown { OnOk result (IsGrowing K root.new []) }
+    ensures queues { OnOk result (queues_of root.new ≡ queues_of root.old ++ rows.now) }
+{
+    for row in rows {
+        let path = row.path();
+        let levels = depth(path.as_bytes()) - 1;
+        let queue = match Queue::new(alloc, &path, row) {
+            Ok(queue) => queue,
+            Err(NoMemory) => return Err(NoMemory),
+        };
+        match root.add(alloc, levels, queue) {
+            Ok(()) => {}
+            Err(NoMemory) => return Err(NoMemory),
+        }
+    }
+    Ok(())
+}
+
+/// How far down the queue of a path is: the dots of the path.
+fn depth(path: &[u8]) -> usize
+    ensures { result ≡ depth path.now }
+{
+    path.iter().filter(|b| **b == b'.').count()
+}
