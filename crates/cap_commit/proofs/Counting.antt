@@ -44,7 +44,7 @@ count_without test low (x ∷ active) high n a r e = by (x.number == n) refl e (
         omega (arith, rest f, count_cons (λ (y : App). test y.leaf y.user) x active, count_cons (λ (y : App). test y.leaf y.user) x (filter (λ (y : App). not (y.number == n)) active))
 
 -- some are counted where one counts
-count_positive : (test : Test) (active : List App) (a : App) → IsIn a active → test a.leaf a.user ≡ true → 1 ≤ count_of test active
+pub count_positive : (test : Test) (active : List App) (a : App) → IsIn a active → test a.leaf a.user ≡ true → 1 ≤ count_of test active
 count_positive test [] a m t = absurd m
 count_positive test (x ∷ active) a (inl e) t =
     let weight : one_where (test x.leaf x.user) ≡ 1 = ap (λ (y : App). one_where (test y.leaf y.user)) e ∙ ap one_where t in

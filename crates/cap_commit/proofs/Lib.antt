@@ -1,9 +1,11 @@
 pub mod Parts
 pub mod Idle
+pub mod Owning
 pub mod Counting
-pub mod Users
 pub mod RowsAt
 pub mod Ties
+pub mod Giving
 pub mod Sizes
 pub mod Holding
+pub mod Ending
 pub mod Reporting

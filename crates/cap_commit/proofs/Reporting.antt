@@ -12,6 +12,7 @@ use Rattle.cap_model.proofs.Members.{each_of}
 use Rattle.cap_tree.specs.Spot.{item_at, path_at}
 use Rattle.cap_tree.specs.Queue.{Queue}
 use Rattle.cap_tree.specs.Rows.{Row, AreRows, IsAt, queues_of, settings_of_row, has_children, is_running, used_at}
+use Rattle.cap_asks.specs.Apps.{HeldApps}
 use Rattle.cap_commit.specs.declared.report.QueueReport.{QueueReport}
 use Rattle.cap_commit.specs.Held.{IsHeld, IsRowOf}
 use Rattle.cap_commit.specs.Reports.{as_report}
@@ -21,7 +22,7 @@ use Rattle.cap_commit.proofs.RowsAt.{IsRowAt, row_at, found_row, active_few}
 some_same : {A : Type 0} (x y : A) → Some x ≡ Some y → x ≡ y
 some_same x y e = cc e
 
-module _ {K : ℕ} (rows : List Row) (cluster : Flat K) (path place : List ℕ) (tree : AreRows rows) (at : IsAt rows path place) (h : IsHeld rows cluster) (queues : cluster.settings.queues ≡ queues_of rows) where
+module _ {K : ℕ} (rows : List Row) (apps : HeldApps) (cluster : Flat K) (path place : List ℕ) (tree : AreRows rows) (at : IsAt rows path place) (h : IsHeld rows apps cluster) (queues : cluster.settings.queues ≡ queues_of rows) where
   it : IsRowAt rows path place
   it = row_at rows path place at
 
@@ -37,7 +38,7 @@ module _ {K : ℕ} (rows : List Row) (cluster : Flat K) (path place : List ℕ) 
 
   -- not too many applications are active there
   pub seen_few : (q : Queue) → item_at place rows ≡ Some q → q.active ≤ applications_max
-  seen_few q e = subst (λ (x : Queue). x.active ≤ applications_max) (its_item q e) (active_few rows cluster h it.row it.member)
+  seen_few q e = subst (λ (x : Queue). x.active ≤ applications_max) (its_item q e) (active_few rows apps cluster h it.row it.member)
 
   tied : IsRowOf cluster (it.row)
   tied = each_of (IsRowOf cluster) rows h.tied it.row it.member

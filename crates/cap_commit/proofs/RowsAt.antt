@@ -15,6 +15,7 @@ use Rattle.cap_model.proofs.Members.{each_of, in_map}
 use Rattle.cap_tree.specs.Spot.{item_at}
 use Rattle.cap_tree.specs.Rows.{Row, AreRows, IsAt, queues_of, settings_of_row, active_in}
 use Rattle.cap_tree.proofs.RowPaths.{at_place}
+use Rattle.cap_asks.specs.Apps.{HeldApps}
 use Rattle.cap_commit.specs.Held.{IsHeld, IsRowOf}
 
 -- of paths that are all others, each is found
@@ -67,13 +68,13 @@ pub root_there : (rows : List Row) → AreRows rows → IsSome (find (λ q. byte
 root_there rows a = root_of (queues_of rows) a.listing.listed
 
 -- no queue has more applications than are allowed
-pub active_few : {K : ℕ} (rows : List Row) (cluster : Flat K) → IsHeld rows cluster → (r : Row) → IsIn r rows → r.item.active ≤ applications_max
-active_few rows cluster h r m =
+pub active_few : {K : ℕ} (rows : List Row) (apps : HeldApps) (cluster : Flat K) → IsHeld rows apps cluster → (r : Row) → IsIn r rows → r.item.active ≤ applications_max
+active_few rows apps cluster h r m =
     let t = (each_of (IsRowOf cluster) rows h.tied r m).active in
     let few = h.few in
     let limit = h.limit in
     omega (arith, t, few, limit, count_by-le-length (λ (app : App). is_under r.path app.leaf) cluster.apps.active)
 
-pub all_few : {K : ℕ} (rows : List Row) (cluster : Flat K) → IsHeld rows cluster → active_in rows ≤ applications_max
-all_few [] cluster h = omega arith
-all_few (r ∷ rows) cluster h = active_few (r ∷ rows) cluster h r (inl refl)
+pub all_few : {K : ℕ} (rows : List Row) (apps : HeldApps) (cluster : Flat K) → IsHeld rows apps cluster → active_in rows ≤ applications_max
+all_few [] apps cluster h = omega arith
+all_few (r ∷ rows) apps cluster h = active_few (r ∷ rows) apps cluster h r (inl refl)

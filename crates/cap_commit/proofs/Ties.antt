@@ -11,13 +11,13 @@ use Rattle.cap_model.proofs.Members.{each_of, of_each, of_map, one_where}
 use Rattle.cap_model.proofs.Tallies.{Test, count_of, used_by}
 use Rattle.cap_tree.specs.Measure.{Measure}
 use Rattle.cap_tree.specs.Spot.{item_at}
-use Rattle.cap_tree.specs.Queue.{Queue, UserRow, IsUnused, MayLeave, of_user, user_row, entered_above, entered_at, left_above, left_at, with_running}
-use Rattle.cap_tree.specs.QueueLaws.{one_more}
+use Rattle.cap_tree.specs.Queue.{Queue, UserRow, IsUnused, MayLeave, of_one, of_user, user_row, entered_above, entered_at, left_above, left_at, with_running}
+use Rattle.cap_tree.specs.QueueLaws.{one_more, amount-zeros}
 use Rattle.cap_tree.specs.Rows.{Row, changed_at, entered, left, user_row_at, with_state}
 use Rattle.cap_tree.proofs.RowPaths.{under_itself}
-use Rattle.cap_commit.specs.Held.{IsRowOf, of_one, of_cluster}
+use Rattle.cap_tree.proofs.OneUser.{one_for, entered_own, entered_single, left_own, left_single, some_row, single_row}
+use Rattle.cap_commit.specs.Held.{IsRowOf, of_cluster}
 use Rattle.cap_commit.proofs.Idle.{idle_use}
-use Rattle.cap_commit.proofs.Users.{zero_amount, one_for, entered_own, entered_single, left_own, left_single, some_row, single_row}
 
 -- what counts for a queue, and for a user in a leaf
 abbrev pub in_queue : List ℕ → Test
@@ -31,7 +31,7 @@ pub unused_tied : {K : ℕ} (cluster : Flat K) (rows : List Row) → cluster.app
 unused_tied {K} cluster rows none live reserved a = of_each (IsRowOf cluster) rows (λ r m. tied r (each_of (λ (s : Row). IsUnused K s.item) rows a r m))
   where
     nothing : (path user : List ℕ) (m : Measure) → of_cluster cluster path user m ≡ 0
-    nothing path user (Measure.uses k) = ap (λ v. amount v k) (idle_use cluster (of_user_in path user) live reserved) ∙ zero_amount K k
+    nothing path user (Measure.uses k) = ap (λ v. amount v k) (idle_use cluster (of_user_in path user) live reserved) ∙ amount-zeros K k
     nothing path user Measure.active = ap (count_of (of_user_in path user)) none
 
     tied : (r : Row) → IsUnused K r.item → IsRowOf cluster r
@@ -75,7 +75,7 @@ tied_state cluster path running rows a =
     by r false h = h
 
 -- a change at the leaf of a path and at the queues above it
-changed_row : (above at : Queue → Queue) (leaf : List ℕ) (Q : Row → Type 0) (r : Row) → (bytes_eq r.path leaf ≡ true → Q (record r { item = at r.item })) →
+pub changed_row : (above at : Queue → Queue) (leaf : List ℕ) (Q : Row → Type 0) (r : Row) → (bytes_eq r.path leaf ≡ true → Q (record r { item = at r.item })) →
     (bytes_eq r.path leaf ≡ false → is_under r.path leaf ≡ true → Q (record r { item = above r.item })) → (bytes_eq r.path leaf ≡ false → is_under r.path leaf ≡ false → Q r) → Q (changed_at above at leaf r)
 changed_row above at leaf Q r f g h = by (bytes_eq r.path leaf) (is_under r.path leaf) refl refl
   where
@@ -88,7 +88,7 @@ pub changed_rows : (above at : Queue → Queue) (leaf : List ℕ) (P Q : Row →
 changed_rows above at leaf P Q rows f a =
     of_each Q (map (changed_at above at leaf) rows) (λ r m. let w = of_map (changed_at above at leaf) rows r m in subst Q (w.2) (f (w.0) (each_of P rows a (w.0) (w.1))))
 
-same_either : (a b : List ℕ) → bytes_eq a b ≡ bytes_eq b a
+pub same_either : (a b : List ℕ) → bytes_eq a b ≡ bytes_eq b a
 same_either a b = by (bytes_eq a b) (bytes_eq b a) refl refl
   where
     by : (c d : Bool) → bytes_eq a b ≡ c → bytes_eq b a ≡ d → c ≡ d
@@ -96,6 +96,10 @@ same_either a b = by (bytes_eq a b) (bytes_eq b a) refl refl
     by false false e f = refl
     by true false e f = let s = (bytes_eq-Decides b a).1 (sym ((bytes_eq-Decides a b).0 e)) in cc (s, f)
     by false true e f = let s = (bytes_eq-Decides a b).1 (sym ((bytes_eq-Decides b a).0 f)) in cc (s, e)
+
+-- a leaf is under itself
+pub under_it : (leaf path : List ℕ) → bytes_eq path leaf ≡ true → is_under path leaf ≡ true
+under_it leaf path e = subst (λ p. is_under path p ≡ true) ((bytes_eq-Decides path leaf).0 e) (under_itself path)
 
 -- the second cluster has one application more, of a user in a leaf, and nothing else is counted in another way
 pub record HasOneMore {K : ℕ} (less more : Flat K) (leaf user : List ℕ) : Type 0 where
@@ -133,9 +137,6 @@ module _ {K : ℕ} (less more : Flat K) (leaf user : List ℕ) (h : HasOneMore l
   more_else path owner m e = let o = more_of path owner m ∙ ap (λ b. of_cluster less path owner m + own_where b (bytes_eq user owner) m) e in omega (arith, o)
 
   -- for a queue
-  under_it : (path : List ℕ) → bytes_eq path leaf ≡ true → is_under path leaf ≡ true
-  under_it path e = subst (λ p. is_under path p ≡ true) ((bytes_eq-Decides path leaf).0 e) (under_itself path)
-
   more_under : (path : List ℕ) → is_under path leaf ≡ true → count_of (in_queue path) more.apps.active ≡ count_of (in_queue path) less.apps.active + 1
   more_under path e = h.counts (in_queue path) ∙ ap (λ b. count_of (in_queue path) less.apps.active + one_where b) e
 
@@ -147,7 +148,7 @@ module _ {K : ℕ} (less more : Flat K) (leaf user : List ℕ) (h : HasOneMore l
   entered_row r t =
       changed_row entered_above (entered_at K user) leaf (IsRowOf more) r
       (λ e. record {
-        active = (let o = more_under r.path (under_it r.path e) in let a = t.active in omega (arith, o, a));
+        active = (let o = more_under r.path (under_it leaf r.path e) in let a = t.active in omega (arith, o, a));
         used = t.used ∙ sym (h.uses (in_queue r.path));
         users = λ owner m. (let o = more_at r.path owner m e in let a = t.users owner m in let b = entered_own K user r.item.users owner m in omega (arith, o, a, b));
         single = λ owner. entered_single K user r.item.users owner (t.single owner);
@@ -199,7 +200,7 @@ module _ {K : ℕ} (less more : Flat K) (leaf user : List ℕ) (h : HasOneMore l
   left_row spent r t =
       changed_row left_above (left_at user) leaf (IsRowOf less) r
       (λ e. let w = user_row_of r e spent t in record {
-        active = (let o = more_under r.path (under_it r.path e) in let a = t.active in omega (arith, o, a));
+        active = (let o = more_under r.path (under_it leaf r.path e) in let a = t.active in omega (arith, o, a));
         used = t.used ∙ h.uses (in_queue r.path);
         users = λ owner m. (let o = more_at r.path owner m e in let a = t.users owner m in let b = left_own user r.item.users w.row w.found w.some w.spent owner m in omega (arith, o, a, b));
         single = λ owner. left_single user r.item.users w.row w.found owner (t.single owner);

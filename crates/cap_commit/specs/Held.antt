@@ -1,15 +1,16 @@
 -- What a cluster keeps: its parts as the flat cluster, and what they have to do with each other.
-use Rattle.std.specs.Prelude.{◌≡◌, ℕ, ◌≤◌, ◌&&◌, List, [], length, count_by, bytes_eq, if◌then◌else◌}
-use Rattle.std.specs.List.{All, sum_by}
+use Rattle.std.specs.Prelude.{◌≡◌, ℕ, ◌≤◌, ◌&&◌, ◌==◌, IsSome, List, [], length, count_by, bytes_eq}
+use Rattle.std.specs.List.{All}
 use Rattle.cap_vector.specs.Vector.{amount}
 use Rattle.cap_model.specs.Limits.{applications_max, resources_max}
 use Rattle.cap_model.specs.Settings.{QueueRow}
-use Rattle.cap_model.specs.Flat.{Flat, AppTable, NodeTable, is_under}
+use Rattle.cap_model.specs.Flat.{Flat, AppTable, NodeTable, app_at, is_under}
 use Rattle.cap_model.specs.Uses.{queue_use, user_use}
 use Rattle.cap_model.specs.Bounds.{IsLeaf}
 use Rattle.cap_tree.specs.Measure.{Measure}
-use Rattle.cap_tree.specs.Queue.{UserRow, of_user}
+use Rattle.cap_tree.specs.Queue.{of_user, of_one}
 use Rattle.cap_tree.specs.Rows.{Row}
+use Rattle.cap_asks.specs.Apps.{HeldApps, end_room}
 
 -- the flat cluster of these limits, queues, applications and nodes
 abbrev pub flat_of : {K : ℕ} → List ℕ → List ℕ → ℕ → List QueueRow → AppTable → NodeTable → Flat K
@@ -18,10 +19,6 @@ flat_of minimum maximum limit queues apps nodes = record {
   apps = apps;
   nodes = nodes;
 }
-
--- what the rows of one user count together
-abbrev pub of_one : List ℕ → (UserRow → ℕ) → List UserRow → ℕ
-of_one user f us = sum_by (λ u. if bytes_eq u.user user then f u else 0) us
 
 module _ {K : ℕ} where
   -- what the flat cluster counts of a user in a leaf: its use, or its active applications
@@ -37,13 +34,15 @@ module _ {K : ℕ} where
     pub users : (user : List ℕ) (m : Measure) → of_one user (of_user m) r.item.users ≡ of_cluster cluster r.path user m
     pub single : (user : List ℕ) → of_one user (λ _. 1) r.item.users ≤ 1
 
-  -- the tree has these rows: each keeps what the cluster counts, and each application is in a leaf; no more applications than
-  -- allowed, not too many kinds of resource, and no container and no reservation yet
-  pub record IsHeld (rows : List Row) (cluster : Flat K) : Type 0 where
+  -- the tree has these rows and the applications this room: each row keeps what the cluster counts, each application is in a leaf,
+  -- each live container is an active application's, which has room to be told of the ends of all of its own; no more applications
+  -- than allowed, not too many kinds of resource, and no reservation yet
+  pub record IsHeld (rows : List Row) (apps : HeldApps) (cluster : Flat K) : Type 0 where
     pub tied : All (IsRowOf cluster) rows
     pub leaves : All (λ app. IsLeaf cluster app.leaf) cluster.apps.active
     pub limit : cluster.settings.application_limit ≤ applications_max
     pub few : length cluster.apps.active ≤ cluster.settings.application_limit
-    pub idle : cluster.nodes.live ≡ []
+    pub owned : All (λ c. IsSome (app_at cluster c.app)) cluster.nodes.live
+    pub ready : (n : ℕ) → count_by (λ c. c.app == n) cluster.nodes.live ≤ end_room n apps
     pub unreserved : cluster.nodes.reserved ≡ []
     pub resources : K ≤ resources_max

@@ -13,7 +13,7 @@ ghost use Rattle.cap_model.specs.RegisterMaster.{after_register_master};
 ghost use Rattle.cap_model.specs.QueueCalls.{after_set_queue_state, queue_report, root_path};
 ghost use Rattle.cap_model.specs.Asking.{after_asks};
 ghost use Rattle.cap_model.specs.Allocate.{after_telling};
-ghost use Rattle.cap_model.specs.Ending.{after_ends};
+ghost use Rattle.cap_model.specs.Ending.{without, after_ends};
 ghost use Rattle.cap_model.specs.FinishMaster.{containers_of, after_finish_master};
 ghost use Rattle.cap_model.specs.Heartbeat.{containers_on};
 ghost use Rattle.cap_model.specs.EngineLaws.{HasDistinctNumbers};
@@ -53,7 +53,7 @@ impl<const K: usize> Model for Cluster<K> {
 
     ghost view = { λ c. flat_of c.minimum_allocation c.maximum_allocation c.application_limit (queues_of c.tree.value) c.apps.table c.nodes };
 
-    ghost invariant = { λ c. IsHeld {K = K} c.tree.value (flat_of c.minimum_allocation c.maximum_allocation c.application_limit (queues_of c.tree.value) c.apps.table c.nodes) };
+    ghost invariant = { λ c. IsHeld {K = K} c.tree.value c.apps (flat_of c.minimum_allocation c.maximum_allocation c.application_limit (queues_of c.tree.value) c.apps.table c.nodes) };
 }
 
 impl<const K: usize> Cluster<K> {
@@ -228,6 +228,8 @@ impl<const K: usize> Cluster<K> {
         requires { IsSome (find (λ c. c.number == number) self.old.nodes.live) }
         ensures { IfSome (find (λ c. c.number == number) self.old.nodes.live) (λ c. self.new ≡ after_ends (as_cause cause) (c ∷ []) self.old) }
     {
+        // That it is the only container of its number is known from here.
+        self.nodes.law();
         let Some(container) = self.nodes.container(number) else {
             unreachable!()
         };
@@ -248,24 +250,53 @@ impl<const K: usize> Cluster<K> {
         ensures ended { result ≡ length (containers_of self.old number) }
         ensures finished { self.new ≡ after_finish_master self.old number }
     {
+        self.nodes.law();
+        let ended = self.remove_all(number);
+        // That it is the only application of its number is known from here.
+        let _ = self.apps.next();
         let Some(app) = self.apps.app(number) else {
             unreachable!()
         };
-        let place = place_of(&self.tree, app.leaf().as_bytes());
-        let user = *app.user();
-        // That it is the only application of its number is known from here.
-        let _ = self.apps.next();
+        let tree = &mut *self.tree;
+        let place = place_of(tree, app.leaf().as_bytes());
+        tree.leave(&place, app.user());
+        self.apps.finish(number);
+        ended
+    }
+
+    /// Ends all containers of an application, of which it is not told, and counts them.
+    fn remove_all(&mut self, app: u64) -> u32
+        ensures count { result ≡ length (containers_of self.old app) }
+        ensures removed { self.new ≡ without (containers_of self.old app) self.old }
+    {
+        self.nodes.law();
         let mut ended = 0;
         let mut after = 0;
-        while let Some(container) = self.nodes.next_of_app(number, after) {
+        while let Some(container) = self.nodes.next_of_app(app, after) {
             after = container.number();
-            self.tree.give_back(&place, &user, &container.resource());
-            self.nodes.lift(after);
+            self.remove(after);
             ended += 1;
         }
-        self.apps.finish(number);
-        self.tree.leave(&place, &user);
         ended
+    }
+
+    /// A live container ends, and its application is not told. What it had is given back at every level of its queue.
+    fn remove(&mut self, number: u64)
+        requires { IsSome (find (λ c. c.number == number) self.old.nodes.live) }
+        ensures { IfSome (find (λ c. c.number == number) self.old.nodes.live) (λ c. self.new ≡ without (c ∷ []) self.old) }
+    {
+        // That it is the only container of its number is known from here.
+        self.nodes.law();
+        let Some(container) = self.nodes.container(number) else {
+            unreachable!()
+        };
+        let Some(app) = self.apps.app(container.app()) else {
+            unreachable!()
+        };
+        let tree = &mut *self.tree;
+        let place = place_of(tree, app.leaf().as_bytes());
+        tree.give_back(&place, app.user(), &container.resource());
+        self.nodes.lift(number);
     }
 
     /// How many containers are live.

@@ -6,6 +6,7 @@ pub mod UseSums
 pub mod Tallies
 pub mod EndsInOrder
 pub mod Draining
+pub mod Drains
 pub mod EndsOfEnded
 pub mod NamedEnds
 pub mod ToldEnds

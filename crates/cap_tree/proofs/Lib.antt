@@ -7,6 +7,7 @@ pub mod Growing
 pub mod Listings
 pub mod Looking
 pub mod Names
+pub mod OneUser
 pub mod Rooms
 pub mod RowPaths
 pub mod Spots

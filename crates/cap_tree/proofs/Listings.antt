@@ -3,6 +3,7 @@ use Rattle.std.proofs.Common.{◌≡◌, ℕ, ◌≤◌, Bool, true, false, cond
 use Rattle.std.specs.Prelude.{bytes_eq, find, is_some, ◌||◌, if◌then◌else◌}
 use Rattle.std.specs.List.{All, list_any}
 use Rattle.cap_model.specs.Settings.{QueueRow}
+use Rattle.cap_model.specs.Flat.{is_under}
 use Rattle.cap_model.specs.Bounds.{HasDistinctPaths, has_path, depth}
 use Rattle.cap_model.specs.Listing.{MayFollow, IsListed, IsListedFromRoot, IsListing, depth_max, factor_max}
 use Rattle.cap_model.proofs.Members.{each_of, of_each, of_map}
@@ -11,24 +12,26 @@ use Rattle.cap_tree.specs.Queue.{Queue, with_running}
 use Rattle.cap_tree.specs.Rows.{Row, AreRows, queues_of, settings_of_row, changed_at, with_state}
 use Rattle.cap_tree.proofs.RowPaths.{short_kept, paths_kept}
 
-module _ (f : QueueRow → QueueRow) (p : (q : QueueRow) → (f q).path ≡ q.path) (k : (q : QueueRow) → (f q).factor ≡ q.factor) where
-  any_kept : (path : List ℕ) (qs : List QueueRow) → list_any (λ (r : QueueRow). bytes_eq r.path path) (map f qs) ≡ list_any (λ (r : QueueRow). bytes_eq r.path path) qs
-  any_kept path [] = refl
-  any_kept path (q ∷ qs) = ap (λ x. bytes_eq x path || list_any (λ (r : QueueRow). bytes_eq r.path path) (map f qs)) (p q) ∙ ap (λ b. bytes_eq q.path path || b) (any_kept path qs)
-
-  distinct_kept : (qs : List QueueRow) → HasDistinctPaths qs → HasDistinctPaths (map f qs)
-  distinct_kept [] d = tt
-  distinct_kept (q ∷ qs) d = (ap (λ x. list_any (λ (r : QueueRow). bytes_eq r.path x) (map f qs)) (p q) ∙ any_kept q.path qs ∙ d.0, distinct_kept qs d.1)
+-- where paths stay, what they say of each other stays
+module _ (f : QueueRow → QueueRow) (p : (q : QueueRow) → (f q).path ≡ q.path) where
+  pub any_kept : (t : List ℕ → Bool) (qs : List QueueRow) → list_any (λ (r : QueueRow). t r.path) (map f qs) ≡ list_any (λ (r : QueueRow). t r.path) qs
+  any_kept t [] = refl
+  any_kept t (q ∷ qs) = ap (λ x. t x || list_any (λ (r : QueueRow). t r.path) (map f qs)) (p q) ∙ ap (λ b. t q.path || b) (any_kept t qs)
 
   some_cases : (b : Bool) (q r : QueueRow) (o u : Option QueueRow) → is_some o ≡ is_some u → is_some (cond b (Some q) o) ≡ is_some (cond b (Some r) u)
   some_cases true q r o u e = refl
   some_cases false q r o u e = e
 
-  path_kept : (path : List ℕ) (qs : List QueueRow) → has_path (map f qs) path ≡ has_path qs path
+  pub path_kept : (path : List ℕ) (qs : List QueueRow) → has_path (map f qs) path ≡ has_path qs path
   path_kept path [] = refl
   path_kept path (q ∷ qs) =
       ap (λ x. is_some (cond (bytes_eq x path) (Some (f q)) (find (λ (r : QueueRow). bytes_eq r.path path) (map f qs)))) (p q)
       ∙ some_cases (bytes_eq q.path path) (f q) q (find (λ (r : QueueRow). bytes_eq r.path path) (map f qs)) (find (λ (r : QueueRow). bytes_eq r.path path) qs) (path_kept path qs)
+
+module _ (f : QueueRow → QueueRow) (p : (q : QueueRow) → (f q).path ≡ q.path) (k : (q : QueueRow) → (f q).factor ≡ q.factor) where
+  distinct_kept : (qs : List QueueRow) → HasDistinctPaths qs → HasDistinctPaths (map f qs)
+  distinct_kept [] d = tt
+  distinct_kept (q ∷ qs) d = (ap (λ x. list_any (λ (r : QueueRow). bytes_eq r.path x) (map f qs)) (p q) ∙ any_kept f p (λ x. bytes_eq x q.path) qs ∙ d.0, distinct_kept qs d.1)
 
   all_kept : (P : QueueRow → Type 0) (qs : List QueueRow) → ((q : QueueRow) → P q → P (f q)) → All P qs → All P (map f qs)
   all_kept P qs g a = of_each P (map f qs) (λ r m. let w = of_map f qs r m in subst P (w.2) (g (w.0) (each_of P qs a (w.0) (w.1))))
@@ -47,7 +50,7 @@ module _ (f : QueueRow → QueueRow) (p : (q : QueueRow) → (f q).path ≡ q.pa
       distinct = distinct_kept qs l.tree.distinct;
       above = all_kept (λ q. (front rest : List ℕ) → q.path ≡ front ++ 46 ∷ rest → has_path (map f qs) front ≡ true) qs (λ q h front rest e. h front rest (sym (p q) ∙ e))
           (of_each (λ q. (front rest : List ℕ) → q.path ≡ front ++ 46 ∷ rest → has_path (map f qs) front ≡ true) qs
-          (λ q m front rest e. path_kept front qs ∙ each_of (λ q. (front rest : List ℕ) → q.path ≡ front ++ 46 ∷ rest → has_path qs front ≡ true) qs l.tree.above q m front rest e));
+          (λ q m front rest e. path_kept f p front qs ∙ each_of (λ q. (front rest : List ℕ) → q.path ≡ front ++ 46 ∷ rest → has_path qs front ≡ true) qs l.tree.above q m front rest e));
     };
     listed = from_root_kept qs l.listed;
     levels = all_kept (λ q. depth q.path ≤ depth_max) qs (λ q h. subst (λ x. depth x ≤ depth_max) (sym (p q)) h) l.levels;
@@ -62,6 +65,11 @@ module _ (above at : Queue → Queue) (ka : (r : Row) → settings_of_row (recor
   row_cases false true r = ka r
   row_cases false false r = refl
 
+  -- by the path, and by the place
+  pub settings_stay : (path : List ℕ) (rows : List Row) → queues_of (map (changed_at above at path) rows) ≡ queues_of rows
+  settings_stay path [] = refl
+  settings_stay path (r ∷ rows) = λ i. row_cases (bytes_eq r.path path) (is_under r.path path) r i ∷ settings_stay path rows i
+
   settings_kept : (place : List ℕ) (rows : List Row) → queues_of (map (change_along above at place) rows) ≡ queues_of rows
   settings_kept place [] = refl
   settings_kept place (r ∷ rows) = λ i. row_cases (bytes_eq r.place place) (leads_to r.place place) r i ∷ settings_kept place rows i
@@ -75,10 +83,10 @@ module _ (above at : Queue → Queue) (ka : (r : Row) → settings_of_row (recor
 
 -- a change of a queue's own state
 
-abbrev set_running : List ℕ → Bool → QueueRow → QueueRow
+abbrev pub set_running : List ℕ → Bool → QueueRow → QueueRow
 set_running path running q = if bytes_eq q.path path then record q { running = running } else q
 
-same_path : (path : List ℕ) (running : Bool) (q : QueueRow) → (set_running path running q).path ≡ q.path
+pub same_path : (path : List ℕ) (running : Bool) (q : QueueRow) → (set_running path running q).path ≡ q.path
 same_path path running q = by (bytes_eq q.path path)
   where
     by : (b : Bool) → (if b then record q { running = running } else q).path ≡ q.path
@@ -103,7 +111,7 @@ state_in_settings path running (r ∷ rows) = λ i. state_cases (bytes_eq r.path
 
 state_is_change : (path : List ℕ) (running : Bool) (rows : List Row) → map (changed_at (λ x. x) (with_running running) path) rows ≡ map (with_state path running) rows
 state_is_change path running [] = refl
-state_is_change path running (r ∷ rows) = λ i. by (bytes_eq r.path path) (Rattle.cap_model.specs.Flat.is_under r.path path) i ∷ state_is_change path running rows i
+state_is_change path running (r ∷ rows) = λ i. by (bytes_eq r.path path) (is_under r.path path) i ∷ state_is_change path running rows i
   where
     by : (b c : Bool) → (if b then record r { item = with_running running r.item } else (if c then record r { item = r.item } else r)) ≡ (if b then record r { item = with_running running r.item } else r)
     by true c = refl

@@ -37,6 +37,10 @@ of_user Measure.active u = u.active
 abbrev pub of_users : Queue → Measure → ℕ
 of_users q m = sum_by (of_user m) q.users
 
+-- what the rows of one user count together
+abbrev pub of_one : List ℕ → (UserRow → ℕ) → List UserRow → ℕ
+of_one user f us = sum_by (λ u. if bytes_eq u.user user then f u else 0) us
+
 -- the row of a user
 abbrev pub user_row : List ℕ → List UserRow → Option UserRow
 user_row user us = find (λ u. bytes_eq u.user user) us

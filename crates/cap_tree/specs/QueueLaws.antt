@@ -15,7 +15,7 @@ pub record IsMoved (old new before after : ℕ) : Type 0 where
   pub fits : old ≤ before
   pub sum : after ≡ (before - old) + new
 
-amount-zeros : (n k : ℕ) → amount (zeros n) k ≡ 0
+pub amount-zeros : (n k : ℕ) → amount (zeros n) k ≡ 0
 amount-zeros zero k = refl
 amount-zeros (suc n) zero = refl
 amount-zeros (suc n) (suc k) = amount-zeros n k
@@ -83,7 +83,7 @@ left_by user us m (Some row) e h = left_cases user us m row (row.active == 1) e 
 pub left_sum : (user : List ℕ) (us : List UserRow) (m : Measure) → MayLeave (user_row user us) → IsMoved (one_more m) 0 (sum_by (of_user m) us) (sum_by (of_user m) (users_left user us))
 left_sum user us m h = left_by user us m (user_row user us) refl h
 
-lowered_counts : (row : UserRow) (r : List ℕ) (m : Measure) → Fits r row.used → of_user m (record row { used = less row.used r }) + so_much r m ≡ of_user m row
+pub lowered_counts : (row : UserRow) (r : List ℕ) (m : Measure) → Fits r row.used → of_user m (record row { used = less row.used r }) + so_much r m ≡ of_user m row
 lowered_counts row r (Measure.uses k) h = let a = amount-less row.used r k in let b = h k in omega (arith, a, b)
 lowered_counts row r Measure.active h = omega arith
 

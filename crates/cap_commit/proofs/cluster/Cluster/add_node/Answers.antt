@@ -24,6 +24,6 @@ pub invariant_of-self : goal.invariant_of-self
 invariant_of-self g c =
     let x = c.self.inside in
     let new = c.register.new.self in
-    held_nodes x.minimum_allocation x.maximum_allocation x.application_limit x.tree.value x.apps.table x.nodes c.self.invariant new
-    (stays (λ t. t.live) c.register.result x.nodes new _ _ c.register.ensures.ok c.register.ensures.err refl ∙ c.self.invariant.idle)
-    (stays (λ t. t.reserved) c.register.result x.nodes new _ _ c.register.ensures.ok c.register.ensures.err refl ∙ c.self.invariant.unreserved)
+    held_nodes x.minimum_allocation x.maximum_allocation x.application_limit x.tree.value x.apps x.nodes c.self.invariant new
+    (stays (λ t. t.live) c.register.result x.nodes new _ _ c.register.ensures.ok c.register.ensures.err refl)
+    (stays (λ t. t.reserved) c.register.result x.nodes new _ _ c.register.ensures.ok c.register.ensures.err refl)

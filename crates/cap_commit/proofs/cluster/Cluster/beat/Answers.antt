@@ -1,4 +1,4 @@
-use Rattle.std.proofs.Common.{ap, ◌∙◌}
+use Rattle.std.proofs.Common.{ap}
 use Rattle.cap_model.specs.Flat.{NodeTable}
 use Rattle.cap_commit.proofs.Holding.{held_nodes}
 use Rattle.cap_commit.proofs.Sizes.{nodes_fit}
@@ -10,5 +10,5 @@ beat-requires g c = (nodes_fit _ c.self.invariant.resources, rw (← c.self.view
 pub invariant_of-self : goal.invariant_of-self
 invariant_of-self g c =
     let x = c.self.inside in
-    held_nodes x.minimum_allocation x.maximum_allocation x.application_limit x.tree.value x.apps.table x.nodes c.self.invariant c.beat.new.self (ap (λ (t : NodeTable). t.live) c.beat.ensures ∙ c.self.invariant.idle)
-    (ap (λ (t : NodeTable). t.reserved) c.beat.ensures ∙ c.self.invariant.unreserved)
+    held_nodes x.minimum_allocation x.maximum_allocation x.application_limit x.tree.value x.apps x.nodes c.self.invariant c.beat.new.self (ap (λ (t : NodeTable). t.live) c.beat.ensures)
+    (ap (λ (t : NodeTable). t.reserved) c.beat.ensures)

@@ -16,5 +16,5 @@ maximum_allocation-requires g c = let k = c.application_limit-application_limit.
 pub invariant_of-result : goal.invariant_of-result
 invariant_of-result g c =
     rw (c.in-Ok-new.ensures.ok)
-    (held_opened _ _ _ c.in-Ok.tree c.new-2.result.table c.new-3.result (ap (λ (t : AppTable). t.active) c.new-2.ensures.table) (ap (λ (t : NodeTable). t.live) c.new-3.ensures) (ap (λ (t : NodeTable). t.reserved) c.new-3.ensures)
+    (held_opened _ _ _ c.in-Ok.tree c.new-2.result c.new-3.result (ap (λ (t : AppTable). t.active) c.new-2.ensures.table) (ap (λ (t : NodeTable). t.live) c.new-3.ensures) (ap (λ (t : NodeTable). t.reserved) c.new-3.ensures)
     c.in-Ok.ensures.unused c.application_limit-application_limit.ensures.few c.application_limit-application_limit.ensures.resources)

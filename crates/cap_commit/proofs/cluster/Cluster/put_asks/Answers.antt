@@ -3,6 +3,7 @@ use Rattle.cap_vector.specs.Rounding.{round_up}
 use Rattle.cap_tree.specs.Rows.{queues_of}
 use Rattle.cap_commit.proofs.Parts.{asks_step, room_left}
 use Rattle.cap_commit.proofs.Holding.{held_app}
+use Rattle.cap_commit.proofs.Owning.{ends_kept}
 use Rattle.cap_commit.proofs.cluster.Cluster.put_asks.Goals as goal
 
 pub loop-ask-preserved : goal.loop-ask-preserved
@@ -13,7 +14,7 @@ loop-ask-preserved g c =
           asks_step x.minimum_allocation x.maximum_allocation x.application_limit (queues_of x.tree.value) x.apps.table _ x.nodes c.args.number c.loop-ask.ask-index c.args.asks.now c.ask-item.result c.with_resource.result c.args.self.now
           c.loop-ask.invariant.put c.loop-ask.invariant.held.unreserved c.loop-ask-test.true c.ask-item.is (c.with_resource.ensures ∙ ap (λ (v : List ℕ). record { key = c.ask-item.result.key; count = c.ask-item.result.count; resource = v; place = c.ask-item.result.place }) (c.round_up-resource.ensures ∙ ap (λ (v : List ℕ). round_up g.row.K v x.minimum_allocation x.maximum_allocation) c.resource.ensures)) c.put_ask.ensures.table;
       room = room_left _ c.args.number c.loop-ask.ask-index _ _ c.loop-ask.invariant.room (c.put_ask.ensures.room.asks c.args.number);
-      held = held_app x.minimum_allocation x.maximum_allocation x.application_limit x.tree.value x.apps.table x.nodes c.loop-ask.invariant.held c.args.number _ _ (record { number = λ a. refl; leaf = λ a. refl; user = λ a. refl }) c.put_ask.ensures.table;
+      held = held_app x.minimum_allocation x.maximum_allocation x.application_limit x.tree.value x.apps x.nodes c.loop-ask.invariant.held c.args.number _ _ (record { number = λ a. refl; leaf = λ a. refl; user = λ a. refl }) c.put_ask.ensures.table (ends_kept c.args.number 1 0 _ _ c.put_ask.ensures.room);
     }
 
 pub put_ask-requires : goal.put_ask-requires

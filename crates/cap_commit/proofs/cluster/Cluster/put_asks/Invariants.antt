@@ -11,5 +11,5 @@ invariant-loop-ask g l = record {
   put : flat_of l.self-inside.minimum_allocation l.self-inside.maximum_allocation l.self-inside.application_limit (queues_of l.self-inside.tree.value) l.self-inside.apps.table l.self-inside.nodes
       ≡ after_asks l.number (take l.ask-index l.asks) l.fn.self;
   room : length l.asks ≤ ask_room l.number l.self-inside.apps + l.ask-index;
-  held : IsHeld {K = g.row.K} l.self-inside.tree.value (flat_of l.self-inside.minimum_allocation l.self-inside.maximum_allocation l.self-inside.application_limit (queues_of l.self-inside.tree.value) l.self-inside.apps.table l.self-inside.nodes);
+  held : IsHeld {K = g.row.K} l.self-inside.tree.value l.self-inside.apps (flat_of l.self-inside.minimum_allocation l.self-inside.maximum_allocation l.self-inside.application_limit (queues_of l.self-inside.tree.value) l.self-inside.apps.table l.self-inside.nodes);
 }

@@ -6,12 +6,11 @@ use Rattle.std.proofs.lemmas.List.Sums.{sum_by-cons}
 use Rattle.std.proofs.lemmas.Bool.Decides.{nat_tests}
 use Rattle.std.proofs.lemmas.Slice.Eq.{bytes_eq-Decides}
 use Rattle.indexmap.specs.IndexMap.{swap_remove_by}
-use Rattle.cap_vector.specs.Vector.{amount, zeros}
+use Rattle.cap_vector.specs.Vector.{amount, less, zeros, Fits}
 use Rattle.cap_tree.specs.Measure.{Measure}
-use Rattle.cap_tree.specs.Queue.{UserRow, of_user, user_row, with_row, no_row, users_entered, users_left}
-use Rattle.cap_tree.specs.QueueLaws.{one_more}
+use Rattle.cap_tree.specs.Queue.{UserRow, of_one, of_user, user_row, with_row, no_row, users_entered, users_left, users_lowered}
+use Rattle.cap_tree.specs.QueueLaws.{one_more, so_much, amount-zeros, lowered_counts}
 use Rattle.cap_tree.specs.UserLaws.{row_is_users, sum-put, sum-new, sum-removed}
-use Rattle.cap_commit.specs.Held.{of_one}
 
 -- what a row counts for a user
 abbrev pub of_it : List ℕ → (UserRow → ℕ) → UserRow → ℕ
@@ -54,13 +53,13 @@ single_row user f (u ∷ us) row s e = by (bytes_eq u.user user) refl e (λ t g.
             one_case : (b : Bool) → bytes_eq v.user user ≡ b → (of_one user one vs ≡ 0 → of_one user f vs ≡ 0) → of_one user f (v ∷ vs) ≡ 0
             one_case true k q = let more : of_it user one v ≡ 1 = ap (λ b. if b then 1 else 0) k in absurd (omega (arith, z, sum_by-cons (of_it user one) v vs, more))
             one_case false k q =
-                let less : of_it user one v ≡ 0 = ap (λ b. if b then 1 else 0) k in
+                let off : of_it user one v ≡ 0 = ap (λ b. if b then 1 else 0) k in
                 let away : of_it user f v ≡ 0 = ap (λ b. if b then f v else 0) k in
-                omega (arith, sum_by-cons (of_it user f) v vs, away, q (omega (arith, z, sum_by-cons (of_it user one) v vs, less)))
+                omega (arith, sum_by-cons (of_it user f) v vs, away, q (omega (arith, z, sum_by-cons (of_it user one) v vs, off)))
     by false h g r =
-        let less : of_it user one u ≡ 0 = ap (λ b. if b then 1 else 0) h in
+        let off : of_it user one u ≡ 0 = ap (λ b. if b then 1 else 0) h in
         let away : of_it user f u ≡ 0 = ap (λ b. if b then f u else 0) h in
-        let rest = r (omega (arith, s, sum_by-cons (of_it user one) u us, less)) g in
+        let rest = r (omega (arith, s, sum_by-cons (of_it user one) u us, off)) g in
         omega (arith, sum_by-cons (of_it user f) u us, away, rest)
 
 -- where they count something, there is one
@@ -79,13 +78,8 @@ one_more_of : (row : UserRow) (m : Measure) → of_user m (record row { active =
 one_more_of row (Measure.uses k) = omega arith
 one_more_of row Measure.active = refl
 
-pub zero_amount : (n k : ℕ) → amount (zeros n) k ≡ 0
-zero_amount ℕ.zero k = refl
-zero_amount (ℕ.suc n) ℕ.zero = refl
-zero_amount (ℕ.suc n) (ℕ.suc k) = zero_amount n k
-
 nothing_of : (K : ℕ) (user : List ℕ) (m : Measure) → of_user m (no_row K user) ≡ 0
-nothing_of K user (Measure.uses k) = zero_amount K k
+nothing_of K user (Measure.uses k) = amount-zeros K k
 nothing_of K user Measure.active = refl
 
 -- sums of what counts where it counts
@@ -150,16 +144,16 @@ module _ (mover : List ℕ) (us : List UserRow) (row : UserRow) (found : user_ro
   is : row.user ≡ mover
   is = row_is_users mover us row found
 
-  abbrev less : UserRow
-  less = record row { active = row.active - 1 }
+  abbrev fewer : UserRow
+  fewer = record row { active = row.active - 1 }
 
   abbrev after : Bool → List UserRow
-  after c = if c then swap_remove_by (λ (u : UserRow). bytes_eq u.user mover) us else with_row less us
+  after c = if c then swap_remove_by (λ (u : UserRow). bytes_eq u.user mover) us else with_row fewer us
 
   left_is : users_left mover us ≡ after (row.active == 1)
   left_is = ap (λ o. option_map_or (λ (r : UserRow). if r.active == 1 then swap_remove_by (λ (u : UserRow). bytes_eq u.user mover) us else with_row (record r { active = r.active - 1 }) us) o us) found
 
-  one_less_of : (m : Measure) → 1 ≤ row.active → of_user m row ≡ of_user m less + one_more m
+  one_less_of : (m : Measure) → 1 ≤ row.active → of_user m row ≡ of_user m fewer + one_more m
   one_less_of (Measure.uses k) h = omega arith
   one_less_of Measure.active h = omega (arith, h)
 
@@ -175,9 +169,9 @@ module _ (mover : List ℕ) (us : List UserRow) (row : UserRow) (found : user_ro
       let a = add_where (bytes_eq mover user) (of_user m row) 0 (one_more m) (last_of m one spent) in
       omega (arith, s, a, nothing_where (bytes_eq mover user), of_row mover user (of_user m) row is)
   left_where false t user m h spent =
-      let s = sum-put (of_it user (of_user m)) less row us (subst (λ x. user_row x us ≡ Some row) (sym is) found) in
-      let a = add_where (bytes_eq mover user) (of_user m row) (of_user m less) (one_more m) (one_less_of m h) in
-      omega (arith, s, a, of_row mover user (of_user m) row is, of_row mover user (of_user m) less is)
+      let s = sum-put (of_it user (of_user m)) fewer row us (subst (λ x. user_row x us ≡ Some row) (sym is) found) in
+      let a = add_where (bytes_eq mover user) (of_user m row) (of_user m fewer) (one_more m) (one_less_of m h) in
+      omega (arith, s, a, of_row mover user (of_user m) row is, of_row mover user (of_user m) fewer is)
 
   pub left_own : 1 ≤ row.active → (row.active ≡ 1 → (k : ℕ) → amount row.used k ≡ 0) → (user : List ℕ) (m : Measure) → of_one user (of_user m) us ≡ of_one user (of_user m) (users_left mover us) + one_for mover user m
   left_own h spent user m = left_where (row.active == 1) refl user m h spent ∙ ap (λ vs. of_one user (of_user m) vs + one_for mover user m) (sym left_is)
@@ -185,8 +179,34 @@ module _ (mover : List ℕ) (us : List UserRow) (row : UserRow) (found : user_ro
   single_after : (c : Bool) → (user : List ℕ) → of_one user one us ≤ 1 → of_one user one (after c) ≤ 1
   single_after true user h = let s = sum-removed (of_it user one) (λ (u : UserRow). bytes_eq u.user mover) row us found in omega (arith, s, h)
   single_after false user h =
-      let s = sum-put (of_it user one) less row us (subst (λ x. user_row x us ≡ Some row) (sym is) found) in
+      let s = sum-put (of_it user one) fewer row us (subst (λ x. user_row x us ≡ Some row) (sym is) found) in
       omega (arith, s, h)
 
   pub left_single : (user : List ℕ) → of_one user one us ≤ 1 → of_one user one (users_left mover us) ≤ 1
   left_single user h = subst (λ vs. of_one user one vs ≤ 1) (sym left_is) (single_after (row.active == 1) user h)
+
+-- a user gives some of its use back
+
+module _ (mover r : List ℕ) (us : List UserRow) (row : UserRow) (found : user_row mover us ≡ Some row) where
+  own : row.user ≡ mover
+  own = row_is_users mover us row found
+
+  abbrev lower : UserRow
+  lower = record row { used = less row.used r }
+
+  lowered_is : users_lowered mover r us ≡ with_row lower us
+  lowered_is = ap (λ o. option_map_or (λ (u : UserRow). with_row (record u { used = less u.used r }) us) o us) found
+
+  put : (f : UserRow → ℕ) (user : List ℕ) → of_one user f (with_row lower us) + of_it user f row ≡ of_one user f us + of_it user f lower
+  put f user = sum-put (of_it user f) lower row us (subst (λ x. user_row x us ≡ Some row) (sym own) found)
+
+  pub lowered_own : Fits r row.used → (user : List ℕ) (m : Measure) → of_one user (of_user m) us ≡ of_one user (of_user m) (users_lowered mover r us) + (if bytes_eq mover user then so_much r m else 0)
+  lowered_own h user m =
+      let s = put (of_user m) user in
+      let c = lowered_counts row r m h in
+      let a = add_where (bytes_eq mover user) (of_user m row) (of_user m lower) (so_much r m) (sym c) in
+      let e : of_one user (of_user m) us ≡ of_one user (of_user m) (with_row lower us) + (if bytes_eq mover user then so_much r m else 0) = omega (arith, s, a, of_row mover user (of_user m) row own, of_row mover user (of_user m) lower own) in
+      e ∙ ap (λ vs. of_one user (of_user m) vs + (if bytes_eq mover user then so_much r m else 0)) (sym lowered_is)
+
+  pub lowered_single : (user : List ℕ) → of_one user one us ≤ 1 → of_one user one (users_lowered mover r us) ≤ 1
+  lowered_single user h = subst (λ vs. of_one user one vs ≤ 1) (sym lowered_is) (let s = put one user in omega (arith, s, h))
