@@ -1,17 +1,12 @@
 -- Where nothing is live and nothing reserved, nothing is used.
-use Rattle.std.proofs.Common.{◌≡◌, ℕ, Bool, false, List, [], Some, ◌∙◌, ap, subst, inl, inr}
-use Rattle.std.specs.Prelude.{find}
+use Rattle.std.proofs.Common.{◌≡◌, ℕ, false, [], subst, inl, inr}
 use Rattle.cap_vector.specs.Vector.{zeros}
-use Rattle.cap_model.specs.Flat.{Flat, Container, app_at}
+use Rattle.cap_model.specs.Flat.{Flat, app_at}
 use Rattle.cap_model.proofs.Choosing.{IsIn}
 use Rattle.cap_model.proofs.Lessening.{IsSite}
 use Rattle.cap_model.proofs.Measures.{counts}
 use Rattle.cap_model.proofs.Tallies.{Test, used_by}
 use Rattle.cap_commit.proofs.Counting.{unused}
-
--- of none, none is found
-pub none_found : (test : Container → Bool) (live : List Container) (c : Container) → live ≡ [] → Some c ≡ find test live → ⊥
-none_found test live c e f = cc (f ∙ ap (find test) e)
 
 pub idle_use : {K : ℕ} (cluster : Flat K) (test : Test) → cluster.nodes.live ≡ [] → cluster.nodes.reserved ≡ [] → used_by cluster test ≡ zeros K
 idle_use cluster test live reserved = unused cluster test none

@@ -88,3 +88,16 @@ told_is old table' n ignored r e = by (app_at old n) refl
     by (Some a) f =
         ap (λ t. record old { apps = t }) e
         ∙ ap (λ active. record old { apps = record old.apps { active = active } }) (only_found n old.apps.active old.apps.next (λ x app. after_telling x.response ignored app) a r f)
+
+-- and where none has the number, nothing changes
+none_changed : (n : ℕ) (f : App → App) (apps : List App) → find (λ app. app.number == n) apps ≡ None → map (λ app. if app.number == n then f app else app) apps ≡ apps
+none_changed n f [] e = refl
+none_changed n f (a ∷ apps) e = by (a.number == n) refl e (none_changed n f apps)
+  where
+    by : (b : Bool) → a.number == n ≡ b → cond b (Some a) (find (λ app. app.number == n) apps) ≡ None → (find (λ app. app.number == n) apps ≡ None → map (λ app. if app.number == n then f app else app) apps ≡ apps)
+        → map (λ app. if app.number == n then f app else app) (a ∷ apps) ≡ a ∷ apps
+    by true h g r = absurd (cc g)
+    by false h g r = λ i. ap (λ b. if b then f a else a) h i ∷ r g i
+
+pub unknown_is : {K : ℕ} (old : Flat K) (table' : AppTable) (n ignored : ℕ) → table' ≡ with_app n (λ app. after_telling app.response ignored app) old.apps → app_at old n ≡ None → record old { apps = table' } ≡ old
+unknown_is old table' n ignored e none = ap (λ t. record old { apps = t }) (e ∙ ap (λ active. record old.apps { active = active }) (none_changed n (λ app. after_telling app.response ignored app) old.apps.active none))

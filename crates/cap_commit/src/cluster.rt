@@ -19,7 +19,7 @@ ghost use Rattle.cap_model.specs.Heartbeat.{containers_on};
 ghost use Rattle.cap_model.specs.EngineLaws.{HasDistinctNumbers};
 ghost use Rattle.cap_nodes.specs.Tables.{beaten};
 ghost use Rattle.cap_commit.specs.Reports.{as_report};
-ghost use Rattle.cap_commit.specs.Changes.{without_node};
+ghost use Rattle.cap_commit.specs.Changes.{after_end, without_node};
 
 use crate::places::{find_place, place_of};
 use crate::report::QueueReport;
@@ -216,7 +216,8 @@ impl<const K: usize> Cluster<K> {
     /// Tells an active application the oldest grants and ends that wait, at most 64 of each: its response id moves on, and the
     /// reply is kept.
     pub fn tell(&mut self, number: u64, ignored: u16)
-        ensures { IfSome (app_at self.old number) (λ app. self.new ≡ with_app number (after_telling app.response ignored) self.old) }
+        ensures told { IfSome (app_at self.old number) (λ app. self.new ≡ with_app number (after_telling app.response ignored) self.old) }
+        ensures unknown { app_at self.old number ≡ None → self.new ≡ self.old }
     {
         // That it is the only application of its number is known from here.
         let _ = self.apps.next();
@@ -228,19 +229,7 @@ impl<const K: usize> Cluster<K> {
         requires { IsSome (find (λ c. c.number == number) self.old.nodes.live) }
         ensures { IfSome (find (λ c. c.number == number) self.old.nodes.live) (λ c. self.new ≡ after_ends (as_cause cause) (c ∷ []) self.old) }
     {
-        // That it is the only container of its number is known from here.
-        self.nodes.law();
-        let Some(container) = self.nodes.container(number) else {
-            unreachable!()
-        };
-        let Some(app) = self.apps.app(container.app()) else {
-            unreachable!()
-        };
-        let tree = &mut *self.tree;
-        let place = place_of(tree, app.leaf().as_bytes());
-        tree.give_back(&place, app.user(), &container.resource());
-        self.nodes.lift(number);
-        self.apps.add_end(container.app(), &End::new(number, cause));
+        self.complete(number, Some(cause));
     }
 
     /// An active application ends with all that it has: its containers, its asks and what it was not told. The result is how many
@@ -274,16 +263,17 @@ impl<const K: usize> Cluster<K> {
         let mut after = 0;
         while let Some(container) = self.nodes.next_of_app(app, after) {
             after = container.number();
-            self.remove(after);
+            self.complete(after, None);
             ended += 1;
         }
         ended
     }
 
-    /// A live container ends, and its application is not told. What it had is given back at every level of its queue.
-    fn remove(&mut self, number: u64)
+    /// A live container ends: what it had is given back at every level of its queue, and its application is to be told of the
+    /// cause, if there is one to tell.
+    fn complete(&mut self, number: u64, told: Option<Cause>)
         requires { IsSome (find (λ c. c.number == number) self.old.nodes.live) }
-        ensures { IfSome (find (λ c. c.number == number) self.old.nodes.live) (λ c. self.new ≡ without (c ∷ []) self.old) }
+        ensures { IfSome (find (λ c. c.number == number) self.old.nodes.live) (λ c. self.new ≡ after_end told c self.old) }
     {
         // That it is the only container of its number is known from here.
         self.nodes.law();
@@ -297,6 +287,10 @@ impl<const K: usize> Cluster<K> {
         let place = place_of(tree, app.leaf().as_bytes());
         tree.give_back(&place, app.user(), &container.resource());
         self.nodes.lift(number);
+        match told {
+            Some(cause) => self.apps.add_end(container.app(), &End::new(number, cause)),
+            None => {}
+        }
     }
 
     /// How many containers are live.

@@ -1,26 +1,18 @@
 -- Calls that are refused and calls that are granted.
-use Rattle.std.proofs.Common.{◌≡◌, ℕ, Bool, true, false, List, [], ◌∷◌, length, Bor, Option, Some, None, refl, sym, ◌∙◌, ap}
-use Rattle.std.specs.Prelude.{is_some, is_none, IsSome, cond, not, filter, ◌==◌}
+use Rattle.std.proofs.Common.{◌≡◌, ℕ, true, false, List, [], length, Bor, Option, Some, None, refl, sym, ◌∙◌, ap}
+use Rattle.std.specs.Prelude.{is_some, IsSome, ◌==◌}
 use Rattle.std.specs.Option.{option_copied}
 use Rattle.cap_model.specs.Settings.{QueueRow}
 use Rattle.cap_model.specs.Calls.{Cause, CallRequest, CallReply, CallRefusal, QueueReport}
-use Rattle.cap_model.specs.Flat.{Flat, ClusterNode, Container, queue_at, node_at}
-use Rattle.cap_model.specs.Ending.{is_among, after_ends}
+use Rattle.cap_model.specs.Flat.{Flat, ClusterNode, queue_at, node_at}
+use Rattle.cap_model.specs.Ending.{after_ends}
 use Rattle.cap_model.specs.Heartbeat.{containers_on}
 use Rattle.cap_model.specs.NodeGone.{node_gone_refusal}
 use Rattle.cap_model.specs.EngineLaws.{HasDistinctNumbers}
-use Rattle.cap_model.proofs.Balance.{among_some, filter_same, filter_twice}
+use Rattle.cap_model.proofs.Drains.{none_passes}
 use Rattle.cap_commit.specs.Changes.{without_node}
 use Rattle.cap_model.specs.QueueCalls.{queue_report, queue_refusal}
 use Rattle.cap_model.specs.Replies.{refusal_of, granted_reply, granted_cluster, reply_to, after_request}
-
-filter_none : (xs : List Container) → filter (λ c. false) xs ≡ []
-filter_none [] = refl
-filter_none (x ∷ xs) = filter_none xs
-
-not_and : (b : Bool) → cond (not b) b false ≡ false
-not_and true = refl
-not_and false = refl
 
 module _ {K : ℕ} (cluster : Flat K) where
   pub granted_is : (request : CallRequest) → refusal_of cluster request ≡ None →
@@ -58,11 +50,7 @@ module _ {K : ℕ} (cluster : Flat K) where
 
   -- nothing is left on a node when all that was there has ended
   pub none_left : (n : ℕ) → HasDistinctNumbers cluster → containers_on (after_ends Cause.node_lost (containers_on cluster n) cluster) n ≡ []
-  none_left n rising =
-      filter_twice (λ c. c.node == n) (λ c. not (is_among (containers_on cluster n) c)) (λ c. cond (not (is_among (containers_on cluster n) c)) (c.node == n) false) cluster.nodes.live (λ c. refl)
-      ∙ filter_same (λ c. cond (not (is_among (containers_on cluster n) c)) (c.node == n) false) (λ c. false) cluster.nodes.live
-      (λ c m. ap (λ b. cond (not b) (c.node == n) false) (among_some (λ c. c.node == n) 1 cluster.nodes.live cluster.nodes.next_container c rising m) ∙ not_and (c.node == n))
-      ∙ filter_none cluster.nodes.live
+  none_left n rising = none_passes (λ c. c.node == n) cluster rising
 
   pub gone_is : (n : ℕ) (left new : Flat K) (ended : ℕ) → IsSome (node_at cluster n) → ended ≡ length (containers_on cluster n) →
       left ≡ after_ends Cause.node_lost (containers_on cluster n) cluster → new ≡ without_node n left →

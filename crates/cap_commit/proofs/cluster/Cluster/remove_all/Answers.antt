@@ -15,8 +15,8 @@ seen {K} inside cluster app after looked o same is e = sym (is ∙ ap (λ (x : F
 pub loop-container-init : goal.loop-container-init
 loop-container-init g c = none_gone without without_drains (λ d. d.app == c.args.app) c.args.self.now (subst HasDistinctNumbers c.self.view_is c.law.ensures.containers)
 
-pub remove-requires : goal.remove-requires
-remove-requires g c =
+pub complete-requires : goal.complete-requires
+complete-requires g c =
     let now = c.loop-container in
     let next = seen _ _ c.args.app now.after _ _ c.self-in-loop-container.view_is c.next_of_app.ensures c.in-Some.is in
     let found = next_found without without_drains (λ d. d.app == c.args.app) c.args.self.now now.self now.ended now.after now.invariant c.in-Some.container next c.number-after.result c.number-after.ensures in
@@ -28,9 +28,9 @@ overflow_add-ended g c =
     let now = c.loop-container in
     let next = seen _ _ c.args.app now.after _ _ c.self-in-loop-container.view_is c.next_of_app.ensures c.in-Some.is in
     let found = next_found without without_drains (λ d. d.app == c.args.app) c.args.self.now now.self now.ended now.after now.invariant c.in-Some.container next c.number-after.result c.number-after.ensures in
-    let after = one_gone without without_drains (λ d. d.app == c.args.app) c.args.self.now now.self now.ended now.after now.invariant c.remove.new.self c.in-Some.container next c.number-after.result c.number-after.ensures (rw found at c.remove.ensures) in
+    let after = one_gone without without_drains (λ d. d.app == c.args.app) c.args.self.now now.self now.ended now.after now.invariant c.complete.new.self c.in-Some.container next c.number-after.result c.number-after.ensures (rw found at c.complete.ensures) in
     let few = subst (λ (x : Flat g.row.K). length x.nodes.live ≤ live_max) c.self.view_is c.law.ensures.few_live in
-    let ended = few_gone without without_drains (λ d. d.app == c.args.app) c.args.self.now c.remove.new.self (now.ended + 1) c.number-after.result after in
+    let ended = few_gone without without_drains (λ d. d.app == c.args.app) c.args.self.now c.complete.new.self (now.ended + 1) c.number-after.result after in
     omega (arith, few, ended)
 
 pub loop-container-smaller : goal.loop-container-smaller
@@ -38,9 +38,9 @@ loop-container-smaller g c =
     let now = c.loop-container in
     let next = seen _ _ c.args.app now.after _ _ c.self-in-loop-container.view_is c.next_of_app.ensures c.in-Some.is in
     let found = next_found without without_drains (λ d. d.app == c.args.app) c.args.self.now now.self now.ended now.after now.invariant c.in-Some.container next c.number-after.result c.number-after.ensures in
-    let after = one_gone without without_drains (λ d. d.app == c.args.app) c.args.self.now now.self now.ended now.after now.invariant c.remove.new.self c.in-Some.container next c.number-after.result c.number-after.ensures (rw found at c.remove.ensures) in
+    let after = one_gone without without_drains (λ d. d.app == c.args.app) c.args.self.now now.self now.ended now.after now.invariant c.complete.new.self c.in-Some.container next c.number-after.result c.number-after.ensures (rw found at c.complete.ensures) in
     let left = gone_and_left without without_drains (λ d. d.app == c.args.app) c.args.self.now now.self now.ended now.after now.invariant in
-    let less = gone_and_left without without_drains (λ d. d.app == c.args.app) c.args.self.now c.remove.new.self (now.ended + 1) c.number-after.result after in
+    let less = gone_and_left without without_drains (λ d. d.app == c.args.app) c.args.self.now c.complete.new.self (now.ended + 1) c.number-after.result after in
     omega (arith, left, less)
 
 pub loop-container-preserved : goal.loop-container-preserved
@@ -48,7 +48,7 @@ loop-container-preserved g c =
     let now = c.loop-container in
     let next = seen _ _ c.args.app now.after _ _ c.self-in-loop-container.view_is c.next_of_app.ensures c.in-Some.is in
     let found = next_found without without_drains (λ d. d.app == c.args.app) c.args.self.now now.self now.ended now.after now.invariant c.in-Some.container next c.number-after.result c.number-after.ensures in
-    one_gone without without_drains (λ d. d.app == c.args.app) c.args.self.now now.self now.ended now.after now.invariant c.remove.new.self c.in-Some.container next c.number-after.result c.number-after.ensures (rw found at c.remove.ensures)
+    one_gone without without_drains (λ d. d.app == c.args.app) c.args.self.now now.self now.ended now.after now.invariant c.complete.new.self c.in-Some.container next c.number-after.result c.number-after.ensures (rw found at c.complete.ensures)
 
 pub returns-clause-count : goal.returns-clause-count
 returns-clause-count g c =
