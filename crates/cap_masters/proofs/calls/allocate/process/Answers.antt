@@ -7,4 +7,4 @@ returns-clause-ok g c =
     let ended = rw (c.as_slice-2.ensures.value) at c.release_all-ignored.ensures.ended in
     let ignored = rw (c.as_slice-2.ensures.value) at c.release_all-ignored.ensures.ignored in
     processed c.args.cluster.now c.put_asks.new.self c.release_all-ignored.new.cluster c.tell.new.self c.args.application c.args.response c.release_all-ignored.result c.args.asks.now c.args.releases.now
-    c.requires put ended ignored c.tell.ensures
+    c.requires put ended ignored c.tell.ensures.told
