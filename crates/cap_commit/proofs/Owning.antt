@@ -83,10 +83,10 @@ none_of n live z c m = by (c.app == n) refl
     by : (b : Bool) → c.app == n ≡ b → b ≡ false
     by false e = refl
     by true e = absurd (
-      let i = in_filter (λ (x : Container). x.app == n) live c m e in
-      let l = length-filter (λ (x : Container). x.app == n) live in
-      some_in (filter (λ (x : Container). x.app == n) live) i (l ∙ z)
-    )
+        let i = in_filter (λ (x : Container). x.app == n) live c m e in
+        let l = length-filter (λ (x : Container). x.app == n) live in
+        some_in (filter (λ (x : Container). x.app == n) live) i (l ∙ z)
+        )
       where
         some_in : (cs : List Container) → IsIn c cs → length cs ≡ 0 → ⊥
         some_in [] i e = i

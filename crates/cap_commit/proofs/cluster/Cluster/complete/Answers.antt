@@ -37,8 +37,8 @@ give_back-requires g c =
         (
           omega (arith, kinds),
           rw (tree, c.user.ensures, c.resource.ensures.value)
-          (may_give_back x.minimum_allocation x.maximum_allocation x.application_limit x.tree.value x.apps x.nodes c.self.invariant c.law.ensures.containers c.args.number c.in-Some.container (sym c.in-Some.ensures) c.in-Some-app.app.now.app owner
-          (omega (arith, count)) c.place_of-place.result.items at.row at.member (◌∙◌ {a = at.row.path} at.path_is (c.as_bytes.ensures.value ∙ c.leaf.ensures)) at.item_is),
+              (may_give_back x.minimum_allocation x.maximum_allocation x.application_limit x.tree.value x.apps x.nodes c.self.invariant c.law.ensures.containers c.args.number c.in-Some.container (sym c.in-Some.ensures) c.in-Some-app.app.now.app owner
+              (omega (arith, count)) c.place_of-place.result.items at.row at.member (◌∙◌ {a = at.row.path} at.path_is (c.as_bytes.ensures.value ∙ c.leaf.ensures)) at.item_is),
         ),
       ),
     )
