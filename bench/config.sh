@@ -2,12 +2,9 @@
 # Times the reading of property lines, each text beside one of twice its length: 100,000 lines (the keys of 1,024 queues, and comments), 100,000 lines
 # that set properties, one line of 10 MB, and one list of 10 MB with two million names. Each time is the best of three runs. The first text of each kind
 # answers within a second, and the ratio of the two times is at most 2.4.
-set -euo pipefail
-top=$(cd "$(dirname "${BASH_SOURCE[0]}")/.." && pwd)
+. "$(dirname "${BASH_SOURCE[0]}")/common.sh"
 (cd "$top/crates/config_check" && rt run <stdin) >/dev/null 2>&1 || { echo "config_check is not built" >&2; exit 1; }
 program=$top/crates/config_check/out/config_check
-work=$(mktemp -d)
-trap 'rm -rf "$work"' EXIT
 
 # n lines: every property of 1,024 queues, and comments
 queues() {
@@ -64,16 +61,10 @@ list() {
   }'
 }
 
-# milliseconds of the best of three runs on a text, which answers as it must
-measure() {
-  best=
-  for _ in 1 2 3; do
-    begin=$(date +%s%N)
-    answer=$("$program" <"$1")
-    ms=$((($(date +%s%N) - begin) / 1000000))
-    [ "$answer" = "$2" ] || { echo "answered $answer, not $2" >&2; exit 1; }
-    if [ -z "$best" ] || [ "$ms" -lt "$best" ]; then best=$ms; fi
-  done
+# reads the text, which answers as it must
+read_text() {
+  answer=$("$program" <"$work/text")
+  [ "$answer" = "$1" ] || { echo "answered $answer, not $1" >&2; exit 1; }
 }
 
 broken=0
@@ -82,15 +73,12 @@ compare() {
   times=()
   for size in "$2" $((2 * $2)); do
     "$1" "$size" >"$work/text"
-    measure "$work/text" "$4"
+    best_of_three read_text "$4"
     echo "$1 of $size $3: $best ms"
     times+=("$best")
   done
-  awk -v a="${times[0]}" -v b="${times[1]}" -v most="$5" -v ratio="$6" 'BEGIN {
-    r = b / (a > 0 ? a : 1)
-    printf "ratio of the times: %.2f (at most %s); the first at most %d ms\n", r, ratio, most
-    exit !(r <= ratio && a <= most)
-  }' || broken=1
+  ratio "${times[@]}" "$6" || broken=1
+  [ "${times[0]}" -le "$5" ] || { echo "the first took more than $5 ms"; broken=1; }
 }
 
 compare queues 100000 lines ok 1000 2.4

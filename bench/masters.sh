@@ -2,12 +2,8 @@
 # Times the replay of N application masters, for N = 1,000 and 2,000: each is submitted, registers, asks under 50 keys in its first allocate, and makes 19
 # more allocates, in turn with the others. Prints the times and the ratio of the two, which is at most 2.3 where an allocate does not grow with the other
 # applications. Each time is the best of three runs.
-set -euo pipefail
-top=$(cd "$(dirname "${BASH_SOURCE[0]}")/.." && pwd)
-"$top/capsched" --version >/dev/null
-program=$top/crates/capsched/out/capsched
-work=$(mktemp -d)
-trap 'rm -rf "$work"' EXIT
+. "$(dirname "${BASH_SOURCE[0]}")/common.sh"
+build_capsched
 
 script() {
   awk -v n="$1" 'BEGIN {
@@ -27,23 +23,12 @@ script() {
   }'
 }
 
-# milliseconds of the best of three runs
-measure() {
-  best=
-  for _ in 1 2 3; do
-    begin=$(date +%s%N)
-    "$program" replay <"$work/script" >"$work/output"
-    ms=$((($(date +%s%N) - begin) / 1000000))
-    if [ -z "$best" ] || [ "$ms" -lt "$best" ]; then best=$ms; fi
-  done
-  [ "$(grep -c '^out 1 0000000f0103[0-9a-f]\{8\}00' "$work/output")" = "$((20 * $1))" ] || { echo "an allocate is not answered with success" >&2; exit 1; }
-}
-
 times=()
 for n in 1000 2000; do
   script "$n" >"$work/script"
-  measure "$n"
+  best_of_three play
+  [ "$(grep -c '^out 1 0000000f0103[0-9a-f]\{8\}00' "$work/output")" = "$((20 * n))" ] || { echo "an allocate is not answered with success" >&2; exit 1; }
   echo "N=$n: $best ms"
   times+=("$best")
 done
-awk -v a="${times[0]}" -v b="${times[1]}" 'BEGIN { r = b / a; printf "ratio of the times: %.2f (at most 2.3)\n", r; exit !(r <= 2.3) }'
+ratio "${times[@]}" 2.3
