@@ -183,6 +183,17 @@ has_rooms low n next a g e es old new h found has =
       ends = rw there has.ends;
     }
 
+-- and before
+pub had_room : {v : ℕ} (low n next a g e : ℕ) (es : List (ℕ × HeldApp)) (old : HeldApp) → AreNumbered low es next → lookup (nat_eq n) es ≡ Some old → HasRooms n a g e (held v es next)
+    → HasRoom a g e old.room
+had_room low n next a g e es old h found has =
+    let there = room_of_found low n next es old h found in
+    record {
+      asks = rw there at has.asks;
+      grants = rw there at has.grants;
+      ends = rw there at has.ends;
+    }
+
 -- without an application
 numbered_from : (low low' next : ℕ) (es : List (ℕ × HeldApp)) → low ≤ low' → AreNumbered low' es next → AreNumbered low es next
 numbered_from low low' next [] l h = omega (arith, l, h)

@@ -1,4 +1,4 @@
-ghost use Rattle.std.specs.Prelude.{◌≡◌, ◌+◌, ◌≤◌, [], ◌∷◌, ◌++◌, true, false, is_some, option_map, OnOk};
+ghost use Rattle.std.specs.Prelude.{◌≡◌, ◌+◌, ◌≤◌, [], ◌∷◌, ◌++◌, true, false, is_some, option_map, OnOk, IsOk};
 ghost use Rattle.cap_model.specs.Flat.{ask_at};
 ghost use Rattle.cap_model.specs.Asking.{put_ask};
 ghost use Rattle.cap_model.specs.Allocate.{has_too_many_keys, after_telling};
@@ -173,7 +173,8 @@ impl<const K: usize> App<K> {
         self.registered = true;
     }
 
-    /// Makes room for so many more asks, grants and ends. `NoMemory` changes nothing but room that was made before.
+    /// Makes room for so many more asks, grants and ends. `NoMemory` takes no room away and changes nothing else; where there is
+    /// room for all there is no want of it.
     pub(crate) fn reserve(
         &mut self,
         asks: usize,
@@ -183,6 +184,7 @@ impl<const K: usize> App<K> {
         ensures app { self.new.app ≡ self.old.app }
         ensures stays { TakesRoom 0 0 0 self.old.room self.new.room }
         ensures ok { OnOk result (HasRoom asks grants ends self.new.room) }
+        ensures succeeds { HasRoom asks grants ends self.old.room → IsOk result }
     {
         self.asks.reserve(asks)?;
         self.grants.reserve(grants)?;

@@ -51,11 +51,14 @@ impl<const K: usize> Apps<K> {
         }
     }
 
-    /// Makes room for one more application, so that it enters with no memory. `NoMemory` changes nothing that is seen.
+    /// Makes room for one more application, so that it enters with no memory. `NoMemory` changes no application and takes no room
+    /// away, and where there is room there is no want of it.
     pub fn reserve(&mut self) -> Result<(), NoMemory>
         ensures table { self.new.table ≡ self.old.table }
         ensures rooms { self.new.rooms ≡ self.old.rooms }
+        ensures vacant { self.old.vacant ≤ self.new.vacant }
         ensures ok { OnOk result (1 ≤ self.new.vacant) }
+        ensures succeeds { 1 ≤ self.old.vacant → IsOk result }
     {
         match self.active.reserve(1) {
             Ok(()) => {}
@@ -64,8 +67,8 @@ impl<const K: usize> Apps<K> {
         Ok(())
     }
 
-    /// An application enters the leaf queue for a user, under the next number. `NoMemory` changes nothing that is seen, and where
-    /// there is room there is no want of it.
+    /// An application enters the leaf queue for a user, under the next number, which is the result. `NoMemory` changes no
+    /// application, and where there is room there is no want of it.
     pub fn submit(&mut self, leaf: &PathText, user: &ShortText) -> Result<u64, NoMemory>
         requires { self.old.table.next < number_end }
         ensures number { IfOk result (λ number. number ≡ self.old.table.next) }
@@ -107,7 +110,7 @@ impl<const K: usize> Apps<K> {
         self.active.get(&n)
     }
 
-    /// The master of an application has reported.
+    /// The master of an application has reported. Where none of this number is active, nothing changes.
     pub fn register(&mut self, n: u64)
         ensures table { self.new.table ≡ with_app n (λ app. record app { registered = true }) self.old.table }
         ensures room { UsesRoom n 0 0 0 self.old self.new }
@@ -119,12 +122,13 @@ impl<const K: usize> Apps<K> {
     }
 
     /// Makes room for so many more asks, grants and ends of an application, so that it takes them with no memory. `NoMemory`
-    /// changes nothing that is seen, and room that was there before stays.
+    /// changes no application and takes no room away, and where there is room for all there is no want of it.
     pub fn room(&mut self, n: u64, asks: usize, grants: usize, ends: usize) -> Result<(), NoMemory>
         requires { IsSome (app_of n self.old) }
         ensures table { self.new.table ≡ self.old.table }
         ensures stays { UsesRoom n 0 0 0 self.old self.new }
         ensures ok { OnOk result (HasRooms n asks grants ends self.new) }
+        ensures succeeds { HasRooms n asks grants ends self.old → IsOk result }
     {
         let Some(app) = self.active.get_mut(&n) else {
             unreachable!()
@@ -132,7 +136,8 @@ impl<const K: usize> Apps<K> {
         app.reserve(asks, grants, ends)
     }
 
-    /// Puts an ask of an application in place of the one of its key, or in order of key; a count of 0 takes the key away.
+    /// Puts an ask of an application in place of the one of its key, or in order of key; a count of 0 takes the key away. It needs
+    /// room that `room` made.
     pub fn put_ask(&mut self, n: u64, ask: &Ask<K>)
         requires { 1 ≤ ask_room n self.old }
         ensures table { self.new.table ≡ with_app n (λ app. record app { asks = put_ask ask.now app.asks }) self.old.table }
@@ -144,7 +149,8 @@ impl<const K: usize> Apps<K> {
         app.put_ask(ask);
     }
 
-    /// One container less is wanted for this key of an application; an ask that comes to 0 goes.
+    /// One container less is wanted for this key of an application; an ask that comes to 0 goes. Where there is no such application
+    /// or no ask of the key, nothing changes.
     pub fn take_one(&mut self, n: u64, key: &Key)
         ensures table { self.new.table ≡ with_app n (λ app. record app { asks = take_one key.now app.asks }) self.old.table }
         ensures room { UsesRoom n 0 0 0 self.old self.new }
@@ -155,7 +161,7 @@ impl<const K: usize> Apps<K> {
         app.take_one(key);
     }
 
-    /// One more grant waits to be told to the master of an application, last.
+    /// One more grant waits to be told to the master of an application, last. It needs room that `room` made.
     pub fn add_grant(&mut self, n: u64, grant: &Grant<K>)
         requires { 1 ≤ grant_room n self.old }
         ensures table { self.new.table ≡ with_app n (λ app. record app { grants = app.grants ++ grant.now ∷ [] }) self.old.table }
@@ -167,7 +173,7 @@ impl<const K: usize> Apps<K> {
         app.add_grant(grant);
     }
 
-    /// One more end waits to be told to the master of an application, last.
+    /// One more end waits to be told to the master of an application, last. It needs room that `room` made.
     pub fn add_end(&mut self, n: u64, end: &End)
         requires { 1 ≤ end_room n self.old }
         ensures table { self.new.table ≡ with_app n (λ app. record app { ends = app.ends ++ end.now ∷ [] }) self.old.table }
@@ -180,7 +186,8 @@ impl<const K: usize> Apps<K> {
     }
 
     /// Tells the master of an application the oldest grants and ends that wait, at most 64 of each: the response id moves on, and
-    /// the reply is kept. `ignored` is how many releases of the request named nothing.
+    /// the reply is kept. `ignored` is how many releases of the request named nothing. Where none of this number is active, nothing
+    /// changes.
     pub fn tell(&mut self, n: u64, ignored: u16)
         ensures table { self.new.table ≡ with_app n (λ app. after_telling app.response ignored app) self.old.table }
         ensures room { UsesRoom n 0 0 0 self.old self.new }
@@ -191,7 +198,8 @@ impl<const K: usize> Apps<K> {
         app.tell(ignored);
     }
 
-    /// An application ends and is active no more.
+    /// An application ends and is active no more; its asks and what its master was not told go with it. Where none of this number
+    /// is active, nothing changes.
     pub fn finish(&mut self, n: u64)
         ensures table { self.new.table ≡ without_app n self.old.table }
         ensures rooms { self.new.rooms ≡ without_room n self.old.rooms }

@@ -1,4 +1,4 @@
-ghost use Rattle.std.specs.Prelude.{◌≡◌, ◌+◌, ◌-◌, ◌≤◌, ◌∷◌, [], false, true, is_some, if◌then◌else◌, length, nat_lt, take, cond, not, ◌==◌, OnOk};
+ghost use Rattle.std.specs.Prelude.{◌≡◌, ◌+◌, ◌-◌, ◌≤◌, ◌∷◌, [], false, true, is_some, if◌then◌else◌, length, nat_lt, take, cond, not, ◌==◌, OnOk, IsOk};
 ghost use Rattle.std.specs.List.{fold};
 ghost use Rattle.cap_model.specs.Flat.{ask_at};
 ghost use Rattle.cap_model.specs.Asking.{put_ask};
@@ -60,11 +60,12 @@ impl<const K: usize> Asks<K> {
         None
     }
 
-    /// Makes room for so many more keys. `NoMemory` changes nothing.
+    /// Makes room for so many more keys. `NoMemory` changes nothing, and where there is room there is no want of it.
     pub(crate) fn reserve(&mut self, additional: usize) -> Result<(), NoMemory>
         ensures asks { self.new.asks ≡ self.old.asks }
         ensures stays { self.old.room ≤ self.new.room }
         ensures ok { OnOk result (additional ≤ self.new.room) }
+        ensures succeeds { additional ≤ self.old.room → IsOk result }
     {
         match self.items.reserve(additional) {
             Ok(()) => Ok(()),

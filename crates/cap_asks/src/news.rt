@@ -1,4 +1,4 @@
-ghost use Rattle.std.specs.Prelude.{◌≡◌, ◌+◌, ◌≤◌, [], ◌∷◌, ◌++◌, take, drop, OnOk};
+ghost use Rattle.std.specs.Prelude.{◌≡◌, ◌+◌, ◌≤◌, [], ◌∷◌, ◌++◌, take, drop, OnOk, IsOk};
 ghost use Rattle.cap_model.specs.Allocate.{news_max};
 
 use arrayvec::ArrayVec;
@@ -37,12 +37,13 @@ impl<T: Copy> News<T> {
         }
     }
 
-    /// Makes room for so many more. `NoMemory` changes nothing.
+    /// Makes room for so many more. `NoMemory` changes nothing, and where there is room there is no want of it.
     pub(crate) fn reserve(&mut self, additional: usize) -> Result<(), NoMemory>
         ensures told { self.new.told ≡ self.old.told }
         ensures waiting { self.new.waiting ≡ self.old.waiting }
         ensures stays { self.old.room ≤ self.new.room }
         ensures ok { OnOk result (additional ≤ self.new.room) }
+        ensures succeeds { additional ≤ self.old.room → IsOk result }
     {
         match self.items.reserve(additional) {
             Ok(()) => Ok(()),

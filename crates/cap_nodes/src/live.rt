@@ -43,7 +43,7 @@ impl<const K: usize> Live<K> {
         }
     }
 
-    /// The live container of this number.
+    /// The live container of this number, none where none is live.
     pub(crate) fn get(&self, number: u64) -> Option<Container<K>>
         ensures found { result ≡ find (λ c. c.number == number) self.now.live }
         ensures rising { IsRising 1 (map (λ c. c.number) self.now.live) self.now.next }
@@ -97,14 +97,14 @@ impl<const K: usize> Live<K> {
         Ok(number)
     }
 
-    /// The container of this number is live no longer.
+    /// The container of this number is live no longer. Where none is, nothing changes.
     pub(crate) fn remove(&mut self, number: u64)
         ensures { self.new ≡ record self.old { live = filter (λ c. not (c.number == number)) self.old.live } }
     {
         self.containers.remove(&number);
     }
 
-    /// The live container of an application with the least number above `after`.
+    /// The live container of an application with the least number above `after`, none where there is none.
     pub(crate) fn next_of_app(&self, app: u64, after: u64) -> Option<Container<K>>
         ensures { result ≡ find (λ c. c.app == app && nat_lt after c.number) self.now.live }
     {
@@ -119,7 +119,7 @@ impl<const K: usize> Live<K> {
         None
     }
 
-    /// The live container on a node with the least number above `after`.
+    /// The live container on a node with the least number above `after`, none where there is none.
     pub(crate) fn next_on_node(&self, node: u64, after: u64) -> Option<Container<K>>
         ensures { result ≡ find (λ c. c.node == node && nat_lt after c.number) self.now.live }
     {

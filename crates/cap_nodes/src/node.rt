@@ -124,8 +124,8 @@ impl<const K: usize> Node<K> {
         !(id == self.response || self.is_repeated(id))
     }
 
-    /// Answers one more heartbeat: so many of the ends that it told named no container live there, and so many are live there
-    /// now.
+    /// One more heartbeat is answered, of which so many ends named no container that was live there, and so many are live there now:
+    /// the response id moves on, and the reply is kept.
     pub(crate) fn beat(&mut self, ignored: u16, live: u32)
         ensures { self.new ≡ beaten ignored live self.old }
     {

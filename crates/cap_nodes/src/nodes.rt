@@ -134,7 +134,8 @@ impl<const K: usize> Nodes<K> {
         }
     }
 
-    /// Takes a node in under the next number, of a total in MiB and vcores, with no container. `NoMemory` changes nothing.
+    /// Takes a node in under the next number, which is the result, of a total in MiB and vcores, with no container. `NoMemory`
+    /// changes nothing.
     pub fn register(
         &mut self,
         host: &ShortText,
@@ -159,7 +160,7 @@ impl<const K: usize> Nodes<K> {
     }
 
     /// A container of this resource, in MiB and vcores, becomes live on a present node that has room for it, for the key of an
-    /// application, under the next number. `NoMemory` changes nothing.
+    /// application, under the next number, which is the result. `NoMemory` changes nothing.
     pub fn place(
         &mut self,
         app: u64,
@@ -194,8 +195,8 @@ impl<const K: usize> Nodes<K> {
         self.present.lift(container.node(), &container.resource());
     }
 
-    /// A present node answers one more heartbeat, of which so many ends named no container that was live there: it keeps the
-    /// reply, which tells how many are live there now.
+    /// One more heartbeat of a present node is answered, of which so many ends named no container that was live there: the response
+    /// id moves on, and the reply is kept, which tells how many are live there now.
     pub fn beat(&mut self, number: u64, ignored: u16)
         requires { IsSome (node_in self.old number) }
         ensures { self.new ≡ record self.old { present = change_node number (beaten ignored (length (containers_on self.old number))) self.old.present } }
@@ -203,7 +204,7 @@ impl<const K: usize> Nodes<K> {
         self.present.beat(number, ignored);
     }
 
-    /// A present node goes, on which no container is live.
+    /// A present node goes, on which no container is live, and its total with it.
     pub fn gone(&mut self, number: u64)
         requires present { IsSome (node_in self.old number) }
         requires empty { containers_on self.old number ≡ [] }
@@ -216,14 +217,14 @@ impl<const K: usize> Nodes<K> {
         self.present.remove(number);
     }
 
-    /// The live container of an application with the least number above `after`.
+    /// The live container of an application with the least number above `after`, none where there is none.
     pub fn next_of_app(&self, app: u64, after: u64) -> Option<Container<K>>
         ensures { result ≡ find (λ c. c.app == app && nat_lt after c.number) self.now.live }
     {
         self.live.next_of_app(app, after)
     }
 
-    /// The live container on a node with the least number above `after`.
+    /// The live container on a node with the least number above `after`, none where there is none.
     pub fn next_on_node(&self, node: u64, after: u64) -> Option<Container<K>>
         ensures { result ≡ find (λ c. c.node == node && nat_lt after c.number) self.now.live }
     {

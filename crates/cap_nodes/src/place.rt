@@ -46,7 +46,7 @@ impl<const K: usize> Place<K> {
         self.live
     }
 
-    /// What it has left.
+    /// What it has left, in MiB and vcores.
     pub(crate) fn free(&self) -> Resource<K>
         requires { Fits self.now.held self.now.node.total }
         ensures { result ≡ less self.now.node.total self.now.held }
@@ -76,7 +76,7 @@ impl<const K: usize> Place<K> {
         self.live -= 1;
     }
 
-    /// It answers one more heartbeat, of which so many ends named no container that was live on it.
+    /// One more heartbeat of it is answered, of which so many ends named no container that was live on it.
     pub(crate) fn beat(&mut self, ignored: u16)
         ensures { self.new ≡ beaten_place ignored self.old }
     {

@@ -49,7 +49,7 @@ impl<const K: usize> Present<K> {
         }
     }
 
-    /// The node of this number.
+    /// The node of this number, none where none is present.
     pub(crate) fn get(&self, number: u64) -> Option<&Place<K>>
         ensures found { option_copied result ≡ place_at self.now.places number }
         ensures rising { IsRising 1 (map (λ p. p.node.number) self.now.places) self.now.next }
@@ -140,7 +140,7 @@ impl<const K: usize> Present<K> {
         }
     }
 
-    /// A node answers one more heartbeat, of which so many ends named no container that was live there.
+    /// One more heartbeat of a node is answered, of which so many ends named no container that was live there.
     pub(crate) fn beat(&mut self, number: u64, ignored: u16)
         requires { IsSome (place_at self.old.places number) }
         ensures { self.new ≡ record self.old { places = change_place number (beaten_place ignored) self.old.places } }
@@ -151,7 +151,7 @@ impl<const K: usize> Present<K> {
         }
     }
 
-    /// A node goes.
+    /// A node goes. Where none of this number is present, nothing changes.
     pub(crate) fn remove(&mut self, number: u64)
         ensures { self.new ≡ record self.old { places = filter (λ p. not (p.node.number == number)) self.old.places } }
     {
