@@ -135,6 +135,19 @@ module _ {K : ℕ} where
     pub held_app : (n : ℕ) (apps' : HeldApps) (f : App → App) → KeepsApp f → apps'.table ≡ with_app n f apps.table → KeepsEnds apps apps' → IsHeld {K = K} rows apps' (flat_of minimum maximum limit (queues_of rows) apps'.table nodes)
     held_app n apps' f k e ends = held_apps apps' (λ app. if app.number == n then f app else app) (only_app n f k) (ap (λ (t : AppTable). t.active) e) (ap (λ (t : AppTable). t.next) e) ends
 
+    -- after more room was made
+    pub held_room : (apps' : HeldApps) → apps'.table ≡ apps.table → KeepsEnds apps apps' → IsHeld {K = K} rows apps' (flat_of minimum maximum limit (queues_of rows) apps'.table nodes)
+    held_room apps' e ends = rw e (record {
+      tied = h.tied;
+      leaves = h.leaves;
+      limit = h.limit;
+      few = h.few;
+      owned = h.owned;
+      ready = still_ready apps apps' nodes.live nodes.live ends (λ n. omega arith) h.ready;
+      unreserved = h.unreserved;
+      resources = h.resources;
+    })
+
     -- after a queue's own state was set
     pub held_state : (path : List ℕ) (running : Bool) → IsHeld {K = K} (map (with_state path running) rows) apps (flat_of minimum maximum limit (queues_of (map (with_state path running) rows)) apps.table nodes)
     held_state path running =

@@ -2,7 +2,7 @@ use Rattle.std.proofs.Common.{◌∙◌, ap, refl, List, ℕ, arith}
 use Rattle.cap_vector.specs.Rounding.{round_up}
 use Rattle.cap_tree.specs.Rows.{queues_of}
 use Rattle.cap_commit.proofs.Parts.{asks_step, room_left}
-use Rattle.cap_commit.proofs.Holding.{held_app}
+use Rattle.cap_commit.proofs.Holding.{held_app, held_room}
 use Rattle.cap_commit.proofs.Owning.{ends_kept}
 use Rattle.cap_commit.proofs.cluster.Cluster.put_asks.Goals as goal
 
@@ -23,3 +23,18 @@ put_ask-requires g c =
     let room = c.loop-ask.invariant.room in
     let more = c.loop-ask-test.true in
     (omega arith, (omega (arith, k), omega (arith, room, more)))
+
+pub invariant_of-self : goal.invariant_of-self
+invariant_of-self g c =
+    let x = c.self.inside in
+    held_room x.minimum_allocation x.maximum_allocation x.application_limit x.tree.value x.apps x.nodes c.self.invariant c.room.new.self c.room.ensures.table (ends_kept c.args.number 0 0 _ _ c.room.ensures.stays)
+
+pub loop-ask-init : goal.loop-ask-init
+loop-ask-init g c =
+    let x = c.self.inside in
+    let room = c.in-Ok.ensures.ok.asks in
+    record {
+      put = rw c.room.ensures.table c.self.view_is;
+      room = omega (arith, room);
+      held = held_room x.minimum_allocation x.maximum_allocation x.application_limit x.tree.value x.apps x.nodes c.self.invariant c.room.new.self c.room.ensures.table (ends_kept c.args.number 0 0 _ _ c.room.ensures.stays);
+    }
