@@ -1,13 +1,13 @@
 -- The live containers that pass a test end one after the other, in order of number.
-use Rattle.std.proofs.Common.{◌≡◌, ℕ, ◌+◌, ◌<◌, ◌≤◌, Bool, true, false, List, [], ◌∷◌, ◌++◌, refl, sym, ◌∙◌, ap, subst, inl, inr, arith}
-use Rattle.std.specs.Prelude.{Option, Some, None, cond, not, ◌&&◌, nat_lt, filter, find}
+use Rattle.std.proofs.Common.{◌≡◌, ℕ, ◌+◌, ◌<◌, Bool, true, false, List, [], ◌∷◌, ◌++◌, refl, sym, ◌∙◌, ap, inl, inr, arith}
+use Rattle.std.specs.Prelude.{Some, None, cond, not, ◌&&◌, nat_lt, filter, find}
 use Rattle.std.proofs.lemmas.Bool.Decides.{nat_tests}
 use Rattle.std.proofs.lemmas.List.{append_assoc, append-nil}
 use Rattle.cap_model.specs.Flat.{Container}
 use Rattle.cap_model.specs.Ending.{is_among}
 use Rattle.cap_model.specs.Bounds.{IsRising}
 use Rattle.cap_model.specs.EngineLaws.{numbers_of}
-use Rattle.cap_model.proofs.Choosing.{IsIn, of_filter, in_filter, found}
+use Rattle.cap_model.proofs.Choosing.{IsIn, of_filter, found}
 use Rattle.cap_model.proofs.Members.{rising_kept, rising_from_low}
 use Rattle.cap_model.proofs.EndsInOrder.{first_passes, none_pass}
 

@@ -1,13 +1,13 @@
 -- A cluster in which the live containers that pass a test go one after the other, in order of number.
-use Rattle.std.proofs.Common.{◌≡◌, ℕ, ◌+◌, ◌≤◌, ◌<◌, Bool, true, false, List, [], ◌∷◌, ◌++◌, length, length-append, refl, sym, ◌∙◌, ap, subst, arith}
-use Rattle.std.specs.Prelude.{Option, Some, None, not, ◌==◌, ◌&&◌, nat_lt, count_by, filter, find}
+use Rattle.std.proofs.Common.{◌≡◌, ℕ, ◌+◌, ◌≤◌, Bool, true, false, List, [], ◌∷◌, ◌++◌, length, length-append, refl, sym, ◌∙◌, ap, subst, arith}
+use Rattle.std.specs.Prelude.{Some, None, not, ◌==◌, ◌&&◌, nat_lt, filter, find}
 use Rattle.std.proofs.lemmas.List.Sums.{length-filter, count_by-le-length}
 use Rattle.cap_model.specs.Calls.{Cause}
 use Rattle.cap_model.specs.Flat.{Flat, Container}
 use Rattle.cap_model.specs.Ending.{is_among, without, after_ends}
 use Rattle.cap_model.specs.EngineLaws.{HasDistinctNumbers}
 use Rattle.cap_model.proofs.Balance.{among_some, filter_none}
-use Rattle.cap_model.proofs.Choosing.{IsIn, of_filter}
+use Rattle.cap_model.proofs.Choosing.{of_filter}
 use Rattle.cap_model.proofs.Draining.{IsDrained, drain_start, drain_step, drain_end, drained_found}
 use Rattle.cap_model.proofs.EndsInOrder.{ends_none, ends_more, without_none, without_one_more}
 use Rattle.cap_model.proofs.Members.{found_by_number}

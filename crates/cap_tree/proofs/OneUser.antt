@@ -6,7 +6,7 @@ use Rattle.std.proofs.lemmas.List.Sums.{sum_by-cons}
 use Rattle.std.proofs.lemmas.Bool.Decides.{nat_tests}
 use Rattle.std.proofs.lemmas.Slice.Eq.{bytes_eq-Decides}
 use Rattle.indexmap.specs.IndexMap.{swap_remove_by}
-use Rattle.cap_vector.specs.Vector.{amount, less, zeros, Fits}
+use Rattle.cap_vector.specs.Vector.{amount, less, Fits}
 use Rattle.cap_tree.specs.Measure.{Measure}
 use Rattle.cap_tree.specs.Queue.{UserRow, of_one, of_user, user_row, with_row, no_row, users_entered, users_left, users_lowered}
 use Rattle.cap_tree.specs.QueueLaws.{one_more, so_much, amount-zeros, lowered_counts}
