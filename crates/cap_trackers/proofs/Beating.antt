@@ -1,15 +1,15 @@
 -- A heartbeat that is not refused.
 use Rattle.std.proofs.Common.{◌≡◌, ℕ, ◌+◌, ◌-◌, Bool, true, false, List, [], ◌∷◌, length, map, Option, Some, None, refl, sym, ◌∙◌, ap, subst, inl, inr, arith}
-use Rattle.std.specs.Prelude.{nat_lt, is_some, IsSome, cond, not, filter, find, count_by, option_map, option_and_then, ◌==◌, ◌&&◌, ◌||◌, if◌then◌else◌}
+use Rattle.std.specs.Prelude.{nat_lt, is_some, IsSome, cond, not, filter, find, count_by, ◌==◌, ◌&&◌, ◌||◌, if◌then◌else◌}
 use Rattle.std.proofs.lemmas.Bool.Decides.{nat_tests}
 use Rattle.std.proofs.lemmas.List.Sums.{length-filter}
 use Rattle.std.proofs.lemmas.List.Filters.{length-filter_both}
-use Rattle.cap_model.specs.Calls.{Cause, CallRequest, CallReply, CallRefusal, HeartbeatReply}
+use Rattle.cap_model.specs.Calls.{Cause, CallRequest, CallReply, CallRefusal}
 use Rattle.cap_model.specs.Flat.{Flat, ClusterNode, Container, node_at, with_node}
 use Rattle.cap_model.specs.Bounds.{IsRising}
 use Rattle.cap_model.specs.Cascade.{earliest}
 use Rattle.cap_model.specs.ResponseIds.{response_end, next_response, is_current, is_repeated, is_bad_id}
-use Rattle.cap_model.specs.Ending.{is_among, named_among, after_ends}
+use Rattle.cap_model.specs.Ending.{is_among, after_ends}
 use Rattle.cap_model.specs.Heartbeat.{heartbeat_refusal, is_repeated_heartbeat, containers_on, ended_by, beat_of, after_processed_heartbeat, after_heartbeat}
 use Rattle.cap_model.specs.EngineLaws.{HasDistinctNumbers}
 use Rattle.cap_model.specs.Replies.{reply_to, after_request}
