@@ -116,6 +116,7 @@ fn of_several_refusals_the_smallest_is_answered(rt: HostRuntime) -> Result<(), F
 #[test]
 fn queues_are_reported(rt: HostRuntime) -> Result<(), Fail> {
     let cluster = cluster(rt.alloc())?;
+    assert!(rt; report_of_a(true).is_some());
     assert_eq!(rt; report(&cluster, "root.a"), report_of_a(true));
     assert_eq!(rt; report(&cluster, "root"), Some(report_of_root()));
     Ok(())
