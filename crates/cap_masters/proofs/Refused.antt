@@ -1,5 +1,5 @@
 -- What is known where no refusal holds, and how amounts are compared.
-use Rattle.std.proofs.Common.{◌≡◌, ℕ, Bool, true, false, List, [], ◌∷◌, refl, sym, ap}
+use Rattle.std.proofs.Common.{◌≡◌, ℕ, Bool, true, false, List, [], ◌∷◌, refl, sym}
 use Rattle.std.specs.Prelude.{Option, Some, None, IsSome, IsTrue, ◌↔◌, is_none, not}
 use Rattle.cap_vector.specs.Vector.{Fits}
 use Rattle.cap_model.specs.Amounts.{fits}

@@ -17,100 +17,149 @@ fn cluster(alloc: Global) -> Result<Cluster<2>, Fail> {
     Ok(Cluster::from_config(alloc, &config)?)
 }
 
-/// Submits an application of user `u1`.
-fn enter(cluster: &mut Cluster<2>, path: &[u8]) -> Option<Reply<2>> {
-    let path = PathText::new(path)?;
+/// Submits an application of user `u1`: its number, or why it is refused.
+fn enter(cluster: &mut Cluster<2>, path: &str) -> Option<Result<u64, Refusal>> {
+    let path = PathText::new(path.as_bytes())?;
     let user = ShortText::new(b"u1")?;
-    Some(submit(cluster, &path, &user))
+    match submit(cluster, &path, &user) {
+        Reply::Submit { application } => Some(Ok(application)),
+        Reply::Refused(refusal) => Some(Err(refusal)),
+        _ => None,
+    }
+}
+
+/// How many applications are active in and under a queue.
+fn active(cluster: &Cluster<2>, path: &str) -> Option<u32> {
+    match cluster.report(path.as_bytes()) {
+        Some(queue) => Some(queue.applications),
+        None => None,
+    }
+}
+
+/// A cluster with an application in `root.b`, number 1.
+fn with_application(alloc: Global) -> Result<Cluster<2>, Fail> {
+    let mut cluster = cluster(alloc)?;
+    let _ = enter(&mut cluster, "root.b");
+    Ok(cluster)
+}
+
+/// A cluster with as many applications as it may have: 1 in `root.b`, and 2 in `root.a.x`.
+fn full(alloc: Global) -> Result<Cluster<2>, Fail> {
+    let mut cluster = with_application(alloc)?;
+    let _ = enter(&mut cluster, "root.a.x");
+    Ok(cluster)
 }
 
 #[test]
 fn applications_enter_leaf_queues(rt: HostRuntime) -> Result<(), Fail> {
     let mut cluster = cluster(rt.alloc())?;
     assert_eq!(rt; cluster.application_limit(), 2);
-    assert_eq!(rt;
-        enter(&mut cluster, b"root.a.x").ok_or("a reply")?,
-        Reply::Submit { application: 1 }
-    );
-    assert_eq!(rt;
-        enter(&mut cluster, b"root.b").ok_or("a reply")?,
-        Reply::Submit { application: 2 }
-    );
-    assert_eq!(rt; cluster.report(b"root").ok_or("a queue")?.applications, 2);
-    assert_eq!(rt; cluster.report(b"root.a").ok_or("a queue")?.applications, 1);
-    assert_eq!(rt;
-        cluster.report(b"root.a.y").ok_or("a queue")?.applications,
-        0
-    );
+    for (path, answer) in [
+        ("root.a.x", Ok(1)),
+        ("root.b", Ok(2)),
+        ("root.b", Err(Refusal::TooManyApplications)),
+    ] {
+        assert_eq!(rt; enter(&mut cluster, path), Some(answer), "in {path}");
+    }
     assert_eq!(rt; cluster.application_count(), 2);
     assert_eq!(rt; cluster.next_app(), 3);
-    assert_eq!(rt;
-        enter(&mut cluster, b"root.b").ok_or("a reply")?,
-        Reply::Refused(Refusal::TooManyApplications)
-    );
+    Ok(())
+}
+
+#[test]
+fn applications_are_counted_in_and_under_queues(rt: HostRuntime) -> Result<(), Fail> {
+    let cluster = full(rt.alloc())?;
+    for (path, applications) in [("root", 2), ("root.a", 1), ("root.a.y", 0)] {
+        assert_eq!(rt; active(&cluster, path), Some(applications), "in {path}");
+    }
     assert_eq!(rt; cluster.application_count(), 2);
+    assert_eq!(rt; cluster.next_app(), 3);
     Ok(())
 }
 
 #[test]
 fn other_queues_refuse_them(rt: HostRuntime) -> Result<(), Fail> {
     let mut cluster = cluster(rt.alloc())?;
-    assert_eq!(rt;
-        enter(&mut cluster, b"root.c").ok_or("a reply")?,
-        Reply::Refused(Refusal::UnknownQueue)
-    );
-    assert_eq!(rt;
-        enter(&mut cluster, b"root").ok_or("a reply")?,
-        Reply::Refused(Refusal::NotLeaf)
-    );
-    cluster.set_state(b"root.b", false);
-    assert_eq!(rt;
-        enter(&mut cluster, b"root.b").ok_or("a reply")?,
-        Reply::Refused(Refusal::QueueStopped)
-    );
-    cluster.set_state(b"root.a", false);
-    assert_eq!(rt;
-        enter(&mut cluster, b"root.a.x").ok_or("a reply")?,
-        Reply::Refused(Refusal::QueueStopped)
-    );
+    for (path, refusal) in [
+        ("root.c", Refusal::UnknownQueue),
+        ("root", Refusal::NotLeaf),
+    ] {
+        assert_eq!(rt; enter(&mut cluster, path), Some(Err(refusal)), "in {path}");
+    }
+    assert_eq!(rt; cluster.application_count(), 0);
+    Ok(())
+}
+
+#[test]
+fn stopped_queues_refuse_them(rt: HostRuntime) -> Result<(), Fail> {
+    let mut cluster = cluster(rt.alloc())?;
+    for (stopped, path) in [("root.b", "root.b"), ("root.a", "root.a.x")] {
+        cluster.set_state(stopped.as_bytes(), false);
+        let reply = enter(&mut cluster, path);
+        assert_eq!(rt; reply, Some(Err(Refusal::QueueStopped)), "in {path}");
+    }
     assert_eq!(rt; cluster.application_count(), 0);
     Ok(())
 }
 
 #[test]
 fn of_several_refusals_the_smallest_is_answered(rt: HostRuntime) -> Result<(), Fail> {
-    let mut cluster = cluster(rt.alloc())?;
-    enter(&mut cluster, b"root.b").ok_or("a reply")?;
-    enter(&mut cluster, b"root.b").ok_or("a reply")?;
-    assert_eq!(rt;
-        enter(&mut cluster, b"root.c").ok_or("a reply")?,
-        Reply::Refused(Refusal::UnknownQueue)
-    );
-    assert_eq!(rt;
-        enter(&mut cluster, b"root.a").ok_or("a reply")?,
-        Reply::Refused(Refusal::NotLeaf)
-    );
-    cluster.set_state(b"root", false);
-    assert_eq!(rt;
-        enter(&mut cluster, b"root.a").ok_or("a reply")?,
-        Reply::Refused(Refusal::NotLeaf)
-    );
-    assert_eq!(rt;
-        enter(&mut cluster, b"root.b").ok_or("a reply")?,
-        Reply::Refused(Refusal::QueueStopped)
-    );
+    let mut cluster = full(rt.alloc())?;
+    for (path, refusal) in [
+        ("root.c", Refusal::UnknownQueue),
+        ("root.a", Refusal::NotLeaf),
+    ] {
+        assert_eq!(rt; enter(&mut cluster, path), Some(Err(refusal)), "in {path}");
+    }
     Ok(())
 }
 
-/// A cluster with an application in `root.b`, number 1.
-fn with_application(alloc: Global) -> Result<Cluster<2>, Fail> {
-    let mut cluster = cluster(alloc)?;
-    enter(&mut cluster, b"root.b").ok_or("a reply")?;
+#[test]
+fn of_the_refusals_of_a_stopped_queue_the_smallest_is_answered(
+    rt: HostRuntime,
+) -> Result<(), Fail> {
+    let mut cluster = full(rt.alloc())?;
+    cluster.set_state(b"root", false);
+    for (path, refusal) in [
+        ("root.a", Refusal::NotLeaf),
+        ("root.b", Refusal::QueueStopped),
+    ] {
+        assert_eq!(rt; enter(&mut cluster, path), Some(Err(refusal)), "in {path}");
+    }
+    Ok(())
+}
+
+/// The master of an application reports.
+fn report(cluster: &mut Cluster<2>, application: u64) -> Option<Reply<2>> {
+    Some(register_master(cluster, application))
+}
+
+/// A cluster with an application in `root.b`, number 1, whose master has reported.
+fn with_master(alloc: Global) -> Result<Cluster<2>, Fail> {
+    let mut cluster = with_application(alloc)?;
+    let _ = report(&mut cluster, 1);
     Ok(cluster)
 }
 
-/// What an allocate of application 1 with these asks, and the release of container 7, is answered.
-fn ask(alloc: Global, cluster: &mut Cluster<2>, response: u32, memory: u64) -> Option<Reply<2>> {
+/// The reply to a master that has reported, which learns the least and the most that a container may have, or was refused.
+fn reported(answer: Result<(), Refusal>) -> Option<Reply<2>> {
+    match answer {
+        Ok(()) => Some(Reply::RegisterMaster {
+            minimum: Resource::new([1024, 1])?,
+            maximum: Resource::new([8192, 4])?,
+        }),
+        Err(refusal) => Some(Reply::Refused(refusal)),
+    }
+}
+
+/// The answer to an allocate of application 1 with an ask of this memory and the release of container 7: the new response id
+/// and the number of ignored releases, or why it is refused.
+fn ask(
+    alloc: Global,
+    cluster: &mut Cluster<2>,
+    response: u32,
+    memory: u64,
+) -> Option<Result<(u32, u16), Refusal>> {
     let resource = Resource::new([memory, 1])?;
     let place = ShortText::new(b"*")?;
     let mut asks = Vec::new(alloc);
@@ -123,7 +172,11 @@ fn ask(alloc: Global, cluster: &mut Cluster<2>, response: u32, memory: u64) -> O
     };
     let asks: Asks<2> = List::of(asks);
     let releases: Numbers = List::of(releases);
-    Some(allocate(cluster, 1, response, &asks, &releases))
+    match allocate(cluster, 1, response, &asks, &releases) {
+        Reply::Allocate { reply } => Some(Ok((reply.response, reply.ignored))),
+        Reply::Refused(refusal) => Some(Err(refusal)),
+        _ => None,
+    }
 }
 
 /// The memory of the one ask of application 1, in MiB.
@@ -134,95 +187,79 @@ fn asked_memory(cluster: &Cluster<2>) -> Option<u64> {
     Some(memory)
 }
 
-/// The new response id and the number of ignored releases of a reply.
-fn told(reply: &Reply<2>) -> Option<(u32, u16)> {
-    match reply {
-        Reply::Allocate { reply } => Some((reply.response, reply.ignored)),
+#[test]
+fn masters_report_once(rt: HostRuntime) -> Result<(), Fail> {
+    let mut cluster = with_application(rt.alloc())?;
+    for (application, answer) in [
+        (2, Err(Refusal::UnknownApplication)),
+        (1, Ok(())),
+        (1, Err(Refusal::AlreadyRegistered)),
+    ] {
+        let reply = report(&mut cluster, application);
+        assert_eq!(rt; reply, reported(answer), "of {application}");
+    }
+    Ok(())
+}
+
+/// An application finishes: how many of its containers ended, or why it is refused.
+fn finish(cluster: &mut Cluster<2>, application: u64) -> Option<Result<u32, Refusal>> {
+    match finish_master(cluster, application) {
+        Reply::FinishMaster { ended } => Some(Ok(ended)),
+        Reply::Refused(refusal) => Some(Err(refusal)),
         _ => None,
     }
 }
 
 #[test]
-fn masters_report_once(rt: HostRuntime) -> Result<(), Fail> {
-    let mut cluster = with_application(rt.alloc())?;
-    let minimum = Resource::new([1024, 1]).ok_or("an allocation")?;
-    let maximum = Resource::new([8192, 4]).ok_or("an allocation")?;
-    assert_eq!(rt;
-        register_master(&mut cluster, 2),
-        Reply::Refused(Refusal::UnknownApplication)
-    );
-    assert_eq!(rt;
-        register_master(&mut cluster, 1),
-        Reply::RegisterMaster { minimum, maximum }
-    );
-    assert_eq!(rt;
-        register_master(&mut cluster, 1),
-        Reply::Refused(Refusal::AlreadyRegistered)
-    );
+fn applications_finish_once(rt: HostRuntime) -> Result<(), Fail> {
+    let mut cluster = with_master(rt.alloc())?;
+    for answer in [Ok(0), Err(Refusal::UnknownApplication)] {
+        assert_eq!(rt; finish(&mut cluster, 1), Some(answer));
+    }
+    assert_eq!(rt; cluster.application_count(), 0);
     Ok(())
 }
 
 #[test]
-fn applications_finish_once(rt: HostRuntime) -> Result<(), Fail> {
+fn unregistered_applications_do_not_finish(rt: HostRuntime) -> Result<(), Fail> {
     let mut cluster = with_application(rt.alloc())?;
-    assert_eq!(rt;
-        finish_master(&mut cluster, 1),
-        Reply::Refused(Refusal::NotRegistered)
-    );
-    register_master(&mut cluster, 1);
-    assert_eq!(rt;
-        finish_master(&mut cluster, 1),
-        Reply::FinishMaster { ended: 0 }
-    );
-    assert_eq!(rt;
-        finish_master(&mut cluster, 1),
-        Reply::Refused(Refusal::UnknownApplication)
-    );
-    assert_eq!(rt; cluster.application_count(), 0);
+    let refused = finish(&mut cluster, 1);
+    assert_eq!(rt; refused, Some(Err(Refusal::NotRegistered)));
     Ok(())
 }
 
 #[test]
 fn masters_ask_after_they_reported(rt: HostRuntime) -> Result<(), Fail> {
     let mut cluster = with_application(rt.alloc())?;
-    assert_eq!(rt;
-        ask(rt.alloc(), &mut cluster, 0, 1500).ok_or("a reply")?,
-        Reply::Refused(Refusal::NotRegistered)
-    );
-    register_master(&mut cluster, 1);
-    let reply = ask(rt.alloc(), &mut cluster, 0, 1500).ok_or("a reply")?;
-    assert_eq!(rt; told(&reply).ok_or("an answer")?, (1, 1));
-    assert_eq!(rt; asked_memory(&cluster).ok_or("an ask")?, 2048);
+    let refused = ask(rt.alloc(), &mut cluster, 0, 1500);
+    assert_eq!(rt; refused, Some(Err(Refusal::NotRegistered)));
+    let _ = report(&mut cluster, 1);
+    assert_eq!(rt; ask(rt.alloc(), &mut cluster, 0, 1500), Some(Ok((1, 1))));
+    assert_eq!(rt; asked_memory(&cluster), Some(2048));
     Ok(())
 }
 
 #[test]
 fn repeated_ids_are_answered_the_same(rt: HostRuntime) -> Result<(), Fail> {
-    let mut cluster = with_application(rt.alloc())?;
-    register_master(&mut cluster, 1);
-    assert_eq!(rt;
-        ask(rt.alloc(), &mut cluster, 2_147_483_647, 1024).ok_or("a reply")?,
-        Reply::Refused(Refusal::BadResponseId)
-    );
-    let first = ask(rt.alloc(), &mut cluster, 0, 1024).ok_or("a reply")?;
-    let again = ask(rt.alloc(), &mut cluster, 0, 4096).ok_or("a reply")?;
-    assert_eq!(rt; told(&first).ok_or("an answer")?, (1, 1));
-    assert_eq!(rt; told(&again).ok_or("an answer")?, (1, 1));
-    assert_eq!(rt; asked_memory(&cluster).ok_or("an ask")?, 1024);
-    assert_eq!(rt;
-        ask(rt.alloc(), &mut cluster, 2, 1024).ok_or("a reply")?,
-        Reply::Refused(Refusal::BadResponseId)
-    );
+    let mut cluster = with_master(rt.alloc())?;
+    for (response, memory, answer) in [
+        (2_147_483_647, 1024, Err(Refusal::BadResponseId)),
+        (0, 1024, Ok((1, 1))),
+        (0, 4096, Ok((1, 1))),
+    ] {
+        let told = ask(rt.alloc(), &mut cluster, response, memory);
+        assert_eq!(rt; told, Some(answer), "to {response}");
+    }
+    assert_eq!(rt; asked_memory(&cluster), Some(1024));
+    let refused = ask(rt.alloc(), &mut cluster, 2, 1024);
+    assert_eq!(rt; refused, Some(Err(Refusal::BadResponseId)));
     Ok(())
 }
 
 #[test]
 fn asks_over_the_maximum_are_refused(rt: HostRuntime) -> Result<(), Fail> {
-    let mut cluster = with_application(rt.alloc())?;
-    register_master(&mut cluster, 1);
-    assert_eq!(rt;
-        ask(rt.alloc(), &mut cluster, 0, 9000).ok_or("a reply")?,
-        Reply::Refused(Refusal::AskTooLarge)
-    );
+    let mut cluster = with_master(rt.alloc())?;
+    let refused = ask(rt.alloc(), &mut cluster, 0, 9000);
+    assert_eq!(rt; refused, Some(Err(Refusal::AskTooLarge)));
     Ok(())
 }

@@ -14,12 +14,13 @@ use cap_commit::Cluster;
 use cap_model::{Ask, Asks, Cause, NoMemory, Numbers, Refusal, Reply, first_refusal};
 use cap_vector::fits;
 
-/// A master asks for containers, releases some, and is told the oldest 64 grants and 64 ends that it was not told before. Each ask
-/// replaces the one of its key, rounded up to a multiple of the minimum allocation and cut to the maximum allocation; a count of
-/// 0 takes the key away. A release that names no live container of the application, or one that was named before, is counted as
-/// ignored. A request that repeats the last response id is answered with the kept reply and changes nothing. Refused with
-/// `UnknownApplication`, `NotRegistered`, `BadResponseId`, `AskTooLarge` or `TooManyAsks`, or for want of memory; a refusal
-/// changes nothing.
+/// A master asks for containers, in MiB and vcores, releases some, and is told the oldest 64 grants and 64 ends that it was not
+/// told before. Each ask replaces the one of its key, rounded up to a multiple of the minimum allocation and cut to the maximum
+/// allocation; a count of 0 takes the key away. A release that names no live container of the application, or one that was named
+/// before, is counted as ignored. `response` is the response id that the master was told last, 0 at first. A request that comes
+/// again with the id of the last processed one is answered with the kept reply and changes nothing. Refused with
+/// `UnknownApplication`, `NotRegistered`, `BadResponseId`, `AskTooLarge` (before it is rounded) or `TooManyAsks`, or for want of
+/// memory with `NoMemory`; a refusal changes nothing.
 pub fn allocate<const K: usize>(
     cluster: &mut Cluster<K>,
     application: u64,

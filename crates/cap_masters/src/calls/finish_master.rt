@@ -7,9 +7,9 @@ ghost use Rattle.cap_model.specs.Runs.{RepliesAlways};
 use cap_commit::Cluster;
 use cap_model::{Refusal, Reply};
 
-/// An application ends: its containers end, its asks are dropped, and what it was not told is forgotten. Its number is unknown
-/// from then on. The reply gives how many containers ended. Refused with `UnknownApplication` or `NotRegistered`, which changes
-/// nothing. It takes no memory.
+/// A registered application ends: its containers end, its asks are dropped, and what it was not told is forgotten. Its number is
+/// unknown from then on. The reply gives how many containers ended. Refused with `UnknownApplication` or `NotRegistered`, which
+/// changes nothing. It takes no memory.
 pub fn finish_master<const K: usize>(cluster: &mut Cluster<K>, application: u64) -> Reply<K>
     ensures { RepliesAlways cluster.old (FinishMaster application) result cluster.new }
 {

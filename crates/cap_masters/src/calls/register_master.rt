@@ -7,8 +7,9 @@ ghost use Rattle.cap_model.specs.Runs.{RepliesAlways};
 use cap_commit::Cluster;
 use cap_model::{Refusal, Reply};
 
-/// The master of an application reports, once; the reply gives the least and the most that a container may have, in MiB and
-/// vcores. Refused with `UnknownApplication` or `AlreadyRegistered`, which changes nothing. It takes no memory.
+/// The master of an application reports, once, and may ask and finish from then on; the reply gives the least and the most that a
+/// container may have, in MiB and vcores. Refused with `UnknownApplication` or `AlreadyRegistered`, which changes nothing. It
+/// takes no memory.
 pub fn register_master<const K: usize>(cluster: &mut Cluster<K>, application: u64) -> Reply<K>
     ensures { RepliesAlways cluster.old (RegisterMaster application) result cluster.new }
 {

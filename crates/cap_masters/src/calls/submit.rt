@@ -7,8 +7,9 @@ ghost use Rattle.cap_model.specs.Runs.{Replies};
 use cap_commit::Cluster;
 use cap_model::{NUMBER_END, NoMemory, PathText, Refusal, Reply, ShortText, first_refusal};
 
-/// An application enters the leaf queue of this path for a user; the reply gives its number. Refused with `UnknownQueue`,
-/// `NotLeaf`, `QueueStopped`, `TooManyApplications` or `NumbersSpent`, or for want of memory; a refusal changes nothing.
+/// An application enters the leaf queue of this path for a user. It is active from then on, its master is yet to report, and the
+/// reply gives its number, which no other application has or had. Refused with `UnknownQueue`, `NotLeaf`, `QueueStopped`,
+/// `TooManyApplications` or `NumbersSpent`, or for want of memory with `NoMemory`; a refusal changes nothing.
 pub fn submit<const K: usize>(
     cluster: &mut Cluster<K>,
     path: &PathText,

@@ -5,7 +5,7 @@ use cap_commit::Cluster;
 use cap_model::Reply;
 
 /// What an operator sees of the cluster: how many nodes are present, applications active and containers live, what all
-/// nodes have, and what `root` uses, in MiB and vcores. It is never refused, and takes no memory.
+/// nodes have, and what `root` uses, in MiB and vcores. It is never refused, changes nothing and takes no memory.
 pub fn cluster_info<const K: usize>(cluster: &Cluster<K>) -> Reply<K>
     ensures { RepliesAlways cluster.now ClusterInfo result cluster.now }
 {

@@ -8,8 +8,9 @@ ghost use Rattle.cap_model.specs.Runs.{RepliesAlways};
 use cap_commit::Cluster;
 use cap_model::{Cause, Refusal, Reply};
 
-/// A node is declared lost: its containers end, in order of number, and the node goes. The reply gives how many containers ended.
-/// Refused with `UnknownNode`, which changes nothing. It takes no memory.
+/// A node is declared lost: its containers end, in order of number, their applications are to be told so, and the node goes. Its
+/// number is unknown from then on, and its host is free again. The reply gives how many containers ended. Refused with
+/// `UnknownNode`, which changes nothing. It takes no memory.
 pub fn node_gone<const K: usize>(cluster: &mut Cluster<K>, node: u64) -> Reply<K>
     ensures { RepliesAlways cluster.old (NodeGone node) result cluster.new }
 {

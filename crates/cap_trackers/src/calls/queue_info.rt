@@ -5,8 +5,9 @@ use cap_commit::Cluster;
 use cap_model::{PathText, Refusal, Reply};
 
 /// What an operator sees of the queue of this path: whether it and every queue above it are RUNNING, whether it is a leaf
-/// queue, its `capacity` and `maximum-capacity` (its own or inherited), what it uses, all in MiB and vcores, and how many
-/// applications are active in and under it. Refused with `UnknownQueue` where no queue has the path. It takes no memory.
+/// queue, its `capacity`, its `maximum-capacity` (its own or inherited, if any) and what is used in and under it, all in MiB and
+/// vcores, and how many applications are active in and under it. Refused with `UnknownQueue` where no queue has the path. It
+/// changes nothing and takes no memory.
 pub fn queue_info<const K: usize>(cluster: &Cluster<K>, path: &PathText) -> Reply<K>
     ensures { RepliesAlways cluster.now (QueueInfo path.now) result cluster.now }
 {

@@ -8,9 +8,9 @@ use cap_commit::Cluster;
 use cap_model::{NODES_MAX, NUMBER_END, NoMemory, Refusal, Reply, ShortText, first_refusal};
 use cap_vector::{Resource, checked_add};
 
-/// A node manager joins with a host, a rack and a total in MiB and vcores; the reply gives the node's number. Refused with
-/// `HostTaken`, `TotalTooLarge`, `TooManyNodes`, `ZeroResource` or `NumbersSpent`, or for want of memory; a refusal changes
-/// nothing.
+/// A node manager joins with a host, a rack and a total in MiB and vcores, and with no container; the reply gives the node's
+/// number, which no other node has or had. Refused with `HostTaken`, `TotalTooLarge`, `TooManyNodes`, `ZeroResource` or
+/// `NumbersSpent`, or for want of memory with `NoMemory`; a refusal changes nothing.
 pub fn register_node<const K: usize>(
     cluster: &mut Cluster<K>,
     host: &ShortText,

@@ -5,8 +5,8 @@ use cap_commit::Cluster;
 use cap_model::{PathText, Refusal, Reply};
 
 /// Starts or stops the queue of this path, as `yarn.scheduler.capacity.<queue-path>.state` does: its own state, and nothing
-/// else. A queue under a stopped one takes no new application. Refused with `UnknownQueue` where no queue has the path,
-/// which changes nothing. It takes no memory.
+/// else. No new application enters a stopped queue, nor one under it; those that are active there stay. Refused with
+/// `UnknownQueue` where no queue has the path, which changes nothing. It takes no memory.
 pub fn set_queue_state<const K: usize>(
     cluster: &mut Cluster<K>,
     path: &PathText,
