@@ -5,8 +5,6 @@ mod app;
 mod apps;
 mod asks;
 mod news;
-#[cfg(test)]
-mod tests;
 
 pub use app::App;
 pub use apps::Apps;

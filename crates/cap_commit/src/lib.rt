@@ -4,8 +4,6 @@
 mod cluster;
 mod places;
 mod report;
-#[cfg(test)]
-mod tests;
 
 pub use cap_asks::App;
 pub use cap_model::{AllocateReply, Event, HeartbeatReply, Reply, Request};

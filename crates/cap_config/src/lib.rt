@@ -17,8 +17,6 @@ mod reading;
 mod second_pass;
 mod seen;
 mod setting;
-#[cfg(test)]
-mod tests;
 mod trim;
 mod value;
 

@@ -10,8 +10,6 @@ mod report;
 mod script;
 mod settings;
 mod stop;
-#[cfg(test)]
-mod tests;
 
 pub use counted::{Counted, StreamFailed};
 pub use player::replay;

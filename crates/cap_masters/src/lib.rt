@@ -2,8 +2,6 @@
 #![tactic(auto)]
 
 mod calls;
-#[cfg(test)]
-mod tests;
 
 pub use crate::calls::allocate::allocate;
 pub use crate::calls::finish_master::finish_master;

@@ -14,8 +14,6 @@ mod refusal;
 mod replies;
 mod reply;
 mod request;
-#[cfg(test)]
-mod tests;
 mod text;
 
 pub use ask::{Ask, Key};

@@ -7,8 +7,6 @@ mod node;
 mod nodes;
 mod place;
 mod present;
-#[cfg(test)]
-mod tests;
 
 pub use container::Container;
 pub use node::Node;

@@ -2,8 +2,6 @@
 #![tactic(auto)]
 
 mod calls;
-#[cfg(test)]
-mod tests;
 
 pub use crate::calls::cluster_info::cluster_info;
 pub use crate::calls::heartbeat::heartbeat;

@@ -5,8 +5,6 @@ mod branch;
 mod change;
 mod found;
 mod queue;
-#[cfg(test)]
-mod tests;
 mod tree;
 
 pub use found::{Found, Path};

@@ -2,8 +2,6 @@
 #![tactic(auto)]
 
 mod arithmetic;
-#[cfg(test)]
-mod tests;
 mod vector;
 
 pub use arithmetic::{checked_add, fits, minus, round_up};

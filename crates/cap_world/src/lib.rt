@@ -7,8 +7,6 @@ mod run;
 mod service;
 mod session;
 mod step;
-#[cfg(test)]
-mod tests;
 mod world;
 
 pub use cap_model::NoMemory;

@@ -1,0 +1,9 @@
+//! What tests of several crates need: settings of queues and the cluster that they open, and requests spelled into frames. The spelling
+//! is written by hand and shares no code with the engine.
+#![tactic(auto)]
+
+mod settings;
+mod spelling;
+
+pub use settings::{NESTED_QUEUES, TWO_QUEUES, cluster};
+pub use spelling::{Call, WantedContainers, frame};

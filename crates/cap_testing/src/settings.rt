@@ -1,0 +1,27 @@
+use cap_commit::Cluster;
+use cap_config::read_config;
+use std::alloc::Global;
+
+/// Two leaf queues: `a` may grow from (4096, 4) to (16384, 16), where a user has four times its capacity; `b` has (2048, 8).
+pub const TWO_QUEUES: &[u8] = b"yarn.scheduler.capacity.root.queues=a,b
+yarn.scheduler.capacity.root.a.capacity=[memory=4096,vcores=4]
+yarn.scheduler.capacity.root.a.maximum-capacity=[memory=16384,vcores=16]
+yarn.scheduler.capacity.root.a.user-limit-factor=4
+yarn.scheduler.capacity.root.b.capacity=[memory=2048,vcores=8]
+";
+
+/// The queues `a` and `b` with the same capacities, `x` and `y` under `a`, of which `y` is stopped, and at most two applications.
+pub const NESTED_QUEUES: &[u8] = b"yarn.scheduler.capacity.root.queues=a,b
+yarn.scheduler.capacity.root.a.queues=x,y
+yarn.scheduler.capacity.root.a.capacity=[memory=4096,vcores=4]
+yarn.scheduler.capacity.root.a.maximum-capacity=[memory=16384,vcores=16]
+yarn.scheduler.capacity.root.a.y.state=STOPPED
+yarn.scheduler.capacity.root.b.capacity=[memory=2048,vcores=8]
+yarn.scheduler.capacity.maximum-applications=2
+";
+
+/// The cluster that these property lines open. `None` if they have a fault or an allocation fails.
+pub fn cluster(alloc: Global, lines: &[u8]) -> Option<Cluster<2>> {
+    let config = read_config(alloc, lines).ok()?;
+    Cluster::from_config(alloc, &config).ok()
+}

@@ -1,0 +1,129 @@
+use std::alloc::{AllocError, Global};
+
+/// So many containers wanted for a key, of this resource each, at a place.
+#[derive(Clone, Copy)]
+pub struct WantedContainers<'a> {
+    pub priority: u32,
+    pub request: u64,
+    pub count: u32,
+    pub resource: [u64; 2],
+    pub place: &'a [u8],
+}
+
+/// A request as a client means it: texts of any bytes, and resources in MiB and vcores, whatever the engine makes of them.
+#[derive(Clone, Copy)]
+pub enum Call<'a> {
+    Submit(&'a [u8], &'a [u8]),
+    RegisterMaster(u64),
+    Allocate(u64, u32, &'a [WantedContainers<'a>], &'a [u64]),
+    FinishMaster(u64),
+    RegisterNode(&'a [u8], &'a [u8], [u64; 2]),
+    Heartbeat(u64, u32, &'a [u64]),
+    NodeGone(u64),
+    QueueInfo(&'a [u8]),
+    SetQueueState(&'a [u8], bool),
+    ClusterInfo,
+}
+
+/// The frame of a call with this call id: its length in four bytes, then version 1, the kind, the call id and what the call holds.
+pub fn frame(alloc: Global, call_id: u32, call: &Call<'_>) -> Result<Vec<u8>, AllocError> {
+    let body = body_of(alloc, call)?;
+    let length = u32::try_from(body.len())
+        .unwrap_or(u32::MAX)
+        .saturating_add(6);
+    let mut bytes = Vec::from_slice(alloc, &length.to_be_bytes())?;
+    bytes.push(1)?;
+    bytes.push(kind_of(call))?;
+    bytes.extend_from_slice(&call_id.to_be_bytes())?;
+    bytes.extend_from_slice(&body)?;
+    Ok(bytes)
+}
+
+fn kind_of(call: &Call<'_>) -> u8 {
+    match call {
+        Call::Submit(..) => 1,
+        Call::RegisterMaster(_) => 2,
+        Call::Allocate(..) => 3,
+        Call::FinishMaster(_) => 4,
+        Call::RegisterNode(..) => 5,
+        Call::Heartbeat(..) => 6,
+        Call::NodeGone(_) => 7,
+        Call::QueueInfo(_) => 8,
+        Call::SetQueueState(..) => 9,
+        Call::ClusterInfo => 10,
+    }
+}
+
+fn body_of(alloc: Global, call: &Call<'_>) -> Result<Vec<u8>, AllocError> {
+    let mut body = Vec::new(alloc);
+    match call {
+        Call::Submit(path, user) => {
+            put_text(&mut body, path)?;
+            put_text(&mut body, user)?;
+        }
+        Call::RegisterMaster(number) | Call::FinishMaster(number) | Call::NodeGone(number) => {
+            body.extend_from_slice(&number.to_be_bytes())?;
+        }
+        Call::Allocate(application, response, asks, releases) => {
+            body.extend_from_slice(&application.to_be_bytes())?;
+            body.extend_from_slice(&response.to_be_bytes())?;
+            put_asks(&mut body, asks)?;
+            put_numbers(&mut body, releases)?;
+        }
+        Call::RegisterNode(host, rack, total) => {
+            put_text(&mut body, host)?;
+            put_text(&mut body, rack)?;
+            put_amounts(&mut body, *total)?;
+        }
+        Call::Heartbeat(node, response, ended) => {
+            body.extend_from_slice(&node.to_be_bytes())?;
+            body.extend_from_slice(&response.to_be_bytes())?;
+            put_numbers(&mut body, ended)?;
+        }
+        Call::QueueInfo(path) => put_text(&mut body, path)?,
+        Call::SetQueueState(path, running) => {
+            put_text(&mut body, path)?;
+            body.push(*running as u8)?;
+        }
+        Call::ClusterInfo => {}
+    }
+    Ok(body)
+}
+
+/// A text after its length in one byte.
+fn put_text(body: &mut Vec<u8>, text: &[u8]) -> Result<(), AllocError> {
+    body.push(u8::try_from(text.len()).unwrap_or(u8::MAX))?;
+    body.extend_from_slice(text)
+}
+
+fn put_amounts(body: &mut Vec<u8>, amounts: [u64; 2]) -> Result<(), AllocError> {
+    let [memory, vcores] = amounts;
+    body.extend_from_slice(&memory.to_be_bytes())?;
+    body.extend_from_slice(&vcores.to_be_bytes())
+}
+
+/// How many there are, in two bytes.
+fn put_length(body: &mut Vec<u8>, length: usize) -> Result<(), AllocError> {
+    let length = u16::try_from(length).unwrap_or(u16::MAX);
+    body.extend_from_slice(&length.to_be_bytes())
+}
+
+fn put_numbers(body: &mut Vec<u8>, numbers: &[u64]) -> Result<(), AllocError> {
+    put_length(body, numbers.len())?;
+    for number in numbers {
+        body.extend_from_slice(&number.to_be_bytes())?;
+    }
+    Ok(())
+}
+
+fn put_asks(body: &mut Vec<u8>, asks: &[WantedContainers<'_>]) -> Result<(), AllocError> {
+    put_length(body, asks.len())?;
+    for ask in asks {
+        body.extend_from_slice(&ask.priority.to_be_bytes())?;
+        body.extend_from_slice(&ask.request.to_be_bytes())?;
+        body.extend_from_slice(&ask.count.to_be_bytes())?;
+        put_amounts(body, ask.resource)?;
+        put_text(body, ask.place)?;
+    }
+    Ok(())
+}

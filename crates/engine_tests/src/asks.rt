@@ -1,0 +1,291 @@
+use cap_asks::Apps;
+use cap_model::{Ask, Cause, End, Grant, Key, PathText, ShortText};
+use cap_vector::Resource;
+use std::alloc::Global;
+
+/// A change of the applications. All but a submit and a finish are application 1's.
+#[derive(Clone, Copy)]
+enum Change {
+    /// Room for one more application, which changes nothing.
+    Reserve,
+    /// An application of `u1` in this queue.
+    Submit(&'static str),
+    /// The master of this application registers.
+    Register(u64),
+    /// An ask under this key for so many containers of 1,024 MiB and 1 vcore anywhere.
+    Ask(u32, u64, u32),
+    TakeOne(u32, u64),
+    /// Grants of so many containers, numbered from 1.
+    Grants(u64),
+    /// The end of this container.
+    End(u64),
+    /// A reply that says that so many releases were ignored.
+    Tell(u16),
+    Finish(u64),
+}
+
+fn submit(apps: &mut Apps<2>, path: &str) -> Option<()> {
+    let leaf = PathText::new(path.as_bytes())?;
+    let user = ShortText::new(b"u1")?;
+    let _number = apps.submit(&leaf, &user).ok()?;
+    Some(())
+}
+
+fn an_ask(priority: u32, request: u64, count: u32) -> Option<Ask<2>> {
+    let resource = Resource::new([1024, 1])?;
+    Some(Ask::new(
+        &Key::new(priority, request),
+        count,
+        &resource,
+        &ShortText::any(),
+    ))
+}
+
+fn put(apps: &mut Apps<2>, priority: u32, request: u64, count: u32) -> Option<()> {
+    let ask = an_ask(priority, request, count)?;
+    let _app = apps.app(1)?;
+    apps.room(1, 1, 0, 0).ok()?;
+    apps.put_ask(1, &ask);
+    Some(())
+}
+
+fn grant(apps: &mut Apps<2>, container: u64) -> Option<()> {
+    let resource = Resource::new([1024, 1])?;
+    let host = ShortText::new(b"h1")?;
+    let grant = Grant::new(container, &Key::new(1, 1), 7, &host, &resource);
+    let _app = apps.app(1)?;
+    apps.room(1, 0, 1, 0).ok()?;
+    apps.add_grant(1, &grant);
+    Some(())
+}
+
+fn grant_all(apps: &mut Apps<2>, count: u64) -> Option<()> {
+    for container in 0..count {
+        grant(apps, container + 1)?;
+    }
+    Some(())
+}
+
+fn end(apps: &mut Apps<2>, container: u64) -> Option<()> {
+    let _app = apps.app(1)?;
+    apps.room(1, 0, 0, 1).ok()?;
+    apps.add_end(1, &End::new(container, Cause::NodeLost));
+    Some(())
+}
+
+fn make(apps: &mut Apps<2>, change: Change) -> Option<()> {
+    match change {
+        Change::Reserve => apps.reserve().ok(),
+        Change::Submit(path) => submit(apps, path),
+        Change::Register(number) => Some(apps.register(number)),
+        Change::Ask(priority, request, count) => put(apps, priority, request, count),
+        Change::TakeOne(priority, request) => Some(apps.take_one(1, &Key::new(priority, request))),
+        Change::Grants(count) => grant_all(apps, count),
+        Change::End(container) => end(apps, container),
+        Change::Tell(ignored) => Some(apps.tell(1, ignored)),
+        Change::Finish(number) => Some(apps.finish(number)),
+    }
+}
+
+/// The applications after these changes. `None` if the condition of one does not hold or an allocation fails.
+fn after(alloc: Global, changes: &[Change]) -> Option<Apps<2>> {
+    let mut apps = Apps::new(alloc);
+    for change in changes {
+        make(&mut apps, *change)?;
+    }
+    Some(apps)
+}
+
+/// The first so many of these changes.
+fn first(changes: &[Change], count: usize) -> &[Change] {
+    changes.get(..count).unwrap_or(&[])
+}
+
+/// How many applications are active, and the next number.
+fn counts(alloc: Global, changes: &[Change]) -> Option<(usize, u64)> {
+    let apps = after(alloc, changes)?;
+    Some((apps.count(), apps.next()))
+}
+
+#[test]
+fn applications_are_numbered_and_counted(rt: HostRuntime) {
+    let changes = [
+        Change::Reserve,
+        Change::Submit("root.a"),
+        Change::Submit("root.a.x"),
+        Change::Submit("root.ab"),
+        Change::Finish(1),
+    ];
+    for (made, answer) in [
+        (0, (0, 1)),
+        (1, (0, 1)),
+        (2, (1, 2)),
+        (4, (3, 4)),
+        (5, (2, 4)),
+    ] {
+        let given = counts(rt.alloc(), first(&changes, made));
+        assert!(rt; given == Some(answer), "{made}");
+    }
+}
+
+/// Application 1: its number, whether it is `u1`'s in `root.a`, and whether its master has registered.
+fn application(alloc: Global, changes: &[Change]) -> Option<(u64, bool, bool)> {
+    let apps = after(alloc, changes)?;
+    let app = apps.app(1)?;
+    let owner = app.user().as_bytes() == b"u1".as_slice();
+    let leaf = app.leaf().as_bytes() == b"root.a".as_slice();
+    Some((app.number(), owner && leaf, app.is_registered()))
+}
+
+#[test]
+fn masters_register_and_finish(rt: HostRuntime) {
+    let changes = [
+        Change::Submit("root.a"),
+        Change::Register(2),
+        Change::Register(1),
+        Change::Finish(1),
+    ];
+    for (made, answer) in [
+        (0, None),
+        (1, Some((1, true, false))),
+        (2, Some((1, true, false))),
+        (3, Some((1, true, true))),
+        (4, None),
+    ] {
+        let given = application(rt.alloc(), first(&changes, made));
+        assert!(rt; given == answer, "{made}");
+    }
+}
+
+const ASKS: [Change; 9] = [
+    Change::Submit("root.a"),
+    Change::Ask(5, 1, 2),
+    Change::Ask(1, 9, 3),
+    Change::Ask(1, 4, 1),
+    Change::Ask(1, 9, 7),
+    Change::TakeOne(1, 4),
+    Change::TakeOne(1, 9),
+    Change::TakeOne(2, 2),
+    Change::Ask(5, 1, 0),
+];
+
+/// The key and the count of the ask that stands at an index.
+fn ask_at(alloc: Global, changes: &[Change], index: usize) -> Option<(u32, u64, u32)> {
+    let apps = after(alloc, changes)?;
+    let app = apps.app(1)?;
+    let ask = app.asks().get(index)?;
+    let key = ask.key();
+    Some((key.priority(), key.request(), ask.count()))
+}
+
+#[test]
+fn asks_stand_in_order_of_key(rt: HostRuntime) {
+    for (made, index, answer) in [
+        (5, 0, Some((1, 4, 1))),
+        (5, 1, Some((1, 9, 7))),
+        (5, 2, Some((5, 1, 2))),
+        (5, 3, None),
+        (9, 0, Some((1, 9, 6))),
+        (9, 1, None),
+    ] {
+        let given = ask_at(rt.alloc(), first(&ASKS, made), index);
+        assert!(rt; given == answer, "{made} {index}");
+    }
+}
+
+/// How many containers are wanted for a key after all changes of the asks.
+fn wanted(alloc: Global, priority: u32, request: u64) -> Option<u32> {
+    let apps = after(alloc, &ASKS)?;
+    let ask = apps.app(1)?.ask(&Key::new(priority, request))?;
+    Some(ask.count())
+}
+
+#[test]
+fn an_ask_is_found_by_its_key(rt: HostRuntime) {
+    assert!(rt; wanted(rt.alloc(), 1, 9) == Some(6));
+    assert!(rt; wanted(rt.alloc(), 1, 4).is_none());
+}
+
+/// Asks under so many keys, from (0, 0).
+fn asks_of_keys(alloc: Global, count: u64) -> Option<Vec<Ask<2>>> {
+    let mut asks = Vec::new(alloc);
+    for request in 0..count {
+        asks.push(an_ask(0, request, 1)?).ok()?;
+    }
+    Some(asks)
+}
+
+/// Whether so many keys are too many for an application that has the first of them.
+fn are_too_many(alloc: Global, count: u64) -> Option<bool> {
+    let apps = after(alloc, &[Change::Submit("root.a"), Change::Ask(0, 0, 1)])?;
+    let asks = asks_of_keys(alloc, count)?;
+    Some(apps.app(1)?.has_too_many_keys(&asks))
+}
+
+#[test]
+fn more_than_256_keys_are_too_many(rt: HostRuntime) {
+    assert!(rt; are_too_many(rt.alloc(), 256) == Some(false));
+    assert!(rt; are_too_many(rt.alloc(), 257) == Some(true));
+}
+
+const NEWS: [Change; 5] = [
+    Change::Submit("root.a"),
+    Change::Grants(70),
+    Change::End(3),
+    Change::Tell(2),
+    Change::Tell(0),
+];
+
+/// The last reply: its response id, how many releases were ignored, and how many grants and ends it has.
+fn reply(alloc: Global, changes: &[Change]) -> Option<(u32, u16, usize, usize)> {
+    let apps = after(alloc, changes)?;
+    let reply = apps.app(1)?.kept_reply()?;
+    Some((
+        reply.response,
+        reply.ignored,
+        reply.grants.len(),
+        reply.ends.len(),
+    ))
+}
+
+/// The first and the last container that the last reply grants.
+fn granted(alloc: Global, changes: &[Change]) -> Option<(u64, u64)> {
+    let apps = after(alloc, changes)?;
+    let reply = apps.app(1)?.kept_reply()?;
+    let (begin, end) = (reply.grants.first()?, reply.grants.last()?);
+    Some((begin.container(), end.container()))
+}
+
+#[test]
+fn grants_and_ends_are_reported_64_at_a_time(rt: HostRuntime) {
+    assert!(rt; reply(rt.alloc(), first(&NEWS, 3)).is_none());
+    for (made, answer, containers) in [(4, (1, 2, 64, 1), (1, 64)), (5, (2, 0, 6, 0), (65, 70))] {
+        let given = reply(rt.alloc(), first(&NEWS, made));
+        assert!(rt; given == Some(answer), "{made}");
+        let given = granted(rt.alloc(), first(&NEWS, made));
+        assert!(rt; given == Some(containers), "{made}");
+    }
+}
+
+/// The last response id, and whether another is a repeat of it and whether it is bad.
+fn id(alloc: Global, changes: &[Change], id: u32) -> Option<(u32, bool, bool)> {
+    let apps = after(alloc, changes)?;
+    let app = apps.app(1)?;
+    Some((app.response(), app.is_repeated(id), app.is_bad_id(id)))
+}
+
+#[test]
+fn requests_are_next_or_repeated_or_bad(rt: HostRuntime) {
+    let changes = [Change::Submit("root.a"), Change::Tell(0)];
+    for (made, number, answer) in [
+        (1, 0, (0, false, false)),
+        (1, 1, (0, false, true)),
+        (1, 2_147_483_647, (0, false, true)),
+        (2, 0, (1, true, false)),
+        (2, 1, (1, false, false)),
+        (2, 2, (1, false, true)),
+    ] {
+        let given = id(rt.alloc(), first(&changes, made), number);
+        assert!(rt; given == Some(answer), "{made} {number}");
+    }
+}

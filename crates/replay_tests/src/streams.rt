@@ -1,0 +1,272 @@
+use crate::play::run;
+use cap_daemon::{Counted, replay};
+use std::cell::Cell;
+use std::io::{self, Read, Write};
+use std::process::Abort;
+use std::test::Fail;
+
+/// Gives its pieces one a read, then the end or a failure. It notes how much was written before each read.
+#[derive(Drop)]
+struct Pieces<'a> {
+    pieces: &'a [&'a [u8]],
+    next: usize,
+    fails: bool,
+    written: &'a Cell<usize>,
+    before_last: usize,
+}
+
+impl Read for Pieces<'_> {
+    fn read(&mut self, buf: &mut [u8]) -> io::Result<usize> {
+        self.before_last = self.written.get();
+        let pieces = self.pieces;
+        let Some(piece) = pieces.get(self.next) else {
+            return if self.fails {
+                Err(io::Error::from(io::ErrorKind::Other))
+            } else {
+                Ok(0)
+            };
+        };
+        self.next = self.next.saturating_add(1);
+        let n = piece.len().min(buf.len());
+        for (to, from) in buf.iter_mut().zip(*piece) {
+            *to = *from;
+        }
+        Ok(n)
+    }
+}
+
+/// Keeps what is written, up to a limit past which writing fails.
+#[derive(Drop)]
+struct Paper<'a> {
+    kept: Vec<u8>,
+    limit: usize,
+    written: &'a Cell<usize>,
+}
+
+impl Write for Paper<'_> {
+    fn write(&mut self, buf: &[u8]) -> io::Result<usize> {
+        if self.kept.len() >= self.limit {
+            return Err(io::Error::from(io::ErrorKind::Other));
+        }
+        self.kept.extend_from_slice(buf)?;
+        self.written.set(self.kept.len());
+        Ok(buf.len())
+    }
+
+    fn flush(&mut self) -> io::Result<()> {
+        Ok(())
+    }
+}
+
+/// Plays the script and looks at what it prints and at its status.
+fn plays<R: Abort + AllocGlobal>(rt: &R, script: &str, printed: &str, status: u8) {
+    let (ended, output) = run(rt.alloc(), script);
+    assert_eq!(rt; ended, status, "{script}");
+    assert_eq!(rt; output.as_slice(), printed.as_bytes(), "{script}");
+}
+
+// Carriage returns, tabs and other bytes that do not show in a file.
+#[test]
+fn bytes_that_do_not_show(rt: HostRuntime) {
+    for (script, printed, status) in [
+        ("\n# a comment\r\n\r\n", "", 0),
+        ("conf\tx=1", "bad line 1\n", 2),
+        (
+            "open 007\n# fine\nopen 4294967295\nopen 2\r",
+            "opened 7\nopened 4294967295\nbad line 4\n",
+            2,
+        ),
+        (
+            "conf yarn.scheduler.capacity.root.queues=a\nconf yarn.scheduler.capacity.root.state=\u{7f}\n",
+            "config 2 1\n",
+            2,
+        ),
+        (
+            "conf yarn.scheduler.capacity.root.queues=a\r\nconf yarn.scheduler.capacity.root.state=RUNNING\r",
+            "config 2 1\n",
+            2,
+        ),
+    ] {
+        plays(&rt, script, printed, status);
+    }
+}
+
+#[test]
+fn a_long_line_is_one_line(rt: HostRuntime) -> Result<(), Fail> {
+    let mut script = String::from_str(rt.alloc(), "open 1\n#")?;
+    for _ in 0..20_000 {
+        script.push_str("fifty bytes of a comment that goes on and on so on")?;
+    }
+    script.push_str("\nend 1\n")?;
+    plays(&rt, script.as_str(), "opened 1\nclosed 1\n", 0);
+    Ok(())
+}
+
+#[test]
+fn a_failed_stream_loses_nothing_printed(rt: HostRuntime) {
+    let written = Cell::new(0);
+    let pieces = [b"open 1\nope".as_slice(), b"n 2\nend 1"];
+    let mut reader = Pieces {
+        pieces: &pieces,
+        next: 0,
+        fails: true,
+        written: &written,
+        before_last: 0,
+    };
+    let mut writer = Paper {
+        kept: Vec::new(rt.alloc()),
+        limit: 1000,
+        written: &written,
+    };
+    let mut input = Counted::new(&mut reader);
+    let mut output = Counted::new(&mut writer);
+    assert_eq!(rt; replay(rt.alloc(), &mut input, &mut output), 1);
+    assert_eq!(rt; (input.failures(), output.failures()), (1, 0));
+    assert_eq!(rt; writer.kept.as_slice(), b"opened 1\nopened 2\n".as_slice());
+    assert_eq!(rt; reader.before_last, 18);
+}
+
+#[test]
+fn settings_are_not_read_after_a_failed_read(rt: HostRuntime) {
+    let written = Cell::new(0);
+    let pieces = [b"conf x=1\nop".as_slice()];
+    let mut reader = Pieces {
+        pieces: &pieces,
+        next: 0,
+        fails: true,
+        written: &written,
+        before_last: 0,
+    };
+    let mut output = Vec::new(rt.alloc());
+    assert_eq!(rt;
+        replay(
+            rt.alloc(),
+            &mut Counted::new(&mut reader),
+            &mut Counted::new(&mut output)
+        ),
+        1
+    );
+    assert_eq!(rt; output.as_slice(), b"".as_slice());
+}
+
+#[test]
+fn replies_are_written_before_the_next_read(rt: HostRuntime) {
+    let written = Cell::new(0);
+    let pieces = [b"open 1\n".as_slice()];
+    let mut reader = Pieces {
+        pieces: &pieces,
+        next: 0,
+        fails: false,
+        written: &written,
+        before_last: 0,
+    };
+    let mut writer = Paper {
+        kept: Vec::new(rt.alloc()),
+        limit: 1000,
+        written: &written,
+    };
+    assert_eq!(rt;
+        replay(
+            rt.alloc(),
+            &mut Counted::new(&mut reader),
+            &mut Counted::new(&mut writer)
+        ),
+        0
+    );
+    assert_eq!(rt; reader.before_last, 9);
+}
+
+#[test]
+fn a_closed_output_ends_the_program(rt: HostRuntime) {
+    let written = Cell::new(0);
+    let pieces = [b"open 1\n".as_slice(), b"open 2\n", b"open 3\n"];
+    let mut reader = Pieces {
+        pieces: &pieces,
+        next: 0,
+        fails: false,
+        written: &written,
+        before_last: 0,
+    };
+    let mut writer = Paper {
+        kept: Vec::new(rt.alloc()),
+        limit: 1,
+        written: &written,
+    };
+    let mut input = Counted::new(&mut reader);
+    let mut output = Counted::new(&mut writer);
+    assert_eq!(rt; replay(rt.alloc(), &mut input, &mut output), 1);
+    assert_eq!(rt; (input.failures(), output.failures()), (0, 1));
+    assert_eq!(rt; writer.kept.as_slice(), b"opened 1\n".as_slice());
+}
+
+// Under `--fail-alloc` this passes whichever allocation fails: no answer changes in place of the refusal.
+#[test]
+fn refused_memory_is_told(rt: HostRuntime) {
+    let mut input = b"open 1\nbytes 1 00000006010a00000001\nend 1\n".as_slice();
+    let mut output = [0u8; 200];
+    let mut room = output.as_mut_slice();
+    let status = replay(
+        rt.alloc(),
+        &mut Counted::new(&mut input),
+        &mut Counted::new(&mut room),
+    );
+    let left = room.len();
+    let printed = output.get(..200 - left.min(200)).unwrap_or(&[]);
+    if status == 0 {
+        assert_eq!(rt; printed.len(), 9 + 117 + 9);
+    } else {
+        assert_eq!(rt; status, 3);
+        assert!(rt; printed.ends_with(b"no memory\n"));
+        assert!(rt; printed.starts_with(b"opened 1\n") || printed.len() == 10);
+    }
+}
+
+// Under `--fail-alloc` this passes whichever allocation fails: a call is answered as ever, or a Submit or an Allocate that memory
+// was refused; after such a Submit the others know no application; and a script that stops says so last.
+#[test]
+fn refused_memory_is_told_to_masters(rt: HostRuntime) {
+    let mut input = b"conf yarn.scheduler.capacity.root.queues=a\n\
+        open 1\n\
+        bytes 1 0000001001010000000106726f6f742e61027531\n\
+        bytes 1 0000000e0102000000030000000000000001\n\
+        bytes 1 0000003801030000000500000000000000010000000000010000000100000000000000000000000100000000000004000000000000000001012a0000\n\
+        bytes 1 0000003801030000000500000000000000010000000000010000000100000000000000000000000100000000000004000000000000000001012a0000\n\
+        bytes 1 0000000e0104000000040000000000000001\n"
+        .as_slice();
+    let answers: [&[u8]; 7] = [
+        b"opened 1",
+        b"out 1 0000000f010100000001000000000000000001",
+        b"out 1 00000027010200000003000000000000000400000000000000000100000000000020000000000000000004",
+        b"out 1 0000000f010300000005000000000100000000",
+        b"out 1 0000000f010300000005000000000100000000",
+        b"out 1 0000000b0104000000040000000000",
+        b"",
+    ];
+    let mut output = [0u8; 400];
+    let mut room = output.as_mut_slice();
+    let status = replay(
+        rt.alloc(),
+        &mut Counted::new(&mut input),
+        &mut Counted::new(&mut room),
+    );
+    let left = room.len();
+    let printed = output.get(..400 - left.min(400)).unwrap_or(&[]);
+    let mut is_unknown = false;
+    for (i, (line, answer)) in printed.split(|b| *b == b'\n').zip(answers).enumerate() {
+        let is_refused = matches!(i, 1 | 3 | 4) && line.ends_with(b"14");
+        is_unknown = is_unknown || is_refused && i == 1;
+        assert!(rt;
+            line == answer
+                || is_refused
+                || is_unknown && line.ends_with(b"05")
+                || status == 3 && (line.is_empty() || line == b"no memory".as_slice()),
+            "line {i}"
+        );
+    }
+    if status != 0 {
+        assert_eq!(rt; status, 3);
+        assert!(rt; printed.ends_with(b"no memory\n"));
+    } else {
+        assert_eq!(rt; printed.split(|b| *b == b'\n').count(), 7);
+    }
+}
