@@ -1,5 +1,6 @@
 use crate::play::run;
 use cap_daemon::{Counted, replay};
+use std::alloc::Global;
 use std::cell::Cell;
 use std::io::{self, Read, Write};
 use std::process::Abort;
@@ -102,115 +103,88 @@ fn a_long_line_is_one_line(rt: HostRuntime) -> Result<(), Fail> {
     Ok(())
 }
 
-#[test]
-fn a_failed_stream_loses_nothing_printed(rt: HostRuntime) {
+/// What came of a script that is read in pieces and written up to a limit.
+#[derive(Drop)]
+struct Played {
+    status: u8,
+    /// How many calls on the reader failed, and how many on the writer.
+    failures: (u64, u64),
+    printed: Vec<u8>,
+    /// How much was written before the last read.
+    before_last: usize,
+}
+
+fn play(alloc: Global, pieces: &[&[u8]], fails: bool, limit: usize) -> Played {
     let written = Cell::new(0);
-    let pieces = [b"open 1\nope".as_slice(), b"n 2\nend 1"];
     let mut reader = Pieces {
-        pieces: &pieces,
+        pieces,
         next: 0,
-        fails: true,
+        fails,
         written: &written,
         before_last: 0,
     };
     let mut writer = Paper {
-        kept: Vec::new(rt.alloc()),
-        limit: 1000,
+        kept: Vec::new(alloc),
+        limit,
         written: &written,
     };
     let mut input = Counted::new(&mut reader);
     let mut output = Counted::new(&mut writer);
-    assert_eq!(rt; replay(rt.alloc(), &mut input, &mut output), 1);
-    assert_eq!(rt; (input.failures(), output.failures()), (1, 0));
-    assert_eq!(rt; writer.kept.as_slice(), b"opened 1\nopened 2\n".as_slice());
-    assert_eq!(rt; reader.before_last, 18);
+    let status = replay(alloc, &mut input, &mut output);
+    Played {
+        status,
+        failures: (input.failures(), output.failures()),
+        before_last: reader.before_last,
+        printed: writer.kept,
+    }
+}
+
+#[test]
+fn a_failed_stream_loses_nothing_printed(rt: HostRuntime) {
+    let played = play(rt.alloc(), &[b"open 1\nope", b"n 2\nend 1"], true, 1000);
+    assert!(rt; (played.status, played.failures) == (1, (1, 0)));
+    assert!(rt; played.printed.as_slice() == b"opened 1\nopened 2\n".as_slice());
+    assert!(rt; played.before_last == 18);
 }
 
 #[test]
 fn settings_are_not_read_after_a_failed_read(rt: HostRuntime) {
-    let written = Cell::new(0);
-    let pieces = [b"conf x=1\nop".as_slice()];
-    let mut reader = Pieces {
-        pieces: &pieces,
-        next: 0,
-        fails: true,
-        written: &written,
-        before_last: 0,
-    };
-    let mut output = Vec::new(rt.alloc());
-    assert_eq!(rt;
-        replay(
-            rt.alloc(),
-            &mut Counted::new(&mut reader),
-            &mut Counted::new(&mut output)
-        ),
-        1
-    );
-    assert_eq!(rt; output.as_slice(), b"".as_slice());
+    let played = play(rt.alloc(), &[b"conf x=1\nop"], true, 1000);
+    assert!(rt; (played.status, played.printed.len()) == (1, 0));
 }
 
 #[test]
 fn replies_are_written_before_the_next_read(rt: HostRuntime) {
-    let written = Cell::new(0);
-    let pieces = [b"open 1\n".as_slice()];
-    let mut reader = Pieces {
-        pieces: &pieces,
-        next: 0,
-        fails: false,
-        written: &written,
-        before_last: 0,
-    };
-    let mut writer = Paper {
-        kept: Vec::new(rt.alloc()),
-        limit: 1000,
-        written: &written,
-    };
-    assert_eq!(rt;
-        replay(
-            rt.alloc(),
-            &mut Counted::new(&mut reader),
-            &mut Counted::new(&mut writer)
-        ),
-        0
-    );
-    assert_eq!(rt; reader.before_last, 9);
+    let played = play(rt.alloc(), &[b"open 1\n"], false, 1000);
+    assert!(rt; (played.status, played.before_last) == (0, 9));
 }
 
 #[test]
 fn a_closed_output_ends_the_program(rt: HostRuntime) {
-    let written = Cell::new(0);
-    let pieces = [b"open 1\n".as_slice(), b"open 2\n", b"open 3\n"];
-    let mut reader = Pieces {
-        pieces: &pieces,
-        next: 0,
-        fails: false,
-        written: &written,
-        before_last: 0,
-    };
-    let mut writer = Paper {
-        kept: Vec::new(rt.alloc()),
-        limit: 1,
-        written: &written,
-    };
-    let mut input = Counted::new(&mut reader);
-    let mut output = Counted::new(&mut writer);
-    assert_eq!(rt; replay(rt.alloc(), &mut input, &mut output), 1);
-    assert_eq!(rt; (input.failures(), output.failures()), (0, 1));
-    assert_eq!(rt; writer.kept.as_slice(), b"opened 1\n".as_slice());
+    let pieces: [&[u8]; 3] = [b"open 1\n", b"open 2\n", b"open 3\n"];
+    let played = play(rt.alloc(), &pieces, false, 1);
+    assert!(rt; (played.status, played.failures) == (1, (0, 1)));
+    assert!(rt; played.printed.as_slice() == b"opened 1\n".as_slice());
+}
+
+/// Plays a script into this room: the status, and how many bytes of the room are left.
+fn play_into(alloc: Global, script: &[u8], room: &mut [u8]) -> (u8, usize) {
+    let mut input = script;
+    let mut output = room;
+    let status = replay(
+        alloc,
+        &mut Counted::new(&mut input),
+        &mut Counted::new(&mut output),
+    );
+    (status, output.len())
 }
 
 // Under `--fail-alloc` this passes whichever allocation fails: no answer changes in place of the refusal.
 #[test]
 fn refused_memory_is_told(rt: HostRuntime) {
-    let mut input = b"open 1\nbytes 1 00000006010a00000001\nend 1\n".as_slice();
+    let script = b"open 1\nbytes 1 00000006010a00000001\nend 1\n";
     let mut output = [0u8; 200];
-    let mut room = output.as_mut_slice();
-    let status = replay(
-        rt.alloc(),
-        &mut Counted::new(&mut input),
-        &mut Counted::new(&mut room),
-    );
-    let left = room.len();
+    let (status, left) = play_into(rt.alloc(), script, &mut output);
     let printed = output.get(..200 - left.min(200)).unwrap_or(&[]);
     if status == 0 {
         assert_eq!(rt; printed.len(), 9 + 117 + 9);
@@ -225,14 +199,13 @@ fn refused_memory_is_told(rt: HostRuntime) {
 // was refused; after such a Submit the others know no application; and a script that stops says so last.
 #[test]
 fn refused_memory_is_told_to_masters(rt: HostRuntime) {
-    let mut input = b"conf yarn.scheduler.capacity.root.queues=a\n\
+    let script = b"conf yarn.scheduler.capacity.root.queues=a\n\
         open 1\n\
         bytes 1 0000001001010000000106726f6f742e61027531\n\
         bytes 1 0000000e0102000000030000000000000001\n\
         bytes 1 0000003801030000000500000000000000010000000000010000000100000000000000000000000100000000000004000000000000000001012a0000\n\
         bytes 1 0000003801030000000500000000000000010000000000010000000100000000000000000000000100000000000004000000000000000001012a0000\n\
-        bytes 1 0000000e0104000000040000000000000001\n"
-        .as_slice();
+        bytes 1 0000000e0104000000040000000000000001\n";
     let answers: [&[u8]; 7] = [
         b"opened 1",
         b"out 1 0000000f010100000001000000000000000001",
@@ -243,13 +216,7 @@ fn refused_memory_is_told_to_masters(rt: HostRuntime) {
         b"",
     ];
     let mut output = [0u8; 400];
-    let mut room = output.as_mut_slice();
-    let status = replay(
-        rt.alloc(),
-        &mut Counted::new(&mut input),
-        &mut Counted::new(&mut room),
-    );
-    let left = room.len();
+    let (status, left) = play_into(rt.alloc(), script, &mut output);
     let printed = output.get(..400 - left.min(400)).unwrap_or(&[]);
     let mut is_unknown = false;
     for (i, (line, answer)) in printed.split(|b| *b == b'\n').zip(answers).enumerate() {
