@@ -22,7 +22,6 @@ pub mod Least
 pub mod RowPaths
 pub mod RowCounts
 pub mod RowTrees
-pub mod RowOrder
 pub mod RowBounds
 pub mod Listing
 pub mod Fitting

@@ -1,5 +1,5 @@
 -- The rows are listed from the root, each queue before those under it.
-use Rattle.std.proofs.Common.{◌≡◌, ℕ, zero, suc, ◌≤◌, List, [], ◌∷◌, ◌++◌, append_assoc, true, false, cond, None, refl, sym, ap, ◌∙◌, arith, subst, eq-eqb}
+use Rattle.std.proofs.Common.{◌≡◌, ℕ, zero, suc, ◌+◌, ◌≤◌, List, [], ◌∷◌, ◌++◌, append_assoc, length, drop, true, false, cond, None, refl, sym, ap, ◌∙◌, arith, subst, eq-eqb}
 use Rattle.std.specs.Prelude.{◌==◌, nat_eq, slice_index_or}
 use Rattle.std.specs.List.{All, flat_map, list_all, list_any, starts_with}
 use Rattle.std.specs.Str.{bytes_eq}
@@ -8,8 +8,10 @@ use Rattle.std.proofs.lemmas.List.{append-nil}
 use Rattle.std.proofs.lemmas.List.Folds.{list_any-append}
 use Rattle.std.proofs.lemmas.List.Elements.{All-append, All-nil, All-cons}
 use Rattle.std.proofs.lemmas.List.Splits.{length-slice_split}
-use Rattle.std.proofs.lemmas.Slice.Eq.{bytes_eq-Decides}
-use Rattle.cap_model.specs.Settings.{QueueRow}
+use Rattle.std.proofs.lemmas.Bool.Decides.{Decides-eqb}
+use Rattle.std.specs.Str.Lines.{lines}
+use Rattle.std.proofs.lemmas.Slice.Eq.{bytes_eq-Decides, starts_is}
+use Rattle.cap_model.specs.Settings.{QueueRow, Settings}
 use Rattle.cap_model.specs.Flat.{is_under, is_child_of, name_of}
 use Rattle.cap_model.specs.Bounds.{depth}
 use Rattle.cap_model.specs.QueueCalls.{root_path}
@@ -19,14 +21,33 @@ use Rattle.cap_config.specs.Keys.{root, last_dot, is_dot}
 use Rattle.cap_config.specs.Values.{is_name_under}
 use Rattle.cap_config.specs.Queues.{names_below, child}
 use Rattle.cap_config.specs.Tests.{whole_fault, level}
-use Rattle.cap_config.specs.Rows.{rows_under, row_of}
+use Rattle.cap_config.specs.Rows.{rows_under, row_of, settings_of}
 use Rattle.cap_config.specs.Bounds.{are_bounded}
-use Rattle.cap_config.proofs.Found.{both, under_path, factor_small}
+use Rattle.cap_config.specs.TreeLaws.{SettingsAreListed}
+use Rattle.cap_config.proofs.Kept.{lines_kept}
+use Rattle.cap_config.proofs.Found.{both, same_bytes, under_path, factor_small}
 use Rattle.cap_config.proofs.Children.{name_no_dot}
-use Rattle.cap_config.proofs.RowPaths.{first_of_two, second_of_two, same_is, queue_level, queue_rows}
-use Rattle.cap_config.proofs.RowCounts.{IsBelow, starts_dot, append_none, dotless_cons}
-use Rattle.cap_config.proofs.RowTrees.{rows_tree, own_path}
-use Rattle.cap_config.proofs.RowOrder.{below_of_under, below_both}
+use Rattle.cap_config.proofs.RowPaths.{either, first_of_two, second_of_two, same_is, queue_level, queue_rows}
+use Rattle.cap_config.proofs.RowCounts.{IsBelow, starts_dot, append_none, dotless_cons, rows_of_settings}
+use Rattle.cap_config.proofs.RowTrees.{rows_tree, own_path, made_of}
+
+-- a queue that is under another has its path, or a path that begins with it and a dot
+below_of_under : (path queue : List ℕ) → is_under path queue ≡ true → IsBelow path queue
+below_of_under path queue h =
+    either (IsBelow path queue) (bytes_eq path queue) (starts_with nat_eq queue (path ++ 46 ∷ [])) h
+    (λ same. record { rest = []; whole = sym (same_bytes path queue same) ∙ sym (append_none path); starts = refl })
+    (λ starts.
+    let rest = drop (length (path ++ 46 ∷ [])) queue in
+    record { rest = 46 ∷ rest; whole = (starts_is Decides-eqb queue (path ++ 46 ∷ []) (starts_with nat_eq queue (path ++ 46 ∷ [])) refl).0 starts ∙ append_assoc path (46 ∷ []) rest; starts = refl })
+
+starts_after : (xs ys : List ℕ) → starts_dot xs ≡ true → starts_dot ys ≡ true → starts_dot (xs ++ ys) ≡ true
+starts_after [] ys first second = second
+starts_after (x ∷ xs) ys first second = first
+
+-- what is below a path below another is below the other
+below_both : (p q r : List ℕ) → IsBelow p q → IsBelow q r → IsBelow p r
+below_both p q r one two =
+    record { rest = one.rest ++ two.rest; whole = two.whole ∙ ap (λ (x : List ℕ). x ++ two.rest) one.whole ∙ append_assoc p one.rest two.rest; starts = starts_after one.rest two.rest one.starts two.starts }
 
 begins_with : (p rest : List ℕ) → starts_with nat_eq (p ++ rest) p ≡ true
 begins_with [] [] = refl
@@ -155,3 +176,10 @@ rows_are_listing entries all none = record {
   levels = levels_few entries all none;
   factors = factors_small entries all 16 root;
 }
+
+-- the queues of the settings of a text
+pub settings_listed : SettingsAreListed
+settings_listed text settings h =
+    let of = made_of text settings h in
+    let rows : IsListing (settings_of of.entries).queues = subst IsListing (sym (rows_of_settings of.entries)) (rows_are_listing of.entries (lines_kept (lines text) of.entries of.read) of.whole) in
+    subst (λ (s : Settings). IsListing s.queues) of.made rows

@@ -129,10 +129,3 @@ rows_tree entries all none =
           let here : is_queue entries path ≡ true = sym (queue_rows entries all none path) ∙ own_path rows k d h in
           is_there rows front (queue_rows entries all none front ∙ fronts_are entries path here front rest e);
     }
-
--- the queues of the settings of a text are a tree
-pub settings_tree : (text : List ℕ) (settings : Settings) → settings_in text ≡ Some settings → IsTree settings.queues
-settings_tree text settings h =
-    let of = made_of text settings h in
-    let rows : IsTree (settings_of of.entries).queues = subst IsTree (sym (rows_of_settings of.entries)) (rows_tree of.entries (lines_kept (lines text) of.entries of.read) of.whole) in
-    subst (λ (s : Settings). IsTree s.queues) of.made rows

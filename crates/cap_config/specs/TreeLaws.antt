@@ -1,13 +1,9 @@
 -- The settings of a text as a tree of queues.
 use Rattle.std.specs.Prelude.{◌≡◌, ℕ, List, Some}
 use Rattle.cap_model.specs.Settings.{Settings}
-use Rattle.cap_model.specs.Bounds.{IsTree, StandBelow}
+use Rattle.cap_model.specs.Listing.{IsListing}
 use Rattle.cap_config.specs.First.{settings_in}
 
--- the queues of a text's settings are a tree: no path twice, and with each path all its beginnings before a dot
-abbrev pub SettingsAreATree : Type 0
-SettingsAreATree = (text : List ℕ) (settings : Settings) → settings_in text ≡ Some settings → IsTree settings.queues
-
--- each queue of a text's settings stands before those under it
-abbrev pub SettingsStandBelow : Type 0
-SettingsStandBelow = (text : List ℕ) (settings : Settings) → settings_in text ≡ Some settings → StandBelow settings.queues
+-- the queues of a text's settings are a tree of at most 16 levels, listed from the root
+abbrev pub SettingsAreListed : Type 0
+SettingsAreListed = (text : List ℕ) (settings : Settings) → settings_in text ≡ Some settings → IsListing settings.queues

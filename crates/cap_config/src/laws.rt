@@ -1,6 +1,6 @@
 //! Laws of the definitions in `specs/`, for callers to cite. The functions do nothing.
 ghost use Rattle.cap_config.specs.Laws.{HasOneAnswer, QueuesAreLeast, QueuesAreNotTooDeep, RowsAreQueues, RowsAreFew, GuaranteeFitsMaximum, MaximumFitsParent, ChildrenFitParent};
-ghost use Rattle.cap_config.specs.TreeLaws.{SettingsAreATree, SettingsStandBelow};
+ghost use Rattle.cap_config.specs.TreeLaws.{SettingsAreListed};
 
 /// A text has a first fault or settings, and never both.
 pub fn text_has_one_answer()
@@ -28,12 +28,8 @@ pub fn capacities_fit()
     ensures children { ChildrenFitParent }
 {}
 
-/// The settings of a text have the queues of a tree: no path twice, and with each path all its beginnings before a dot.
-pub fn settings_are_a_tree()
-    ensures { SettingsAreATree }
-{}
-
-/// In the settings of a text each queue stands before those under it.
-pub fn settings_stand_below()
-    ensures { SettingsStandBelow }
+/// The settings of a text have the queues of a tree, on at most 16 levels and listed from `root`: no path twice, with each path all
+/// its beginnings before a dot, and each queue before those under it.
+pub fn settings_are_listed()
+    ensures { SettingsAreListed }
 {}

@@ -8,13 +8,15 @@ use Rattle.cap_model.specs.Amounts.{fits, times}
 use Rattle.cap_model.specs.Flat.{Flat, App, Container, Reservation, opened, is_under}
 use Rattle.cap_model.specs.Uses.{use_of, queue_use}
 use Rattle.cap_model.specs.Events.{ClusterEvent, Step, Run}
-use Rattle.cap_model.specs.Bounds.{FitsMaximum, IsTree, IsLeaf, IsPlaced, IsQueueBounded, IsNodeBounded, IsReservationBounded, IsWellFormed, IsBounded}
+use Rattle.cap_model.specs.Bounds.{FitsMaximum, IsLeaf, IsPlaced, IsQueueBounded, IsNodeBounded, IsReservationBounded, IsWellFormed, IsBounded}
+use Rattle.cap_model.specs.Listing.{IsListing}
 use Rattle.cap_model.specs.BoundLaws.{StepStaysBounded, RunsStayBounded, OpenedIsBounded}
 use Rattle.cap_model.proofs.Members.{of_each}
 use Rattle.cap_model.proofs.Measures.{amounts_fit, use_amount, use_past}
 use Rattle.cap_model.proofs.ContainerNumbers.{numbers_stay_distinct}
 use Rattle.cap_model.proofs.Formed.{step_formed}
 use Rattle.cap_model.proofs.StepBounds.{step_bounds_queues, step_bounds_nodes, step_apart, step_bounds_reservations}
+use Rattle.cap_model.proofs.Listed.{listings_stand_below}
 use Rattle.cap_model.proofs.TreeSums.{trees_add_up}
 
 module _ {K : ℕ} where
@@ -55,9 +57,10 @@ module _ (K : ℕ) where
   empty_in_maximum settings path None = tt
   empty_in_maximum settings path (Some m) = nothing_used settings (λ leaf user. is_under path leaf) m
 
-  empty_formed : (settings : Settings) → IsTree settings.queues → IsWellFormed (opened {K = K} settings)
+  empty_formed : (settings : Settings) → IsListing settings.queues → IsWellFormed (opened {K = K} settings)
   empty_formed settings t = record {
-    tree = t;
+    tree = t.tree;
+    order = listings_stand_below settings.queues t;
     leaves = of_each (λ (app : App). IsLeaf (opened {K = K} settings) app.leaf) [] (λ app m. absurd m);
     apps = omega arith;
     nodes = omega arith;
@@ -65,7 +68,7 @@ module _ (K : ℕ) where
     reserved = of_each (λ (r : Reservation). IsPlaced (opened {K = K} settings) r.app r.node) [] (λ r m. absurd m);
   }
 
-  empty_bounded : (settings : Settings) → IsTree settings.queues → IsBounded (opened {K = K} settings)
+  empty_bounded : (settings : Settings) → IsListing settings.queues → IsBounded (opened {K = K} settings)
   empty_bounded settings t =
       let w = empty_formed settings t in
       record {

@@ -4,7 +4,7 @@ use Rattle.std.specs.Prelude.{◌⊎◌, Option, Some, None, IsSome, is_some, is
 use Rattle.std.specs.List.{All, list_any, starts_with}
 use Rattle.cap_model.specs.Settings.{QueueRow}
 use Rattle.cap_model.specs.Calls.{Ask, CallRequest, CallReply, CallRefusal}
-use Rattle.cap_model.specs.Flat.{Flat, App, ClusterNode, Container, Reservation, app_at, queue_at}
+use Rattle.cap_model.specs.Flat.{Flat, App, ClusterNode, Container, Reservation, app_at, queue_at, is_under}
 use Rattle.cap_model.specs.Submit.{has_children, submit_refusal, is_running}
 use Rattle.cap_model.specs.RegisterNode.{new_node}
 use Rattle.cap_model.specs.Allocate.{after_processed_allocate, is_repeated_allocate}
@@ -13,7 +13,7 @@ use Rattle.cap_model.specs.Replies.{Replies, refused_or, refusal_of, granted_clu
 use Rattle.cap_model.specs.Events.{ClusterEvent, Step, after_grant, after_reserve, grant_proposal, reserve_proposal}
 use Rattle.cap_model.specs.Sight.{sight_of}
 use Rattle.cap_model.specs.Admission.{NodeProposal, IsAdmissible}
-use Rattle.cap_model.specs.Bounds.{IsRising, HasDistinctPaths, IsTree, IsLeaf, IsPlaced, IsWellFormed}
+use Rattle.cap_model.specs.Bounds.{IsRising, HasDistinctPaths, IsTree, StandBelow, IsLeaf, IsPlaced, IsWellFormed}
 use Rattle.cap_model.specs.BoundLaws.{StepStaysWellFormed}
 use Rattle.cap_model.proofs.Choosing.{IsIn, of_filter, in_either}
 use Rattle.cap_model.proofs.Reasons.{none_holds, true_of_none}
@@ -40,6 +40,13 @@ distinct_kept f e [] d = tt
 distinct_kept f e (q ∷ qs) d = (
   (λ i. list_any (λ r. bytes_eq r.path (e q i)) (map f qs)) ∙ any_kept f e (λ p. bytes_eq p q.path) qs ∙ d.0,
   distinct_kept f e qs d.1,
+)
+
+order_kept : (f : QueueRow → QueueRow) → ((q : QueueRow) → (f q).path ≡ q.path) → (qs : List QueueRow) → StandBelow qs → StandBelow (map f qs)
+order_kept f e [] s = tt
+order_kept f e (q ∷ qs) s = (
+  (λ i. list_any (λ r. is_under r.path (e q i)) (map f qs)) ∙ any_kept f e (λ p. is_under p q.path) qs ∙ s.0,
+  order_kept f e qs s.1,
 )
 
 some_mapped : {A B : Type 0} (f : A → B) (o : Option A) → IsSome o → IsSome (option_map f o)
@@ -211,6 +218,7 @@ module _ {K : ℕ} where
   formed : (old new : Flat K) → IsWellFormed old → HasSameQueues old new → AppsMove old new → HasNodeNumbers new → HasPlaces new → IsWellFormed new
   formed old new w s m n h = record {
     tree = subst (λ qs. IsTree qs) (sym s.queues) (tree_kept s.change s.keeps.path old.settings.queues w.tree);
+    order = subst (λ qs. StandBelow qs) (sym s.queues) (order_kept s.change s.keeps.path old.settings.queues w.order);
     leaves = leaves_move old new s m w.leaves;
     apps = app_numbers_move old new m w.apps;
     nodes = n;

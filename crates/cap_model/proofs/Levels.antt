@@ -14,11 +14,11 @@ use Rattle.cap_model.proofs.Members.{each_of, in_map, one_where}
 use Rattle.cap_model.proofs.Proposers.{none_in, value_of}
 use Rattle.cap_model.proofs.Paths.{IsUnder, under_is, is_under_it}
 
-depth_cons : (b : ℕ) (path : List ℕ) → depth (b ∷ path) ≡ one_where (b == 46) + depth path
+pub depth_cons : (b : ℕ) (path : List ℕ) → depth (b ∷ path) ≡ one_where (b == 46) + depth path
 depth_cons b path = sum_by-cons (λ x. one_where (x == 46)) b path
 
 -- a path goes one level down with each dot
-below_is_deeper : (front rest : List ℕ) → depth (front ++ 46 ∷ rest) ≡ depth front + 1 + depth rest
+pub below_is_deeper : (front rest : List ℕ) → depth (front ++ 46 ∷ rest) ≡ depth front + 1 + depth rest
 below_is_deeper front rest =
     let whole = sum_by-append (λ (x : ℕ). one_where (x == 46)) front (46 ∷ rest) in
     let dot = depth_cons 46 rest in
@@ -60,7 +60,7 @@ tail_of : (path queue : List ℕ) → IsUnder path queue → (rest : List ℕ) �
 tail_of path queue (inl e) = ([], e ∙ sym (Rattle.std.proofs.lemmas.List.append-nil path), inl refl)
 tail_of path queue (inr (more, e)) = (46 ∷ more, e, inr (more, refl))
 
-comparable : (x y leaf : List ℕ) → IsUnder x leaf → IsUnder y leaf → IsUnder x y ⊎ IsUnder y x
+pub comparable : (x y leaf : List ℕ) → IsUnder x leaf → IsUnder y leaf → IsUnder x y ⊎ IsUnder y x
 comparable x y leaf u v =
     let a = tail_of x leaf u in
     let b = tail_of y leaf v in

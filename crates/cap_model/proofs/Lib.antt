@@ -1,4 +1,5 @@
 pub mod Levels
+pub mod Listed
 pub mod Trees
 pub mod UsedNumbers
 pub mod Sizes

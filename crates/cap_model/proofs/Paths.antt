@@ -105,7 +105,7 @@ first_name (b ∷ bs) = by (b == 46) refl (first_name bs)
     by false e (inl r) = inl (ap (λ n. b ∷ n) r)
     by false e (inr (rest, r)) = inr (rest, ap (λ n. b ∷ n) r)
 
-name_has_none : (path : List ℕ) → has_dot (name_of path) ≡ false
+pub name_has_none : (path : List ℕ) → has_dot (name_of path) ≡ false
 name_has_none [] = refl
 name_has_none (b ∷ path) = by (has_dot (b ∷ path)) refl (name_has_none path)
   where

@@ -6,6 +6,7 @@ use Rattle.cap_model.specs.Flat.{Flat, App, opened, app_at, node_at, is_under, i
 use Rattle.cap_model.specs.Settings.{Settings, QueueRow}
 use Rattle.cap_vector.specs.Vector.{IsSum}
 use Rattle.cap_model.specs.Uses.{wanted, queue_use}
+use Rattle.cap_model.specs.Listing.{IsListing}
 use Rattle.cap_model.specs.Sight.{sight_of, still_wanted}
 use Rattle.cap_model.specs.Events.{ClusterEvent, Step, Run}
 use Rattle.cap_model.specs.Bounds.{AreApart, IsQueueBounded, IsNodeBounded, IsReservationBounded, IsSumOfChildren, has_path, is_tree, IsTree, StandBelow, depth, IsWellFormed, IsBounded, IsWithinSizes}
@@ -24,6 +25,10 @@ abbrev pub LevelsInOrder : Type 0
 LevelsInOrder =
     (queues : List QueueRow) (leaf : List ℕ) → IsTree queues → StandBelow queues → has_path queues leaf ≡ true →
     map (λ q. depth q.path) (filter (λ q. is_under q.path leaf) queues) ≡ range_with_len 0 (depth leaf + 1)
+
+-- in queues listed from the root each stands before those under it
+abbrev pub ListingsStandBelow : Type 0
+ListingsStandBelow = (queues : List QueueRow) → IsListing queues → StandBelow queues
 
 -- an application in a queue with children, or under it, is in or under exactly one of them
 abbrev pub IsInOneChild : {K : ℕ} → Flat K → List ℕ → App → Type 0
@@ -69,9 +74,9 @@ ReservationsStayBounded = (K : ℕ) (old new : Flat K) (event : ClusterEvent) �
 abbrev pub StepStaysBounded : Type 0
 StepStaysBounded = (K : ℕ) (old new : Flat K) (event : ClusterEvent) → IsBounded old → Step old event new → IsBounded new
 
--- a cluster that was opened just now over a tree of queues is bounded
+-- a cluster that was opened just now over listed queues is bounded
 abbrev pub OpenedIsBounded : Type 0
-OpenedIsBounded = (K : ℕ) (settings : Settings) → IsTree settings.queues → IsBounded (opened {K = K} settings)
+OpenedIsBounded = (K : ℕ) (settings : Settings) → IsListing settings.queues → IsBounded (opened {K = K} settings)
 
 -- every state of a run from a bounded cluster is bounded: the one after each beginning of its events, and so the closing one
 abbrev pub RunsStayBounded : Type 0

@@ -77,10 +77,11 @@ module _ {K : ℕ} where
   abbrev pub IsPlaced : Flat K → ℕ → ℕ → Type 0
   IsPlaced cluster app node = IsSome (app_at cluster app) × IsSome (node_at cluster node)
 
-  -- what holds of every cluster beside its bounds: the queues are a tree, applications are in leaf queues, applications and nodes have
-  -- distinct numbers below the next, and each live container and each reservation has its application and its node
+  -- what holds of every cluster beside its bounds: the queues are a tree, each before those under it, applications are in leaf queues,
+  -- applications and nodes have distinct numbers below the next, and each live container and each reservation has its application and its node
   pub record IsWellFormed (cluster : Flat K) : Type 0 where
     pub tree : IsTree cluster.settings.queues
+    pub order : StandBelow cluster.settings.queues
     pub leaves : All (λ app. IsLeaf cluster app.leaf) cluster.apps.active
     pub apps : IsRising 1 (map (λ app. app.number) cluster.apps.active) cluster.apps.next
     pub nodes : IsRising 1 (map (λ node. node.number) cluster.nodes.present) cluster.nodes.next_node

@@ -1,7 +1,7 @@
 //! Laws of the definitions in `specs/`, for callers to cite. The functions do nothing.
 ghost use Rattle.cap_model.specs.EngineLaws.{RejectedExactly, NumbersStayDistinct, GrantedOnce, StepIsDetermined, ContainersBalance, EndedOnce, LiveIsWhatWasNotEnded, OneOfEachRank, ChoiceIsComputed, ChoiceFromIsComputed, AppNumbersStayDistinct, ReasonsAreInOrder, PassedIsStep};
 ghost use Rattle.cap_model.specs.NewsLaws.{GrantsAreToldInOrder, EndsAreToldInOrder, GrantsAreToldOverRuns, NewGrantsAreOfTheGranted, EndsAreToldOverRuns, NewEndsAreOfTheEnded};
-ghost use Rattle.cap_model.specs.BoundLaws.{ParentUsesChildren, StepStaysWellFormed, QueuesStayBounded, NodesStayBounded, ReservationsStayApart, ReservationsStayBounded, UnderByPath, TreesAddUp, StepStaysBounded, RunsStayBounded, OpenedIsBounded, WantedIsSeen, UsesAreSums, SizesStay, OpenedIsWithinSizes, NumbersAreNotUsedAgain, RunsStayWithinSizes, TreesAreTested, LevelsInOrder};
+ghost use Rattle.cap_model.specs.BoundLaws.{ParentUsesChildren, StepStaysWellFormed, QueuesStayBounded, NodesStayBounded, ReservationsStayApart, ReservationsStayBounded, UnderByPath, TreesAddUp, StepStaysBounded, RunsStayBounded, OpenedIsBounded, WantedIsSeen, UsesAreSums, SizesStay, OpenedIsWithinSizes, NumbersAreNotUsedAgain, RunsStayWithinSizes, TreesAreTested, LevelsInOrder, ListingsStandBelow};
 
 /// A proposal has no reason to be rejected exactly where it is admissible, and of several the one of the smallest number.
 pub fn reason_says_why()
@@ -86,10 +86,12 @@ pub fn steps_keep_reservations_within_asks()
     ensures bounded { ReservationsStayBounded }
 {}
 
-/// What is under a queue is told by dotted paths, and in a tree a parent uses what its children use together.
+/// What is under a queue is known by dotted paths. In queues that are listed from the root each stands before those under it, so
+/// that those above a queue stand in order of level. In a tree a parent uses what its children use together.
 pub fn trees_add_up()
     ensures under { UnderByPath }
     ensures tested { TreesAreTested }
+    ensures listed { ListingsStandBelow }
     ensures levels { LevelsInOrder }
     ensures sums { TreesAddUp }
 {}

@@ -1,4 +1,5 @@
 use Rattle.cap_model.proofs.Levels.{levels_in_order}
+use Rattle.cap_model.proofs.Listed.{listings_stand_below}
 use Rattle.cap_model.proofs.Trees.{trees_are_tested}
 use Rattle.cap_model.proofs.Paths.{under_by_path}
 use Rattle.cap_model.proofs.TreeSums.{trees_add_up}
@@ -12,6 +13,9 @@ returns-clause-sums c = trees_add_up
 
 pub returns-clause-tested : goal.returns-clause-tested
 returns-clause-tested c = trees_are_tested
+
+pub returns-clause-listed : goal.returns-clause-listed
+returns-clause-listed c = listings_stand_below
 
 pub returns-clause-levels : goal.returns-clause-levels
 returns-clause-levels c = levels_in_order
