@@ -150,10 +150,6 @@ one_uses low n next a g e es old new h found t = record {
   ends = λ m. room_used (λ r. r.ends) e m low n next es old new h found t.number t.ends;
 }
 
--- nothing is used where nothing changes
-pub none_uses : (n a g e : ℕ) (apps : HeldApps) → UsesRoom n a g e apps apps
-none_uses n a g e apps = record { asks = λ m. omega arith; grants = λ m. omega arith; ends = λ m. omega arith }
-
 -- what a look-up found, as a reference
 pub found_by : (n : ℕ) (es : List (ℕ × HeldApp)) (r : Option HeldApp) (old : HeldApp) → r ≡ lookup (nat_eq n) es → r ≡ Some old → lookup (nat_eq n) es ≡ Some old
 found_by n es r old e f = sym e ∙ f

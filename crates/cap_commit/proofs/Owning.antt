@@ -34,9 +34,6 @@ zero_where false = refl
 pub ends_kept : (n asks grants : ℕ) (old new : HeldApps) → UsesRoom n asks grants 0 old new → KeepsEnds old new
 ends_kept n asks grants old new h m = let e = h.ends m in let z = zero_where (m == n) in omega (arith, e, z)
 
-pub same_rooms : (old new : HeldApps) → new.rooms ≡ old.rooms → KeepsEnds old new
-same_rooms old new e m = let r : end_room m new ≡ end_room m old = ap (λ rooms. option_map_or (λ (room : Room). room.ends) (room_of m rooms) 0) e in omega (arith, r)
-
 -- with the room of one more
 more_rooms : (m : ℕ) (r : Room) (rooms : List Room) → option_map_or (λ (room : Room). room.ends) (room_of m rooms) 0 ≤ option_map_or (λ (room : Room). room.ends) (room_of m (rooms ++ r ∷ [])) 0
 more_rooms m r [] = omega arith

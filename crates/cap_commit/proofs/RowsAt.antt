@@ -59,14 +59,6 @@ pub found_row : (rows : List Row) (path place : List ℕ) → AreRows rows → (
 found_row rows path place a r =
     ap (λ p. find (λ (q : QueueRow). bytes_eq q.path p) (queues_of rows)) (sym r.path_is) ∙ found_by_path (queues_of rows) a.listing.tree.distinct (settings_of_row r.row) (in_map settings_of_row rows r.row r.member)
 
--- the root is there
-root_of : (qs : List QueueRow) → IsListedFromRoot qs → is_some (find (λ q. bytes_eq q.path root_path) qs) ≡ true
-root_of [] l = absurd l
-root_of (q ∷ qs) l = ap (λ b. is_some (cond b (Some q) (find (λ (r : QueueRow). bytes_eq r.path root_path) qs))) ((bytes_eq-Decides q.path root_path).1 l.0)
-
-pub root_there : (rows : List Row) → AreRows rows → IsSome (find (λ q. bytes_eq q.path root_path) (queues_of rows))
-root_there rows a = root_of (queues_of rows) a.listing.listed
-
 -- no queue has more applications than are allowed
 pub active_few : {K : ℕ} (rows : List Row) (apps : HeldApps) (cluster : Flat K) → IsHeld rows apps cluster → (r : Row) → IsIn r rows → r.item.active ≤ applications_max
 active_few rows apps cluster h r m =

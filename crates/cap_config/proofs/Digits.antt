@@ -17,11 +17,5 @@ digit_at digits i all h =
     let here : is_digit (get_or digits i 0) ≡ true = AllPass-from_list_all is_digit digits all i 0 h in
     record { least = grind (arith, nat_tests, here); most = grind (arith, nat_tests, here) }
 
-pub decimal_more : (digits : List ℕ) (i : ℕ) → i < length digits → decimal (take (i + 1) digits) ≡ 10 * decimal (take i digits) + (get_or digits i 0 - 48)
-decimal_more digits i h = fold_more _ 0 digits i 0 h
-
-pub power_more : (i : ℕ) → 10 ^ (i + 1) ≡ 10 ^ i * 10
-power_more i = pow-add 10 i 1
-
 pub power_small : (i : ℕ) → i ≤ 12 → 10 ^ i ≤ 1000000000000
 power_small i h = pow-le-pow_right {n = 10} (lit< tt) h

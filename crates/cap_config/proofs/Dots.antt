@@ -17,6 +17,3 @@ pub dot_found : (bytes : List ℕ) (end i : ℕ) → end ≡ suc i → end ≤ l
     parts_at_last_dot bytes ≡ Some (take i bytes, take (length bytes - (i + 1)) (drop (i + 1) bytes))
 unfolding parts_at_last_dot
 dot_found bytes end i e h none dot = rw (last_dot_here bytes i (omega arith) (rw e at none) dot, rest_all bytes (i + 1)) refl
-
-pub dot_passed : (bytes : List ℕ) (end i : ℕ) → end ≡ suc i → end ≤ length bytes → last_dot (drop end bytes) ≡ None → is_dot (get_or bytes i 0) ≡ false → last_dot (drop i bytes) ≡ None
-dot_passed bytes end i e h none dot = last_dot_not_here bytes i (omega arith) (rw e at none) dot

@@ -92,10 +92,6 @@ longer p name path below e =
     let m : length p ≡ length path = ap length e in
     omega (arith, l, m)
 
-count_one : (b : Bool) (n : ℕ) → b ≡ true → cond b 1 0 + n ≡ 1 + n
-count_one true n h = refl
-count_one false n h = absurd (cc h)
-
 pub count_no : (b : Bool) (n : ℕ) → b ≡ false → cond b 1 0 + n ≡ n
 count_no true n h = absurd (cc h)
 count_no false n h = omega arith

@@ -48,9 +48,6 @@ digits_no_blank (d ∷ digits) h =
     digit_no_blank : (d : ℕ) → is_digit d ≡ true → is_no_blank d ≡ true
     digit_no_blank d h = grind (arith, nat_tests)
 
-pub has_blank : (bytes first last : List ℕ) → list_all is_no_blank bytes ≡ true → bytes ≡ first ++ 32 ∷ last → ⊥
-has_blank bytes first last none e = no_blank_is_blank first last (rw e at none)
-
 abbrev begins_by : ℕ → List ℕ → Bool
 begins_by n line = eqb (get_or line 0 0) n
 

@@ -61,20 +61,9 @@ nothing : (xs : List ℕ) → length xs ≡ 0 → xs ≡ []
 nothing [] h = refl
 nothing (x ∷ xs) h = absurd (omega arith)
 
--- a piece follows what was begun
-reads_piece : (text : List ℕ) (done : List (List ℕ)) (begun piece : List ℕ) → Reads text done begun → Reads (text ++ piece) done (begun ++ piece)
-reads_piece text done begun piece reads = λ more.
-    ap lines (append_assoc text piece more)
-    ∙ reads (piece ++ more)
-    ∙ ap (λ x. done ++ lines x) (sym (append_assoc begun piece more))
-
 -- nothing was read
 pub starts : IsPlayed [] [] None false
 starts = record { done = []; reads = λ more. refl; stands = at_start }
-
--- a piece was read, and none of its lines is played yet
-pub plays_piece : (text begun piece : List ℕ) (settings : Option (List ℕ)) (opened : Bool) → IsPlayed text begun settings opened → IsPlayed (text ++ piece) (begun ++ piece) settings opened
-plays_piece text begun piece settings opened p = record { done = p.done; reads = reads_piece text p.done begun piece p.reads; stands = p.stands }
 
 -- the same seen by other names
 pub as_now : (text begun left : List ℕ) (settings settings_then : Option (List ℕ)) (opened opened_then : Bool) → IsPlayed text begun settings opened → left ≡ begun → settings_then ≡ settings → opened_then ≡ opened → IsPlayed text left settings_then opened_then

@@ -154,14 +154,6 @@ after_step done line settings settings_then opened opened_then stands step begin
       sound = λ e. ap (λ x. first_fault (settings_text x)) same ∙ sound_then done settings opened opened refl stands begins.sound;
     }
 
--- the first step, where the settings have a fault
-pub stops_at_step : (done : List (List ℕ)) (line : List ℕ) (settings : Option (List ℕ)) (opened : Bool) (fault : ConfigFault) → Stands done settings opened → IsStep line → FailsToBegin settings opened fault → StopsAtStep done line fault
-stops_at_step done line settings opened fault stands step fails = record {
-  opens = stands.waits fails.0;
-  step = step;
-  found = ap (λ x. first_fault (settings_text x)) (sym stands.gathered) ∙ fails.1;
-}
-
 -- the end, where the settings have none
 pub sound_at_end : (done : List (List ℕ)) (settings settings_then : Option (List ℕ)) (opened opened_then : Bool) → Stands done settings opened → Begins settings opened settings_then opened_then → settings_fault done ≡ None
 sound_at_end done settings settings_then opened opened_then stands begins = sound_then done settings opened opened refl stands begins.sound

@@ -43,25 +43,6 @@ refusal_at status =
     if status == 20 then Some NoMemory else
     None
 
-refusal_again : (refusal : Refusal) → refusal_at (status_of refusal) ≡ Some refusal
-refusal_again UnknownQueue = refl
-refusal_again NotLeaf = refl
-refusal_again QueueStopped = refl
-refusal_again TooManyApplications = refl
-refusal_again UnknownApplication = refl
-refusal_again AlreadyRegistered = refl
-refusal_again NotRegistered = refl
-refusal_again BadResponseId = refl
-refusal_again AskTooLarge = refl
-refusal_again TooManyAsks = refl
-refusal_again UnknownNode = refl
-refusal_again HostTaken = refl
-refusal_again TotalTooLarge = refl
-refusal_again TooManyNodes = refl
-refusal_again ZeroResource = refl
-refusal_again NumbersSpent = refl
-refusal_again NoMemory = refl
-
 -- ---- what a QueueInfo gives
 
 -- whether there is a maximum, and the amounts in its place

@@ -26,9 +26,6 @@ without_more gone c live =
     sym (filter_twice (λ d. not (is_among (c ∷ []) d)) (λ d. not (is_among gone d)) (λ d. not (is_among (gone ++ c ∷ []) d)) live
     (λ d. ap not (list_any-append (λ (e : Container). e.number == d.number) gone (c ∷ [])) ∙ not_or (is_among gone d) (is_among (c ∷ []) d)))
 
-ended_as : Cause → Container → EndedContainer
-ended_as cause c = record { container = c.number; cause = cause }
-
 -- an application that is told of some ends, and then of one more
 one_more_end : (cause : Cause) (gone : List Container) (c : Container) (app : App) → with_ends cause (gone ++ c ∷ []) app ≡ with_ends cause (c ∷ []) (with_ends cause gone app)
 one_more_end cause gone c app = ap (λ ends. record app { ends = ends })

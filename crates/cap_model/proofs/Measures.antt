@@ -36,10 +36,6 @@ amount_of K f k h = get_or-map-range_with_len f 0 K k k 0 h (omega arith)
 pub amount_past : (K : ℕ) (f : ℕ → ℕ) (k : ℕ) → K ≤ k → amount (by_amount K f) k ≡ 0
 amount_past K f k h = let l = length-map-range_with_len f 0 K in get_or_past (by_amount K f) k 0 (omega (arith, h, l))
 
--- a computed vector whose amounts are bounded
-pub amount_below : (K : ℕ) (f : ℕ → ℕ) (v : List ℕ) → ((k : ℕ) → k < K → f k ≤ amount v k) → (k : ℕ) → amount (by_amount K f) k ≤ amount v k
-amount_below K f v h k = elim (cases_lt k K) [ inl b ↦ omega (arith, amount_of K f k b, h k b) | inr p ↦ omega (arith, amount_past K f k p) ]
-
 -- whether what an application holds counts, by its leaf queue and its user
 abbrev pub counts : (List ℕ → List ℕ → Bool) → Option App → Bool
 counts test o = holds_of (λ a. test a.leaf a.user) o

@@ -130,11 +130,6 @@ not_found_among n c xs e (Some d) f =
     let no : d.number == c.number ≡ false = grind (arith, nat_tests, has, e) in
     ap (λ b. b || false) no
 
-absorb : (a b : Bool) → a || (b && a) ≡ a
-absorb true b = refl
-absorb false true = refl
-absorb false false = refl
-
 is_true_or : (a b x : Bool) → a ≡ true → (a || b) && x ≡ x
 is_true_or true b x e = refl
 is_true_or false b x e = absurd (cc e)

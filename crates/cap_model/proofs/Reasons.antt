@@ -49,10 +49,6 @@ pub none_of_true : (b : Bool) → b ≡ true → not b ≡ false
 none_of_true true h = refl
 none_of_true false h = absurd (cc h)
 
-is_nothing : {A : Type 0} (o : Option A) → is_some o ≡ false → o ≡ None
-is_nothing None h = refl
-is_nothing (Some x) h = absurd (cc h)
-
 -- what the tests on reservations and room come to for a grant
 grant_needs : {A : Type 0} (none want own free total : Bool) (reservation : Option A) →
     none || not (want || true && own) ≡ false → is_some reservation && not (true && own) ≡ false → true && not free ≡ false →

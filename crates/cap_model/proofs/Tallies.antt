@@ -136,21 +136,3 @@ module _ {K : ℕ} (old : Flat K) (cause : Cause) (c : Container) (rising : IsRi
       sum_by_agree (λ (d : Reservation). counted ended test k d.app d.resource) (λ d. counted old test k d.app d.resource) old.nodes.reserved (λ d m. ap (λ t. if t then amount d.resource k else 0) (stands d.app)) in
       let whole = sum_without (λ (d : Container). counted old test k d.app d.resource) 1 old.nodes.live old.nodes.next_container c rising there in
       omega (arith, use_amount old test k b, use_amount ended test k b, live, reserved, whole)
-
-  -- a queue or a user that it counts for uses less by it
-  pub ended_less : counts test (app_at old c.app) ≡ true → used_by ended test ≡ less (used_by old test) c.resource
-  ended_less e =
-      is_less (used_by old test) c.resource (used_by ended test) K (length_used old test) (length_used ended test)
-      (λ k b. let own : counted old test k c.app c.resource ≡ amount c.resource k = ap (λ t. if t then amount c.resource k else 0) e in omega (arith, ended_amount k b, own))
-
-  -- and every other the same
-  pub ended_else : counts test (app_at old c.app) ≡ false → used_by ended test ≡ used_by old test
-  ended_else e =
-      ext_get_or 0 (used_by ended test) (used_by old test) (length_used ended test ∙ sym (length_used old test))
-      (λ k h. let b : k < K = omega (arith, h, length_used ended test) in
-      let own : counted old test k c.app c.resource ≡ 0 = ap (λ t. if t then amount c.resource k else 0) e in
-      omega (arith, ended_amount k b, own))
-
-  -- what it has is in the use that it counts for
-  pub ended_fits : counts test (app_at old c.app) ≡ true → (k : ℕ) → k < K → amount c.resource k ≤ amount (used_by old test) k
-  ended_fits e k b = let own : counted old test k c.app c.resource ≡ amount c.resource k = ap (λ t. if t then amount c.resource k else 0) e in omega (arith, ended_amount k b, own)

@@ -23,10 +23,6 @@ use Rattle.cap_model.proofs.Telling.{is_number, find_mapped, others_stay, gone_i
 abbrev number_of : App → ℕ
 number_of app = app.number
 
-pub some_of : {A : Type 0} (o : Option A) (x : A) → o ≡ Some x → IsSome o
-some_of None x e = absurd (cc e)
-some_of (Some y) x e = refl
-
 pub there_or_not : {A : Type 0} (o : Option A) → IsSome o ⊎ (o ≡ None)
 there_or_not None = inr refl
 there_or_not (Some x) = inl refl

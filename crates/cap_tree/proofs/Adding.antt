@@ -8,10 +8,6 @@ use Rattle.std.proofs.lemmas.List.Elements.{All-get_or, All-from_recursion, recu
 use Rattle.cap_tree.specs.Spot.{Spot, leads_to, item_at, path_at, last_place, under, below, spots, HoldsOfItem, IsPlace, IsAdded, IsAddedAt}
 use Rattle.cap_tree.proofs.Spots.{item_at-spots}
 
-take-nil : (n : ℕ) → take {A = ℕ} n [] ≡ []
-take-nil zero = refl
-take-nil (suc n) = refl
-
 pub from_zero : (n : ℕ) → 0 + n ≡ n
 from_zero n = omega arith
 
@@ -171,13 +167,3 @@ module _ {T : Type 0} where
       let z : suc levels - 1 ≡ levels = omega arith in
       subst (λ k. IsAdded (suc levels) nm x value (spots name item (set kids k child'))) (sym w)
       (added_in_child levels nm name item x kids value child child' e f h (c ∙ ap (λ k. get_or kids k child) w) (subst (λ k. IsAdded k nm x child child') z a))
-
-  -- a tree without children has the root as its last spot
-  pub added_at_leaf : (levels : ℕ) (nm : List ℕ) (name : T → List ℕ) (item x : T) (kids : List (List (Spot T))) (value value' : List (Spot T)) → spots name item kids ≡ value → length kids < 1 → IsAdded 0 nm x value value' → IsAdded levels nm x value value'
-  added_at_leaf levels nm name item x [] value value' e h a =
-      let way : take levels (last_place value) ≡ [] = ap (λ v. take levels (last_place v)) (sym e) ∙ take-nil levels in
-      subst (λ w. IsAddedAt w nm x value value') (sym way) a
-  added_at_leaf levels nm name item x (k ∷ ks) value value' e h a = absurd (omega arith)
-
-  pub added_at_root : (levels : ℕ) (nm : List ℕ) (x : T) (value value' : List (Spot T)) → levels ≡ 0 → IsAdded 0 nm x value value' → IsAdded levels nm x value value'
-  added_at_root levels nm x value value' h a = subst (λ k. IsAdded k nm x value value') (sym h) a

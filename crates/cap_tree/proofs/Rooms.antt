@@ -10,6 +10,3 @@ room_in_child part whole old new bound l (inr r) = inr (omega arith)
 pub room_for_one : (stored bound : ℕ) → HasRoom stored 0 1 bound → stored < bound
 room_for_one stored bound (inl r) = absurd (omega arith)
 room_for_one stored bound (inr r) = omega arith
-
-pub has_room_for_one : (stored bound : ℕ) → stored < bound → HasRoom stored 0 1 bound
-has_room_for_one stored bound h = inr (omega arith)

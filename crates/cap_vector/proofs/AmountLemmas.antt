@@ -55,9 +55,6 @@ within_below bound v each k =
       | inr h ↦ omega (arith, get_or_past v k 0 h)
     ]
 
-pub within_less : (bound : ℕ) (a b : List ℕ) → IsWithin bound a → IsWithin bound (less a b)
-within_less bound a b h k = omega (arith, amount-less a b k, h k)
-
 -- the test of a bound, and what it says
 pub within_from_test : (bound : ℕ) (v : List ℕ) → is_within bound v ≡ true → IsWithin bound v
 within_from_test bound [] h k = omega arith

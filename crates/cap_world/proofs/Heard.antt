@@ -221,9 +221,6 @@ hears_more c (s ∷ made) step first second third e h = (e.0, e.1, hears_more c 
 abbrev pub HeardSoFar : List Step → Sight → Type 0
 HeardSoFar made sight = (c : ℕ) → (heard : Hearing) × Hears c made unopened heard × Agrees heard (connection_at c sight.connections)
 
-pub heard_none : (cluster : Flat 2) → HeardSoFar [] (record { cluster = cluster; connections = [] })
-heard_none cluster c = (unopened, refl, tt)
-
 pub heard_next : (all : List Step) (i : ℕ) (d : Step) (did : Did) (old new : Sight) (before after : List (Event 2)) → i < length all → HeardSoFar (take i all) old → Outcome (get_or all i d) (Ok did) old new before after → HeardSoFar (take (i + 1) all) new
 heard_next all i d did old new before after below so_far o c =
     let was = so_far c in

@@ -83,19 +83,6 @@ served_more {by} {old} {mid} {a} {b} {c} {before} {between} {after} {first} {sec
 no_more : (first frames second : List ℕ) → second ≡ first ++ frames → second ≡ first ++ (frames ++ [])
 no_more first frames second e = e ∙ ap (λ (x : List ℕ). first ++ x) (sym (append-nil frames))
 
-pub served_open : {by : ℕ} {old mid : History} {a b : Flat 2} {before after : List (Event 2)} {first second : List ℕ} (new : History) → HasServed by old mid a b before after first second → new ≡ mid → IsAtRest mid → IsServed by standings.Open old new a b before after first second
-served_open {by} {old} {mid} {a} {b} {before} {after} {first} {second} new served e at =
-    subst (λ (h : History). IsServed by standings.Open old h a b before after first second) (sym e) (record {
-      payloads = served.payloads;
-      frames = served.frames;
-      more = [];
-      fed = served.fed;
-      serves = served.serves;
-      stands = (at.0, subst (λ (x : List (List ℕ)). IsStream mid.fed x (rest at.0)) served.given at.1, refl);
-      waits = (served.ready, at);
-      output = no_more first served.frames second served.output;
-    })
-
 pub served_starved : {by : ℕ} {old mid : History} {a b : Flat 2} {before after : List (Event 2)} {first second : List ℕ} (new : History) (third : List ℕ) (left : List (List ℕ)) → HasServed by old mid a b before after first second → new.fed ≡ mid.fed → new.given ≡ mid.given ++ left → IsReading new → third ≡ second
     → IsServed by standings.Starved old new a b before after first third
 served_starved {by} {old} {mid} {a} {b} {before} {after} {first} {second} new third left served f g reading e = record {

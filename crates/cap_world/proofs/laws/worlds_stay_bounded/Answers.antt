@@ -4,7 +4,7 @@ use Rattle.cap_model.specs.Events.{ClusterEvent}
 use Rattle.cap_model.specs.Events as flat_events
 use Rattle.cap_model.specs.Messages.{as_event}
 use Rattle.cap_model.proofs.BoundedRuns.{opened_is_bounded, runs_are_bounded}
-use Rattle.cap_config.proofs.RowTrees.{settings_tree}
+use Rattle.cap_config.proofs.Listing.{settings_listed}
 use Rattle.cap_world.proofs.laws.worlds_stay_bounded.Goals as goal
 
 pub returns-clause-runs : goal.returns-clause-runs
@@ -13,4 +13,4 @@ returns-clause-runs c = λ opening steps done first rest sight bounded headline.
     runs_are_bounded 2 (map as_event first) (map as_event rest) opening sight.cluster bounded run
 
 pub returns-clause-opening : goal.returns-clause-opening
-returns-clause-opening c = λ text settings is. opened_is_bounded 2 settings (settings_tree text settings is)
+returns-clause-opening c = λ text settings is. opened_is_bounded 2 settings (settings_listed text settings is)
