@@ -9,3 +9,5 @@ pub mod Sizes
 pub mod Holding
 pub mod Ending
 pub mod Reporting
+pub mod Naming
+pub mod Leaving

@@ -1,6 +1,6 @@
 -- The row of a queue, by its path and by its place.
 use Rattle.std.proofs.Common.{◌≡◌, ℕ, ◌≤◌, Bool, true, false, cond, List, [], ◌∷◌, Some, refl, sym, ◌∙◌, ap, subst, inl, inr, arith}
-use Rattle.std.specs.Prelude.{IsSome, bytes_eq, find, is_some, ◌||◌}
+use Rattle.std.specs.Prelude.{bytes_eq, find, ◌||◌}
 use Rattle.std.specs.List.{list_any}
 use Rattle.std.proofs.lemmas.Slice.Eq.{bytes_eq-Decides}
 use Rattle.std.proofs.lemmas.List.Sums.{count_by-le-length}
@@ -8,8 +8,6 @@ use Rattle.cap_model.specs.Settings.{QueueRow}
 use Rattle.cap_model.specs.Limits.{applications_max}
 use Rattle.cap_model.specs.Flat.{Flat, App, is_under}
 use Rattle.cap_model.specs.Bounds.{HasDistinctPaths}
-use Rattle.cap_model.specs.QueueCalls.{root_path}
-use Rattle.cap_model.specs.Listing.{IsListedFromRoot}
 use Rattle.cap_model.proofs.Choosing.{IsIn}
 use Rattle.cap_model.proofs.Members.{each_of, in_map}
 use Rattle.cap_tree.specs.Spot.{item_at}

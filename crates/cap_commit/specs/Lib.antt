@@ -1,3 +1,4 @@
 pub mod Reports
 pub mod Changes
 pub mod Held
+pub mod Owners

@@ -1,4 +1,4 @@
-ghost use Rattle.std.specs.Prelude.{◌≡◌, ◌≤◌, ◌<◌, ◌==◌, ◌&&◌, ◌∷◌, [], ℕ, None, Some, true, IfOk, OnOk, OnErr, IfSome, IsSome, IsTrue, is_some, length, map, find, filter, not, bytes_eq, option_map, nat_lt};
+ghost use Rattle.std.specs.Prelude.{◌≡◌, ◌≤◌, ◌<◌, ◌+◌, ◌==◌, ◌&&◌, ◌∷◌, [], ℕ, None, Some, true, IfOk, OnOk, OnErr, IfSome, IsSome, IsTrue, is_some, length, map, find, filter, not, bytes_eq, option_map, nat_lt};
 ghost use Rattle.std.specs.List.{list_any};
 ghost use Rattle.std.specs.Option.{option_copied};
 ghost use Rattle.cap_model.specs.Bounds.{IsRising};
@@ -19,8 +19,10 @@ ghost use Rattle.cap_model.specs.Heartbeat.{containers_on};
 ghost use Rattle.cap_model.specs.EngineLaws.{HasDistinctNumbers};
 ghost use Rattle.cap_nodes.specs.Tables.{beaten};
 ghost use Rattle.cap_commit.specs.Reports.{as_report};
-ghost use Rattle.cap_commit.specs.Changes.{after_end, without_node};
+ghost use Rattle.cap_commit.specs.Owners.{owns, owned, named};
+ghost use Rattle.cap_commit.specs.Changes.{after_all, without_node};
 
+use crate::owner::Owner;
 use crate::places::{find_place, place_of};
 use crate::report::QueueReport;
 use cap_asks::{App, Apps};
@@ -240,7 +242,7 @@ impl<const K: usize> Cluster<K> {
         ensures finished { self.new ≡ after_finish_master self.old number }
     {
         self.nodes.law();
-        let ended = self.remove_all(number);
+        let ended = self.end_all(Owner::Application(number), None);
         // That it is the only application of its number is known from here.
         let _ = self.apps.next();
         let Some(app) = self.apps.app(number) else {
@@ -253,27 +255,57 @@ impl<const K: usize> Cluster<K> {
         ended
     }
 
-    /// Ends all containers of an application, of which it is not told, and counts them.
-    fn remove_all(&mut self, app: u64) -> u32
-        ensures count { result ≡ length (containers_of self.old app) }
-        ensures removed { self.new ≡ without (containers_of self.old app) self.old }
+    /// Ends all live containers of an owner, in order of number, and counts them. Where there is a cause, their applications are to be
+    /// told of it.
+    pub fn end_all(&mut self, owner: Owner, told: Option<Cause>) -> u32
+        ensures count { result ≡ length (owned owner self.old) }
+        ensures ended { self.new ≡ after_all told (owned owner self.old) self.old }
     {
-        self.nodes.law();
+        self.containers_are_numbered();
         let mut ended = 0;
         let mut after = 0;
-        while let Some(container) = self.nodes.next_of_app(app, after) {
+        while let Some(container) = self.next_of(owner, after) {
             after = container.number();
-            self.complete(after, None);
+            self.complete(after, told);
             ended += 1;
         }
         ended
+    }
+
+    /// Ends the live containers of an owner that the numbers name, one after the other, for this cause, of which their applications
+    /// are to be told. The result is how many of the numbers name none: one that is not live, another owner's, or one that an earlier
+    /// number named.
+    pub fn end_named(&mut self, owner: Owner, numbers: &[u64], cause: Cause) -> u16
+        requires { length numbers.now ≤ 1024 }
+        ensures ended { self.new ≡ after_ends (as_cause cause) (named owner numbers.now self.old) self.old }
+        ensures ignored { result + length (named owner numbers.now self.old) ≡ length numbers.now }
+    {
+        self.containers_are_numbered();
+        let mut ignored = 0;
+        for number in numbers {
+            match self.container(*number) {
+                Some(container) if owner.has(&container) => self.complete(*number, Some(cause)),
+                _ => ignored += 1,
+            }
+        }
+        ignored
+    }
+
+    /// The live container of an owner with the least number above `after`, none where there is none.
+    fn next_of(&self, owner: Owner, after: u64) -> Option<Container<K>>
+        ensures { result ≡ find (λ c. owns owner c && nat_lt after c.number) self.now.nodes.live }
+    {
+        match owner {
+            Owner::Application(app) => self.nodes.next_of_app(app, after),
+            Owner::Node(node) => self.nodes.next_on_node(node, after),
+        }
     }
 
     /// A live container ends: what it had is given back at every level of its queue, and its application is to be told of the
     /// cause, if there is one to tell.
     fn complete(&mut self, number: u64, told: Option<Cause>)
         requires { IsSome (find (λ c. c.number == number) self.old.nodes.live) }
-        ensures { IfSome (find (λ c. c.number == number) self.old.nodes.live) (λ c. self.new ≡ after_end told c self.old) }
+        ensures { IfSome (find (λ c. c.number == number) self.old.nodes.live) (λ c. self.new ≡ after_all told (c ∷ []) self.old) }
     {
         // That it is the only container of its number is known from here.
         self.nodes.law();
@@ -305,13 +337,6 @@ impl<const K: usize> Cluster<K> {
         ensures { result ≡ find (λ c. c.number == number) self.now.nodes.live }
     {
         self.nodes.container(number)
-    }
-
-    /// The live container on a node with the least number above `after`, none where there is none.
-    pub fn next_on_node(&self, node: u64, after: u64) -> Option<Container<K>>
-        ensures { result ≡ find (λ c. c.node == node && nat_lt after c.number) self.now.nodes.live }
-    {
-        self.nodes.next_on_node(node, after)
     }
 
     /// What is true of every cluster: the live containers and the nodes have numbers that rise, each below the next; at most

@@ -2,6 +2,7 @@
 #![tactic(auto)]
 
 mod cluster;
+mod owner;
 mod places;
 mod report;
 
@@ -9,4 +10,5 @@ pub use cap_asks::App;
 pub use cap_model::{AllocateReply, Event, HeartbeatReply, Reply, Request};
 pub use cap_nodes::{Container, Node};
 pub use cluster::Cluster;
+pub use owner::Owner;
 pub use report::QueueReport;

@@ -1,5 +1,5 @@
 -- The rows are listed from the root, each queue before those under it.
-use Rattle.std.proofs.Common.{◌≡◌, ℕ, zero, suc, ◌+◌, ◌≤◌, List, [], ◌∷◌, ◌++◌, append_assoc, length, drop, true, false, cond, None, refl, sym, ap, ◌∙◌, arith, subst, eq-eqb}
+use Rattle.std.proofs.Common.{◌≡◌, ℕ, zero, suc, ◌≤◌, List, [], ◌∷◌, ◌++◌, append_assoc, length, drop, true, false, cond, None, refl, sym, ap, ◌∙◌, arith, subst, eq-eqb}
 use Rattle.std.specs.Prelude.{◌==◌, nat_eq, slice_index_or}
 use Rattle.std.specs.List.{All, flat_map, list_all, list_any, starts_with}
 use Rattle.std.specs.Str.{bytes_eq}

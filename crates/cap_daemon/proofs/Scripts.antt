@@ -11,7 +11,7 @@ use Rattle.cap_daemon.specs.declared.command.Command.{Command}
 use Rattle.cap_daemon.specs.declared.command.Command.TheVariants.{Nothing, Conf, Open, Bytes, End}
 use Rattle.cap_daemon.specs.Script.{IsCommand, IsOpeningLine, IsLaterLine, IsStep, IsScript, MayStep, MayFollow}
 use Rattle.cap_daemon.specs.Settings.{property_of, with_line, properties, settings_text, settings_fault}
-use Rattle.cap_daemon.specs.Progress.{Stands, StopsAtStep, Begins, FailsToBegin}
+use Rattle.cap_daemon.specs.Progress.{Stands, Begins, FailsToBegin}
 use Rattle.cap_daemon.proofs.Blanks.{step_never_opens}
 
 -- the lines before a last line all open the script, or the last line stands behind the first step

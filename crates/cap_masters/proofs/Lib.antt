@@ -1,4 +1,3 @@
 pub mod Processing
 pub mod TooLarge
 pub mod Refused
-pub mod Releasing

@@ -1,12 +1,12 @@
 -- How long the spelling of news is.
-use Rattle.std.proofs.Common.{◌≡◌, ℕ, ◌+◌, ◌*◌, ◌≤◌, ◌<◌, Bool, true, List, [], ◌∷◌, ◌++◌, length, length-append, arith}
+use Rattle.std.proofs.Common.{◌≡◌, ℕ, ◌*◌, ◌≤◌, true, List, [], ◌∷◌, ◌++◌, length, length-append, arith}
 use Rattle.std.specs.Prelude.{nat_le, nat_lt, ◌&&◌}
 use Rattle.std.specs.List.{flat_map, list_all, AllByRecursion}
 use Rattle.std.specs.Int.{w32, w64, to_be_bytes}
 use Rattle.std.proofs.lemmas.Bool.{and_parts}
 use Rattle.std.proofs.lemmas.Bool.Decides.{nat_tests}
 use Rattle.cap_vector.specs.Vector.{IsResource}
-use Rattle.cap_model.specs.Texts.{is_graphic, is_text}
+use Rattle.cap_model.specs.Texts.{is_graphic}
 use Rattle.cap_model.specs.Calls.{GrantedContainer, EndedContainer}
 use Rattle.cap_messages.specs.Texts.{is_place}
 use Rattle.cap_messages.specs.Spelling.{text, resource, grant, FitsGrant, end}

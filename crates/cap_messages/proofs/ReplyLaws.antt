@@ -17,7 +17,7 @@ use Rattle.cap_messages.specs.Texts.{is_place}
 use Rattle.cap_messages.specs.Spelling.{told_max, told, FitsListed, grant, FitsGrant, end, FitsEnd, allocated, FitsAllocated, beat, FitsBeat, text, resource, flag, counts, queue_report, reply_body, IsOfKind, FitsReply, IsReply, fault_reply}
 use Rattle.cap_messages.specs.Fields.{◌>>=◌, byte_at, flag_at, number_at, amounts_at, text_at, pair_at, passing_at, times_at, all_at}
 use Rattle.cap_messages.specs.Reading.{head_at}
-use Rattle.cap_messages.proofs.FieldLaws.{some_is, IsField, is_pair, all_again, is_flag, is_byte, is_u16, is_u32, is_u64, is_amounts, is_text_passing, is_times, is_made, is_field_of, bind_some, guard_then, AreBytes, Takes}
+use Rattle.cap_messages.proofs.FieldLaws.{some_is, IsField, is_pair, all_again, is_flag, is_u16, is_u32, is_u64, is_amounts, is_text_passing, is_times, is_made, is_field_of}
 use Rattle.cap_messages.proofs.RequestLaws.{FitsHead, is_head}
 
 -- ---- refusals

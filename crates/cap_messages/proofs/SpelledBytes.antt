@@ -19,7 +19,6 @@ use Rattle.cap_messages.specs.Texts.{is_host, is_rack}
 use Rattle.cap_model.specs.Calls.{Ask, GrantedContainer, EndedContainer, Cause, HeartbeatReply}
 use Rattle.cap_model.specs.News.{cause_number}
 use Rattle.cap_model.specs.declared.replies.AllocateReply.{AllocateReply}
-use Rattle.cap_messages.specs.Texts.{is_place}
 use Rattle.cap_messages.specs.Spelling.{listed, FitsListed, ask, FitsAsk, told_max, told, grant, FitsGrant, end, FitsEnd, allocated, FitsAllocated, beat, FitsReply, text, resource, flag, limit, counts, queue_report, kind_of, request_body, request_bytes, FitsRequest, reply_body, reply_bytes}
 use Rattle.cap_messages.specs.Laws.{IsBytes}
 

@@ -1,5 +1,5 @@
 -- In a list of queues from the root each queue stands before those under it.
-use Rattle.std.proofs.Common.{◌≡◌, ℕ, ◌+◌, Bool, true, false, List, [], ◌∷◌, ◌++◌, append_assoc, refl, sym, ◌∙◌, ap, subst, inl, inr, arith}
+use Rattle.std.proofs.Common.{◌≡◌, ℕ, ◌+◌, true, false, List, [], ◌∷◌, ◌++◌, append_assoc, refl, sym, ◌∙◌, ap, subst, inl, inr, arith}
 use Rattle.std.specs.Prelude.{◌⊎◌, bytes_eq, ◌==◌}
 use Rattle.std.specs.List.{list_any}
 use Rattle.std.proofs.lemmas.Slice.Eq.{bytes_eq-Decides}
@@ -7,7 +7,7 @@ use Rattle.cap_model.specs.Settings.{QueueRow}
 use Rattle.cap_model.specs.Flat.{is_under, is_child_of, name_of}
 use Rattle.cap_model.specs.Bounds.{HasDistinctPaths, StandBelow, depth}
 use Rattle.cap_model.specs.QueueCalls.{root_path}
-use Rattle.cap_model.specs.Listing.{IsListed, IsListedFromRoot, IsListing}
+use Rattle.cap_model.specs.Listing.{IsListed, IsListedFromRoot}
 use Rattle.cap_model.specs.BoundLaws.{ListingsStandBelow}
 use Rattle.cap_model.proofs.Members.{one_where}
 use Rattle.cap_model.proofs.Reasons.{or_left, or_right, or_both}

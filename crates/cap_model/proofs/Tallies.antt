@@ -1,13 +1,12 @@
 -- The applications and the uses that count for a queue or a user, after the changes that calls make.
-use Rattle.std.proofs.Common.{◌≡◌, ℕ, ◌+◌, ◌≤◌, ◌<◌, Bool, true, false, List, [], ◌∷◌, ◌++◌, length, refl, sym, ◌∙◌, ap, subst, inl, inr, arith}
+use Rattle.std.proofs.Common.{◌≡◌, ℕ, ◌+◌, ◌<◌, Bool, true, false, List, [], ◌∷◌, ◌++◌, length, refl, sym, ◌∙◌, ap, subst, inl, inr, arith}
 use Rattle.std.specs.Prelude.{IsSome, cond, not, ◌==◌, ◌||◌, filter, find, map, count_by, if◌then◌else◌}
 use Rattle.std.specs.List.{sum_by}
 use Rattle.std.proofs.lemmas.List.{ext_get_or}
 use Rattle.std.proofs.lemmas.List.Sums.{sum_by-cons}
 use Rattle.std.proofs.lemmas.List.FromFn.{length-map-range_with_len}
 use Rattle.std.proofs.lemmas.Bool.Decides.{nat_tests}
-use Rattle.cap_vector.specs.Vector.{amount, less}
-use Rattle.cap_vector.proofs.AmountLemmas.{is_less}
+use Rattle.cap_vector.specs.Vector.{amount}
 use Rattle.cap_model.specs.Amounts.{part}
 use Rattle.cap_model.specs.Calls.{Cause}
 use Rattle.cap_model.specs.Flat.{Flat, App, Container, Reservation, app_at}

@@ -1,4 +1,3 @@
 pub mod Answering
 pub mod Beating
-pub mod EndingOn
 pub mod Refusing

@@ -7,8 +7,8 @@ use Rattle.cap_model.specs.declared.event.Event.{Event}
 use Rattle.cap_model.specs.Flat.{Flat}
 use Rattle.cap_model.specs.Runs.{Replies}
 use Rattle.cap_model.specs.Runs.{Run}
-use Rattle.cap_frames.specs.Stream.{frame_of, rest, fault, IsStream}
-use Rattle.cap_frames.specs.History.{History, after_gift, IsAtRest, IsAtFault, IsReading}
+use Rattle.cap_frames.specs.Stream.{frame_of, fault, IsStream}
+use Rattle.cap_frames.specs.History.{History, after_gift, IsAtFault, IsReading}
 use Rattle.cap_messages.specs.Spelling.{IsRequest, IsNoRequest, kind_of, reply_bytes, fault_reply}
 use Rattle.cap_world.specs.declared.session.Standing.{Standing}
 use Rattle.cap_world.specs.declared.session.Standing.TheVariants as standings

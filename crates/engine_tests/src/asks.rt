@@ -1,5 +1,5 @@
 use cap_asks::Apps;
-use cap_model::{Ask, Cause, End, Grant, Key, PathText, ShortText};
+use cap_model::{Ask, Cause, End, Grant, Key, NUMBER_END, PathText, ShortText};
 use cap_vector::Resource;
 use std::alloc::Global;
 
@@ -27,6 +27,9 @@ enum Change {
 fn submit(apps: &mut Apps<2>, path: &str) -> Option<()> {
     let leaf = PathText::new(path.as_bytes())?;
     let user = ShortText::new(b"u1")?;
+    if apps.next() >= NUMBER_END {
+        return None;
+    }
     let _number = apps.submit(&leaf, &user).ok()?;
     Some(())
 }

@@ -1,4 +1,4 @@
-use cap_model::{Key, ShortText};
+use cap_model::{Key, NODES_MAX, NUMBER_END, ShortText};
 use cap_nodes::Nodes;
 use cap_vector::{Resource, checked_add, fits};
 use std::alloc::Global;
@@ -21,7 +21,7 @@ fn register(nodes: &mut Nodes<2>, host: &str, total: [u64; 2]) -> Option<()> {
     let rack = ShortText::new(b"r1")?;
     let total = Resource::new(total)?;
     let _sum = checked_add(&nodes.total(), &total)?;
-    if nodes.count() >= 4096 || nodes.next_node() >= 4_611_686_018_427_387_904 {
+    if nodes.count() >= NODES_MAX || nodes.next_node() >= NUMBER_END {
         return None;
     }
     let _number = nodes.register(&host, &rack, &total).ok()?;
@@ -33,7 +33,7 @@ fn place(nodes: &mut Nodes<2>, app: u64, node: u64, resource: [u64; 2]) -> Optio
     let _node = nodes.node(node)?;
     if !fits(&resource, &nodes.free_of(node))
         || nodes.live_count() >= 65_536
-        || nodes.next_container() >= 4_611_686_018_427_387_904
+        || nodes.next_container() >= NUMBER_END
     {
         return None;
     }

@@ -1,16 +1,15 @@
 ghost use Rattle.std.specs.Prelude.{◌≡◌, ◌≤◌, ◌+◌, ◌-◌, ◌==◌, option_map, IsSome, IfSome, OnOk, OnErr, length, true};
 ghost use Rattle.std.specs.List.{list_any};
 ghost use Rattle.cap_model.specs.declared.request.Request.TheVariants.{Allocate};
-ghost use Rattle.cap_model.specs.Calls.{Cause as Why, CallReply};
+ghost use Rattle.cap_model.specs.Calls.{CallReply};
 ghost use Rattle.cap_model.specs.Flat.{app_at};
 ghost use Rattle.cap_model.specs.Messages.{as_refusal, as_reply};
-ghost use Rattle.cap_model.specs.Ending.{after_ends};
-ghost use Rattle.cap_model.specs.Allocate.{allocate_refusal, is_too_large, is_repeated_allocate, released_by, kept_reply};
+ghost use Rattle.cap_model.specs.Allocate.{allocate_refusal, is_too_large, is_repeated_allocate, kept_reply};
 ghost use Rattle.cap_model.specs.Runs.{Replies};
 ghost use Rattle.cap_commit.specs.Changes.{IsAt};
 ghost use Rattle.cap_masters.specs.Processed.{after_processed, IsKept};
 
-use cap_commit::Cluster;
+use cap_commit::{Cluster, Owner};
 use cap_model::{Ask, Asks, Cause, NoMemory, Numbers, Refusal, Reply, first_refusal};
 use cap_vector::fits;
 
@@ -104,28 +103,13 @@ fn process<const K: usize>(
         Ok(()) => {}
         Err(NoMemory) => return Err(NoMemory),
     }
-    let ignored = release_all(cluster, application, releases.as_slice());
+    let ignored = cluster.end_named(
+        Owner::Application(application),
+        releases.as_slice(),
+        Cause::Released,
+    );
     cluster.tell(application, ignored);
     Ok(())
-}
-
-/// Ends the live containers of the application that the releases name, one after the other, and counts those that name none.
-fn release_all<const K: usize>(cluster: &mut Cluster<K>, application: u64, releases: &[u64]) -> u16
-    requires { length releases.now ≤ 1024 }
-    ensures ended { cluster.new ≡ after_ends Why.released (released_by cluster.old application releases.now) cluster.old }
-    ensures ignored { result + length (released_by cluster.old application releases.now) ≡ length releases.now }
-{
-    cluster.containers_are_numbered();
-    let mut ignored = 0;
-    for number in releases {
-        match cluster.container(*number) {
-            Some(container) if container.app() == application => {
-                cluster.end(*number, Cause::Released);
-            }
-            _ => ignored += 1,
-        }
-    }
-    ignored
 }
 
 /// The reply that the application keeps.

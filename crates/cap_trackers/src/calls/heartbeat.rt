@@ -1,13 +1,12 @@
 ghost use Rattle.std.specs.Prelude.{◌≡◌, ◌≤◌, ◌+◌, option_map, IsSome, length};
 ghost use Rattle.cap_model.specs.declared.request.Request.TheVariants.{Heartbeat};
-ghost use Rattle.cap_model.specs.Calls.{Cause as Why, CallReply};
+ghost use Rattle.cap_model.specs.Calls.{CallReply};
 ghost use Rattle.cap_model.specs.Messages.{as_refusal, as_reply};
-ghost use Rattle.cap_model.specs.Ending.{after_ends};
-ghost use Rattle.cap_model.specs.Heartbeat.{heartbeat_refusal, is_repeated_heartbeat, ended_by};
+ghost use Rattle.cap_model.specs.Heartbeat.{heartbeat_refusal, is_repeated_heartbeat};
 ghost use Rattle.cap_model.specs.Runs.{RepliesAlways};
 ghost use Rattle.cap_trackers.specs.Beats.{IsKept, kept_beat};
 
-use cap_commit::Cluster;
+use cap_commit::{Cluster, Owner};
 use cap_model::{Cause, Numbers, Refusal, Reply};
 
 /// A node manager reports which containers have ended on it. Those that are live there end, and their applications are to be told
@@ -29,7 +28,7 @@ pub fn heartbeat<const K: usize>(
         None => {}
     }
     if !is_repeated(cluster, node, response) {
-        let ignored = end_all(cluster, node, ended.as_slice());
+        let ignored = cluster.end_named(Owner::Node(node), ended.as_slice(), Cause::EndedOnNode);
         cluster.beat(node, ignored);
     }
     told(cluster, node)
@@ -54,25 +53,6 @@ fn is_repeated<const K: usize>(cluster: &Cluster<K>, node: u64, response: u32) -
         None => false,
         Some(node) => node.is_repeated(response),
     }
-}
-
-/// Ends the containers live on the node that the report names, one after the other, and counts those that name none.
-fn end_all<const K: usize>(cluster: &mut Cluster<K>, node: u64, ended: &[u64]) -> u16
-    requires { length ended.now ≤ 1024 }
-    ensures ended { cluster.new ≡ after_ends Why.ended_on_node (ended_by cluster.old node ended.now) cluster.old }
-    ensures ignored { result + length (ended_by cluster.old node ended.now) ≡ length ended.now }
-{
-    cluster.containers_are_numbered();
-    let mut ignored = 0;
-    for number in ended {
-        match cluster.container(*number) {
-            Some(container) if container.node() == node => {
-                cluster.end(*number, Cause::EndedOnNode);
-            }
-            _ => ignored += 1,
-        }
-    }
-    ignored
 }
 
 /// The reply that the node keeps.

@@ -19,7 +19,7 @@ pub leave-requires : goal.leave-requires
 leave-requires g c =
     let x = c.self-2.inside in
     let tree = c.deref_mut-tree.ensures.value in
-    let none = none_left c.args.self.now _ c.args.number (subst HasDistinctNumbers c.self.view_is c.law.ensures.containers) (c.self-2.view_is ∙ c.remove_all-ended.ensures.removed) in
+    let none = none_left c.args.self.now _ c.args.number (subst HasDistinctNumbers c.self.view_is c.law.ensures.containers) (c.self-2.view_is ∙ c.end_all-ended.ensures.ended) in
     let at = row_at x.tree.value c.as_bytes.result.now c.place_of-place.result.items (rw tree at c.place_of-place.ensures) in (
       tree_fits _ c.self.invariant.resources,
       (
@@ -34,7 +34,7 @@ pub invariant_of-self : goal.invariant_of-self
 invariant_of-self g c =
     let x = c.self-2.inside in
     let tree = c.deref_mut-tree.ensures.value in
-    let none = none_left c.args.self.now _ c.args.number (subst HasDistinctNumbers c.self.view_is c.law.ensures.containers) (c.self-2.view_is ∙ c.remove_all-ended.ensures.removed) in
+    let none = none_left c.args.self.now _ c.args.number (subst HasDistinctNumbers c.self.view_is c.law.ensures.containers) (c.self-2.view_is ∙ c.end_all-ended.ensures.ended) in
     let path = (rw tree at c.place_of-place.ensures.path_is) ∙ c.as_bytes.ensures.value ∙ c.leaf.ensures in
     let rows = (rw tree at c.leave.ensures) ∙ (λ i. map (left (path i) (c.user.ensures i)) x.tree.value) in
     rw rows
@@ -46,4 +46,4 @@ returns-clause-finished g c =
     let tree = c.deref_mut-tree.ensures.value in
     let rows = rw tree at c.leave.ensures in
     let settings = ap queues_of rows ∙ left_settings _ c.user.result.now x.tree.value in
-    finished_is x.minimum_allocation x.maximum_allocation x.application_limit x.tree.value x.apps x.nodes c.self-2.invariant c.args.self.now c.args.number c.leave.new.self c.finish.new.self.table (c.self-2.view_is ∙ c.remove_all-ended.ensures.removed) settings c.finish.ensures.table
+    finished_is x.minimum_allocation x.maximum_allocation x.application_limit x.tree.value x.apps x.nodes c.self-2.invariant c.args.self.now c.args.number c.leave.new.self c.finish.new.self.table (c.self-2.view_is ∙ c.end_all-ended.ensures.ended) settings c.finish.ensures.table

@@ -9,9 +9,9 @@ pub drop_node-requires : goal.drop_node-requires
 drop_node-requires g c =
     let kinds = c.containers_are_numbered.ensures.resources in
     let there = some_seen c.args.cluster.now c.args.node c.node.result c.node.ensures c.if-is_none.ensures in
-    (omega (arith, kinds), rw c.lose_all-ended.ensures.ended (there, none_left c.args.cluster.now c.args.node c.containers_are_numbered.ensures.numbers))
+    (omega (arith, kinds), rw c.end_all-ended.ensures.ended (there, none_left c.args.cluster.now c.args.node c.containers_are_numbered.ensures.numbers))
 
 pub returns : goal.returns
 returns g c =
     let there = some_seen c.args.cluster.now c.args.node c.node.result c.node.ensures c.if-is_none.ensures in
-    gone_is c.args.cluster.now c.args.node c.lose_all-ended.new.cluster c.drop_node.new.self c.lose_all-ended.result there c.lose_all-ended.ensures.count c.lose_all-ended.ensures.ended c.drop_node.ensures
+    gone_is c.args.cluster.now c.args.node c.end_all-ended.new.self c.drop_node.new.self c.end_all-ended.result there c.end_all-ended.ensures.count c.end_all-ended.ensures.ended c.drop_node.ensures
