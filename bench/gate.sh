@@ -1,6 +1,6 @@
 #!/usr/bin/env bash
-# What the merge gate costs, in processor minutes, on a clone of the last commit: of one `rt ci`; or with `--each` of each crate by itself, over the
-# crates that it stands on: what it costs to prove it, to prove and run its tests, and to try its must-fail edits, each from nothing.
+# What the merge gate costs, in processor minutes, on a clone of the last commit: of one `rt ci`; or with `--each [CRATE..]` of each crate (or these) by
+# itself, over the crates that it stands on: what it costs to prove it, to prove and run its tests, and to try its must-fail edits, each from nothing.
 . "$(dirname "${BASH_SOURCE[0]}")/common.sh"
 git clone -q "$top" "$work/clone"
 cd "$work/clone"
@@ -26,7 +26,10 @@ lines=$(git ls-files '*.rt' '*.antt' | xargs cat | wc -l)
 if [ "${1:-}" = --each ]; then
   echo "| Crate | proved | tests | edits |"
   echo "|---|---|---|---|"
-  for crate in $(in_order); do
+  shift
+  crates=${*:-$(in_order)}
+  for crate in $crates; do
+    spend in_crate "$crate" rt check --only=
     spend in_crate "$crate" rt check --jobs 1
     proved=$minutes
     spend_if is_library in_crate "$crate" rt lib --jobs 1
