@@ -4,6 +4,8 @@
 
 mod settings;
 mod spelling;
+mod table;
 
 pub use settings::{NESTED_QUEUES, TWO_QUEUES, cluster};
 pub use spelling::{Call, WantedContainers, frame};
+pub use table::first;

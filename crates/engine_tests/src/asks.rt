@@ -1,5 +1,6 @@
 use cap_asks::Apps;
 use cap_model::{Ask, Cause, End, Grant, Key, NUMBER_END, PathText, ShortText};
+use cap_testing::first;
 use cap_vector::Resource;
 use std::alloc::Global;
 
@@ -97,11 +98,6 @@ fn after(alloc: Global, changes: &[Change]) -> Option<Apps<2>> {
         make(&mut apps, *change)?;
     }
     Some(apps)
-}
-
-/// The first so many of these changes.
-fn first(changes: &[Change], count: usize) -> &[Change] {
-    changes.get(..count).unwrap_or(&[])
 }
 
 /// How many applications are active, and the next number.

@@ -1,5 +1,5 @@
 use cap_commit::Cluster;
-use cap_testing::{NESTED_QUEUES, cluster};
+use cap_testing::{NESTED_QUEUES, cluster, first};
 use std::alloc::Global;
 
 /// What is reported of a queue: its capacity, its maximum, whether it runs, and whether it is a leaf.
@@ -88,7 +88,7 @@ fn a_stopped_queue_stops_those_under_it(rt: HostRuntime) {
         (2, "root.a.x", true),
         (3, "root.b", false),
     ] {
-        let given = runs_after(rt.alloc(), changes.get(..made).unwrap_or(&[]), path);
+        let given = runs_after(rt.alloc(), first(&changes, made), path);
         assert!(rt; given == Some(answer), "{made} {path}");
     }
 }

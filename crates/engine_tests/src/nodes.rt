@@ -1,5 +1,6 @@
 use cap_model::{Key, NODES_MAX, NUMBER_END, ShortText};
 use cap_nodes::Nodes;
+use cap_testing::first;
 use cap_vector::{Resource, checked_add, fits};
 use std::alloc::Global;
 
@@ -100,9 +101,9 @@ fn counts(alloc: Global, changes: &[Change]) -> Option<(usize, usize, u64, u64)>
 
 #[test]
 fn nodes_and_containers_are_counted(rt: HostRuntime) {
-    for (first, answer) in [(2, (2, 0, 3, 1)), (5, (2, 3, 3, 4))] {
-        let changes = THREE_CONTAINERS.get(..first).unwrap_or(&[]);
-        assert!(rt; counts(rt.alloc(), changes) == Some(answer), "{first}");
+    for (made, answer) in [(2, (2, 0, 3, 1)), (5, (2, 3, 3, 4))] {
+        let changes = first(&THREE_CONTAINERS, made);
+        assert!(rt; counts(rt.alloc(), changes) == Some(answer), "{made}");
     }
 }
 
@@ -271,12 +272,12 @@ const ANOTHER_SECOND: [Change; 4] = [
 
 #[test]
 fn a_lost_node_takes_its_total_along(rt: HostRuntime) {
-    for (first, count, total) in [(2, 2, [12288, 12]), (3, 1, [8192, 8]), (4, 2, [10240, 12])] {
-        let changes = ANOTHER_SECOND.get(..first).unwrap_or(&[]);
+    for (made, count, total) in [(2, 2, [12288, 12]), (3, 1, [8192, 8]), (4, 2, [10240, 12])] {
+        let changes = first(&ANOTHER_SECOND, made);
         let nodes = counts(rt.alloc(), changes).map(|counts| counts.0);
-        assert!(rt; nodes == Some(count), "{first}");
+        assert!(rt; nodes == Some(count), "{made}");
         let totals = totals(rt.alloc(), changes).map(|totals| totals.0);
-        assert!(rt; totals == Some(total), "{first}");
+        assert!(rt; totals == Some(total), "{made}");
     }
     let counts = counts(rt.alloc(), &ANOTHER_SECOND);
     assert!(rt; counts == Some((2, 0, 4, 1)));

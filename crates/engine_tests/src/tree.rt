@@ -2,7 +2,7 @@ ghost use Rattle.cap_tree.specs.Spot.{IsPlace};
 
 use cap_config::read_config;
 use cap_model::ShortText;
-use cap_testing::NESTED_QUEUES;
+use cap_testing::{NESTED_QUEUES, first};
 use cap_tree::{Found, Path, QueueTree};
 use cap_vector::Resource;
 use std::alloc::Global;
@@ -164,11 +164,6 @@ fn after(alloc: Global, changes: &[Change]) -> Option<Tree> {
         make(&mut tree, *change)?;
     }
     Some(tree)
-}
-
-/// The first so many of these changes.
-fn first(changes: &[Change], count: usize) -> &[Change] {
-    changes.get(..count).unwrap_or(&[])
 }
 
 fn runs(tree: &Tree, path: &str) -> Option<bool> {

@@ -1,4 +1,4 @@
-use cap_testing::{Call, TWO_QUEUES, cluster, frame};
+use cap_testing::{Call, TWO_QUEUES, cluster, first, frame};
 use cap_world::{Did, Outcome, Step, World};
 use std::alloc::Global;
 
@@ -72,7 +72,7 @@ fn in_ten() -> [Step<'static>; 11] {
 #[test]
 fn ten_bytes_in_ten_pieces(rt: HostRuntime) {
     let steps = in_ten();
-    let nine = steps.get(..10).unwrap_or(&[]);
+    let nine = first(&steps, 10);
     assert!(rt; counts(rt.alloc(), nine, 1) == Some((10, 0, true)));
     assert!(rt; answers(rt.alloc(), nine, 1, &[]));
     assert!(rt; counts(rt.alloc(), &steps, 1) == Some((11, 1, true)));
@@ -169,9 +169,9 @@ fn steps_that_do_not_apply_are_idle(rt: HostRuntime) {
         Step::End(1),
         Step::Open(1),
     ];
-    for (first, count) in [(1, 1), (2, 1), (4, 1), (5, 2), (8, 2)] {
-        let given = made(rt.alloc(), steps.get(..first).unwrap_or(&[]));
-        assert!(rt; given == Some(count), "{first}");
+    for (number, count) in [(1, 1), (2, 1), (4, 1), (5, 2), (8, 2)] {
+        let given = made(rt.alloc(), first(&steps, number));
+        assert!(rt; given == Some(count), "{number}");
     }
 }
 
