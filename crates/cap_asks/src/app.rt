@@ -10,12 +10,12 @@ ghost use Rattle.cap_asks.specs.Apps.{entering, no_room};
 
 use crate::asks::Asks;
 use crate::news::News;
-use cap_model::{AllocateReply, Ask, End, Grant, Key, NoMemory, PathText, ShortText};
+use cap_model::{
+    AllocateReply, Ask, End, Grant, Key, NoMemory, PathText, ShortText, is_bad, next_response,
+    repeats,
+};
 use std::alloc::Global;
 use std::marker::Model;
-
-/// Response ids stay below this, and begin again at 0.
-const RESPONSE_END: u32 = 1 << 31;
 
 /// An active application: its number, leaf queue and user, its standing with its master, its asks and the news not yet told.
 /// The reply that was told last is kept. Contracts see its row in the flat cluster, and its room.
@@ -148,14 +148,14 @@ impl<const K: usize> App<K> {
     pub fn is_repeated(&self, id: u32) -> bool
         ensures { result ≡ is_repeated self.now.app.response self.now.app.kept id }
     {
-        self.ignored.is_some() && id < RESPONSE_END && next_response(id) == self.response
+        repeats(self.response, self.is_kept(), id)
     }
 
     /// Whether a request of this response id is neither the next one nor repeats the last.
     pub fn is_bad_id(&self, id: u32) -> bool
         ensures { result ≡ is_bad_id self.now.app.response self.now.app.kept id }
     {
-        !(id == self.response || self.is_repeated(id))
+        is_bad(self.response, self.is_kept(), id)
     }
 
     /// Whether more than 256 keys would stand after these asks were put, one after the other.
@@ -236,15 +236,4 @@ impl<const K: usize> App<K> {
         self.grants.tell();
         self.ends.tell();
     }
-}
-
-ghost use Rattle.std.specs.Prelude.{◌<◌};
-ghost use Rattle.cap_model.specs.ResponseIds.{next_response, response_end};
-
-/// The response id that answers a request of this one.
-fn next_response(id: u32) -> u32
-    requires { id < response_end }
-    ensures { result ≡ next_response id }
-{
-    (id + 1) % RESPONSE_END
 }

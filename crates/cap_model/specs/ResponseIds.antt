@@ -13,10 +13,17 @@ next_response id = (id + 1) % response_end
 abbrev pub is_current : ℕ → ℕ → Bool
 is_current last id = id == last
 
--- whether it repeats the request that was processed last, whose reply is kept
-abbrev pub is_repeated : {A : Type 0} → ℕ → Option A → ℕ → Bool
-is_repeated last kept id = is_some kept && nat_lt id response_end && next_response id == last
+-- whether it repeats the request that was processed last, where its reply is kept
+abbrev pub repeats : ℕ → Bool → ℕ → Bool
+repeats last is_kept id = is_kept && nat_lt id response_end && next_response id == last
 
 -- whether it is neither of the two
+abbrev pub is_bad : ℕ → Bool → ℕ → Bool
+is_bad last is_kept id = not (is_current last id || repeats last is_kept id)
+
+-- the same, of the reply that is kept
+abbrev pub is_repeated : {A : Type 0} → ℕ → Option A → ℕ → Bool
+is_repeated last kept id = repeats last (is_some kept) id
+
 abbrev pub is_bad_id : {A : Type 0} → ℕ → Option A → ℕ → Bool
-is_bad_id last kept id = not (is_current last id || is_repeated last kept id)
+is_bad_id last kept id = is_bad last (is_some kept) id

@@ -14,6 +14,7 @@ mod refusal;
 mod replies;
 mod reply;
 mod request;
+mod response_ids;
 mod text;
 
 pub use ask::{Ask, Key};
@@ -25,6 +26,7 @@ pub use refusal::{Refusal, first_refusal};
 pub use replies::{AllocateReply, HeartbeatReply, NEWS_MAX};
 pub use reply::Reply;
 pub use request::Request;
+pub use response_ids::{is_bad, next_response, repeats};
 pub use text::{PathText, ShortText, Text};
 
 /// Node, application and container numbers begin at 1 and stay below this.

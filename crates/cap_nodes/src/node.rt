@@ -1,14 +1,11 @@
 ghost use Rattle.std.specs.Prelude.{◌≡◌, ◌<◌, None};
 ghost use Rattle.cap_vector.specs.Vector.{IsResource};
-ghost use Rattle.cap_model.specs.ResponseIds.{response_end, next_response, is_repeated, is_bad_id};
+ghost use Rattle.cap_model.specs.ResponseIds.{is_repeated, is_bad_id};
 ghost use Rattle.cap_nodes.specs.Tables.{beaten};
 
-use cap_model::{HeartbeatReply, ShortText};
+use cap_model::{HeartbeatReply, ShortText, is_bad, next_response, repeats};
 use cap_vector::Resource;
 use std::marker::Model;
-
-/// Response ids stay below this, and begin again at 0.
-const RESPONSE_END: u32 = 1 << 31;
 
 /// A node that is present. Contracts see it as its row in the flat cluster.
 #[derive(Debug, Drop)]
@@ -114,14 +111,14 @@ impl<const K: usize> Node<K> {
     pub fn is_repeated(&self, id: u32) -> bool
         ensures { result ≡ is_repeated self.now.response self.now.kept id }
     {
-        self.kept.is_some() && id < RESPONSE_END && next_response(id) == self.response
+        repeats(self.response, self.kept.is_some(), id)
     }
 
     /// Whether a heartbeat of this response id is neither the next one nor a repetition of the last.
     pub fn is_bad_id(&self, id: u32) -> bool
         ensures { result ≡ is_bad_id self.now.response self.now.kept id }
     {
-        !(id == self.response || self.is_repeated(id))
+        is_bad(self.response, self.kept.is_some(), id)
     }
 
     /// One more heartbeat is answered, of which so many ends named no container that was live there, and so many are live there now:
@@ -133,12 +130,4 @@ impl<const K: usize> Node<K> {
         self.response = response;
         self.kept = Some(HeartbeatReply::new(response, ignored, live));
     }
-}
-
-/// The response id that answers a heartbeat of this one.
-fn next_response(id: u32) -> u32
-    requires { id < response_end }
-    ensures { result ≡ next_response id }
-{
-    (id + 1) % RESPONSE_END
 }
