@@ -18,7 +18,7 @@ in_order() { awk -F: '/^[a-z]/ { for (n = split($2, on, " "); n; n--) print on[n
 # an amount of minutes where there is a reason to spend them, else a dash
 spend_if() { if "$1"; then spend "${@:2}"; else minutes=-; fi; }
 in_crate() { (cd "crates/$1" && "${@:2}"); }
-has_edits() { compgen -G "crates/$crate/must-fail/*.edit"; }
+has_edits() { compgen -G "crates/$crate/must-fail/*.edit" >/dev/null; }
 has_tests() { grep -rq '#\[test\]' "crates/$crate/src"; }
 is_library() { [ -f "crates/$crate/src/lib.rt" ]; }
 
