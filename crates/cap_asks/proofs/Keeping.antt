@@ -6,7 +6,8 @@ use Rattle.std.proofs.lemmas.List.Sums.{fold_more}
 use Rattle.std.proofs.lemmas.Grind.{common_steps}
 use Rattle.std.proofs.lemmas.Bool.Decides.{nat_tests}
 use mir.Val.{bool_byte}
-use Rattle.cap_model.specs.Calls.{Key, same_key, Ask}
+use Rattle.cap_model.specs.declared.ask.Key.{Key}
+use Rattle.cap_model.specs.Asks.{same_key, Ask}
 use Rattle.cap_model.specs.Flat.{ask_at}
 use Rattle.cap_model.specs.Asking.{without_key, with_ask, put_ask}
 use Rattle.cap_model.specs.Events.{take_one}

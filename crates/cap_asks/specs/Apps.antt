@@ -1,13 +1,14 @@
--- The table of active applications, with the room that each has.
-use Rattle.std.specs.Prelude.{◌≡◌, ℕ, ◌+◌, ◌≤◌, List, [], ◌∷◌, ◌++◌, Option, None, false, not, find, filter, map, ◌==◌, if◌then◌else◌}
+-- The table of active applications, with the account of each.
+use Rattle.std.specs.Prelude.{◌≡◌, ℕ, ◌+◌, ◌≤◌, List, [], ◌∷◌, ◌++◌, Option, Some, None, false, not, nat_eq, find, filter, map, ◌==◌, if◌then◌else◌}
 use Rattle.std.specs.Option.{option_map_or}
+use Rattle.std.specs.Map.{lookup}
 use Rattle.cap_model.specs.Flat.{App, AppTable}
-use Rattle.cap_asks.specs.Held.{Room, HeldApp}
+use Rattle.cap_asks.specs.Held.{Account, HeldApp}
 
--- the active applications, the room of each, and how many more there is room for
+-- the active applications, the account of each by its number, and how many more there is room for
 pub record HeldApps : Type 0 where
   pub table : AppTable
-  pub rooms : List Room
+  pub accounts : List (ℕ × Account)
   pub vacant : ℕ
 
 -- no application
@@ -18,9 +19,9 @@ none = record { active = []; next = 1 }
 abbrev pub entering : ℕ → List ℕ → List ℕ → App
 entering number leaf user = record { number = number; leaf = leaf; user = user; registered = false; response = 0; kept = None; asks = []; grants = []; ends = [] }
 
--- it has no room yet
-abbrev pub no_room : ℕ → Room
-no_room number = record { number = number; asks = 0; grants = 0; ends = 0 }
+-- the account of one whose leaf is there in the tree: nothing is live, and it has no room yet
+abbrev pub new_account : List ℕ → Account
+new_account position = record { position = position; live = 0; asks = 0; grants = 0; ends = 0 }
 
 -- with one more
 abbrev pub with_entering : List ℕ → List ℕ → AppTable → AppTable
@@ -34,43 +35,56 @@ with_app n change table = record table { active = map (λ app. if app.number == 
 abbrev pub without_app : ℕ → AppTable → AppTable
 without_app n table = record table { active = filter (λ app. not (app.number == n)) table.active }
 
-abbrev pub without_room : ℕ → List Room → List Room
-without_room n rooms = filter (λ room. not (room.number == n)) rooms
+-- the application of a number
+abbrev pub app_of : ℕ → AppTable → Option App
+app_of n table = find (λ app. app.number == n) table.active
 
--- the application of a number, and its room
-abbrev pub app_of : ℕ → HeldApps → Option App
-app_of n apps = find (λ app. app.number == n) apps.table.active
+-- where the leaf of an application is in the tree, how many of its containers are live, and how many more asks, grants and ends it
+-- may take with no memory; nothing where it is not active
+abbrev pub account_of : ℕ → List (ℕ × Account) → Option Account
+account_of n accounts = lookup (nat_eq n) accounts
 
-abbrev pub room_of : ℕ → List Room → Option Room
-room_of n rooms = find (λ room. room.number == n) rooms
+abbrev pub position_of : ℕ → List (ℕ × Account) → List ℕ
+position_of n accounts = option_map_or (λ a. a.position) (account_of n accounts) []
 
--- how many more asks, grants and ends an application may take with no memory; none where it is not active
-abbrev pub ask_room : ℕ → HeldApps → ℕ
-ask_room n apps = option_map_or (λ room. room.asks) (room_of n apps.rooms) 0
+abbrev pub live_of : ℕ → List (ℕ × Account) → ℕ
+live_of n accounts = option_map_or (λ a. a.live) (account_of n accounts) 0
 
-abbrev pub grant_room : ℕ → HeldApps → ℕ
-grant_room n apps = option_map_or (λ room. room.grants) (room_of n apps.rooms) 0
+abbrev pub ask_room : ℕ → List (ℕ × Account) → ℕ
+ask_room n accounts = option_map_or (λ a. a.asks) (account_of n accounts) 0
 
-abbrev pub end_room : ℕ → HeldApps → ℕ
-end_room n apps = option_map_or (λ room. room.ends) (room_of n apps.rooms) 0
+abbrev pub grant_room : ℕ → List (ℕ × Account) → ℕ
+grant_room n accounts = option_map_or (λ a. a.grants) (account_of n accounts) 0
 
--- no room falls, but that of one application by at most so much
-pub record UsesRoom (n asks_taken grants_taken ends_taken : ℕ) (old new : HeldApps) : Type 0 where
+abbrev pub end_room : ℕ → List (ℕ × Account) → ℕ
+end_room n accounts = option_map_or (λ a. a.ends) (account_of n accounts) 0
+
+-- one more account, of an application whose leaf is there in the tree
+pub record IsEntered (n : ℕ) (position : List ℕ) (old new : List (ℕ × Account)) : Type 0 where
+  pub absent : account_of n old ≡ None
+  pub own : account_of n new ≡ Some (new_account position)
+  pub others : (m : ℕ) → m == n ≡ false → account_of m new ≡ account_of m old
+
+-- one account less
+pub record IsLeft (n : ℕ) (old new : List (ℕ × Account)) : Type 0 where
+  pub own : account_of n new ≡ None
+  pub others : (m : ℕ) → m == n ≡ false → account_of m new ≡ account_of m old
+
+-- no room falls, but that of one application by at most so much; with a grant one more of its containers is live, with an end one less
+pub record UsesRoom (n asks_taken grants_taken ends_taken : ℕ) (old new : List (ℕ × Account)) : Type 0 where
+  pub positions : (m : ℕ) → position_of m new ≡ position_of m old
+  pub live : (m : ℕ) → live_of m new + (if m == n then ends_taken else 0) ≡ live_of m old + (if m == n then grants_taken else 0)
   pub asks : (m : ℕ) → ask_room m old ≤ ask_room m new + (if m == n then asks_taken else 0)
   pub grants : (m : ℕ) → grant_room m old ≤ grant_room m new + (if m == n then grants_taken else 0)
   pub ends : (m : ℕ) → end_room m old ≤ end_room m new + (if m == n then ends_taken else 0)
 
--- no room falls
-abbrev pub KeepsRoom : HeldApps → HeldApps → Type 0
-KeepsRoom old new = UsesRoom 0 0 0 0 old new
-
 -- an application has room for at least so many
-pub record HasRooms (n more_asks more_grants more_ends : ℕ) (apps : HeldApps) : Type 0 where
-  pub asks : more_asks ≤ ask_room n apps
-  pub grants : more_grants ≤ grant_room n apps
-  pub ends : more_ends ≤ end_room n apps
+pub record HasRooms (n more_asks more_grants more_ends : ℕ) (accounts : List (ℕ × Account)) : Type 0 where
+  pub asks : more_asks ≤ ask_room n accounts
+  pub grants : more_grants ≤ grant_room n accounts
+  pub ends : more_ends ≤ end_room n accounts
 
 -- entries under their numbers, which rise and are below the next
 abbrev pub AreNumbered : ℕ → List (ℕ × HeldApp) → ℕ → Type 0
 AreNumbered low [] next = low ≤ next
-AreNumbered low (e ∷ es) next = (low ≤ e.0) × (e.1.app.number ≡ e.0) × (e.1.room.number ≡ e.0) × AreNumbered (e.0 + 1) es next
+AreNumbered low (e ∷ es) next = (low ≤ e.0) × (e.1.app.number ≡ e.0) × AreNumbered (e.0 + 1) es next

@@ -1,7 +1,8 @@
--- What an application holds in memory: its row in the flat cluster, and how many more asks, grants and ends it may take.
+-- What an application holds in memory: its row in the flat cluster, and what it keeps beside it.
 use Rattle.std.specs.Prelude.{◌≡◌, ℕ, ◌+◌, ◌≤◌, Bool, true, List, [], ◌∷◌, if◌then◌else◌}
 use Rattle.std.specs.Ordering.{is_lt}
-use Rattle.cap_model.specs.Calls.{Key, ask_key_cmp, Ask}
+use Rattle.cap_model.specs.declared.ask.Key.{Key}
+use Rattle.cap_model.specs.Asks.{ask_key_cmp, Ask}
 use Rattle.cap_model.specs.Flat.{App}
 
 -- asks in order of key, and how many more keys fit with no memory
@@ -15,17 +16,19 @@ pub record HeldNews (T : Type 0) : Type 0 where
   pub waiting : List T
   pub room : ℕ
 
--- how many more asks, grants and ends the application of this number may take with no memory
-pub record Room : Type 0 where
-  pub number : ℕ
+-- what an application keeps beside its row: where its leaf is in the tree, how many of its containers are live, and how many more
+-- asks, grants and ends it may take with no memory
+pub record Account : Type 0 where
+  pub position : List ℕ
+  pub live : ℕ
   pub asks : ℕ
   pub grants : ℕ
   pub ends : ℕ
 
--- an application and its room
+-- an application and its account
 pub record HeldApp : Type 0 where
   pub app : App
-  pub room : Room
+  pub account : Account
 
 -- one key stands before another
 abbrev pub is_before : Key → Key → Bool
@@ -46,15 +49,16 @@ abbrev pub place_of : Key → List Ask → ℕ
 place_of key [] = 0
 place_of key (ask ∷ asks) = if is_before ask.key key then place_of key asks + 1 else 0
 
--- room falls by at most so much
-pub record TakesRoom (asks_taken grants_taken ends_taken : ℕ) (old new : Room) : Type 0 where
-  pub number : new.number ≡ old.number
+-- room falls by at most so much; with a grant one more container is live, with an end one less
+pub record TakesRoom (asks_taken grants_taken ends_taken : ℕ) (old new : Account) : Type 0 where
+  pub position : new.position ≡ old.position
+  pub live : new.live + ends_taken ≡ old.live + grants_taken
   pub asks : old.asks ≤ new.asks + asks_taken
   pub grants : old.grants ≤ new.grants + grants_taken
   pub ends : old.ends ≤ new.ends + ends_taken
 
 -- room for at least so many
-pub record HasRoom (more_asks more_grants more_ends : ℕ) (room : Room) : Type 0 where
-  pub asks : more_asks ≤ room.asks
-  pub grants : more_grants ≤ room.grants
-  pub ends : more_ends ≤ room.ends
+pub record HasRoom (more_asks more_grants more_ends : ℕ) (account : Account) : Type 0 where
+  pub asks : more_asks ≤ account.asks
+  pub grants : more_grants ≤ account.grants
+  pub ends : more_ends ≤ account.ends

@@ -1,12 +1,12 @@
-ghost use Rattle.std.specs.Prelude.{◌≡◌, ◌+◌, ◌≤◌, [], ◌∷◌, ◌++◌, true, false, is_some, option_map, OnOk, IsOk};
+ghost use Rattle.std.specs.Prelude.{◌≡◌, ◌+◌, ◌<◌, ◌≤◌, [], ◌∷◌, ◌++◌, true, false, is_some, option_map, OnOk, IsOk};
 ghost use Rattle.cap_model.specs.Flat.{ask_at};
+ghost use Rattle.cap_model.specs.Limits.{live_max};
 ghost use Rattle.cap_model.specs.Asking.{put_ask};
 ghost use Rattle.cap_model.specs.Allocate.{has_too_many_keys, after_telling};
 ghost use Rattle.cap_model.specs.Events.{take_one};
 ghost use Rattle.cap_model.specs.ResponseIds.{is_repeated, is_bad_id};
-ghost use Rattle.cap_model.specs.Messages.{as_allocate_reply};
 ghost use Rattle.cap_asks.specs.Held.{TakesRoom, HasRoom};
-ghost use Rattle.cap_asks.specs.Apps.{entering, no_room};
+ghost use Rattle.cap_asks.specs.Apps.{entering, new_account};
 
 use crate::asks::Asks;
 use crate::news::News;
@@ -14,27 +14,33 @@ use cap_model::{
     AllocateReply, Ask, End, Grant, Key, NoMemory, PathText, ShortText, is_bad, next_response,
     repeats,
 };
+use smallvec::SmallVec;
 use std::alloc::Global;
 use std::marker::Model;
 
+/// Where a queue is in the tree: the child indexes that lead to it from the root. It takes no memory.
+pub type Position = SmallVec<u32, 16, Global>;
+
 /// An active application: its number, leaf queue and user, its standing with its master, its asks and the news not yet told.
-/// The reply that was told last is kept. Contracts see its row in the flat cluster, and its room.
+/// The reply that was told last is kept. Contracts see its row in the flat cluster, and its account.
 #[derive(Drop)]
 pub struct App<const K: usize> {
     number: u64,
     leaf: PathText,
+    position: Position,
     user: ShortText,
     registered: bool,
     response: u32,
     ignored: Option<u16>,
+    live: u32,
     asks: Asks<K>,
     grants: News<Grant<K>>,
     ends: News<End>,
 }
 
 impl<const K: usize> Model for App<K> {
-    ghost use Rattle.std.specs.Prelude.{◌<◌, option_map};
-    ghost use Rattle.cap_model.specs.ResponseIds.{response_end};
+    ghost use Rattle.std.specs.Prelude.{◌<◌, ◌≤◌, option_map};
+    ghost use Rattle.cap_model.specs.Limits.{response_end};
     ghost use Rattle.cap_asks.specs.Held.{HeldApp};
 
     ghost Value = { HeldApp };
@@ -51,24 +57,33 @@ impl<const K: usize> Model for App<K> {
         grants = a.grants.waiting;
         ends = a.ends.waiting;
       };
-      room = record { number = a.number; asks = a.asks.room; grants = a.grants.room; ends = a.ends.room };
+      account = record { position = a.position.items; live = a.live; asks = a.asks.room; grants = a.grants.room; ends = a.ends.room };
     } };
 
-    ghost invariant = { λ a. a.response < response_end };
+    ghost invariant = { λ a. (a.response < response_end) × (a.live ≤ a.ends.room) };
 }
 
 impl<const K: usize> App<K> {
     /// An application of this number that entered the leaf queue just now. It takes no memory.
-    pub(crate) fn new(alloc: Global, number: u64, leaf: &PathText, user: &ShortText) -> App<K>
-        ensures { result ≡ record { app = entering number leaf.now user.now; room = no_room number } }
+    pub(crate) fn new(
+        alloc: Global,
+        number: u64,
+        leaf: &PathText,
+        position: Position,
+        user: &ShortText,
+    ) -> App<K>
+        ensures app { result.app ≡ entering number leaf.now user.now }
+        ensures account { result.account ≡ new_account position.items }
     {
         App {
             number,
             leaf: *leaf,
+            position,
             user: *user,
             registered: false,
             response: 0,
             ignored: None,
+            live: 0,
             asks: Asks::new(alloc),
             grants: News::new(alloc),
             ends: News::new(alloc),
@@ -87,6 +102,21 @@ impl<const K: usize> App<K> {
         ensures { result.now ≡ self.now.app.leaf }
     {
         &self.leaf
+    }
+
+    /// Where its leaf queue is in the tree.
+    pub fn position(&self) -> &Position
+        ensures { result.now.items ≡ self.now.account.position }
+    {
+        &self.position
+    }
+
+    /// How many of its containers are live.
+    pub fn live(&self) -> u32
+        ensures value { result ≡ self.now.account.live }
+        ensures room { result ≤ self.now.account.ends }
+    {
+        self.live
     }
 
     /// Its user.
@@ -133,7 +163,7 @@ impl<const K: usize> App<K> {
 
     /// The reply that is kept, none before the first.
     pub fn kept_reply(&self) -> Option<AllocateReply<K>>
-        ensures { option_map as_allocate_reply result ≡ self.now.app.kept }
+        ensures { result ≡ self.now.app.kept }
     {
         let ignored = self.ignored?;
         Some(AllocateReply {
@@ -168,7 +198,7 @@ impl<const K: usize> App<K> {
     /// Its master has reported.
     pub(crate) fn register(&mut self)
         ensures app { self.new.app ≡ record self.old.app { registered = true } }
-        ensures room { TakesRoom 0 0 0 self.old.room self.new.room }
+        ensures account { TakesRoom 0 0 0 self.old.account self.new.account }
     {
         self.registered = true;
     }
@@ -182,9 +212,9 @@ impl<const K: usize> App<K> {
         ends: usize,
     ) -> Result<(), NoMemory>
         ensures app { self.new.app ≡ self.old.app }
-        ensures stays { TakesRoom 0 0 0 self.old.room self.new.room }
-        ensures ok { OnOk result (HasRoom asks grants ends self.new.room) }
-        ensures succeeds { HasRoom asks grants ends self.old.room → IsOk result }
+        ensures stays { TakesRoom 0 0 0 self.old.account self.new.account }
+        ensures ok { OnOk result (HasRoom asks grants ends self.new.account) }
+        ensures succeeds { HasRoom asks grants ends self.old.account → IsOk result }
     {
         self.asks.reserve(asks)?;
         self.grants.reserve(grants)?;
@@ -193,9 +223,9 @@ impl<const K: usize> App<K> {
 
     /// Puts an ask in place of the one of its key, or in order of key; a count of 0 takes the key away.
     pub(crate) fn put_ask(&mut self, ask: &Ask<K>)
-        requires { 1 ≤ self.old.room.asks }
+        requires { 1 ≤ self.old.account.asks }
         ensures app { self.new.app ≡ record self.old.app { asks = put_ask ask.now self.old.app.asks } }
-        ensures room { TakesRoom 1 0 0 self.old.room self.new.room }
+        ensures account { TakesRoom 1 0 0 self.old.account self.new.account }
     {
         self.asks.put(ask);
     }
@@ -203,33 +233,36 @@ impl<const K: usize> App<K> {
     /// One container less is wanted for this key; an ask that comes to 0 goes.
     pub(crate) fn take_one(&mut self, key: &Key)
         ensures app { self.new.app ≡ record self.old.app { asks = take_one key.now self.old.app.asks } }
-        ensures room { TakesRoom 0 0 0 self.old.room self.new.room }
+        ensures account { TakesRoom 0 0 0 self.old.account self.new.account }
     {
         self.asks.take_one(key);
     }
 
-    /// One more grant waits, last.
+    /// One more container is live, whose grant waits, last.
     pub(crate) fn add_grant(&mut self, grant: &Grant<K>)
-        requires { 1 ≤ self.old.room.grants }
+        requires room { HasRoom 0 1 (self.old.account.live + 1) self.old.account }
+        requires few { self.old.account.live < live_max }
         ensures app { self.new.app ≡ record self.old.app { grants = self.old.app.grants ++ grant.now ∷ [] } }
-        ensures room { TakesRoom 0 1 0 self.old.room self.new.room }
+        ensures account { TakesRoom 0 1 0 self.old.account self.new.account }
     {
         self.grants.add(*grant);
+        self.live += 1;
     }
 
-    /// One more end waits, last.
+    /// One container less is live, whose end waits, last.
     pub(crate) fn add_end(&mut self, end: &End)
-        requires { 1 ≤ self.old.room.ends }
+        requires { 1 ≤ self.old.account.live }
         ensures app { self.new.app ≡ record self.old.app { ends = self.old.app.ends ++ end.now ∷ [] } }
-        ensures room { TakesRoom 0 0 1 self.old.room self.new.room }
+        ensures account { TakesRoom 0 0 1 self.old.account self.new.account }
     {
         self.ends.add(*end);
+        self.live -= 1;
     }
 
     /// Tells the oldest grants and ends that wait, at most 64 of each: the response id moves on, and the reply is kept.
     pub(crate) fn tell(&mut self, ignored: u16)
         ensures app { self.new.app ≡ after_telling self.old.app.response ignored self.old.app }
-        ensures room { TakesRoom 0 0 0 self.old.room self.new.room }
+        ensures account { TakesRoom 0 0 0 self.old.account self.new.account }
     {
         self.response = next_response(self.response);
         self.ignored = Some(ignored);

@@ -1,20 +1,20 @@
 ghost use Rattle.std.specs.Prelude.{◌≡◌, ◌+◌, ◌<◌, ◌≤◌, ◌++◌, ◌∷◌, [], true, length, map, option_map, IfOk, OnOk, OnErr, IsOk, IsSome};
-ghost use Rattle.cap_model.specs.Limits.{number_end};
+ghost use Rattle.cap_model.specs.Limits.{live_max, number_end};
 ghost use Rattle.cap_model.specs.Asking.{put_ask};
 ghost use Rattle.cap_model.specs.Events.{take_one};
 ghost use Rattle.cap_model.specs.Allocate.{after_telling};
 ghost use Rattle.cap_model.specs.Bounds.{IsRising};
-ghost use Rattle.cap_asks.specs.Apps.{none, no_room, with_entering, with_app, without_app, without_room, app_of, ask_room, grant_room, end_room, UsesRoom, HasRooms};
+ghost use Rattle.cap_asks.specs.Apps.{none, with_entering, with_app, without_app, IsEntered, IsLeft, app_of, account_of, ask_room, live_of, UsesRoom, HasRooms};
 
-use crate::app::App;
+use crate::app::{App, Position};
 use cap_model::{Ask, End, Grant, Key, NoMemory, PathText, ShortText};
 use indexmap::IndexMap;
 use std::alloc::Global;
 use std::marker::Model;
 
 /// The active applications in order of number, and the number of the next. Contracts see the flat cluster's table, and beside it
-/// the room of each application: how many more asks, grants and ends it may take with no memory; and how many more applications
-/// may enter with none.
+/// the account of each application, which says how many more asks, grants and ends it may take with no memory; and how many more
+/// applications may enter with none.
 #[derive(Drop)]
 pub struct Apps<const K: usize> {
     alloc: Global,
@@ -31,7 +31,7 @@ impl<const K: usize> Model for Apps<K> {
 
     ghost view = { λ t. record {
       table = record { active = map (λ e. e.1.app) t.active.entries; next = t.next };
-      rooms = map (λ e. e.1.room) t.active.entries;
+      accounts = map (λ e. (e.0, e.1.account)) t.active.entries;
       vacant = spare t.active;
     } };
 
@@ -42,7 +42,7 @@ impl<const K: usize> Apps<K> {
     /// No application; the first will be number 1. It takes no memory.
     pub fn new(alloc: Global) -> Apps<K>
         ensures table { result.table ≡ none }
-        ensures rooms { result.rooms ≡ [] }
+        ensures accounts { result.accounts ≡ [] }
     {
         Apps {
             alloc,
@@ -55,7 +55,7 @@ impl<const K: usize> Apps<K> {
     /// away, and where there is room there is no want of it.
     pub fn reserve(&mut self) -> Result<(), NoMemory>
         ensures table { self.new.table ≡ self.old.table }
-        ensures rooms { self.new.rooms ≡ self.old.rooms }
+        ensures accounts { self.new.accounts ≡ self.old.accounts }
         ensures vacant { self.old.vacant ≤ self.new.vacant }
         ensures ok { OnOk result (1 ≤ self.new.vacant) }
         ensures succeeds { 1 ≤ self.old.vacant → IsOk result }
@@ -67,19 +67,25 @@ impl<const K: usize> Apps<K> {
         Ok(())
     }
 
-    /// An application enters the leaf queue for a user, under the next number, which is the result. `NoMemory` changes no
-    /// application, and where there is room there is no want of it.
-    pub fn submit(&mut self, leaf: &PathText, user: &ShortText) -> Result<u64, NoMemory>
+    /// An application enters the leaf queue, which is at this position of the tree, for a user, under the next number, which is the
+    /// result. `NoMemory` changes no application, and where there is room there is no want of it.
+    pub fn submit(
+        &mut self,
+        leaf: &PathText,
+        position: Position,
+        user: &ShortText,
+    ) -> Result<u64, NoMemory>
         requires { self.old.table.next < number_end }
         ensures number { IfOk result (λ number. number ≡ self.old.table.next) }
+        ensures rising { IsRising 1 (map (λ app. app.number) self.old.table.active) self.old.table.next }
         ensures table { OnOk result (self.new.table ≡ with_entering leaf.now user.now self.old.table) }
-        ensures rooms { OnOk result (self.new.rooms ≡ self.old.rooms ++ no_room self.old.table.next ∷ []) }
+        ensures accounts { OnOk result (IsEntered self.old.table.next position.items self.old.accounts self.new.accounts) }
         ensures succeeds { 1 ≤ self.old.vacant → IsOk result }
         ensures table_stays { OnErr result (self.new.table ≡ self.old.table) }
-        ensures rooms_stay { OnErr result (self.new.rooms ≡ self.old.rooms) }
+        ensures accounts_stay { OnErr result (self.new.accounts ≡ self.old.accounts) }
     {
         let number = self.next;
-        let app = App::new(self.alloc, number, leaf, user);
+        let app = App::new(self.alloc, number, leaf, position, user);
         match self.active.insert(number, app) {
             Ok(_) => {}
             Err(_) => return Err(NoMemory),
@@ -95,17 +101,19 @@ impl<const K: usize> Apps<K> {
         self.active.len()
     }
 
-    /// The number of the next. All that are active have numbers from 1 that rise and are below it.
+    /// The number of the next.
     pub fn next(&self) -> u64
-        ensures value { result ≡ self.now.table.next }
-        ensures rising { IsRising 1 (map (λ app. app.number) self.now.table.active) self.now.table.next }
+        ensures { result ≡ self.now.table.next }
     {
         self.next
     }
 
-    /// The active application of this number, none where there is none.
+    /// The active application of this number, none where there is none. All that are active have numbers from 1 that rise and are
+    /// below the next.
     pub fn app(&self, n: u64) -> Option<&App<K>>
-        ensures { option_map (λ app. app.now.app) result ≡ app_of n self.now }
+        ensures found { option_map (λ app. app.now.app) result ≡ app_of n self.now.table }
+        ensures account { option_map (λ app. app.now.account) result ≡ account_of n self.now.accounts }
+        ensures rising { IsRising 1 (map (λ app. app.number) self.now.table.active) self.now.table.next }
     {
         self.active.get(&n)
     }
@@ -113,7 +121,7 @@ impl<const K: usize> Apps<K> {
     /// The master of an application has reported. Where none of this number is active, nothing changes.
     pub fn register(&mut self, n: u64)
         ensures table { self.new.table ≡ with_app n (λ app. record app { registered = true }) self.old.table }
-        ensures room { UsesRoom n 0 0 0 self.old self.new }
+        ensures accounts { UsesRoom n 0 0 0 self.old.accounts self.new.accounts }
     {
         let Some(app) = self.active.get_mut(&n) else {
             return;
@@ -124,11 +132,11 @@ impl<const K: usize> Apps<K> {
     /// Makes room for so many more asks, grants and ends of an application, so that it takes them with no memory. `NoMemory`
     /// changes no application and takes no room away, and where there is room for all there is no want of it.
     pub fn room(&mut self, n: u64, asks: usize, grants: usize, ends: usize) -> Result<(), NoMemory>
-        requires { IsSome (app_of n self.old) }
+        requires { IsSome (app_of n self.old.table) }
         ensures table { self.new.table ≡ self.old.table }
-        ensures stays { UsesRoom n 0 0 0 self.old self.new }
-        ensures ok { OnOk result (HasRooms n asks grants ends self.new) }
-        ensures succeeds { HasRooms n asks grants ends self.old → IsOk result }
+        ensures stays { UsesRoom n 0 0 0 self.old.accounts self.new.accounts }
+        ensures ok { OnOk result (HasRooms n asks grants ends self.new.accounts) }
+        ensures succeeds { HasRooms n asks grants ends self.old.accounts → IsOk result }
     {
         let Some(app) = self.active.get_mut(&n) else {
             unreachable!()
@@ -139,9 +147,9 @@ impl<const K: usize> Apps<K> {
     /// Puts an ask of an application in place of the one of its key, or in order of key; a count of 0 takes the key away. It needs
     /// room that `room` made.
     pub fn put_ask(&mut self, n: u64, ask: &Ask<K>)
-        requires { 1 ≤ ask_room n self.old }
+        requires { 1 ≤ ask_room n self.old.accounts }
         ensures table { self.new.table ≡ with_app n (λ app. record app { asks = put_ask ask.now app.asks }) self.old.table }
-        ensures room { UsesRoom n 1 0 0 self.old self.new }
+        ensures accounts { UsesRoom n 1 0 0 self.old.accounts self.new.accounts }
     {
         let Some(app) = self.active.get_mut(&n) else {
             return;
@@ -153,7 +161,7 @@ impl<const K: usize> Apps<K> {
     /// or no ask of the key, nothing changes.
     pub fn take_one(&mut self, n: u64, key: &Key)
         ensures table { self.new.table ≡ with_app n (λ app. record app { asks = take_one key.now app.asks }) self.old.table }
-        ensures room { UsesRoom n 0 0 0 self.old self.new }
+        ensures accounts { UsesRoom n 0 0 0 self.old.accounts self.new.accounts }
     {
         let Some(app) = self.active.get_mut(&n) else {
             return;
@@ -161,11 +169,13 @@ impl<const K: usize> Apps<K> {
         app.take_one(key);
     }
 
-    /// One more grant waits to be told to the master of an application, last. It needs room that `room` made.
+    /// One more container of an application is live, whose grant waits to be told to its master, last. It needs room that `room`
+    /// made: for the grant, and for the ends of all its live containers and of this one.
     pub fn add_grant(&mut self, n: u64, grant: &Grant<K>)
-        requires { 1 ≤ grant_room n self.old }
+        requires room { HasRooms n 0 1 (live_of n self.old.accounts + 1) self.old.accounts }
+        requires few { live_of n self.old.accounts < live_max }
         ensures table { self.new.table ≡ with_app n (λ app. record app { grants = app.grants ++ grant.now ∷ [] }) self.old.table }
-        ensures room { UsesRoom n 0 1 0 self.old self.new }
+        ensures accounts { UsesRoom n 0 1 0 self.old.accounts self.new.accounts }
     {
         let Some(app) = self.active.get_mut(&n) else {
             return;
@@ -173,11 +183,11 @@ impl<const K: usize> Apps<K> {
         app.add_grant(grant);
     }
 
-    /// One more end waits to be told to the master of an application, last. It needs room that `room` made.
+    /// One container of an application is live no more, and its end waits to be told to its master, last.
     pub fn add_end(&mut self, n: u64, end: &End)
-        requires { 1 ≤ end_room n self.old }
+        requires { 1 ≤ live_of n self.old.accounts }
         ensures table { self.new.table ≡ with_app n (λ app. record app { ends = app.ends ++ end.now ∷ [] }) self.old.table }
-        ensures room { UsesRoom n 0 0 1 self.old self.new }
+        ensures accounts { UsesRoom n 0 0 1 self.old.accounts self.new.accounts }
     {
         let Some(app) = self.active.get_mut(&n) else {
             return;
@@ -189,8 +199,9 @@ impl<const K: usize> Apps<K> {
     /// the reply is kept. `ignored` is how many releases of the request named nothing. Where none of this number is active, nothing
     /// changes.
     pub fn tell(&mut self, n: u64, ignored: u16)
+        ensures rising { IsRising 1 (map (λ app. app.number) self.old.table.active) self.old.table.next }
         ensures table { self.new.table ≡ with_app n (λ app. after_telling app.response ignored app) self.old.table }
-        ensures room { UsesRoom n 0 0 0 self.old self.new }
+        ensures accounts { UsesRoom n 0 0 0 self.old.accounts self.new.accounts }
     {
         let Some(app) = self.active.get_mut(&n) else {
             return;
@@ -202,7 +213,7 @@ impl<const K: usize> Apps<K> {
     /// is active, nothing changes.
     pub fn finish(&mut self, n: u64)
         ensures table { self.new.table ≡ without_app n self.old.table }
-        ensures rooms { self.new.rooms ≡ without_room n self.old.rooms }
+        ensures accounts { IsLeft n self.old.accounts self.new.accounts }
     {
         self.active.shift_remove(&n);
     }

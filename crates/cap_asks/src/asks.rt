@@ -2,7 +2,7 @@ ghost use Rattle.std.specs.Prelude.{◌≡◌, ◌+◌, ◌-◌, ◌≤◌, ◌�
 ghost use Rattle.std.specs.List.{fold};
 ghost use Rattle.cap_model.specs.Flat.{ask_at};
 ghost use Rattle.cap_model.specs.Asking.{put_ask};
-ghost use Rattle.cap_model.specs.Allocate.{keys_max};
+ghost use Rattle.cap_model.specs.Limits.{keys_max};
 ghost use Rattle.cap_model.specs.Events.{take_one};
 ghost use Rattle.cap_asks.specs.Held.{is_before, place_of};
 
@@ -157,5 +157,5 @@ impl<const K: usize> Asks<K> {
 fn is_before(a: &Key, b: &Key) -> bool
     ensures { result ≡ is_before a.now b.now }
 {
-    a.priority() < b.priority() || a.priority() == b.priority() && a.request() < b.request()
+    a.priority < b.priority || a.priority == b.priority && a.request < b.request
 }

@@ -1,5 +1,5 @@
 ghost use Rattle.std.specs.Prelude.{◌≡◌, ◌+◌, ◌≤◌, [], ◌∷◌, ◌++◌, take, drop, OnOk, IsOk};
-ghost use Rattle.cap_model.specs.Allocate.{news_max};
+ghost use Rattle.cap_model.specs.Limits.{news_max};
 
 use arrayvec::ArrayVec;
 use cap_model::{NEWS_MAX, NoMemory};
@@ -16,7 +16,7 @@ pub(crate) struct News<T> {
 
 impl<T> Model for News<T> {
     ghost use Rattle.std.specs.Prelude.{◌≤◌, ◌-◌, take, drop, length, vec_len, vec_capacity};
-    ghost use Rattle.cap_model.specs.Allocate.{news_max};
+    ghost use Rattle.cap_model.specs.Limits.{news_max};
     ghost use Rattle.cap_asks.specs.Held.{HeldNews};
 
     ghost Value = { HeldNews T };

@@ -1,40 +1,39 @@
 -- What a cluster keeps where a container ends.
-use Rattle.std.proofs.Common.{◌≡◌, ℕ, ◌+◌, ◌≤◌, Bool, true, false, cond, List, [], ◌∷◌, ◌++◌, length, map, Option, Some, None, refl, sym, ◌∙◌, ap, subst, arith}
-use Rattle.std.specs.Prelude.{IsSome, IfSome, is_some, ◌==◌, ◌||◌, not, find, filter, count_by, if◌then◌else◌}
+use Rattle.std.proofs.Common.{◌≡◌, ℕ, ◌+◌, ◌≤◌, Bool, true, false, cond, List, [], ◌∷◌, ◌++◌, length, map, Some, None, refl, sym, ◌∙◌, ap, subst, arith}
+use Rattle.std.specs.Prelude.{IsSome, is_some, ◌==◌, ◌||◌, not, find, filter, count_by, if◌then◌else◌}
 use Rattle.std.specs.List.{sum_by}
 use Rattle.std.proofs.lemmas.Bool.Decides.{nat_tests}
-use Rattle.std.proofs.lemmas.List.{append-nil, length-map, map-id}
-use Rattle.std.proofs.lemmas.List.Sums.{sum_by-cons}
+use Rattle.std.proofs.lemmas.List.{append-nil, length-map}
+use Rattle.std.proofs.lemmas.List.Sums.{count_by-le-length, length-filter, sum_by-cons}
 use Rattle.std.proofs.lemmas.Slice.Eq.{bytes_eq-Decides}
 use Rattle.cap_vector.specs.Vector.{amount}
-use Rattle.cap_model.specs.Calls.{Cause, EndedContainer}
+use Rattle.cap_model.specs.Settings.{QueueRow}
+use Rattle.cap_model.specs.declared.news.Cause.{Cause}
+use Rattle.cap_model.specs.declared.news.End.{End}
 use Rattle.cap_model.specs.Flat.{Flat, App, AppTable, Container, NodeTable, app_at}
-use Rattle.cap_model.specs.Ending.{is_among, with_ends, without, after_ends}
-use Rattle.cap_model.specs.Bounds.{IsLeaf, IsRising}
-use Rattle.cap_model.specs.EngineLaws.{numbers_of}
+use Rattle.cap_model.specs.Ending.{is_among, with_ends, after_ends}
+use Rattle.cap_model.proofs.ContainerNumbers.{rising_filter}
 use Rattle.cap_model.proofs.Balance.{count_cons, filter_same}
 use Rattle.cap_model.proofs.Choosing.{IsIn, found, of_filter}
 use Rattle.cap_model.proofs.Lessening.{change_stands}
 use Rattle.cap_model.proofs.Measures.{counts}
 use Rattle.cap_model.proofs.Members.{each_of, of_each, of_map}
 use Rattle.cap_model.proofs.Moves.{KeepsApp, AppsChange, ends_change, only_app}
-use Rattle.cap_model.proofs.Tallies.{Test, count_of, count_changed, ended_amount, same_use, sum_without, used_by}
+use Rattle.cap_model.proofs.Tallies.{count_of, count_changed, ended_amount, same_use, sum_without, used_by}
 use Rattle.cap_tree.specs.Measure.{Measure}
-use Rattle.cap_tree.specs.Spot.{item_at}
 use Rattle.cap_tree.specs.Queue.{MayGive}
+use Rattle.cap_tree.specs.Count.{nothing, use_alone}
+use Rattle.cap_tree.proofs.OneUser.{count_where}
 use Rattle.cap_tree.specs.Rows.{Row, lowered, queues_of, user_row_at}
-use Rattle.cap_asks.specs.Apps.{HeldApps, UsesRoom, end_room, with_app}
+use Rattle.cap_asks.specs.Apps.{HeldApps, UsesRoom, live_of, position_of, with_app}
 use Rattle.cap_nodes.specs.Tables.{without_container}
-use Rattle.cap_commit.specs.Held.{flat_of, IsHeld, of_cluster}
+use Rattle.cap_commit.specs.Held.{Parts, IsHeld, IsPlaced, flat_of, of_cluster}
 use Rattle.cap_commit.proofs.Counting.{count_positive}
-use Rattle.cap_commit.proofs.Giving.{HasLessUse, much_where, less_use, may_give, tied_lowered}
-use Rattle.cap_commit.proofs.Holding.{leaf_same, lowered_settings}
+use Rattle.cap_commit.proofs.Holding.{leaf_same, still_placed}
+use Rattle.cap_commit.proofs.Moving.{HasMoved, gives, may_give, moved_settings, moved_stays, tied_moved}
 use Rattle.cap_commit.proofs.Owning.{IsOwned, count_for, owned_stands}
+use Rattle.cap_commit.proofs.RowsAt.{row_at}
 use Rattle.cap_commit.proofs.Ties.{of_user_in}
-
--- what holds of the one that is there
-pub holds_of_some : {A : Type 0} (P : A → Type 0) (o : Option A) (x : A) → o ≡ Some x → P x → IfSome o P
-holds_of_some P o x e p = subst (λ q. IfSome q P) (sym e) p
 
 -- one, where it counts
 abbrev weight : Bool → ℕ
@@ -66,7 +65,7 @@ lifted_live number c live e = filter_same (λ d. not (d.number == number)) (λ d
 told : (cause : Cause) (c : Container) (app : App) → (if app.number == c.app then record app { ends = app.ends ++ record { container = c.number; cause = cause } ∷ [] } else app) ≡ with_ends cause (c ∷ []) app
 told cause c app = by (app.number == c.app) (c.app == app.number) (turned app.number c.app)
   where
-    end : EndedContainer
+    end : End
     end = record { container = c.number; cause = cause }
 
     by : (a b : Bool) → a ≡ b → (if a then record app { ends = app.ends ++ end ∷ [] } else app) ≡ record app { ends = app.ends ++ map (λ (d : Container). record { container = d.number; cause = cause }) (cond b (c ∷ []) []) }
@@ -83,133 +82,120 @@ told_all : (cause : Cause) (c : Container) (apps : List App) → map (telling ca
 told_all cause c [] = refl
 told_all cause c (app ∷ apps) = λ i. told cause c app i ∷ told_all cause c apps i
 
-module _ {K : ℕ} (minimum maximum : List ℕ) (limit : ℕ) (rows : List Row) (apps : HeldApps) (nodes : NodeTable) (h : IsHeld {K = K} rows apps (flat_of minimum maximum limit (queues_of rows) apps.table nodes))
-    (rising : IsRising 1 (numbers_of nodes.live) nodes.next_container) (number : ℕ) (c : Container) (found_it : find (λ d. d.number == number) nodes.live ≡ Some c) where
+module _ {K : ℕ} (p : Parts K) (h : IsHeld p) (number : ℕ) (c : Container) (found_it : find (λ d. d.number == number) p.nodes.live ≡ Some c) where
   abbrev old : Flat K
-  old = flat_of minimum maximum limit (queues_of rows) apps.table nodes
+  old = flat_of p
 
-  there : IsIn c nodes.live
-  there = (found (λ (d : Container). d.number == number) nodes.live c found_it).0
+  there : IsIn c p.nodes.live
+  there = (found (λ (d : Container). d.number == number) p.nodes.live c found_it).0
 
   number_is : c.number ≡ number
-  number_is = let t = (found (λ (d : Container). d.number == number) nodes.live c found_it).1 in grind (arith, nat_tests, t)
+  number_is = let t = (found (λ (d : Container). d.number == number) p.nodes.live c found_it).1 in grind (arith, nat_tests, t)
 
   -- its application is active
-  pub has_owner : (n : ℕ) → n ≡ c.app → None ≡ find (λ (x : App). x.number == n) apps.table.active → ⊥
+  pub has_owner : (n : ℕ) → n ≡ c.app → None ≡ find (λ (x : App). x.number == n) p.apps.table.active → ⊥
   has_owner n same none =
-      let some : IsSome (find (λ (x : App). x.number == n) apps.table.active) = rw same (each_of (IsOwned old) nodes.live h.owned c there) in
-      let no : is_some (find (λ (x : App). x.number == n) apps.table.active) ≡ false = ap is_some (sym none) in
+      let some : IsSome (find (λ (x : App). x.number == n) p.apps.table.active) = rw same (each_of (IsOwned old) p.nodes.live h.owned c there) in
+      let no : is_some (find (λ (x : App). x.number == n) p.apps.table.active) ≡ false = ap is_some (sym none) in
       cc (some, no)
 
-  -- its user has an application in the leaf
-  -- its application has room to be told
-  pub has_room : 1 ≤ end_room c.app apps
-  has_room =
-      let r = h.ready c.app in
+  -- it is counted there
+  pub some_live : 1 ≤ live_of c.app p.apps.accounts
+  some_live =
+      let r = h.counted c.app in
       let own : c.app == c.app ≡ true = grind (arith, nat_tests) in
-      let whole = count_sum (λ (d : Container). d.app == c.app) nodes.live in
-      let w = sum_without (λ (d : Container). cond (d.app == c.app) 1 0) 1 nodes.live nodes.next_container c rising there in
+      let whole = count_sum (λ (d : Container). d.app == c.app) p.nodes.live in
+      let w = sum_without (λ (d : Container). cond (d.app == c.app) 1 0) 1 p.nodes.live p.nodes.next_container c h.numbers there in
       let one : cond (c.app == c.app) 1 0 ≡ (let n : ℕ = 1 in n) = ap (λ b. cond b 1 0) own in
       omega (arith, r, whole, w, one)
 
-  module _ (a : App) (owner : find (λ (x : App). x.number == c.app) apps.table.active ≡ Some a) (short : length c.resource ≤ K) where
+  live_without : filter (λ d. not (d.number == number)) p.nodes.live ≡ filter (λ d. not (is_among (c ∷ []) d)) p.nodes.live
+  live_without = lifted_live number c p.nodes.live number_is
+
+  module _ (a : App) (owner : find (λ (x : App). x.number == c.app) p.apps.table.active ≡ Some a) (short : length c.resource ≤ K) where
     -- its user has an application in the leaf
     some_active : 1 ≤ of_cluster old a.leaf a.user Measure.active
     some_active =
-        count_positive (of_user_in a.leaf a.user) apps.table.active a (found (λ (x : App). x.number == c.app) apps.table.active a owner).0
+        count_positive (of_user_in a.leaf a.user) p.apps.table.active a (found (λ (x : App). x.number == c.app) p.apps.table.active a owner).0
         (rw ((bytes_eq-Decides a.leaf a.leaf).1 refl, (bytes_eq-Decides a.user a.user).1 refl) refl)
 
-    -- after it has ended, whether its application is to be told or not
-    module _ (apps' : HeldApps) (nodes' : NodeTable) (f : App → App) (keeps : KeepsApp f) (active : apps'.table.active ≡ map f apps.table.active) (next : apps'.table.next ≡ apps.table.next) (lift : nodes' ≡ without_container number nodes) where
-      abbrev new : Flat K
-      new = flat_of minimum maximum limit (queues_of (map (lowered a.leaf a.user c.resource) rows)) apps'.table nodes'
+    placed : IsPlaced p a
+    placed = each_of (IsPlaced p) p.apps.table.active h.placed a (found (λ (x : App). x.number == c.app) p.apps.table.active a owner).0
 
-      change : AppsChange old new
-      change = record { change = f; keeps = keeps; active = active; next = next }
+    abbrev ended : Flat K
+    ended = after_ends Cause.Released (c ∷ []) old
 
-      live : nodes'.live ≡ filter (λ d. not (is_among (c ∷ []) d)) nodes.live
-      live = ap (λ (t : NodeTable). t.live) lift ∙ lifted_live number c nodes.live number_is
-
-      abbrev ended : Flat K
-      ended = after_ends Cause.released (c ∷ []) old
-
-      same_as_ended : (test : Test) → used_by new test ≡ used_by ended test
-      same_as_ended test =
-          same_use ended new
-          (record {
-            live = live;
-            reserved = ap (λ (t : NodeTable). t.reserved) lift;
-            apps = λ app node s. change_stands old new change app ∙ sym (change_stands old ended (ends_change Cause.released (c ∷ []) old ended refl refl) app);
-          }) test
-
-      less_used : HasLessUse old new a.leaf a.user c.resource
-      less_used =
-          less_use old new a.leaf a.user c.resource short (λ test. ap (count_of test) active ∙ count_changed f keeps test apps.table.active)
-          (λ test k b.
-          let e = ended_amount old Cause.released c rising there test k b in
-          let same : amount (used_by new test) k ≡ amount (used_by ended test) k = ap (λ v. amount v k) (same_as_ended test) in
-          let own : cond (counts test (app_at old c.app)) (amount c.resource k) 0 ≡ much_where (test a.leaf a.user) (amount c.resource k) = ap (λ o. cond (counts test o) (amount c.resource k) 0) owner in
-          omega (arith, e, same, own))
-
-      may_give_then : (place : List ℕ) (row : Row) → IsIn row rows → row.path ≡ a.leaf → item_at place rows ≡ Some row.item → MayGive c.resource (user_row_at place a.user rows)
-      may_give_then place row m p i = may_give old new a.leaf a.user c.resource less_used some_active rows h.tied place row m p i
-
-      count_left : (n : ℕ) → count_for n nodes.live ≡ count_for n nodes'.live + weight (c.app == n)
-      count_left n =
-          let w = sum_without (λ (d : Container). cond (d.app == n) 1 0) 1 nodes.live nodes.next_container c rising there in
-          let left : count_for n nodes'.live ≡ count_for n (filter (λ d. not (is_among (c ∷ []) d)) nodes.live) = ap (count_for n) live in
-          omega (arith, w, left, count_sum (λ (d : Container). d.app == n) nodes.live, count_sum (λ (d : Container). d.app == n) (filter (λ d. not (is_among (c ∷ []) d)) nodes.live))
-
-      held_ended : ((m : ℕ) → end_room m apps ≤ end_room m apps' + (if m == c.app then 1 else 0)) → IsHeld {K = K} (map (lowered a.leaf a.user c.resource) rows) apps' new
-      held_ended ends =
-          let same : new.settings.queues ≡ old.settings.queues = lowered_settings a.leaf a.user c.resource rows in
-          record {
-            tied = tied_lowered old new a.leaf a.user c.resource less_used some_active rows h.tied;
-            leaves =
-                of_each (λ (app : App). IsLeaf new app.leaf) apps'.table.active
-                (λ x m.
-                let w = of_map f apps.table.active x (subst (λ xs. IsIn x xs) active m) in
-                let leaf : (w.0).leaf ≡ x.leaf = sym (keeps.leaf (w.0)) ∙ ap (λ (y : App). y.leaf) (w.2) in
-                leaf_same old new x.leaf same (subst (IsLeaf old) leaf (each_of (λ (app : App). IsLeaf old app.leaf) apps.table.active h.leaves (w.0) (w.1))));
-            limit = h.limit;
-            few = (let w = h.few in let n = ap length active in let l = length-map apps.table.active f in omega (arith, w, n, l));
-            owned = owned_stands old new (change_stands old new change) (λ d i. (of_filter (λ x. not (is_among (c ∷ []) x)) nodes.live d (subst (IsIn d) live i)).1) h.owned;
-            ready = λ n. (let r = h.ready n in let e = ends n in let w = count_left n in let t : weight (c.app == n) ≡ weight (n == c.app) = ap weight (turned c.app n) in omega (arith, r, e, w, t));
-            unreserved = ap (λ (t : NodeTable). t.reserved) lift ∙ h.unreserved;
-            resources = h.resources;
-          }
+    -- what is used after it has ended, however the applications are told
+    less_used : (new : Flat K) (change : AppsChange old new) → new.nodes.live ≡ filter (λ d. not (is_among (c ∷ []) d)) p.nodes.live → new.nodes.reserved ≡ p.nodes.reserved → HasMoved old new a.leaf a.user (use_alone c.resource) (nothing K)
+    less_used new change live reserved =
+        gives old new a.leaf a.user c.resource short (λ test. ap (count_of test) change.active ∙ count_changed change.change change.keeps test p.apps.table.active)
+        (λ test k b.
+        let e = ended_amount old Cause.Released c h.numbers there test k b in
+        let same : amount (used_by new test) k ≡ amount (used_by ended test) k = ap (λ v. amount v k)
+        (same_use ended new (record {
+          live = live;
+          reserved = reserved;
+          apps = λ app node s. change_stands old new change app ∙ sym (change_stands old ended (ends_change Cause.Released (c ∷ []) old ended refl refl) app);
+        }) test) in
+        let own : cond (counts test (app_at old c.app)) (amount c.resource k) 0 ≡ count_where (test a.leaf a.user) (use_alone c.resource) (Measure.uses k) = ap (λ o. cond (counts test o) (amount c.resource k) 0) owner in
+        omega (arith, e, same, own))
 
     -- its user may give back what it has
-    pub may_give_back : (place : List ℕ) (row : Row) → IsIn row rows → row.path ≡ a.leaf → item_at place rows ≡ Some row.item → MayGive c.resource (user_row_at place a.user rows)
-    may_give_back = may_give_then apps (without_container number nodes) (λ x. x) (record { number = λ x. refl; leaf = λ x. refl; user = λ x. refl }) (sym (map-id apps.table.active)) refl refl
+    pub may_give_back : MayGive c.resource (user_row_at (position_of a.number p.apps.accounts) a.user p.rows)
+    may_give_back =
+        let at = row_at p.rows a.leaf (position_of a.number p.apps.accounts) placed.position in
+        may_give old ended a.leaf a.user (use_alone c.resource) (nothing K) (less_used ended (ends_change Cause.Released (c ∷ []) old ended refl refl) refl refl) some_active p.rows h.tied (position_of a.number p.apps.accounts) at.row at.member at.path_is at.item_is
 
-    -- after it has ended, where its application is not told
-    pub held_untold : (nodes' : NodeTable) → nodes' ≡ without_container number nodes →
-        IsHeld {K = K} (map (lowered a.leaf a.user c.resource) rows) apps (flat_of minimum maximum limit (queues_of (map (lowered a.leaf a.user c.resource) rows)) apps.table nodes')
-    held_untold nodes' lift =
-        held_ended apps nodes' (λ x. x) (record { number = λ x. refl; leaf = λ x. refl; user = λ x. refl }) (sym (map-id apps.table.active)) refl lift (λ m. omega arith)
+    -- after it has ended, and its application is to be told of it
+    pub held_ended : (apps' : HeldApps) (nodes' : NodeTable) (n : ℕ) (end : End) → nodes' ≡ without_container number p.nodes → n ≡ c.app → apps'.table ≡ with_app n (λ app. record app { ends = app.ends ++ end ∷ [] }) p.apps.table →
+        UsesRoom n 0 0 1 p.apps.accounts apps'.accounts → IsHeld (record p { rows = map (lowered K a.leaf a.user c.resource) p.rows; apps = apps'; nodes = nodes' })
+    held_ended apps' nodes' n end lift same tell room =
+        let q : Parts K = record p { rows = map (lowered K a.leaf a.user c.resource) p.rows; apps = apps'; nodes = nodes' } in
+        let f : App → App = λ app. if app.number == n then record app { ends = app.ends ++ end ∷ [] } else app in
+        let keeps : KeepsApp f = only_app n (λ app. record app { ends = app.ends ++ end ∷ [] }) (record { number = λ x. refl; leaf = λ x. refl; user = λ x. refl }) in
+        let active : apps'.table.active ≡ map f p.apps.table.active = ap (λ (t : AppTable). t.active) tell in
+        let live : nodes'.live ≡ filter (λ d. not (is_among (c ∷ []) d)) p.nodes.live = ap (λ (t : NodeTable). t.live) lift ∙ live_without in
+        let change : AppsChange old (flat_of q) = record { change = f; keeps = keeps; active = active; next = ap (λ (t : AppTable). t.next) tell } in
+        let settings : (flat_of q).settings.queues ≡ old.settings.queues = moved_settings K a.leaf a.user (use_alone c.resource) (nothing K) p.rows in
+        record {
+          tied = tied_moved old (flat_of q) a.leaf a.user (use_alone c.resource) (nothing K) (less_used (flat_of q) change live (ap (λ (t : NodeTable). t.reserved) lift)) p.rows h.tied;
+          placed =
+              of_each (IsPlaced q) apps'.table.active
+              (λ x m.
+              let w = of_map f p.apps.table.active x (subst (λ xs. IsIn x xs) active m) in
+              still_placed p q (λ path l. leaf_same old (flat_of q) path settings l)
+              (moved_stays K a.leaf a.user (use_alone c.resource) (nothing K) p.rows)
+              x (w.0) (ap (λ (y : App). y.leaf) (sym (w.2)) ∙ keeps.leaf (w.0)) (ap (λ (y : App). y.number) (sym (w.2)) ∙ keeps.number (w.0)) (room.positions (w.0).number) (each_of (IsPlaced p) p.apps.table.active h.placed (w.0) (w.1)));
+          counted = λ m. (let r = h.counted m in let e = room.live m in let w = count_left nodes' live m in let t : weight (c.app == m) ≡ weight (m == n) = ap weight (turned c.app m) ∙ ap (λ k. weight (m == k)) (sym same) in let z = none_where (m == n) in omega (arith, r, e, w, t, z));
+          owned = owned_stands old (flat_of q) (change_stands old (flat_of q) change) (λ d i. (of_filter (λ x. not (is_among (c ∷ []) x)) p.nodes.live d (subst (IsIn d) live i)).1) h.owned;
+          numbers = rw (lift) (rising_filter (λ d. not (d.number == number)) 1 p.nodes.live p.nodes.next_container h.numbers);
+          limit = h.limit;
+          few = (let w = h.few in let k = ap length active in let l = length-map p.apps.table.active f in omega (arith, w, k, l));
+          few_live = (let w = h.few_live in let k = ap length live in let l = length-filter (λ d. not (is_among (c ∷ []) d)) p.nodes.live in let m = count_by-le-length (λ d. not (is_among (c ∷ []) d)) p.nodes.live in omega (arith, w, k, l, m));
+          unreserved = ap (λ (t : NodeTable). t.reserved) lift ∙ h.unreserved;
+          resources = h.resources;
+        }
+      where
+        none_where : (b : Bool) → (if b then 0 else 0) ≡ (let k : ℕ = 0 in k)
+        none_where true = refl
+        none_where false = refl
 
-    -- and where it is
-    pub held_told : (apps' : HeldApps) (nodes' : NodeTable) (n : ℕ) (end : EndedContainer) → nodes' ≡ without_container number nodes → n ≡ c.app → apps'.table ≡ with_app n (λ app. record app { ends = app.ends ++ end ∷ [] }) apps.table → UsesRoom n 0 0 1 apps apps' →
-        IsHeld {K = K} (map (lowered a.leaf a.user c.resource) rows) apps' (flat_of minimum maximum limit (queues_of (map (lowered a.leaf a.user c.resource) rows)) apps'.table nodes')
-    held_told apps' nodes' n end lift same tell room =
-        held_ended apps' nodes' (λ app. if app.number == n then record app { ends = app.ends ++ end ∷ [] } else app)
-        (only_app n (λ app. record app { ends = app.ends ++ end ∷ [] }) (record { number = λ x. refl; leaf = λ x. refl; user = λ x. refl }))
-        (ap (λ (t : AppTable). t.active) tell) (ap (λ (t : AppTable). t.next) tell) lift
-        (subst (λ k. (m : ℕ) → end_room m apps ≤ end_room m apps' + weight (m == k)) same room.ends)
+        count_left : (nodes' : NodeTable) → nodes'.live ≡ filter (λ d. not (is_among (c ∷ []) d)) p.nodes.live → (m : ℕ) → count_for m p.nodes.live ≡ count_for m nodes'.live + weight (c.app == m)
+        count_left nodes' live m =
+            let w = sum_without (λ (d : Container). cond (d.app == m) 1 0) 1 p.nodes.live p.nodes.next_container c h.numbers there in
+            let left : count_for m nodes'.live ≡ count_for m (filter (λ d. not (is_among (c ∷ []) d)) p.nodes.live) = ap (count_for m) live in
+            omega (arith, w, left, count_sum (λ (d : Container). d.app == m) p.nodes.live, count_sum (λ (d : Container). d.app == m) (filter (λ d. not (is_among (c ∷ []) d)) p.nodes.live))
 
-  -- the cluster after it, where its application is not told
-  pub without_is : (rows' : List Row) (nodes' : NodeTable) → queues_of rows' ≡ queues_of rows → nodes' ≡ without_container number nodes → flat_of {K = K} minimum maximum limit (queues_of rows') apps.table nodes' ≡ without (c ∷ []) old
-  without_is rows' nodes' same lift =
-      ap (λ qs. flat_of {K = K} minimum maximum limit qs apps.table nodes') same ∙ ap (λ t. flat_of {K = K} minimum maximum limit (queues_of rows) apps.table t) lift
-      ∙ ap (λ cs. flat_of {K = K} minimum maximum limit (queues_of rows) apps.table (record nodes { live = cs })) (lifted_live number c nodes.live number_is)
-
-  -- and where it is
-  pub ended_is : (cause : Cause) (rows' : List Row) (table' : AppTable) (nodes' : NodeTable) (n : ℕ) → queues_of rows' ≡ queues_of rows → nodes' ≡ without_container number nodes → n ≡ c.app →
-      table' ≡ with_app n (λ app. record app { ends = app.ends ++ record { container = number; cause = cause } ∷ [] }) apps.table → flat_of {K = K} minimum maximum limit (queues_of rows') table' nodes' ≡ after_ends cause (c ∷ []) old
+  -- the cluster after it
+  pub ended_is : (cause : Cause) (rows' : List Row) (table' : AppTable) (nodes' : NodeTable) (n : ℕ) → queues_of rows' ≡ queues_of p.rows → nodes' ≡ without_container number p.nodes → n ≡ c.app →
+      table' ≡ with_app n (λ app. record app { ends = app.ends ++ record { container = number; cause = cause } ∷ [] }) p.apps.table →
+      record { settings = record old.settings { queues = queues_of rows' }; apps = table'; nodes = nodes' } ≡ after_ends cause (c ∷ []) old
   ended_is cause rows' table' nodes' n same lift own tell =
-      ap (λ t. flat_of {K = K} minimum maximum limit (queues_of rows') t nodes') (tell ∙ (λ i. with_app (own i) (λ app. record app { ends = app.ends ++ record { container = sym number_is i; cause = cause } ∷ [] }) apps.table))
-      ∙ ap (λ qs. flat_of {K = K} minimum maximum limit qs (with_app c.app (λ app. record app { ends = app.ends ++ record { container = c.number; cause = cause } ∷ [] }) apps.table) nodes') same
-      ∙ ap (λ active. flat_of {K = K} minimum maximum limit (queues_of rows) (record apps.table { active = active }) nodes') (told_all cause c apps.table.active)
-      ∙ ap (λ t. flat_of {K = K} minimum maximum limit (queues_of rows) (record apps.table { active = map (with_ends cause (c ∷ [])) apps.table.active }) t) lift
-      ∙ ap (λ cs. flat_of {K = K} minimum maximum limit (queues_of rows) (record apps.table { active = map (with_ends cause (c ∷ [])) apps.table.active }) (record nodes { live = cs })) (lifted_live number c nodes.live number_is)
+      ap (λ t. made (queues_of rows') t nodes') (tell ∙ (λ i. with_app (own i) (λ app. record app { ends = app.ends ++ record { container = sym number_is i; cause = cause } ∷ [] }) p.apps.table))
+      ∙ ap (λ qs. made qs (with_app c.app (λ app. record app { ends = app.ends ++ record { container = c.number; cause = cause } ∷ [] }) p.apps.table) nodes') same
+      ∙ ap (λ active. made (queues_of p.rows) (record p.apps.table { active = active }) nodes') (told_all cause c p.apps.table.active)
+      ∙ ap (λ t. made (queues_of p.rows) (record p.apps.table { active = map (with_ends cause (c ∷ [])) p.apps.table.active }) t) lift
+      ∙ ap (λ cs. made (queues_of p.rows) (record p.apps.table { active = map (with_ends cause (c ∷ [])) p.apps.table.active }) (record p.nodes { live = cs })) live_without
+    where
+      made : List QueueRow → AppTable → NodeTable → Flat K
+      made qs t n = record { settings = record old.settings { queues = qs }; apps = t; nodes = n }

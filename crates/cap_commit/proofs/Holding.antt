@@ -1,20 +1,25 @@
 -- What a cluster keeps, after the changes that calls make.
 use Rattle.std.proofs.Common.{◌≡◌, ℕ, ◌≤◌, Bool, true, false, cond, List, [], ◌∷◌, ◌++◌, length, map, Some, None, refl, sym, ◌∙◌, ap, subst, inl, inr, arith}
-use Rattle.std.specs.Prelude.{◌==◌, ◌⊎◌, IsSome, not, bytes_eq, nat_eq, find, filter, is_some, if◌then◌else◌}
+use Rattle.std.specs.Prelude.{◌==◌, IsSome, not, bytes_eq, nat_eq, find, filter, is_some, if◌then◌else◌}
 use Rattle.std.specs.List.{All, list_any, starts_with}
+use Rattle.std.specs.Option.{option_map_or}
+use Rattle.std.proofs.lemmas.Bool.{not-true}
 use Rattle.std.proofs.lemmas.Bool.Decides.{nat_tests}
-use Rattle.std.proofs.lemmas.List.{length-append, length-map}
+use Rattle.std.proofs.lemmas.List.{append-nil, length-append, length-map, map-id}
 use Rattle.std.proofs.lemmas.Slice.Eq.{bytes_eq-Decides}
 use Rattle.cap_vector.specs.Vector.{amount}
 use Rattle.cap_model.specs.Limits.{applications_max, resources_max}
 use Rattle.cap_model.specs.Settings.{QueueRow}
-use Rattle.cap_model.specs.Flat.{Flat, App, AppTable, NodeTable, Reservation, app_at, with_reserved}
-use Rattle.cap_model.specs.Ending.{without}
+use Rattle.cap_model.specs.Flat.{Flat, App, AppTable, Container, NodeTable, app_at, with_reserved}
+use Rattle.cap_model.specs.declared.news.Cause.{Cause}
+use Rattle.cap_model.specs.EngineLaws.{numbers_of}
+use Rattle.cap_model.specs.Ending.{after_ends, with_ends, without}
 use Rattle.cap_model.specs.FinishMaster.{containers_of, after_finish_master}
 use Rattle.cap_model.specs.Submit.{submit_refusal}
 use Rattle.cap_model.specs.Bounds.{IsLeaf, IsRising}
 use Rattle.cap_model.proofs.Choosing.{IsIn, found, in_either, of_filter}
-use Rattle.cap_model.proofs.Members.{each_of, of_each, of_map, find_others, find_with_more}
+use Rattle.cap_model.proofs.Balance.{filter_none}
+use Rattle.cap_model.proofs.Members.{each_of, of_each, of_map, find_others, find_with_more, one_where, rising_to_high}
 use Rattle.cap_model.proofs.Lessening.{IsSite, change_stands}
 use Rattle.cap_model.proofs.Measures.{counts}
 use Rattle.cap_model.proofs.Moves.{KeepsApp, AppsChange, only_app}
@@ -22,17 +27,20 @@ use Rattle.cap_model.proofs.Registering.{may_enter}
 use Rattle.cap_model.proofs.Formed.{unrefused_leaf}
 use Rattle.cap_model.proofs.Tallies.{HoldsSame, count_of, count_changed, same_use, change_holds, coming_holds, going_holds}
 use Rattle.cap_tree.specs.Measure.{Measure}
-use Rattle.cap_tree.specs.Spot.{item_at}
-use Rattle.cap_tree.specs.Queue.{IsUnused, MayLeave, entered_above, entered_at, left_above, left_at, lowered_above, lowered_at}
-use Rattle.cap_tree.specs.QueueLaws.{amount-zeros}
-use Rattle.cap_tree.specs.Rows.{Row, entered, left, lowered, with_state, queues_of, user_row_at}
-use Rattle.cap_tree.proofs.Listings.{any_kept, path_kept, settings_stay, set_running, same_path, state_in_settings}
-use Rattle.cap_asks.specs.Apps.{HeldApps, with_app, with_entering, without_app, entering, no_room, without_room, end_room}
-use Rattle.cap_commit.specs.Held.{flat_of, IsHeld, of_cluster}
+use Rattle.cap_tree.specs.Queue.{IsUnused, MayLeave}
+use Rattle.cap_vector.proofs.AmountLemmas.{amount-zeros}
+use Rattle.cap_tree.specs.Count.{nothing, one_application}
+use Rattle.cap_tree.specs.Rows.{Row, IsAt, entered, left, with_state, queues_of, user_row_at}
+use Rattle.cap_tree.proofs.Listings.{any_kept, path_kept, set_running, same_path, state_in_settings}
+use Rattle.cap_asks.specs.Held.{Account, HeldApp}
+use Rattle.cap_asks.specs.Apps.{HeldApps, UsesRoom, IsEntered, IsLeft, with_app, with_entering, without_app, entering, account_of, live_of, position_of}
+use Rattle.cap_commit.specs.Held.{Parts, IsHeld, IsPlaced, flat_of, of_cluster}
 use Rattle.cap_commit.proofs.Counting.{count_entered, count_without, only_one, unused}
-use Rattle.cap_commit.proofs.Owning.{IsOwned, KeepsEnds, count_for, none_of, owned_after, owned_stands, room_enters, room_goes, sites_owned, still_ready}
+use Rattle.cap_commit.proofs.Owning.{IsOwned, count_for, live_kept, none_left, none_of, owned_after, owned_stands, sites_owned}
+use Rattle.cap_commit.proofs.RowsAt.{row_at, still_at}
 use Rattle.cap_commit.proofs.Parts.{fewer}
-use Rattle.cap_commit.proofs.Ties.{HasOneMore, of_user_in, unused_tied, tied_stays, tied_state, tied_entered, tied_left, may_leave}
+use Rattle.cap_commit.proofs.Moving.{HasOneMore, enters, leaves, may_leave, moved_settings, moved_stays, tied_moved}
+use Rattle.cap_commit.proofs.Ties.{of_user_in, state_path, state_place, unused_tied, tied_stays, tied_state}
 
 -- a change of the queues that keeps their paths keeps which of them are leaves
 pub leaf_kept : (f : QueueRow → QueueRow) (p : (q : QueueRow) → (f q).path ≡ q.path) → {K : ℕ} (old new : Flat K) (path : List ℕ) → new.settings.queues ≡ map f old.settings.queues → IsLeaf old path → IsLeaf new path
@@ -47,178 +55,200 @@ leaf_same old new path e l = record {
   childless = ap (λ qs. list_any (λ (r : QueueRow). starts_with nat_eq r.path (path ++ 46 ∷ [])) qs) e ∙ l.childless;
 }
 
--- changes of rows that keep their settings
-pub entered_settings : (K : ℕ) (leaf user : List ℕ) (rows : List Row) → queues_of (map (entered K leaf user) rows) ≡ queues_of rows
-entered_settings K leaf user rows = settings_stay entered_above (entered_at K user) (λ r. refl) (λ r. refl) leaf rows
+-- the flat cluster of other queues and applications
+pub with_queues : {K : ℕ} (p : Parts K) (rows' : List Row) (queues : List QueueRow) → queues_of rows' ≡ queues → flat_of (record p { rows = rows' }) ≡ record (flat_of p) { settings = record (flat_of p).settings { queues = queues } }
+with_queues p rows' queues e = ap (λ qs. record (flat_of p) { settings = record (flat_of p).settings { queues = qs } }) e
 
-pub left_settings : (leaf user : List ℕ) (rows : List Row) → queues_of (map (left leaf user) rows) ≡ queues_of rows
-left_settings leaf user rows = settings_stay left_above (left_at user) (λ r. refl) (λ r. refl) leaf rows
-
-pub lowered_settings : (leaf user amounts : List ℕ) (rows : List Row) → queues_of (map (lowered leaf user amounts) rows) ≡ queues_of rows
-lowered_settings leaf user amounts rows = settings_stay (lowered_above amounts) (lowered_at user amounts) (λ r. refl) (λ r. refl) leaf rows
-
--- where no queue has the path, none is changed
-pub none_set : (path : List ℕ) (running : Bool) (qs : List QueueRow) → find (λ q. bytes_eq q.path path) qs ≡ None → map (set_running path running) qs ≡ qs
-none_set path running [] e = refl
-none_set path running (q ∷ qs) e = by (bytes_eq q.path path) refl e (none_set path running qs)
-  where
-    by : (b : Bool) → bytes_eq q.path path ≡ b → cond b (Some q) (find (λ (r : QueueRow). bytes_eq r.path path) qs) ≡ None
-        → (find (λ (r : QueueRow). bytes_eq r.path path) qs ≡ None → map (λ (r : QueueRow). if bytes_eq r.path path then record r { running = running } else r) qs ≡ qs)
-        → map (λ (r : QueueRow). if bytes_eq r.path path then record r { running = running } else r) (q ∷ qs) ≡ q ∷ qs
-    by true h g r = absurd (cc g)
-    by false h g r = λ i. ap (λ b. if b then record q { running = running } else q) h i ∷ r g i
+pub with_table : {K : ℕ} (p : Parts K) (rows' : List Row) (apps' : HeldApps) (table : AppTable) → queues_of rows' ≡ queues_of p.rows → apps'.table ≡ table → flat_of (record p { rows = rows'; apps = apps' }) ≡ record (flat_of p) { apps = table }
+with_table p rows' apps' table e f = λ i. record (flat_of p) { settings = record (flat_of p).settings { queues = e i }; apps = f i }
 
 -- what is kept
 
+-- an application stays where it is
+pub still_placed : {K : ℕ} (old new : Parts K) → ((path : List ℕ) → IsLeaf (flat_of old) path → IsLeaf (flat_of new) path) → ((path position : List ℕ) → IsAt old.rows path position → IsAt new.rows path position) →
+    (x y : App) → x.leaf ≡ y.leaf → x.number ≡ y.number → position_of y.number new.apps.accounts ≡ position_of y.number old.apps.accounts → IsPlaced old y → IsPlaced new x
+still_placed old new leaf at x y same number position h = record {
+  leaf = rw same (leaf y.leaf h.leaf);
+  position = rw (same, number, position) (at y.leaf (position_of y.number old.apps.accounts) h.position);
+}
+
 module _ {K : ℕ} where
   -- a cluster that was opened just now
-  pub held_opened : (minimum maximum : List ℕ) (limit : ℕ) (rows : List Row) (apps : HeldApps) (nodes : NodeTable) → apps.table.active ≡ [] → nodes.live ≡ [] → nodes.reserved ≡ [] → All (λ r. IsUnused K r.item) rows → limit ≤ applications_max →
-      K ≤ resources_max → IsHeld {K = K} rows apps (flat_of minimum maximum limit (queues_of rows) apps.table nodes)
-  held_opened minimum maximum limit rows apps nodes none live reserved unused l k =
-      let new : Flat K = flat_of minimum maximum limit (queues_of rows) apps.table nodes in
+  pub held_opened : (p : Parts K) → p.apps.table.active ≡ [] → p.apps.accounts ≡ [] → p.nodes.live ≡ [] → p.nodes.reserved ≡ [] → 1 ≤ p.nodes.next_container → All (λ r. IsUnused K r.item) p.rows →
+      p.limits.application_limit ≤ applications_max → K ≤ resources_max → IsHeld p
+  held_opened p none accounts live reserved first unused l k =
       record {
-        tied = unused_tied new rows none live reserved unused;
-        leaves = of_each (λ (app : App). IsLeaf new app.leaf) apps.table.active (λ a m. absurd (subst (λ xs. IsIn a xs) none m));
+        tied = unused_tied (flat_of p) p.rows none live reserved unused;
+        placed = of_each (IsPlaced p) p.apps.table.active (λ a m. absurd (subst (λ xs. IsIn a xs) none m));
+        counted = λ n. ap (live_of n) accounts ∙ sym (ap (count_for n) live);
+        owned = of_each (IsOwned (flat_of p)) p.nodes.live (λ c m. absurd (subst (λ xs. IsIn c xs) live m));
+        numbers = subst (λ cs. IsRising 1 (numbers_of cs) p.nodes.next_container) (sym live) first;
         limit = l;
         few = (let n = ap length none in omega (arith, n));
-        owned = of_each (IsOwned new) nodes.live (λ c m. absurd (subst (λ xs. IsIn c xs) live m));
-        ready = λ n. (let c : count_for n nodes.live ≡ 0 = ap (count_for n) live in omega (arith, c));
+        few_live = (let n = ap length live in omega (arith, n));
         unreserved = reserved;
         resources = k;
       }
 
-  module _ (minimum maximum : List ℕ) (limit : ℕ) (rows : List Row) (apps : HeldApps) (nodes : NodeTable) (h : IsHeld {K = K} rows apps (flat_of minimum maximum limit (queues_of rows) apps.table nodes)) where
+  module _ (p : Parts K) (h : IsHeld p) where
     abbrev old : Flat K
-    old = flat_of minimum maximum limit (queues_of rows) apps.table nodes
+    old = flat_of p
 
     owners : (app node : ℕ) → IsSite old app node → IsSome (app_at old app)
     owners = sites_owned old h.owned h.unreserved
 
     -- after a change of the nodes that keeps what is live
-    pub held_nodes : (nodes' : NodeTable) → nodes'.live ≡ nodes.live → nodes'.reserved ≡ nodes.reserved → IsHeld {K = K} rows apps (flat_of minimum maximum limit (queues_of rows) apps.table nodes')
-    held_nodes nodes' live reserved =
-        let new : Flat K = flat_of minimum maximum limit (queues_of rows) apps.table nodes' in
+    pub held_nodes : (nodes' : NodeTable) → nodes'.live ≡ p.nodes.live → nodes'.reserved ≡ p.nodes.reserved → nodes'.next_container ≡ p.nodes.next_container → IsHeld (record p { nodes = nodes' })
+    held_nodes nodes' live reserved next =
+        let q : Parts K = record p { nodes = nodes' } in
         record {
-          tied = tied_stays old new (record { counts = λ t. refl; uses = same_use old new (record { live = live; reserved = reserved; apps = λ app node s. refl }) }) rows h.tied;
-          leaves = of_each (λ (app : App). IsLeaf new app.leaf) apps.table.active (λ a m. leaf_same old new a.leaf refl (each_of (λ (app : App). IsLeaf old app.leaf) apps.table.active h.leaves a m));
+          tied = tied_stays old (flat_of q) (record { counts = λ t. refl; uses = same_use old (flat_of q) (record { live = live; reserved = reserved; apps = λ app node s. refl }) }) p.rows h.tied;
+          placed = of_each (IsPlaced q) p.apps.table.active (λ a m. still_placed p q (λ path l. leaf_same old (flat_of q) path refl l) (λ path at i. i) a a refl refl refl (each_of (IsPlaced p) p.apps.table.active h.placed a m));
+          counted = λ n. h.counted n ∙ sym (ap (count_for n) live);
+          owned = owned_stands old (flat_of q) (λ n. refl) (λ c i. subst (IsIn c) live i) h.owned;
+          numbers = rw (live, next) h.numbers;
           limit = h.limit;
           few = h.few;
-          owned = owned_stands old new (λ n. refl) (λ c i. subst (IsIn c) live i) h.owned;
-          ready = λ n. (let c : count_for n nodes'.live ≡ count_for n nodes.live = ap (count_for n) live in let r = h.ready n in omega (arith, c, r));
+          few_live = (let f = h.few_live in let n = ap length live in omega (arith, f, n));
           unreserved = reserved ∙ h.unreserved;
           resources = h.resources;
         }
 
-    -- after a change of applications that keeps what they are
-    pub held_apps : (apps' : HeldApps) (f : App → App) → KeepsApp f → apps'.table.active ≡ map f apps.table.active → apps'.table.next ≡ apps.table.next → KeepsEnds apps apps' →
-        IsHeld {K = K} rows apps' (flat_of minimum maximum limit (queues_of rows) apps'.table nodes)
-    held_apps apps' f k e next ends =
-        let new : Flat K = flat_of minimum maximum limit (queues_of rows) apps'.table nodes in
-        let change : AppsChange old new = record { change = f; keeps = k; active = e; next = next } in
+    -- after a change of applications that keeps what they are, and what is live
+    pub held_apps : (apps' : HeldApps) (f : App → App) → KeepsApp f → apps'.table.active ≡ map f p.apps.table.active → apps'.table.next ≡ p.apps.table.next →
+        ((n : ℕ) → position_of n apps'.accounts ≡ position_of n p.apps.accounts) → ((n : ℕ) → live_of n apps'.accounts ≡ live_of n p.apps.accounts) → IsHeld (record p { apps = apps' })
+    held_apps apps' f k e next positions live =
+        let q : Parts K = record p { apps = apps' } in
+        let change : AppsChange old (flat_of q) = record { change = f; keeps = k; active = e; next = next } in
         record {
-          tied = tied_stays old new (record { counts = λ t. ap (count_of t) e ∙ count_changed f k t apps.table.active; uses = same_use old new (change_holds old new change refl refl) }) rows h.tied;
-          leaves =
-              of_each (λ (app : App). IsLeaf new app.leaf) apps'.table.active
+          tied = tied_stays old (flat_of q) (record { counts = λ t. ap (count_of t) e ∙ count_changed f k t p.apps.table.active; uses = same_use old (flat_of q) (change_holds old (flat_of q) change refl refl) }) p.rows h.tied;
+          placed =
+              of_each (IsPlaced q) apps'.table.active
               (λ a m.
-              let w = of_map f apps.table.active a (subst (λ xs. IsIn a xs) e m) in
-              let leaf : (w.0).leaf ≡ a.leaf = sym (k.leaf (w.0)) ∙ ap (λ (x : App). x.leaf) (w.2) in
-              leaf_same old new a.leaf refl (subst (IsLeaf old) leaf (each_of (λ (app : App). IsLeaf old app.leaf) apps.table.active h.leaves (w.0) (w.1))));
+              let w = of_map f p.apps.table.active a (subst (λ xs. IsIn a xs) e m) in
+              still_placed p q (λ path l. leaf_same old (flat_of q) path refl l) (λ path at i. i) a (w.0) (ap (λ (x : App). x.leaf) (sym (w.2)) ∙ k.leaf (w.0)) (ap (λ (x : App). x.number) (sym (w.2)) ∙ k.number (w.0)) (positions (w.0).number)
+              (each_of (IsPlaced p) p.apps.table.active h.placed (w.0) (w.1)));
+          counted = λ n. live n ∙ h.counted n;
+          owned = owned_stands old (flat_of q) (change_stands old (flat_of q) change) (λ c i. i) h.owned;
+          numbers = h.numbers;
           limit = h.limit;
-          few = (let w = h.few in let n = ap length e in let l = length-map apps.table.active f in omega (arith, w, n, l));
-          owned = owned_stands old new (change_stands old new change) (λ c i. i) h.owned;
-          ready = still_ready apps apps' nodes.live nodes.live ends (λ n. omega arith) h.ready;
+          few = (let w = h.few in let n = ap length e in let l = length-map p.apps.table.active f in omega (arith, w, n, l));
+          few_live = h.few_live;
           unreserved = h.unreserved;
           resources = h.resources;
         }
 
     -- after a change of one
-    pub held_app : (n : ℕ) (apps' : HeldApps) (f : App → App) → KeepsApp f → apps'.table ≡ with_app n f apps.table → KeepsEnds apps apps' → IsHeld {K = K} rows apps' (flat_of minimum maximum limit (queues_of rows) apps'.table nodes)
-    held_app n apps' f k e ends = held_apps apps' (λ app. if app.number == n then f app else app) (only_app n f k) (ap (λ (t : AppTable). t.active) e) (ap (λ (t : AppTable). t.next) e) ends
+    pub held_app : (n asks : ℕ) (apps' : HeldApps) (f : App → App) → KeepsApp f → apps'.table ≡ with_app n f p.apps.table → UsesRoom n asks 0 0 p.apps.accounts apps'.accounts → IsHeld (record p { apps = apps' })
+    held_app n asks apps' f k e room =
+        held_apps apps' (λ app. if app.number == n then f app else app) (only_app n f k) (ap (λ (t : AppTable). t.active) e) (ap (λ (t : AppTable). t.next) e) room.positions (live_kept n asks p.apps.accounts apps'.accounts room)
 
     -- after more room was made
-    pub held_room : (apps' : HeldApps) → apps'.table ≡ apps.table → KeepsEnds apps apps' → IsHeld {K = K} rows apps' (flat_of minimum maximum limit (queues_of rows) apps'.table nodes)
-    held_room apps' e ends = rw e (record {
-      tied = h.tied;
-      leaves = h.leaves;
-      limit = h.limit;
-      few = h.few;
-      owned = h.owned;
-      ready = still_ready apps apps' nodes.live nodes.live ends (λ n. omega arith) h.ready;
-      unreserved = h.unreserved;
-      resources = h.resources;
-    })
+    pub held_room : (n : ℕ) (apps' : HeldApps) → apps'.table ≡ p.apps.table → UsesRoom n 0 0 0 p.apps.accounts apps'.accounts → IsHeld (record p { apps = apps' })
+    held_room n apps' e room =
+        held_apps apps' (λ a. a) (record { number = λ a. refl; leaf = λ a. refl; user = λ a. refl }) (ap (λ (t : AppTable). t.active) e ∙ sym (map-id p.apps.table.active)) (ap (λ (t : AppTable). t.next) e) room.positions
+        (live_kept n 0 p.apps.accounts apps'.accounts room)
+
+    -- after there is room for one more application
+    pub held_same : (apps' : HeldApps) → apps'.table ≡ p.apps.table → apps'.accounts ≡ p.apps.accounts → IsHeld (record p { apps = apps' })
+    held_same apps' e same =
+        held_apps apps' (λ a. a) (record { number = λ a. refl; leaf = λ a. refl; user = λ a. refl }) (ap (λ (t : AppTable). t.active) e ∙ sym (map-id p.apps.table.active)) (ap (λ (t : AppTable). t.next) e) (λ n. ap (position_of n) same)
+        (λ n. ap (live_of n) same)
 
     -- after a queue's own state was set
-    pub held_state : (path : List ℕ) (running : Bool) → IsHeld {K = K} (map (with_state path running) rows) apps (flat_of minimum maximum limit (queues_of (map (with_state path running) rows)) apps.table nodes)
+    pub held_state : (path : List ℕ) (running : Bool) → IsHeld (record p { rows = map (with_state path running) p.rows })
     held_state path running =
-        let new : Flat K = flat_of minimum maximum limit (queues_of (map (with_state path running) rows)) apps.table nodes in
+        let q : Parts K = record p { rows = map (with_state path running) p.rows } in
         record {
-          tied = tied_stays old new (record { counts = λ t. refl; uses = same_use old new (record { live = refl; reserved = refl; apps = λ app node s. refl }) }) (map (with_state path running) rows) (tied_state old path running rows h.tied);
-          leaves =
-              of_each (λ (app : App). IsLeaf new app.leaf) apps.table.active
-              (λ a m. leaf_kept (set_running path running) (same_path path running) old new a.leaf (state_in_settings path running rows) (each_of (λ (app : App). IsLeaf old app.leaf) apps.table.active h.leaves a m));
+          tied = tied_stays old (flat_of q) (record { counts = λ t. refl; uses = same_use old (flat_of q) (record { live = refl; reserved = refl; apps = λ app node s. refl }) }) q.rows (tied_state old path running p.rows h.tied);
+          placed =
+              of_each (IsPlaced q) p.apps.table.active
+              (λ a m.
+              still_placed p q (λ x l. leaf_kept (set_running path running) (Rattle.cap_tree.proofs.Listings.same_path path running) old (flat_of q) x (state_in_settings path running p.rows) l)
+              (λ x position at. still_at (with_state path running) (λ r. state_place path running r) (λ r. state_path path running r) p.rows x position at) a a refl refl refl
+              (each_of (IsPlaced p) p.apps.table.active h.placed a m));
+          counted = h.counted;
+          owned = owned_stands old (flat_of q) (λ n. refl) (λ c i. i) h.owned;
+          numbers = h.numbers;
           limit = h.limit;
           few = h.few;
-          owned = owned_stands old new (λ n. refl) (λ c i. i) h.owned;
-          ready = h.ready;
+          few_live = h.few_live;
           unreserved = h.unreserved;
           resources = h.resources;
         }
 
     -- after an application has entered
-    pub held_entered : (leaf user : List ℕ) (apps' : HeldApps) → submit_refusal old leaf ≡ None → apps'.table ≡ with_entering leaf user apps.table → apps'.rooms ≡ apps.rooms ++ no_room apps.table.next ∷ [] →
-        IsHeld {K = K} (map (entered K leaf user) rows) apps' (flat_of minimum maximum limit (queues_of (map (entered K leaf user) rows)) apps'.table nodes)
-    held_entered leaf user apps' unrefused e rooms =
-        let new : Flat K = flat_of minimum maximum limit (queues_of (map (entered K leaf user) rows)) apps'.table nodes in
-        let a : App = entering apps.table.next leaf user in
-        let active : apps'.table.active ≡ apps.table.active ++ a ∷ [] = ap (λ (t : AppTable). t.active) e in
-        let same : new.settings.queues ≡ old.settings.queues = entered_settings K leaf user rows in
+    pub held_entered : (leaf user position : List ℕ) (apps' : HeldApps) → IsRising 1 (map (λ (x : App). x.number) p.apps.table.active) p.apps.table.next → submit_refusal old leaf ≡ None → IsAt p.rows leaf position → apps'.table ≡ with_entering leaf user p.apps.table → IsEntered p.apps.table.next position p.apps.accounts apps'.accounts →
+        IsHeld (record p { rows = map (entered K leaf user) p.rows; apps = apps' })
+    held_entered leaf user position apps' rising unrefused at e accounts =
+        let q : Parts K = record p { rows = map (entered K leaf user) p.rows; apps = apps' } in
+        let n = p.apps.table.next in
+        let a : App = entering n leaf user in
+        let active : apps'.table.active ≡ p.apps.table.active ++ a ∷ [] = ap (λ (t : AppTable). t.active) e in
+        let same : (flat_of q).settings.queues ≡ old.settings.queues = moved_settings K leaf user (nothing K) (one_application K) p.rows in
+        let stays : (path place : List ℕ) → IsAt p.rows path place → IsAt q.rows path place = moved_stays K leaf user (nothing K) (one_application K) p.rows in
         let may = may_enter old leaf unrefused in
+        let own : position_of n apps'.accounts ≡ position = ap (λ o. option_map_or (λ (x : Account). x.position) o []) accounts.own in
         record {
-          tied = tied_entered old new leaf user (record { counts = λ t. ap (count_of t) active ∙ count_entered t apps.table.active a; uses = same_use old new (coming_holds old new a active owners refl refl) }) rows h.tied;
-          leaves =
-              of_each (λ (app : App). IsLeaf new app.leaf) apps'.table.active
-              (λ x m. leaf_same old new x.leaf same (where_is x (in_either x apps.table.active (a ∷ []) (subst (λ xs. IsIn x xs) active m))));
+          tied = tied_moved old (flat_of q) leaf user (nothing K) (one_application K) (enters old (flat_of q) leaf user (record { counts = λ t. ap (count_of t) active ∙ count_entered t p.apps.table.active a; uses = same_use old (flat_of q) (coming_holds old (flat_of q) a active owners refl refl) })) p.rows h.tied;
+          placed =
+              of_each (IsPlaced q) apps'.table.active
+              (λ x m. elim (in_either x p.apps.table.active (a ∷ []) (subst (λ xs. IsIn x xs) active m)) [
+                | inl there ↦
+                    let was = each_of (IsPlaced p) p.apps.table.active h.placed x there in
+                    still_placed p q (λ path l. leaf_same old (flat_of q) path same l) stays x x refl refl (at_other x there) was
+                | inr (inl is) ↦ subst (IsPlaced q) is (record { leaf = leaf_same old (flat_of q) leaf same (unrefused_leaf old leaf unrefused); position = subst (IsAt q.rows leaf) (sym own) (stays leaf position at) })
+                | inr (inr none) ↦ absurd none
+              ]);
+          counted = λ m. live_entered (m == n) m refl;
+          owned = owned_after old (flat_of q) (λ m there. subst IsSome (sym (ap (find (λ (x : App). x.number == m)) active ∙ find_with_more (λ (x : App). x.number) m p.apps.table.active (a ∷ []) there)) there) (λ c i. i) h.owned;
+          numbers = h.numbers;
           limit = h.limit;
-          few = (let f = may.few in let n = ap length active in let l = length-append apps.table.active (a ∷ []) in omega (arith, f, n, l));
-          owned = owned_after old new (λ n there. subst IsSome (sym (ap (find (λ (x : App). x.number == n)) active ∙ find_with_more (λ (x : App). x.number) n apps.table.active (a ∷ []) there)) there) (λ c i. i) h.owned;
-          ready = still_ready apps apps' nodes.live nodes.live (room_enters apps apps' apps.table.next rooms) (λ n. omega arith) h.ready;
+          few = (let f = may.few in let w = h.limit in let k = ap length active in let l = length-append p.apps.table.active (a ∷ []) in omega (arith, f, w, k, l));
+          few_live = h.few_live;
           unreserved = h.unreserved;
           resources = h.resources;
         }
       where
-        where_is : (x : App) → IsIn x apps.table.active ⊎ IsIn x (entering apps.table.next leaf user ∷ []) → IsLeaf old x.leaf
-        where_is x (inl m) = each_of (λ (app : App). IsLeaf old app.leaf) apps.table.active h.leaves x m
-        where_is x (inr (inl e)) = subst (λ (y : App). IsLeaf old y.leaf) e (unrefused_leaf old leaf unrefused)
-        where_is x (inr (inr m)) = absurd m
+        next : ℕ
+        next = p.apps.table.next
 
-    -- an application that is active is in a leaf
-    pub leaf_of : (n : ℕ) (a : App) → find (λ (x : App). x.number == n) apps.table.active ≡ Some a → IsLeaf old a.leaf
-    leaf_of n a e = each_of (λ (app : App). IsLeaf old app.leaf) apps.table.active h.leaves a (found (λ (x : App). x.number == n) apps.table.active a e).0
+        at_other : (x : App) → IsIn x p.apps.table.active → position_of x.number apps'.accounts ≡ position_of x.number p.apps.accounts
+        at_other x there =
+            let below = rising_to_high (λ (y : App). y.number) 1 p.apps.table.active next x rising there in
+            let other : x.number == next ≡ false = grind (arith, nat_tests, below) in
+            ap (λ r. option_map_or (λ (c : Account). c.position) r []) (accounts.others x.number other)
+
+        live_entered : (b : Bool) (m : ℕ) → m == next ≡ b → live_of m apps'.accounts ≡ count_for m p.nodes.live
+        live_entered false m o = ap (λ r. option_map_or (λ (c : Account). c.live) r 0) (accounts.others m o) ∙ h.counted m
+        live_entered true m o =
+            let is : m ≡ next = grind (arith, nat_tests, o) in
+            rw is
+            (ap (λ r. option_map_or (λ (c : Account). c.live) r 0) accounts.own
+            ∙ sym (ap (λ r. option_map_or (λ (c : Account). c.live) r 0) accounts.absent)
+            ∙ h.counted next)
+
+    -- an application that is active is in a leaf, whose position it knows
+    pub placed_at : (n : ℕ) (a : App) → find (λ (x : App). x.number == n) p.apps.table.active ≡ Some a → IsPlaced p a
+    placed_at n a e = each_of (IsPlaced p) p.apps.table.active h.placed a (found (λ (x : App). x.number == n) p.apps.table.active a e).0
+
+    pub position_is : (n : ℕ) (x : HeldApp) → Some x.app ≡ find (λ (y : App). y.number == n) p.apps.table.active → Some x.account ≡ account_of n p.apps.accounts → x.account.position ≡ position_of x.app.number p.apps.accounts
+    position_is n x e f =
+        let t = (found (λ (y : App). y.number == n) p.apps.table.active x.app (sym e)).1 in
+        let number : x.app.number ≡ n = grind (arith, nat_tests, t) in
+        ap (λ o. option_map_or (λ (a : Account). a.position) o []) f ∙ ap (λ k. position_of k p.apps.accounts) (sym number)
 
     -- an application that has no container goes, after all of its own have ended
-    no_member : {A : Type 0} (t : A → Bool) (xs : List A) → xs ≡ [] → xs ≡ filter t xs
-    no_member t xs e = e ∙ sym (ap (filter t) e)
-
-    abbrev goes : ℕ → Flat K → Flat K
-    goes n ended =
-        let dropped = with_reserved (filter (λ r. not (r.app == n)) ended.nodes.reserved) ended in
-        record dropped { apps = record dropped.apps { active = filter (λ app. not (app.number == n)) dropped.apps.active } }
-
-    pub finished_is : (start : Flat K) (n : ℕ) (rows' : List Row) (table' : AppTable) → old ≡ without (containers_of start n) start → queues_of rows' ≡ queues_of rows → table' ≡ without_app n apps.table →
-        flat_of {K = K} minimum maximum limit (queues_of rows') table' nodes ≡ after_finish_master start n
-    finished_is start n rows' table' is same e =
-        ap (λ qs. flat_of {K = K} minimum maximum limit qs table' nodes) same ∙ ap (λ t. flat_of {K = K} minimum maximum limit (queues_of rows) t nodes) e
-        ∙ ap (λ reserved. flat_of {K = K} minimum maximum limit (queues_of rows) (without_app n apps.table) (record nodes { reserved = reserved })) (no_member (λ (r : Reservation). not (r.app == n)) nodes.reserved h.unreserved)
-        ∙ ap (goes n) is
-
-    module _ (n : ℕ) (a : App) (rising : IsRising 1 (map (λ (x : App). x.number) apps.table.active) apps.table.next) (found_it : find (λ (x : App). x.number == n) apps.table.active ≡ Some a) (none : count_for n nodes.live ≡ 0) where
+    module _ (n : ℕ) (a : App) (rising : IsRising 1 (map (λ (x : App). x.number) p.apps.table.active) p.apps.table.next) (found_it : find (λ (x : App). x.number == n) p.apps.table.active ≡ Some a) (none : containers_of old n ≡ []) where
       abbrev without_it : Flat K
-      without_it = flat_of minimum maximum limit (queues_of rows) (without_app n apps.table) nodes
+      without_it = record old { apps = without_app n p.apps.table }
+
+      none_live : count_for n p.nodes.live ≡ 0
+      none_live = none_left old n none
 
       -- it holds nothing
       elsewhere : (app node : ℕ) → IsSite old app node → app == n ≡ false
-      elsewhere app node (inl (c, m, e, f)) = ap (λ x. x == n) (sym e) ∙ none_of n nodes.live none c m
+      elsewhere app node (inl (c, m, e, f)) = ap (λ x. x == n) (sym e) ∙ none_of n p.nodes.live none_live c m
       elsewhere app node (inr (r, m, e, f)) = absurd (subst (IsIn r) h.unreserved m)
 
       turned : (x y : ℕ) → x == y ≡ false → y == x ≡ false
@@ -229,7 +259,7 @@ module _ {K : ℕ} where
 
       one_less : HasOneMore without_it old a.leaf a.user
       one_less = record {
-        counts = λ t. count_without t 1 apps.table.active apps.table.next n a rising found_it;
+        counts = λ t. count_without t 1 p.apps.table.active p.apps.table.next n a rising found_it;
         uses = λ t. sym (same_use old without_it holds t);
       }
 
@@ -237,39 +267,81 @@ module _ {K : ℕ} where
       spent k one =
           let mine = of_user_in a.leaf a.user in
           let own : mine a.leaf a.user ≡ true = rw ((bytes_eq-Decides a.leaf a.leaf).1 refl, (bytes_eq-Decides a.user a.user).1 refl) refl in
-          let off : (app node : ℕ) → IsSite old app node → counts mine (app_at old app) ≡ false = λ app node s. only_one mine 1 apps.table.active apps.table.next n a rising found_it own one app (elsewhere app node s) in
+          let off : (app node : ℕ) → IsSite old app node → counts mine (app_at old app) ≡ false = λ app node s. only_one mine 1 p.apps.table.active p.apps.table.next n a rising found_it own one app (elsewhere app node s) in
           ap (λ v. amount v k) (unused old mine off) ∙ amount-zeros K k
 
-      -- it may leave
-      pub may_go : (place : List ℕ) (r : Row) → IsIn r rows → r.path ≡ a.leaf → item_at place rows ≡ Some r.item → MayLeave (user_row_at place a.user rows)
-      may_go place r m p i = may_leave without_it old a.leaf a.user one_less spent rows h.tied place r m p i
+      -- its user has an application in the leaf
+      some_active : 1 ≤ of_cluster old a.leaf a.user Measure.active
+      some_active =
+          let mine = of_user_in a.leaf a.user in
+          let own : one_where (mine a.leaf a.user) ≡ 1 = rw ((bytes_eq-Decides a.leaf a.leaf).1 refl, (bytes_eq-Decides a.user a.user).1 refl) refl in
+          let c = one_less.counts mine in
+          omega (arith, c, own)
 
-      left_ready : (apps' : HeldApps) → apps'.rooms ≡ without_room n apps.rooms → (m : ℕ) → count_for m nodes.live ≤ end_room m apps'
-      left_ready apps' rooms m = by (n == m) refl
-        where
-          by : (b : Bool) → n == m ≡ b → count_for m nodes.live ≤ end_room m apps'
-          by true e = let same : n ≡ m = grind (arith, nat_tests, e) in let z : count_for m nodes.live ≡ 0 = ap (λ x. count_for x nodes.live) (sym same) ∙ none in omega (arith, z)
-          by false e = let r = room_goes apps apps' n rooms m e in let ready = h.ready m in omega (arith, r, ready)
+      -- it may leave
+      pub may_go : MayLeave (user_row_at (position_of a.number p.apps.accounts) a.user p.rows)
+      may_go =
+          let at = row_at p.rows a.leaf (position_of a.number p.apps.accounts) (placed_at n a found_it).position in
+          may_leave old without_it a.leaf a.user (one_application K) (nothing K) (leaves without_it old a.leaf a.user one_less) some_active p.rows h.tied (position_of a.number p.apps.accounts) at.row at.member at.path_is at.item_is spent
 
       -- after it has left
-      pub held_left : (apps' : HeldApps) → apps'.table ≡ without_app n apps.table → apps'.rooms ≡ without_room n apps.rooms →
-          IsHeld {K = K} (map (left a.leaf a.user) rows) apps' (flat_of minimum maximum limit (queues_of (map (left a.leaf a.user) rows)) apps'.table nodes)
-      held_left apps' e rooms =
-          let new : Flat K = flat_of minimum maximum limit (queues_of (map (left a.leaf a.user) rows)) apps'.table nodes in
-          let active : apps'.table.active ≡ filter (λ (x : App). not (x.number == n)) apps.table.active = ap (λ (t : AppTable). t.active) e in
-          let same : new.settings.queues ≡ old.settings.queues = left_settings a.leaf a.user rows in
-          let stays : HoldsSame without_it new = record { live = refl; reserved = refl; apps = λ app node s. ap (λ (t : AppTable). Rattle.cap_model.proofs.Lessening.standing (find (λ (x : App). x.number == app) t.active)) e } in
+      pub held_left : (apps' : HeldApps) → apps'.table ≡ without_app n p.apps.table → IsLeft n p.apps.accounts apps'.accounts → IsHeld (record p { rows = map (left K a.leaf a.user) p.rows; apps = apps' })
+      held_left apps' e accounts =
+          let q : Parts K = record p { rows = map (left K a.leaf a.user) p.rows; apps = apps' } in
+          let active : apps'.table.active ≡ filter (λ (x : App). not (x.number == n)) p.apps.table.active = ap (λ (t : AppTable). t.active) e in
+          let same : (flat_of q).settings.queues ≡ old.settings.queues = moved_settings K a.leaf a.user (one_application K) (nothing K) p.rows in
+          let stays : HoldsSame without_it (flat_of q) = record { live = refl; reserved = refl; apps = λ app node s. ap (λ (t : AppTable). Rattle.cap_model.proofs.Lessening.standing (find (λ (x : App). x.number == app) t.active)) e } in
           record {
-            tied = tied_stays without_it new (record { counts = λ t. ap (count_of t) active; uses = same_use without_it new stays }) (map (left a.leaf a.user) rows) (tied_left without_it old a.leaf a.user one_less spent rows h.tied);
-            leaves =
-                of_each (λ (app : App). IsLeaf new app.leaf) apps'.table.active
-                (λ x m. leaf_same old new x.leaf same (each_of (λ (app : App). IsLeaf old app.leaf) apps.table.active h.leaves x (of_filter (λ (y : App). not (y.number == n)) apps.table.active x (subst (λ xs. IsIn x xs) active m)).1));
-            limit = h.limit;
-            few = (let f = h.few in let l = ap length active in let g = fewer n apps.table.active in omega (arith, f, l, g));
+            tied = tied_stays without_it (flat_of q) (record { counts = λ t. ap (count_of t) active; uses = same_use without_it (flat_of q) stays }) q.rows (tied_moved old without_it a.leaf a.user (one_application K) (nothing K) (leaves without_it old a.leaf a.user one_less) p.rows h.tied);
+            placed =
+                of_each (IsPlaced q) apps'.table.active
+                (λ x m.
+                let there = of_filter (λ (y : App). not (y.number == n)) p.apps.table.active x (subst (λ xs. IsIn x xs) active m) in
+                still_placed p q (λ path l. leaf_same old (flat_of q) path same l)
+                (moved_stays K a.leaf a.user (one_application K) (nothing K) p.rows) x x refl refl
+                (ap (λ r. option_map_or (λ (c : Account). c.position) r []) (accounts.others x.number (not-true (x.number == n) there.0)))
+                (each_of (IsPlaced p) p.apps.table.active h.placed x there.1));
+            counted = λ m. live_left (m == n) m refl;
             owned =
-                of_each (IsOwned new) nodes.live
-                (λ c m. subst IsSome (sym (ap (find (λ (x : App). x.number == c.app)) active ∙ find_others (λ (x : App). x.number) n c.app (turned c.app n (none_of n nodes.live none c m)) apps.table.active)) (each_of (IsOwned old) nodes.live h.owned c m));
-            ready = left_ready apps' rooms;
+                of_each (IsOwned (flat_of q)) p.nodes.live
+                (λ c m. subst IsSome (sym (ap (find (λ (x : App). x.number == c.app)) active ∙ find_others (λ (x : App). x.number) n c.app (turned c.app n (none_of n p.nodes.live none_live c m)) p.apps.table.active)) (each_of (IsOwned old) p.nodes.live h.owned c m));
+            numbers = h.numbers;
+            limit = h.limit;
+            few = (let f = h.few in let l = ap length active in let g = fewer n p.apps.table.active in omega (arith, f, l, g));
+            few_live = h.few_live;
             unreserved = h.unreserved;
             resources = h.resources;
           }
+        where
+          live_left : (b : Bool) (m : ℕ) → m == n ≡ b → live_of m apps'.accounts ≡ count_for m p.nodes.live
+          live_left false m o = ap (λ r. option_map_or (λ (c : Account). c.live) r 0) (accounts.others m o) ∙ h.counted m
+          live_left true m o = let is : m ≡ n = grind (arith, nat_tests, o) in rw is (ap (λ r. option_map_or (λ (c : Account). c.live) r 0) accounts.own ∙ sym none_live)
+
+-- the cluster after an application has finished: that its containers' ends wait for it is forgotten with it
+others_untold : (cause : Cause) (n : ℕ) (live : List Container) (a : App) → a.number == n ≡ false → with_ends cause (filter (λ c. c.app == n) live) a ≡ a
+others_untold cause n live a other = λ i. record a { ends = (ap (λ cs. a.ends ++ map (λ (c : Container). record { container = c.number; cause = cause }) cs) none ∙ append-nil a.ends) i }
+  where
+    none : filter (λ c. c.app == a.number) (filter (λ c. c.app == n) live) ≡ []
+    none =
+        filter_none (λ c. c.app == a.number) (filter (λ c. c.app == n) live)
+        (λ c m. let is = (of_filter (λ (d : Container). d.app == n) live c m).0 in grind (arith, nat_tests, is, other))
+
+finished_active : (cause : Cause) (n : ℕ) (live : List Container) (apps : List App) → filter (λ a. not (a.number == n)) (map (with_ends cause (filter (λ c. c.app == n) live)) apps) ≡ filter (λ a. not (a.number == n)) apps
+finished_active cause n live [] = refl
+finished_active cause n live (a ∷ apps) = by (a.number == n) refl (finished_active cause n live apps)
+  where
+    by : (b : Bool) → a.number == n ≡ b → filter (λ x. not (x.number == n)) (map (with_ends cause (filter (λ c. c.app == n) live)) apps) ≡ filter (λ x. not (x.number == n)) apps →
+        cond (not b) (with_ends cause (filter (λ c. c.app == n) live) a ∷ filter (λ x. not (x.number == n)) (map (with_ends cause (filter (λ c. c.app == n) live)) apps)) (filter (λ x. not (x.number == n)) (map (with_ends cause (filter (λ c. c.app == n) live)) apps))
+        ≡ cond (not b) (a ∷ filter (λ x. not (x.number == n)) apps) (filter (λ x. not (x.number == n)) apps)
+    by true e r = r
+    by false e r = λ i. others_untold cause n live a e i ∷ r i
+
+no_member : {A : Type 0} (t : A → Bool) (xs : List A) → xs ≡ [] → xs ≡ filter t xs
+no_member t xs e = e ∙ sym (ap (filter t) e)
+
+pub finished_is : {K : ℕ} (cause : Cause) (start ended new : Flat K) (n : ℕ) → ended.nodes.reserved ≡ [] → ended ≡ after_ends cause (containers_of start n) start → new ≡ record ended { apps = without_app n ended.apps } → new ≡ after_finish_master start n
+finished_is {K} cause start ended new n none is e =
+    let untouched : start.nodes.reserved ≡ [] = sym (ap (λ (x : Flat K). x.nodes.reserved) is) ∙ none in
+    e ∙ ap (λ (x : Flat K). record x { apps = without_app n x.apps }) is
+    ∙ ap (λ active. record (without (containers_of start n) start) { apps = record start.apps { active = active } }) (finished_active cause n start.nodes.live start.apps.active)
+    ∙ ap (λ reserved. with_reserved reserved (record (without (containers_of start n) start) { apps = record start.apps { active = filter (λ a. not (a.number == n)) start.apps.active } })) (no_member (λ r. not (r.app == n)) start.nodes.reserved untouched)

@@ -4,10 +4,9 @@ pub mod Owning
 pub mod Counting
 pub mod RowsAt
 pub mod Ties
-pub mod Giving
+pub mod Moving
 pub mod Sizes
 pub mod Holding
 pub mod Ending
 pub mod Reporting
 pub mod Naming
-pub mod Leaving

@@ -1,25 +1,20 @@
 -- What the parts of a cluster say of the whole.
-use Rattle.std.proofs.Common.{◌≡◌, ℕ, ◌+◌, ◌<◌, ◌≤◌, Bool, true, false, List, [], ◌∷◌, ◌++◌, length, get_or, take, refl, sym, ◌∙◌, ap, inl, inr, arith}
+use Rattle.std.proofs.Common.{◌≡◌, ℕ, ◌≤◌, Bool, true, false, List, [], ◌∷◌, length, refl, sym, ◌∙◌, ap, inl, inr, arith}
 use Rattle.std.specs.Prelude.{Option, Some, None, IfSome, find, not, ◌==◌, cond, filter, map, count_by, if◌then◌else◌}
-use Rattle.std.specs.List.{fold}
-use Rattle.std.proofs.lemmas.List.{take_more}
 use Rattle.std.proofs.lemmas.Bool.Decides.{nat_tests}
-use Rattle.std.proofs.lemmas.List.Sums.{fold-append}
-use Rattle.cap_vector.specs.Rounding.{round_up}
 use Rattle.cap_model.specs.Settings.{QueueRow}
-use Rattle.cap_model.specs.Calls.{Ask}
-use Rattle.cap_model.specs.Flat.{Flat, App, AppTable, NodeTable, Reservation, queue_at, is_under, is_for, with_reserved}
+use Rattle.cap_model.specs.Asks.{Ask}
+use Rattle.cap_model.specs.Flat.{Flat, App, AppTable, Reservation, queue_at, is_under, is_for, with_reserved, app_at, with_app as flat_with_app}
 use Rattle.cap_model.specs.Uses.{queue_use}
 use Rattle.cap_model.specs.Submit.{has_children, is_running}
 use Rattle.cap_model.specs.QueueCalls.{queue_report}
-use Rattle.cap_model.specs.Asking.{after_ask, after_asks, rounded, keep_first, put_ask}
+use Rattle.cap_model.specs.Asking.{after_ask, rounded, keep_first, put_ask}
 use Rattle.cap_model.specs.Allocate.{after_telling}
 use Rattle.cap_model.specs.Bounds.{IsRising}
-use Rattle.cap_model.specs.Flat.{app_at, with_app as flat_with_app}
 use Rattle.cap_model.proofs.Choosing.{IsIn}
 use Rattle.cap_model.proofs.Members.{found_by_number}
 use Rattle.cap_asks.specs.Apps.{with_app}
-use Rattle.cap_commit.specs.Held.{flat_of}
+use Rattle.cap_commit.specs.Held.{Parts, flat_of}
 
 -- what is reported of a queue
 pub report_is : {K : ℕ} (cluster : Flat K) (path : List ℕ) (q : QueueRow) (running below : Bool) (guaranteed : List ℕ) (maximum : Option (List ℕ)) (used : List ℕ) (applications : ℕ)
@@ -32,19 +27,12 @@ report_is cluster path q running below guaranteed maximum used applications foun
 no_drops : (t : Reservation → Bool) (n : ℕ) (rs : List Reservation) → rs ≡ [] → keep_first t n rs ≡ rs
 no_drops t n rs e = ap (keep_first t n) e ∙ sym e
 
--- one more ask is put
-pub asks_step : {K : ℕ} (minimum maximum : List ℕ) (limit : ℕ) (queues : List QueueRow) (table table' : AppTable) (nodes : NodeTable) (n i : ℕ) (asks : List Ask) (ask kept : Ask) (old : Flat K) →
-    flat_of minimum maximum limit queues table nodes ≡ after_asks n (take i asks) old → nodes.reserved ≡ [] → i < length asks → ask ≡ get_or asks i ask → kept ≡ record ask { resource = round_up K ask.resource minimum maximum } →
-    table' ≡ with_app n (λ app. record app { asks = put_ask kept app.asks }) table → flat_of minimum maximum limit queues table' nodes ≡ after_asks n (take (i + 1) asks) old
-asks_step {K} minimum maximum limit queues table table' nodes n i asks ask kept old before none more item is put =
-    let mid : Flat K = flat_of minimum maximum limit queues table nodes in
-    let step : Flat K → Ask → Flat K = λ c a. after_ask n c (rounded K c.settings a) in
-    let one : take (i + 1) asks ≡ take i asks ++ ask ∷ [] = take_more asks i ask more ∙ ap (λ a. take i asks ++ a ∷ []) (sym item) in
-    let whole : after_asks n (take (i + 1) asks) old ≡ step mid ask = ap (λ xs. fold step old xs) one ∙ fold-append step old (take i asks) (ask ∷ []) ∙ ap (λ c. step c ask) (sym before) in
-    let now : flat_of {K = K} minimum maximum limit queues table' nodes ≡ step mid ask =
-    ap (λ t. flat_of minimum maximum limit queues t nodes) (put ∙ ap (λ k. with_app n (λ app. record app { asks = put_ask k app.asks }) table) is)
-    ∙ ap (λ rs. with_reserved rs (flat_of minimum maximum limit queues (with_app n (λ app. record app { asks = put_ask (rounded K mid.settings ask) app.asks }) table) nodes)) (sym (no_drops (is_for n ask.key) _ nodes.reserved none)) in
-    now ∙ sym whole
+-- an ask is put where nothing is reserved
+pub ask_put : {K : ℕ} (p : Parts K) (table' : AppTable) (n : ℕ) (ask kept : Ask) → p.nodes.reserved ≡ [] → kept ≡ rounded K (flat_of p).settings ask → table' ≡ with_app n (λ app. record app { asks = put_ask kept app.asks }) p.apps.table →
+    record (flat_of p) { apps = table' } ≡ after_ask n (flat_of p) (rounded K (flat_of p).settings ask)
+ask_put {K} p table' n ask kept none is put =
+    ap (λ t. record (flat_of p) { apps = t }) (put ∙ ap (λ k. with_app n (λ app. record app { asks = put_ask k app.asks }) p.apps.table) is)
+    ∙ ap (λ rs. with_reserved rs (record (flat_of p) { apps = with_app n (λ app. record app { asks = put_ask (rounded K (flat_of p).settings ask) app.asks }) p.apps.table })) (sym (no_drops (is_for n ask.key) _ p.nodes.reserved none))
 
 -- no more applications where one goes
 pub fewer : (n : ℕ) (apps : List App) → length (filter (λ app. not (app.number == n)) apps) ≤ length apps
@@ -54,10 +42,6 @@ fewer n (a ∷ apps) = by (a.number == n) (fewer n apps)
     by : (b : Bool) → length (filter (λ app. not (app.number == n)) apps) ≤ length apps → length (cond (not b) (a ∷ filter (λ app. not (app.number == n)) apps) (filter (λ app. not (app.number == n)) apps)) ≤ length (a ∷ apps)
     by true h = omega (arith, h)
     by false h = omega (arith, h)
-
--- one room less, and one ask less to come
-pub room_left : (asks n i room room' : ℕ) → asks ≤ room + i → room ≤ room' + (if n == n then 1 else 0) → asks ≤ room' + (i + 1)
-room_left asks n i room room' a b = let t : n == n ≡ true = grind (arith, nat_tests) in let weight : Bool → ℕ = λ x. if x then 1 else 0 in let one : weight (n == n) ≡ 1 = ap weight t in omega (arith, a, b, one)
 
 -- of applications in order, only the one that is found by a number has it
 pub only_found : (n : ℕ) (apps : List App) (next : ℕ) (f : App → App → App) (a : App) → IsRising 1 (map (λ app. app.number) apps) next → find (λ app. app.number == n) apps ≡ Some a →

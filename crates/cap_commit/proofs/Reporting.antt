@@ -1,9 +1,7 @@
 -- What is reported of a queue of the tree is what the flat cluster says of it.
 use Rattle.std.proofs.Common.{◌≡◌, ℕ, ◌≤◌, Bool, true, List, Some, sym, ◌∙◌, ap, subst}
-use Rattle.std.specs.Prelude.{◌++◌, ◌∷◌, [], not, is_some, find, filter, bytes_eq, nat_eq, count_by}
-use Rattle.std.specs.List.{list_all, list_any, starts_with}
+use Rattle.std.specs.Prelude.{[], not, is_some, count_by}
 use Rattle.std.specs.Option.{option_map_or}
-use Rattle.cap_model.specs.Settings.{QueueRow}
 use Rattle.cap_model.specs.Limits.{applications_max}
 use Rattle.cap_model.specs.Flat.{Flat, App, queue_at, is_under}
 use Rattle.cap_model.specs.QueueCalls.{queue_report}
@@ -11,23 +9,27 @@ use Rattle.cap_model.specs.Uses.{queue_use}
 use Rattle.cap_model.proofs.Members.{each_of}
 use Rattle.cap_tree.specs.Spot.{item_at, path_at}
 use Rattle.cap_tree.specs.Queue.{Queue}
-use Rattle.cap_tree.specs.Rows.{Row, AreRows, IsAt, queues_of, settings_of_row, has_children, is_running, used_at}
-use Rattle.cap_asks.specs.Apps.{HeldApps}
-use Rattle.cap_commit.specs.declared.report.QueueReport.{QueueReport}
-use Rattle.cap_commit.specs.Held.{IsHeld, IsRowOf}
-use Rattle.cap_commit.specs.Reports.{as_report}
+use Rattle.cap_tree.specs.Rows.{Row, AreRows, IsAt, settings_of_row, has_children, is_running, used_at}
+use Rattle.cap_model.specs.declared.report.QueueReport.{QueueReport}
+use Rattle.cap_commit.specs.Held.{Parts, IsHeld, IsRowOf, flat_of}
 use Rattle.cap_commit.proofs.Parts.{report_is}
 use Rattle.cap_commit.proofs.RowsAt.{IsRowAt, row_at, found_row, active_few}
 
 some_same : {A : Type 0} (x y : A) → Some x ≡ Some y → x ≡ y
 some_same x y e = cc e
 
-module _ {K : ℕ} (rows : List Row) (apps : HeldApps) (cluster : Flat K) (path place : List ℕ) (tree : AreRows rows) (at : IsAt rows path place) (h : IsHeld rows apps cluster) (queues : cluster.settings.queues ≡ queues_of rows) where
+module _ {K : ℕ} (p : Parts K) (path place : List ℕ) (tree : AreRows p.rows) (at : IsAt p.rows path place) (h : IsHeld p) where
+  abbrev rows : List Row
+  rows = p.rows
+
+  abbrev cluster : Flat K
+  cluster = flat_of p
+
   it : IsRowAt rows path place
   it = row_at rows path place at
 
   its_settings : queue_at cluster path ≡ Some (settings_of_row (it.row))
-  its_settings = ap (λ qs. find (λ (q : QueueRow). bytes_eq q.path path) qs) queues ∙ found_row rows path place tree it
+  its_settings = found_row rows path place tree it
 
   -- it is there
   pub is_there : is_some (queue_at cluster path) ≡ true
@@ -38,7 +40,7 @@ module _ {K : ℕ} (rows : List Row) (apps : HeldApps) (cluster : Flat K) (path 
 
   -- not too many applications are active there
   pub seen_few : (q : Queue) → item_at place rows ≡ Some q → q.active ≤ applications_max
-  seen_few q e = subst (λ (x : Queue). x.active ≤ applications_max) (its_item q e) (active_few rows apps cluster h it.row it.member)
+  seen_few q e = subst (λ (x : Queue). x.active ≤ applications_max) (its_item q e) (active_few p h it.row it.member)
 
   tied : IsRowOf cluster (it.row)
   tied = each_of (IsRowOf cluster) rows h.tied it.row it.member
@@ -49,15 +51,15 @@ module _ {K : ℕ} (rows : List Row) (apps : HeldApps) (cluster : Flat K) (path 
 
   -- what is reported of it
   pub reported : (q : Queue) (running below : Bool) (r : QueueReport K) → item_at place rows ≡ Some q → running ≡ is_running rows (path_at place rows) → has_children rows path ≡ below →
-      r ≡ record { running = running; leaf = not below; guaranteed = q.guaranteed; maximum = q.maximum; used = q.used; applications = q.active } → as_report r ≡ queue_report cluster path
+      r ≡ record { running = running; leaf = not below; guaranteed = q.guaranteed; maximum = q.maximum; used = q.used; applications = q.active } → r ≡ queue_report cluster path
   reported q running below r e runs childless is =
       let item = its_item q e in
-      ap as_report is
+      is
       ∙ report_is cluster path (settings_of_row (it.row)) running below q.guaranteed q.maximum q.used q.active its_settings
-      (runs ∙ ap (is_running rows) at.path_is ∙ ap (λ qs. list_all (λ (x : QueueRow). x.running) (filter (λ (x : QueueRow). is_under x.path path) qs)) (sym queues))
-      (sym childless ∙ ap (λ qs. list_any (λ (x : QueueRow). starts_with nat_eq x.path (path ++ 46 ∷ [])) qs) (sym queues))
+      (runs ∙ ap (is_running rows) at.path_is)
+      (sym childless)
       (ap (λ (x : Queue). x.guaranteed) (sym item)) (ap (λ (x : Queue). x.maximum) (sym item)) (seen_use q e)
-      (ap (λ (x : Queue). x.active) (sym item) ∙ tied.active ∙ ap (λ p. count_by (λ (a : App). is_under p a.leaf) cluster.apps.active) it.path_is)
+      (ap (λ (x : Queue). x.active) (sym item) ∙ tied.active ∙ ap (λ x. count_by (λ (a : App). is_under x a.leaf) cluster.apps.active) it.path_is)
 
   pub seen_used : (used : List ℕ) → used ≡ used_at place rows → used ≡ queue_use cluster path
   seen_used used e = e ∙ ap (λ o. option_map_or (λ (q : Queue). q.used) o []) it.item_is ∙ seen_use it.row.item it.item_is

@@ -1,20 +1,19 @@
 -- The row of a queue, by its path and by its place.
-use Rattle.std.proofs.Common.{◌≡◌, ℕ, ◌≤◌, Bool, true, false, cond, List, [], ◌∷◌, Some, refl, sym, ◌∙◌, ap, subst, inl, inr, arith}
-use Rattle.std.specs.Prelude.{bytes_eq, find, ◌||◌}
+use Rattle.std.proofs.Common.{◌≡◌, ℕ, ◌≤◌, Bool, true, false, cond, List, [], ◌∷◌, Some, map, refl, sym, ◌∙◌, ap, subst, inl, inr, arith}
+use Rattle.std.specs.Prelude.{bytes_eq, find, is_some, ◌||◌}
 use Rattle.std.specs.List.{list_any}
 use Rattle.std.proofs.lemmas.Slice.Eq.{bytes_eq-Decides}
 use Rattle.std.proofs.lemmas.List.Sums.{count_by-le-length}
 use Rattle.cap_model.specs.Settings.{QueueRow}
 use Rattle.cap_model.specs.Limits.{applications_max}
-use Rattle.cap_model.specs.Flat.{Flat, App, is_under}
+use Rattle.cap_model.specs.Flat.{App, is_under}
 use Rattle.cap_model.specs.Bounds.{HasDistinctPaths}
 use Rattle.cap_model.proofs.Choosing.{IsIn}
 use Rattle.cap_model.proofs.Members.{each_of, in_map}
-use Rattle.cap_tree.specs.Spot.{item_at}
+use Rattle.cap_tree.specs.Spot.{HoldsOfItem, IsPlace, item_at, path_at}
 use Rattle.cap_tree.specs.Rows.{Row, AreRows, IsAt, queues_of, settings_of_row, active_in}
 use Rattle.cap_tree.proofs.RowPaths.{at_place}
-use Rattle.cap_asks.specs.Apps.{HeldApps}
-use Rattle.cap_commit.specs.Held.{IsHeld, IsRowOf}
+use Rattle.cap_commit.specs.Held.{Parts, IsHeld, IsRowOf, flat_of}
 
 -- of paths that are all others, each is found
 or_no : (a b : Bool) → a || b ≡ false → (a ≡ false) × (b ≡ false)
@@ -57,14 +56,52 @@ pub found_row : (rows : List Row) (path place : List ℕ) → AreRows rows → (
 found_row rows path place a r =
     ap (λ p. find (λ (q : QueueRow). bytes_eq q.path p) (queues_of rows)) (sym r.path_is) ∙ found_by_path (queues_of rows) a.listing.tree.distinct (settings_of_row r.row) (in_map settings_of_row rows r.row r.member)
 
--- no queue has more applications than are allowed
-pub active_few : {K : ℕ} (rows : List Row) (apps : HeldApps) (cluster : Flat K) → IsHeld rows apps cluster → (r : Row) → IsIn r rows → r.item.active ≤ applications_max
-active_few rows apps cluster h r m =
-    let t = (each_of (IsRowOf cluster) rows h.tied r m).active in
-    let few = h.few in
-    let limit = h.limit in
-    omega (arith, t, few, limit, count_by-le-length (λ (app : App). is_under r.path app.leaf) cluster.apps.active)
+-- a queue that is at a position is there
+pub is_found : (rows : List Row) (path position : List ℕ) → IsAt rows path position → is_some (find (λ q. bytes_eq q.path path) (queues_of rows)) ≡ true
+is_found rows path position h =
+    let r = row_at rows path position h in
+    by rows r.row r.member r.path_is
+  where
+    by : (rs : List Row) (r : Row) → IsIn r rs → r.path ≡ path → is_some (find (λ q. bytes_eq q.path path) (queues_of rs)) ≡ true
+    by [] r m e = absurd m
+    by (x ∷ rs) r (inl same) e = ap (λ b. is_some (cond b (Some (settings_of_row x)) (find (λ q. bytes_eq q.path path) (queues_of rs)))) ((bytes_eq-Decides x.path path).1 (ap (λ (y : Row). y.path) same ∙ e))
+    by (x ∷ rs) r (inr m) e = either (bytes_eq x.path path) (by rs r m e)
+      where
+        either : (b : Bool) → is_some (find (λ q. bytes_eq q.path path) (queues_of rs)) ≡ true → is_some (cond b (Some (settings_of_row x)) (find (λ q. bytes_eq q.path path) (queues_of rs))) ≡ true
+        either true f = refl
+        either false f = f
 
-pub all_few : {K : ℕ} (rows : List Row) (apps : HeldApps) (cluster : Flat K) → IsHeld rows apps cluster → active_in rows ≤ applications_max
-all_few [] apps cluster h = omega arith
-all_few (r ∷ rows) apps cluster h = active_few (r ∷ rows) apps cluster h r (inl refl)
+-- no queue has more applications than are allowed
+pub active_few : {K : ℕ} (p : Parts K) → IsHeld p → (r : Row) → IsIn r p.rows → r.item.active ≤ applications_max
+active_few p h r m =
+    let t = (each_of (IsRowOf (flat_of p)) p.rows h.tied r m).active in
+    let few = h.few in
+    omega (arith, t, few, count_by-le-length (λ (app : App). is_under r.path app.leaf) p.apps.table.active)
+
+pub all_few : {K : ℕ} (p : Parts K) → IsHeld p → active_in p.rows ≤ applications_max
+all_few p h = by p.rows (λ r m. active_few p h r m)
+  where
+    by : (rows : List Row) → ((r : Row) → IsIn r rows → r.item.active ≤ applications_max) → active_in rows ≤ applications_max
+    by [] f = omega arith
+    by (r ∷ rows) f = f r (inl refl)
+
+-- a change of rows that keeps places and paths leaves each queue where it is
+module _ (g : Row → Row) (places : (r : Row) → (g r).place ≡ r.place) (paths : (r : Row) → (g r).path ≡ r.path) where
+  place_kept : (position : List ℕ) (rows : List Row) → IsPlace rows position → IsPlace (map g rows) position
+  place_kept position [] h = absurd h
+  place_kept position (r ∷ rows) h = rw (places r) (by (bytes_eq r.place position) h (place_kept position rows))
+    where
+      by : (b : Bool) → HoldsOfItem (λ _. Unit {0}) (cond b (Some r.item) (item_at position rows)) → (IsPlace rows position → IsPlace (map g rows) position) → HoldsOfItem (λ _. Unit {0}) (cond b (Some (g r).item) (item_at position (map g rows)))
+      by true x f = tt
+      by false x f = f x
+
+  path_kept : (position : List ℕ) (rows : List Row) → path_at position (map g rows) ≡ path_at position rows
+  path_kept position [] = refl
+  path_kept position (r ∷ rows) = rw (places r) (by (bytes_eq r.place position) (path_kept position rows))
+    where
+      by : (b : Bool) → path_at position (map g rows) ≡ path_at position rows → cond b (g r).path (path_at position (map g rows)) ≡ cond b r.path (path_at position rows)
+      by true e = paths r
+      by false e = e
+
+  pub still_at : (rows : List Row) (path position : List ℕ) → IsAt rows path position → IsAt (map g rows) path position
+  still_at rows path position h = record { present = place_kept position rows h.present; path_is = path_kept position rows ∙ h.path_is }

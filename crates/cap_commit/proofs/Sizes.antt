@@ -19,11 +19,14 @@ module _ (u v w : ℕ → ℕ) (r : Rounds u v w) (n : ℕ) (few : n ≤ resourc
   abbrev maximum : ℕ
   maximum = u (max 1 (max (8 + amounts) 1))
 
+  abbrev counted : ℕ
+  counted = u (u (0 + amounts) + 8)
+
   abbrev fields : ℕ
-  fields = u (u (v (u (u (24 + amounts) + maximum) + 8) + 1) + amounts)
+  fields = u (u (v (u (u (24 + amounts) + maximum) + 8) + 1) + counted)
 
   abbrev queue : ℕ
-  queue = u (u (fields + 8) + 112)
+  queue = u (fields + 112)
 
   amounts_few : amounts ≤ 9000
   amounts_few = let a = r.eights (0 + n * 8) in let f : n ≤ 1000 = few in omega (arith, a, f)
@@ -39,11 +42,13 @@ module _ (u v w : ℕ → ℕ) (r : Rounds u v w) (n : ℕ) (few : n ≤ resourc
       let c = r.eights (u (24 + amounts) + maximum) in
       let d = r.ones (u (u (24 + amounts) + maximum) + 8) in
       let e = r.eights (v (u (u (24 + amounts) + maximum) + 8) + 1) in
-      let f = r.eights (u (v (u (u (24 + amounts) + maximum) + 8) + 1) + amounts) in
-      omega (arith, a, m, b, c, d, e, f)
+      let f = r.eights (u (v (u (u (24 + amounts) + maximum) + 8) + 1) + counted) in
+      let x = r.eights (0 + amounts) in
+      let y = r.eights (u (0 + amounts) + 8) in
+      omega (arith, a, m, b, c, d, e, f, x, y)
 
   queue_few : queue ≤ 50000
-  queue_few = let a = r.eights (fields + 8) in let b = r.eights (u (fields + 8) + 112) in let f = fields_few in omega (arith, a, b, f)
+  queue_few = let a = r.eights (fields + 112) in let f = fields_few in omega (arith, a, f)
 
   queue_is_small : queue < 9223372036854775808
   queue_is_small = let a = queue_few in omega (arith, a)
@@ -80,10 +85,10 @@ module _ (u v w : ℕ → ℕ) (r : Rounds u v w) (n : ℕ) (few : n ≤ resourc
   one_node = u (w (last_reply + amounts) + 4)
 
   abbrev nodes : ℕ
-  nodes = u (u (u (0 + u (120 + one_node)) + 32) + amounts)
+  nodes = u (u (u (0 + u (120 + one_node)) + 80) + amounts)
 
-  nodes_are_small : nodes < 9223372036854775808
-  nodes_are_small =
+  nodes_few : nodes ≤ 30000
+  nodes_few =
       let a = amounts_few in
       let b = r.fours (152 + amounts) in
       let c = r.fours (w (152 + amounts) + 4) in
@@ -93,9 +98,30 @@ module _ (u v w : ℕ → ℕ) (r : Rounds u v w) (n : ℕ) (few : n ≤ resourc
       let i = r.eights (w (last_reply + amounts) + 4) in
       let j = r.eights (120 + one_node) in
       let k = r.eights (0 + u (120 + one_node)) in
-      let l = r.eights (u (0 + u (120 + one_node)) + 32) in
-      let m = r.eights (u (u (0 + u (120 + one_node)) + 32) + amounts) in
+      let l = r.eights (u (0 + u (120 + one_node)) + 80) in
+      let m = r.eights (u (u (0 + u (120 + one_node)) + 80) + amounts) in
       omega (arith, a, b, c, d, e, f, i, j, k, l, m)
+
+  nodes_are_small : nodes < 9223372036854775808
+  nodes_are_small = let a = nodes_few in omega (arith, a)
+
+  abbrev limits : ℕ
+  limits = u (u (u (0 + amounts) + amounts) + 8)
+
+  abbrev cluster : ℕ
+  cluster = u (u (u (8 + limits) + 120) + nodes)
+
+  cluster_is_small : cluster < 9223372036854775808
+  cluster_is_small =
+      let a = amounts_few in
+      let n = nodes_few in
+      let b = r.eights (0 + amounts) in
+      let c = r.eights (u (0 + amounts) + amounts) in
+      let d = r.eights (u (u (0 + amounts) + amounts) + 8) in
+      let e = r.eights (8 + limits) in
+      let f = r.eights (u (8 + limits) + 120) in
+      let i = r.eights (u (u (8 + limits) + 120) + nodes) in
+      omega (arith, a, n, b, c, d, e, f, i)
 
 abbrev pub up8 : ℕ → ℕ
 up8 = prog.Memory.up 8
@@ -111,3 +137,6 @@ report_fits n few = report_is_small up8 (prog.Memory.up 1) (prog.Memory.up 4) up
 
 pub nodes_fit : (n : ℕ) (few : n ≤ resources_max) → nodes up8 (prog.Memory.up 1) (prog.Memory.up 4) up_rounds n few < 9223372036854775808
 nodes_fit n few = nodes_are_small up8 (prog.Memory.up 1) (prog.Memory.up 4) up_rounds n few
+
+pub cluster_fits : (n : ℕ) (few : n ≤ resources_max) → cluster up8 (prog.Memory.up 1) (prog.Memory.up 4) up_rounds n few < 9223372036854775808
+cluster_fits n few = cluster_is_small up8 (prog.Memory.up 1) (prog.Memory.up 4) up_rounds n few

@@ -1,26 +1,49 @@
--- What a cluster keeps: its parts as the flat cluster, and what they have to do with each other.
+-- What a cluster keeps: its parts, the flat cluster that they are, and what they have to do with each other.
 use Rattle.std.specs.Prelude.{◌≡◌, ℕ, ◌≤◌, ◌&&◌, ◌==◌, IsSome, List, [], length, count_by, bytes_eq}
 use Rattle.std.specs.List.{All}
 use Rattle.cap_vector.specs.Vector.{amount}
-use Rattle.cap_model.specs.Limits.{applications_max, resources_max}
-use Rattle.cap_model.specs.Settings.{QueueRow}
-use Rattle.cap_model.specs.Flat.{Flat, AppTable, NodeTable, app_at, is_under}
+use Rattle.cap_model.specs.Limits.{applications_max, resources_max, live_max}
+use Rattle.cap_model.specs.Flat.{Flat, App, NodeTable, app_at, is_under}
 use Rattle.cap_model.specs.Uses.{queue_use, user_use}
 use Rattle.cap_model.specs.Bounds.{IsLeaf}
+use Rattle.cap_model.specs.EngineLaws.{HasDistinctNumbers}
 use Rattle.cap_tree.specs.Measure.{Measure}
 use Rattle.cap_tree.specs.Queue.{of_user, of_one}
-use Rattle.cap_tree.specs.Rows.{Row}
-use Rattle.cap_asks.specs.Apps.{HeldApps, end_room}
+use Rattle.cap_tree.specs.Rows.{Row, IsAt, queues_of}
+use Rattle.cap_asks.specs.Held.{Account}
+use Rattle.cap_asks.specs.Apps.{HeldApps, live_of, position_of}
+use Rattle.cap_commit.specs.declared.limits.Limits.{Limits}
 
--- the flat cluster of these limits, queues, applications and nodes
-abbrev pub flat_of : {K : ℕ} → List ℕ → List ℕ → ℕ → List QueueRow → AppTable → NodeTable → Flat K
-flat_of minimum maximum limit queues apps nodes = record {
-  settings = record { queues = queues; minimum_allocation = minimum; maximum_allocation = maximum; application_limit = limit };
-  apps = apps;
-  nodes = nodes;
-}
+-- a cluster as contracts see it: the flat cluster, and beside it the rows of the tree and the accounts of the applications
+pub record Held (K : ℕ) : Type 0 where
+  pub flat : Flat K
+  pub rows : List Row
+  pub accounts : List (ℕ × Account)
+
+-- its parts
+pub record Parts (K : ℕ) : Type 0 where
+  pub rows : List Row
+  pub limits : Limits K
+  pub apps : HeldApps
+  pub nodes : NodeTable
 
 module _ {K : ℕ} where
+  -- the flat cluster of these parts
+  abbrev pub flat_of : Parts K → Flat K
+  flat_of p = record {
+    settings = record {
+      queues = queues_of p.rows;
+      minimum_allocation = p.limits.minimum_allocation;
+      maximum_allocation = p.limits.maximum_allocation;
+      application_limit = p.limits.application_limit;
+    };
+    apps = p.apps.table;
+    nodes = p.nodes;
+  }
+
+  abbrev pub held_of : Parts K → Held K
+  held_of p = record { flat = flat_of p; rows = p.rows; accounts = p.apps.accounts }
+
   -- what the flat cluster counts of a user in a leaf: its use, or its active applications
   abbrev pub of_cluster : Flat K → List ℕ → List ℕ → Measure → ℕ
   of_cluster cluster leaf user (Measure.uses k) = amount (user_use cluster leaf user) k
@@ -34,15 +57,26 @@ module _ {K : ℕ} where
     pub users : (user : List ℕ) (m : Measure) → of_one user (of_user m) r.item.users ≡ of_cluster cluster r.path user m
     pub single : (user : List ℕ) → of_one user (λ _. 1) r.item.users ≤ 1
 
-  -- the tree has these rows and the applications this room: each row keeps what the cluster counts, each application is in a leaf,
-  -- each live container is an active application's, which has room to be told of the ends of all of its own; no more applications
-  -- than allowed, not too many kinds of resource, and no reservation yet
-  pub record IsHeld (rows : List Row) (apps : HeldApps) (cluster : Flat K) : Type 0 where
-    pub tied : All (IsRowOf cluster) rows
-    pub leaves : All (λ app. IsLeaf cluster app.leaf) cluster.apps.active
-    pub limit : cluster.settings.application_limit ≤ applications_max
-    pub few : length cluster.apps.active ≤ cluster.settings.application_limit
-    pub owned : All (λ c. IsSome (app_at cluster c.app)) cluster.nodes.live
-    pub ready : (n : ℕ) → count_by (λ c. c.app == n) cluster.nodes.live ≤ end_room n apps
-    pub unreserved : cluster.nodes.reserved ≡ []
+  -- how many live containers an application has
+  abbrev pub live_for : ℕ → Flat K → ℕ
+  live_for n cluster = count_by (λ c. c.app == n) cluster.nodes.live
+
+  -- an application is in a leaf, whose position it knows
+  pub record IsPlaced (p : Parts K) (app : App) : Type 0 where
+    pub leaf : IsLeaf (flat_of p) app.leaf
+    pub position : IsAt p.rows app.leaf (position_of app.number p.apps.accounts)
+
+  -- each row keeps what the flat cluster counts; each application is in a leaf, whose position it knows, and knows how many of its
+  -- containers are live; each live container is an active application's; the numbers of containers are distinct; no more than allowed
+  -- of each, and no reservation yet
+  pub record IsHeld (p : Parts K) : Type 0 where
+    pub tied : All (IsRowOf (flat_of p)) p.rows
+    pub placed : All (IsPlaced p) p.apps.table.active
+    pub counted : (n : ℕ) → live_of n p.apps.accounts ≡ live_for n (flat_of p)
+    pub owned : All (λ c. IsSome (app_at (flat_of p) c.app)) p.nodes.live
+    pub numbers : HasDistinctNumbers (flat_of p)
+    pub limit : p.limits.application_limit ≤ applications_max
+    pub few : length p.apps.table.active ≤ applications_max
+    pub few_live : length p.nodes.live ≤ live_max
+    pub unreserved : p.nodes.reserved ≡ []
     pub resources : K ≤ resources_max

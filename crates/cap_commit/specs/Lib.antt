@@ -1,4 +1,3 @@
-pub mod Reports
 pub mod Changes
 pub mod Held
 pub mod Owners

@@ -2,13 +2,14 @@
 #![tactic(auto)]
 
 mod cluster;
+mod limits;
 mod owner;
-mod places;
 mod report;
 
-pub use cap_asks::App;
-pub use cap_model::{AllocateReply, Event, HeartbeatReply, Reply, Request};
-pub use cap_nodes::{Container, Node};
+pub use cap_asks::{App, Apps, Position};
+pub use cap_model::{AllocateReply, Event, HeartbeatReply, QueueReport, Reply, Request};
+pub use cap_nodes::{Container, Node, Nodes};
+pub use cap_tree::{Found, QueueTree};
 pub use cluster::Cluster;
+pub use limits::Limits;
 pub use owner::Owner;
-pub use report::QueueReport;

@@ -1,5 +1,5 @@
 -- The path of a queue below another, and how deep it is.
-use Rattle.std.proofs.Common.{◌≡◌, ℕ, suc, ◌+◌, List, [], ◌∷◌, length, take, drop, Bool, true, false, cond, Option, Some, None, refl, sym, ap, ◌∙◌, arith, add-one}
+use Rattle.std.proofs.Common.{◌≡◌, ℕ, suc, ◌+◌, List, [], ◌∷◌, ◌++◌, append_assoc, length, take, drop, Bool, true, false, cond, Option, Some, None, refl, sym, ap, ◌∙◌, subst, inl, inr, arith, add-one}
 use Rattle.std.specs.Prelude.{count_by}
 use Rattle.std.specs.List.{list_all}
 use Rattle.std.proofs.lemmas.Bool.{eqb-true}
@@ -8,6 +8,8 @@ use Rattle.std.proofs.lemmas.List.Sums.{sum_by-cons, sum_by-append}
 use Rattle.std.proofs.lemmas.List.Splits.{length-slice_split}
 use Rattle.std.proofs.lemmas.Option.{same_Some, some_pair_parts}
 use Rattle.std.proofs.Math.Seq.{take-append_seam}
+use Rattle.cap_model.specs.Flat.{is_child_of}
+use Rattle.cap_model.proofs.Paths.{IsUnder, before_dot, its_child}
 use Rattle.cap_config.specs.Keys.{last_dot, dot_or, is_dot, is_name, is_name_byte, parts_at_last_dot, parts_round}
 use Rattle.cap_config.specs.Queues.{child}
 use Rattle.cap_config.specs.Tests.{level}
@@ -58,7 +60,7 @@ dot_of_child : (path name : List ℕ) → last_dot name ≡ None → last_dot (c
 dot_of_child [] name h = rw h refl
 dot_of_child (b ∷ path) name h = rw (dot_of_child path name h, add-one) refl
 
-child_rest : (path name : List ℕ) → drop (length path + 1) (child path name) ≡ name
+pub child_rest : (path name : List ℕ) → drop (length path + 1) (child path name) ≡ name
 child_rest [] name = refl
 child_rest (b ∷ path) name =
     ap (λ n. drop n (child (b ∷ path) name)) (let e : suc (length path) + 1 ≡ suc (length path + 1) = omega arith in e) ∙ child_rest path name
@@ -71,20 +73,20 @@ child_parts path name h =
     let d : drop (length path + 1) (child path name) ≡ name = child_rest path name in
     rw (dot_of_child path name h, t, d) refl
 
-dotless_by : (b : ℕ) (first : Bool) (r : Option ℕ) → dot_or first r ≡ None → (first ≡ false) × (r ≡ None)
-dotless_by b first (Some i) h = absurd (cc h)
-dotless_by b true None h = absurd (cc h)
-dotless_by b false None h = (refl, refl)
+pub dotless_cons : (first : Bool) (r : Option ℕ) → dot_or first r ≡ None → (first ≡ false) × (r ≡ None)
+dotless_cons first (Some i) h = absurd (cc h)
+dotless_cons true None h = absurd (cc h)
+dotless_cons false None h = (refl, refl)
 
-count_is : (here : Bool) (rest : ℕ) → here ≡ false → rest ≡ 0 → cond here 1 0 + rest ≡ 0
-count_is true rest h e = absurd (cc h)
-count_is false rest h e = omega arith
+pub count_no : (here : Bool) (rest : ℕ) → here ≡ false → cond here 1 0 + rest ≡ rest
+count_no true rest h = absurd (cc h)
+count_no false rest h = omega arith
 
 no_dots : (bytes : List ℕ) → last_dot bytes ≡ None → count_by is_dot bytes ≡ 0
 no_dots [] h = refl
 no_dots (b ∷ bytes) h =
-    let parts = dotless_by b (is_dot b) (last_dot bytes) h in
-    sum_by-cons _ b bytes ∙ count_is (is_dot b) (count_by is_dot bytes) parts.0 (no_dots bytes parts.1)
+    let parts = dotless_cons (is_dot b) (last_dot bytes) h in
+    sum_by-cons _ b bytes ∙ count_no (is_dot b) (count_by is_dot bytes) parts.0 ∙ no_dots bytes parts.1
 
 dots_of_child : (path name : List ℕ) → last_dot name ≡ None → count_by is_dot (child path name) ≡ count_by is_dot path + 1
 dots_of_child path name h =
@@ -110,3 +112,18 @@ bytes_no_dot (b ∷ bytes) h =
 pub name_no_dot : (path name : List ℕ) → is_name_under path name ≡ true → last_dot name ≡ None
 unfolding is_name
 name_no_dot path name h = bytes_no_dot name (both _ _ (both _ _ (both _ _ h).0).1).1
+
+before_dotless : (name : List ℕ) → last_dot name ≡ None → before_dot name ≡ name
+before_dotless [] h = refl
+before_dotless (b ∷ name) h =
+    let parts = dotless_cons (is_dot b) (last_dot name) h in
+    rw (parts.0, before_dotless name parts.1) refl
+
+-- it is the child of that queue
+pub child_is : (path name : List ℕ) → last_dot name ≡ None → is_child_of path (child path name) ≡ true
+child_is path name none = subst (λ (n : List ℕ). is_child_of path (child path n) ≡ true) (before_dotless name none) (its_child path name)
+
+-- what is under it is under that queue
+pub under_child : (path name queue : List ℕ) → IsUnder (child path name) queue → (rest : List ℕ) × (queue ≡ child path rest)
+under_child path name queue (inl e) = (name, e)
+under_child path name queue (inr (rest, e)) = (name ++ 46 ∷ rest, e ∙ append_assoc path (46 ∷ name) (46 ∷ rest))

@@ -4,33 +4,18 @@ use Rattle.std.specs.Str.{bytes_eq}
 use Rattle.std.specs.Str.Lines.{lines}
 use Rattle.cap_config.specs.declared.entry.Entry.{Entry}
 use Rattle.cap_config.specs.declared.fault.ConfigFault.{ConfigFault}
-use Rattle.cap_config.specs.declared.fault.ConfigFaultKind.TheVariants.{BadValue, NoChild, NoSuchQueue, TooDeep, TooManyQueues, GuaranteeOverMaximum, OverParent}
+use Rattle.cap_config.specs.declared.fault.ConfigFaultKind.TheVariants.{OverParent}
 use Rattle.cap_config.specs.Keys.{root}
 use Rattle.cap_config.specs.Seen.{is_among}
 use Rattle.cap_config.specs.Values.{is_name_under}
 use Rattle.cap_config.specs.Queues.{names_below, child, guaranteed, maximum}
-use Rattle.cap_config.specs.Tests.{allocation_line, no_child_line, no_such_queue_line, too_deep_line, too_many_line, over_maximum_line, over_parent_line, exceeds, exceeds_limit, guaranteed_below, whole_fault, shape_fault, or_else, or_fault}
+use Rattle.cap_config.specs.Tests.{over_parent_line, exceeds, exceeds_limit, guaranteed_below, whole_fault, shape_fault, or_else, or_fault}
 use Rattle.cap_config.specs.Entries.{read_lines}
 use Rattle.cap_config.proofs.Kept.{lines_kept}
 use Rattle.cap_config.proofs.Found.{under_path, among_has}
 use Rattle.cap_config.proofs.Children.{child_parts, name_no_dot}
-use Rattle.cap_config.proofs.RowPaths.{shape_is_none, no_other}
+use Rattle.cap_config.proofs.RowPaths.{shape_of, no_other}
 use Rattle.cap_config.proofs.Fitting.{guarantee_fits, children_fit, maximum_fits, is_over}
-
-over_is_none : (entries : List Entry) → shape_fault entries ≡ None → over_maximum_line entries ≡ None
-unfolding shape_fault
-over_is_none entries h =
-    let over = or_else (over_maximum_line entries) GuaranteeOverMaximum None in
-    let many = or_else (too_many_line entries) TooManyQueues over in
-    let deep = or_else (too_deep_line entries) TooDeep many in
-    let astray = or_else (no_such_queue_line entries) NoSuchQueue deep in
-    let childless = or_else (no_child_line entries) NoChild astray in
-    let after_bounds = (no_other (allocation_line entries) BadValue childless h).1 in
-    let after_children = (no_other (no_child_line entries) NoChild astray after_bounds).1 in
-    let after_queues = (no_other (no_such_queue_line entries) NoSuchQueue deep after_children).1 in
-    let after_levels = (no_other (too_deep_line entries) TooDeep many after_queues).1 in
-    let after_counts = (no_other (too_many_line entries) TooManyQueues over after_levels).1 in
-    (no_other (over_maximum_line entries) GuaranteeOverMaximum None after_counts).0
 
 second_none : (a b : Option ConfigFault) → or_fault a b ≡ None → b ≡ None
 second_none None b h = h
@@ -42,7 +27,7 @@ parent_is_none entries h = (no_other (over_parent_line entries) OverParent None 
 
 pub guarantee_in_text : (text : List ℕ) (entries : List Entry) → read_lines (lines text) ≡ Ok entries → whole_fault entries ≡ None → (path : List ℕ) →
     exceeds_limit (guaranteed entries path) (maximum entries path) ≡ false
-guarantee_in_text text entries is none path = guarantee_fits entries (over_is_none entries (shape_is_none entries none)) path
+guarantee_in_text text entries is none path = guarantee_fits entries (shape_of entries none).over path
 
 pub maximum_in_text : (text : List ℕ) (entries : List Entry) → read_lines (lines text) ≡ Ok entries → whole_fault entries ≡ None →
     (path name most : List ℕ) → is_among (names_below entries path) name ≡ true → maximum entries (child path name) ≡ Some most → exceeds_limit most (maximum entries path) ≡ false

@@ -2,6 +2,7 @@
 use Rattle.std.proofs.Common.{◌≡◌, ℕ, List, [], ◌∷◌, Bool, true, false, cond, not, eqb, Option, Some, None, refl, subst, ap, suc, ◌∙◌, ◌+◌, ◌<◌, ◌≤◌, length, length-append, get_or, ltb, leb, arith}
 use Rattle.std.specs.Prelude.{find, ◌&&◌, ◌||◌, if◌then◌else◌, ◌==◌}
 use Rattle.std.specs.List.{list_all}
+use Rattle.std.specs.Option.{option_map}
 use Rattle.std.specs.Str.{bytes_eq}
 use Rattle.std.proofs.lemmas.Option.{same_Some}
 use Rattle.std.proofs.lemmas.Slice.Eq.{bytes_eq-Decides}
@@ -10,8 +11,7 @@ use Rattle.std.proofs.lemmas.List.Folds.{list_all-append}
 use Rattle.std.proofs.lemmas.List.Sums.{AllPass-from_list_all}
 use Rattle.std.proofs.lemmas.Bool.{eqb-true}
 use Rattle.cap_vector.specs.Vector.{amount_max}
-use Rattle.cap_model.specs.Limits.{applications_max}
-use Rattle.cap_model.specs.Listing.{factor_max}
+use Rattle.cap_model.specs.Limits.{applications_max, factor_max}
 use Rattle.cap_model.specs.Texts.{is_text, is_graphic}
 use Rattle.cap_config.specs.declared.entry.Entry.{Entry}
 use Rattle.cap_config.specs.declared.value.Value.{Value}
@@ -87,16 +87,17 @@ among_has p (n ∷ names) name all h =
     let parts = both (p n) (list_all p names) all in
     among_by p n name (bytes_eq n name) (is_among names name) refl parts.0 (λ later. among_has p names name parts.1 later) h
 
-nowhere_by : (test : Entry → Bool) (e : Entry) (here : Bool) (rest : Option ℕ) → test e ≡ here → cond here (Some e.line) rest ≡ None → (not (test e) ≡ true) × (rest ≡ None)
-nowhere_by test e true rest is h = absurd (cc h)
-nowhere_by test e false rest is h = (ap not is, h)
+nowhere_by : (test : Entry → Bool) (e : Entry) (here : Bool) (found : Option Entry) → test e ≡ here → option_map (λ x. x.line) (cond here (Some e) found) ≡ None →
+    (not (test e) ≡ true) × (option_map (λ x. x.line) found ≡ None)
+nowhere_by test e true found is h = absurd (cc h)
+nowhere_by test e false found is h = (ap not is, h)
 
 -- no entry passes a test that finds no line
 pub nowhere_all : (test : Entry → Bool) (entries : List Entry) → line_where test entries ≡ None → list_all (λ e. not (test e)) entries ≡ true
 unfolding line_where
 nowhere_all test [] h = refl
 nowhere_all test (e ∷ entries) h =
-    let parts = nowhere_by test e (test e) (line_where test entries) refl h in
+    let parts = nowhere_by test e (test e) (find test entries) refl h in
     rw (parts.0, nowhere_all test entries parts.1) refl
 
 deep_in : (value : Value) (queue : Option (List ℕ)) (path name : List ℕ) → queue ≡ Some path → not (is_deep queue value) ≡ true → is_among (names_in_value value) name ≡ true → eqb (level path) 16 ≡ false

@@ -6,8 +6,7 @@ use Rattle.std.proofs.lemmas.Option.{same_Some}
 use Rattle.std.proofs.lemmas.List.Folds.{list_all-append}
 use Rattle.std.proofs.lemmas.Bool.Decides.{nat_tests}
 use Rattle.cap_vector.specs.Vector.{amount_max}
-use Rattle.cap_model.specs.Limits.{applications_max}
-use Rattle.cap_model.specs.Listing.{factor_max}
+use Rattle.cap_model.specs.Limits.{applications_max, factor_max}
 use Rattle.cap_config.specs.declared.entry.Entry.{Entry}
 use Rattle.cap_config.specs.declared.key.Key.{Key}
 use Rattle.cap_config.specs.declared.value.Value.{Value}
@@ -17,8 +16,8 @@ use Rattle.cap_config.specs.declared.setting.Setting.TheVariants.{Queues, Capaci
 use Rattle.cap_config.specs.declared.fault.ConfigFault.{ConfigFault}
 use Rattle.cap_config.specs.Keys.{key_of}
 use Rattle.cap_config.specs.Seen.{is_among}
-use Rattle.cap_config.specs.Values.{value_at, value_of, is_name_under, as_names, as_amounts, number_within, state_of, names_for, names_of, are_new, amounts_of}
-use Rattle.cap_config.specs.Numbers.{number_of}
+use Rattle.cap_config.specs.Values.{digits_max, value_at, value_of, is_name_under, as_names, as_amounts, number_within, state_of, names_for, names_of, are_new, amounts_of}
+use Rattle.cap_text.specs.Numbers.{number_of}
 use Rattle.cap_config.specs.Entries.{entry_of, with_value, with_key, with_parts, line_parts, read_after, read_lines, and_then, is_passed_over, key_text}
 use Rattle.cap_config.specs.Bounds.{most_of, is_kept, is_bounded, are_bounded}
 
@@ -54,13 +53,13 @@ value_kept (Some path) Queues bytes v h = names_kept amount_max path (list_all (
 value_kept None Queues bytes v h = absurd (cc h)
 value_kept queue Capacity bytes v h = amounts_kept amount_max queue (amounts_of bytes) v h
 value_kept queue MaximumCapacity bytes v h = amounts_kept amount_max queue (amounts_of bytes) v h
-value_kept queue UserLimitFactor bytes v h = number_kept factor_max queue 1000 (number_of bytes) v (omega arith) h
+value_kept queue UserLimitFactor bytes v h = number_kept factor_max queue 1000 (number_of digits_max bytes) v (omega arith) h
 value_kept queue State bytes v h = state_kept amount_max queue _ _ v h
-value_kept queue MaximumApplications bytes v h = number_kept applications_max queue 1000000 (number_of bytes) v (omega arith) h
-value_kept queue MinimumMemory bytes v h = number_kept amount_max queue amount_max (number_of bytes) v (omega arith) h
-value_kept queue MinimumVcores bytes v h = number_kept amount_max queue amount_max (number_of bytes) v (omega arith) h
-value_kept queue MaximumMemory bytes v h = number_kept amount_max queue amount_max (number_of bytes) v (omega arith) h
-value_kept queue MaximumVcores bytes v h = number_kept amount_max queue amount_max (number_of bytes) v (omega arith) h
+value_kept queue MaximumApplications bytes v h = number_kept applications_max queue 1000000 (number_of digits_max bytes) v (omega arith) h
+value_kept queue MinimumMemory bytes v h = number_kept amount_max queue amount_max (number_of digits_max bytes) v (omega arith) h
+value_kept queue MinimumVcores bytes v h = number_kept amount_max queue amount_max (number_of digits_max bytes) v (omega arith) h
+value_kept queue MaximumMemory bytes v h = number_kept amount_max queue amount_max (number_of digits_max bytes) v (omega arith) h
+value_kept queue MaximumVcores bytes v h = number_kept amount_max queue amount_max (number_of digits_max bytes) v (omega arith) h
 
 same_ok : {X : Type 0} (x y : X) → (let r : Result X ConfigFault = Ok x in r) ≡ Ok y → x ≡ y
 same_ok x y h = cc h

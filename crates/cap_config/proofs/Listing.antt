@@ -1,23 +1,20 @@
 -- The rows are listed from the root, each queue before those under it.
-use Rattle.std.proofs.Common.{◌≡◌, ℕ, zero, suc, ◌≤◌, List, [], ◌∷◌, ◌++◌, append_assoc, length, drop, true, false, cond, None, refl, sym, ap, ◌∙◌, arith, subst, eq-eqb}
-use Rattle.std.specs.Prelude.{◌==◌, nat_eq, slice_index_or}
-use Rattle.std.specs.List.{All, flat_map, list_all, list_any, starts_with}
-use Rattle.std.specs.Str.{bytes_eq}
-use Rattle.std.proofs.lemmas.Bool.{eqb-true}
+use Rattle.std.proofs.Common.{◌≡◌, ℕ, zero, suc, ◌≤◌, List, [], ◌∷◌, ◌++◌, append_assoc, true, None, refl, sym, ◌∙◌, arith, subst, inl, inr}
+use Rattle.std.specs.Prelude.{slice_index_or}
+use Rattle.std.specs.List.{All, flat_map, list_all}
 use Rattle.std.proofs.lemmas.List.{append-nil}
-use Rattle.std.proofs.lemmas.List.Folds.{list_any-append}
 use Rattle.std.proofs.lemmas.List.Elements.{All-append, All-nil, All-cons}
 use Rattle.std.proofs.lemmas.List.Splits.{length-slice_split}
-use Rattle.std.proofs.lemmas.Bool.Decides.{Decides-eqb}
 use Rattle.std.specs.Str.Lines.{lines}
-use Rattle.std.proofs.lemmas.Slice.Eq.{bytes_eq-Decides, starts_is}
 use Rattle.cap_model.specs.Settings.{QueueRow, Settings}
-use Rattle.cap_model.specs.Flat.{is_under, is_child_of, name_of}
+use Rattle.cap_model.specs.Flat.{is_under}
 use Rattle.cap_model.specs.Bounds.{depth}
 use Rattle.cap_model.specs.QueueCalls.{root_path}
-use Rattle.cap_model.specs.Listing.{MayFollow, IsListed, IsListedFromRoot, IsListing, factor_max}
+use Rattle.cap_model.proofs.Paths.{under_is, is_under_it}
+use Rattle.cap_model.specs.Listing.{MayFollow, IsListed, IsListedFromRoot, IsListing}
+use Rattle.cap_model.specs.Limits.{factor_max}
 use Rattle.cap_config.specs.declared.entry.Entry.{Entry}
-use Rattle.cap_config.specs.Keys.{root, last_dot, is_dot}
+use Rattle.cap_config.specs.Keys.{root, is_dot}
 use Rattle.cap_config.specs.Values.{is_name_under}
 use Rattle.cap_config.specs.Queues.{names_below, child}
 use Rattle.cap_config.specs.Tests.{whole_fault, level}
@@ -25,75 +22,17 @@ use Rattle.cap_config.specs.Rows.{rows_under, row_of, settings_of}
 use Rattle.cap_config.specs.Bounds.{are_bounded}
 use Rattle.cap_config.specs.TreeLaws.{SettingsAreListed}
 use Rattle.cap_config.proofs.Kept.{lines_kept}
-use Rattle.cap_config.proofs.Found.{both, same_bytes, under_path, factor_small}
-use Rattle.cap_config.proofs.Children.{name_no_dot}
-use Rattle.cap_config.proofs.RowPaths.{either, first_of_two, second_of_two, same_is, queue_level, queue_rows}
-use Rattle.cap_config.proofs.RowCounts.{IsBelow, starts_dot, append_none, dotless_cons, rows_of_settings}
+use Rattle.cap_config.proofs.Found.{both, under_path, factor_small}
+use Rattle.cap_config.proofs.Children.{name_no_dot, child_is, under_child}
+use Rattle.cap_config.proofs.RowPaths.{queue_level, queue_rows, rows_of_settings}
 use Rattle.cap_config.proofs.RowTrees.{rows_tree, own_path, made_of}
 
--- a queue that is under another has its path, or a path that begins with it and a dot
-below_of_under : (path queue : List ℕ) → is_under path queue ≡ true → IsBelow path queue
-below_of_under path queue h =
-    either (IsBelow path queue) (bytes_eq path queue) (starts_with nat_eq queue (path ++ 46 ∷ [])) h
-    (λ same. record { rest = []; whole = sym (same_bytes path queue same) ∙ sym (append_none path); starts = refl })
-    (λ starts.
-    let rest = drop (length (path ++ 46 ∷ [])) queue in
-    record { rest = 46 ∷ rest; whole = (starts_is Decides-eqb queue (path ++ 46 ∷ []) (starts_with nat_eq queue (path ++ 46 ∷ [])) refl).0 starts ∙ append_assoc path (46 ∷ []) rest; starts = refl })
-
-starts_after : (xs ys : List ℕ) → starts_dot xs ≡ true → starts_dot ys ≡ true → starts_dot (xs ++ ys) ≡ true
-starts_after [] ys first second = second
-starts_after (x ∷ xs) ys first second = first
-
--- what is below a path below another is below the other
-below_both : (p q r : List ℕ) → IsBelow p q → IsBelow q r → IsBelow p r
-below_both p q r one two =
-    record { rest = one.rest ++ two.rest; whole = two.whole ∙ ap (λ (x : List ℕ). x ++ two.rest) one.whole ∙ append_assoc p one.rest two.rest; starts = starts_after one.rest two.rest one.starts two.starts }
-
-begins_with : (p rest : List ℕ) → starts_with nat_eq (p ++ rest) p ≡ true
-begins_with [] [] = refl
-begins_with [] (b ∷ rest) = refl
-begins_with (b ∷ p) rest = rw (eq-eqb b b refl, begins_with p rest) refl
-
-dot_first : (b : ℕ) → is_dot b ≡ true → b ≡ 46
-dot_first b h = eqb-true b 46 h
-
--- a queue below another is under it
-under_by : (p queue rest : List ℕ) → queue ≡ p ++ rest → starts_dot rest ≡ true → is_under p queue ≡ true
-under_by p queue [] e h = first_of_two (bytes_eq p queue) _ ((bytes_eq-Decides p queue).1 (sym (append_none p) ∙ sym e))
-under_by p queue (b ∷ rest) e h =
-    let whole : queue ≡ (p ++ 46 ∷ []) ++ rest = e ∙ ap (λ x. p ++ x ∷ rest) (dot_first b h) ∙ sym (append_assoc p (46 ∷ []) rest) in
-    second_of_two (bytes_eq p queue) (starts_with nat_eq queue (p ++ 46 ∷ [])) (ap (λ q. starts_with nat_eq q (p ++ 46 ∷ [])) whole ∙ begins_with (p ++ 46 ∷ []) rest)
-
-under_below : (p queue : List ℕ) → IsBelow p queue → is_under p queue ≡ true
-under_below p queue below = under_by p queue below.rest below.whole below.starts
-
 under_itself : (p : List ℕ) → is_under p p ≡ true
-under_itself p = first_of_two (bytes_eq p p) _ (same_is p)
+under_itself p = is_under_it p p (inl refl)
 
 -- what is under a child of a queue is under the queue
-under_child : (p name queue : List ℕ) → is_under (child p name) queue ≡ true → is_under p queue ≡ true
-under_child p name queue h =
-    under_below p queue (below_both p (child p name) queue (record { rest = 46 ∷ name; whole = refl; starts = refl }) (below_of_under (child p name) queue h))
-
-no_dot_in : (bytes : List ℕ) → last_dot bytes ≡ None → list_any (λ b. b == 46) bytes ≡ false
-no_dot_in [] h = refl
-no_dot_in (b ∷ bytes) h =
-    let parts = dotless_cons (is_dot b) (last_dot bytes) h in
-    rw (parts.0, no_dot_in bytes parts.1) refl
-
-name_itself : (name : List ℕ) → list_any (λ b. b == 46) name ≡ false → name_of name ≡ name
-name_itself [] h = refl
-name_itself (b ∷ name) h = ap (λ c. cond c (name_of name) (b ∷ name)) h
-
-dot_in : (path name : List ℕ) → list_any (λ b. b == 46) (child path name) ≡ true
-dot_in path name = list_any-append (λ b. b == 46) path (46 ∷ name) ∙ second_of_two (list_any (λ b. b == 46) path) true refl
-
-child_name : (path name : List ℕ) → list_any (λ b. b == 46) name ≡ false → name_of (child path name) ≡ name
-child_name [] name h = name_itself name h
-child_name (b ∷ path) name h = ap (λ c. cond c (name_of (child path name)) (b ∷ child path name)) (dot_in (b ∷ path) name) ∙ child_name path name h
-
-child_is : (path name : List ℕ) → last_dot name ≡ None → is_child_of path (child path name) ≡ true
-child_is path name none = (bytes_eq-Decides (child path name) (path ++ 46 ∷ name_of (child path name))).1 (ap (λ (n : List ℕ). path ++ 46 ∷ n) (sym (child_name path name (no_dot_in name none))))
+of_child : (p name queue : List ℕ) → is_under (child p name) queue ≡ true → is_under p queue ≡ true
+of_child p name queue h = is_under_it p queue (inr (under_child p name queue (under_is (child p name) queue h)))
 
 -- the rows of names, one name after another, and rows after them
 all_listed : (f : List ℕ → List QueueRow) (p : List ℕ) →
@@ -123,7 +62,7 @@ rows_listed entries all (suc n) p name before rest named under after =
     let q = child p name in
     rows_first entries n q before rest (record { parent = p; child = child_is p name (name_no_dot p name named); above = under })
     (all_listed (λ m. rows_under n entries (child q m)) q (λ m. rows_listed entries all n q m) (names_below entries q) (under_path entries q all) q rest (under_itself q)
-    (λ last below. after last (under_child p name last below)))
+    (λ last below. after last (of_child p name last below)))
 
 root_is_path : root ≡ root_path
 unfolding root

@@ -3,10 +3,10 @@ use Rattle.std.proofs.Common.{◌≡◌, ℕ, ◌<◌, List, [], ◌∷◌, ◌+
 use Rattle.std.specs.Prelude.{◌&&◌, map}
 use Rattle.std.specs.List.{list_all, slice_split}
 use Rattle.std.proofs.lemmas.List.{append-nil}
-use Rattle.cap_config.specs.Pieces.{trimmed}
+use Rattle.cap_text.specs.Pieces.{trimmed, lacks, IsCut}
 use Rattle.cap_config.specs.Seen.{is_among}
 use Rattle.cap_config.specs.Values.{is_next, is_name_under, are_new, names_for, names_of, name_under}
-use Rattle.cap_config.proofs.Cuts.{IsCut}
+use Rattle.cap_text.proofs.Cuts.{split_cut, split_uncut}
 
 -- the names of the parts, after those before
 abbrev pub names_from : List ℕ → List (List ℕ) → List (List ℕ) → Option (List (List ℕ))
@@ -38,19 +38,19 @@ names_for_is path (b ∷ bytes) h = names_from_is path [] (slice_split (λ c. eq
 
 pub cut_yes : (path : List ℕ) (before : List (List ℕ)) (bytes front rest : List ℕ) → IsCut 44 bytes front rest → is_next path before (trimmed front) ≡ true →
     names_from path before (slice_split (λ b. eqb b 44) bytes) ≡ names_from path (before ++ trimmed front ∷ []) (slice_split (λ b. eqb b 44) rest)
-cut_yes path before bytes front rest cut h = ap (names_from path before) cut.split ∙ rw h refl
+cut_yes path before bytes front rest cut h = ap (names_from path before) (split_cut 44 bytes front rest cut) ∙ rw h refl
 
 pub cut_no : (path : List ℕ) (before : List (List ℕ)) (bytes front rest : List ℕ) → IsCut 44 bytes front rest → is_next path before (trimmed front) ≡ false →
     names_from path before (slice_split (λ b. eqb b 44) bytes) ≡ None
-cut_no path before bytes front rest cut h = ap (names_from path before) cut.split ∙ rw h refl
+cut_no path before bytes front rest cut h = ap (names_from path before) (split_cut 44 bytes front rest cut) ∙ rw h refl
 
-pub last_yes : (path : List ℕ) (before : List (List ℕ)) (bytes : List ℕ) → slice_split (λ b. eqb b 44) bytes ≡ bytes ∷ [] → is_next path before (trimmed bytes) ≡ true →
+pub last_yes : (path : List ℕ) (before : List (List ℕ)) (bytes : List ℕ) → lacks 44 bytes ≡ true → is_next path before (trimmed bytes) ≡ true →
     names_from path before (slice_split (λ b. eqb b 44) bytes) ≡ Some (before ++ trimmed bytes ∷ [])
-last_yes path before bytes one h = ap (names_from path before) one ∙ rw h refl
+last_yes path before bytes none h = ap (names_from path before) (split_uncut 44 bytes none) ∙ rw h refl
 
-pub last_no : (path : List ℕ) (before : List (List ℕ)) (bytes : List ℕ) → slice_split (λ b. eqb b 44) bytes ≡ bytes ∷ [] → is_next path before (trimmed bytes) ≡ false →
+pub last_no : (path : List ℕ) (before : List (List ℕ)) (bytes : List ℕ) → lacks 44 bytes ≡ true → is_next path before (trimmed bytes) ≡ false →
     names_from path before (slice_split (λ b. eqb b 44) bytes) ≡ None
-last_no path before bytes one h = ap (names_from path before) one ∙ rw h refl
+last_no path before bytes none h = ap (names_from path before) (split_uncut 44 bytes none) ∙ rw h refl
 
 under_by : (test : Bool) (name found : List ℕ) → cond test (Some name) None ≡ Some found → (test ≡ true) × (found ≡ name)
 under_by true name found h = (refl, sym (cc h))

@@ -18,8 +18,8 @@ use Rattle.cap_config.specs.Tests.{listed_by, line_past, whole_fault}
 use Rattle.cap_config.specs.Entries.{read_lines}
 use Rattle.cap_config.specs.Rows.{rows_under, row_of, settings_of}
 use Rattle.cap_config.proofs.Kept.{lines_kept}
-use Rattle.cap_config.proofs.RowPaths.{many_is_none, shape_is_none, same_bools}
-use Rattle.cap_config.proofs.RowCounts.{rows_for, rows_at_most, rows_of_settings}
+use Rattle.cap_config.proofs.RowPaths.{shape_of, same_bools, rows_of_settings}
+use Rattle.cap_config.proofs.RowCounts.{rows_for, rows_at_most}
 
 -- how many names all entries list
 abbrev listed_in : List Entry → ℕ
@@ -180,6 +180,6 @@ rows_are_few text entries is none =
     let a = rows_count entries 16 root in
     let b = sum_le (λ (row : QueueRow). length (names_below entries row.path)) (λ row. sum_by (listed_for row.path) entries) rows (λ row. below_within entries row.path) in
     let c = rows_weigh entries rows (λ q. rows_at_most entries (lines_kept (lines text) entries is) 16 root q) in
-    let d = few_listed 1 entries (omega arith) (many_is_none entries (shape_is_none entries none)) in
+    let d = few_listed 1 entries (omega arith) ((shape_of entries none).many) in
     let few : length rows ≤ 1024 = omega (arith, a, b, c, d) in
     subst (λ (rs : List QueueRow). length rs ≤ 1024) (sym (rows_of_settings entries)) few

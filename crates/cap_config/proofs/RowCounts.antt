@@ -1,15 +1,17 @@
 -- One row for each queue.
-use Rattle.std.proofs.Common.{◌≡◌, ℕ, zero, suc, ◌+◌, ◌≤◌, List, [], ◌∷◌, ◌++◌, append_assoc, length, length-append, drop, Bool, true, false, cond, not, Option, Some, None, Ok, refl, sym, ap, ◌∙◌, arith, subst}
+use Rattle.std.proofs.Common.{◌≡◌, ℕ, zero, suc, ◌+◌, ◌≤◌, List, [], ◌∷◌, ◌++◌, length, length-append, drop, Bool, true, false, cond, not, None, Ok, refl, sym, ap, ◌∙◌, inl, inr, arith, subst}
 use Rattle.std.specs.Prelude.{◌||◌, count_by}
 use Rattle.std.specs.List.{flat_map, list_all, sum_by}
 use Rattle.std.specs.Str.{bytes_eq}
 use Rattle.std.specs.Str.Lines.{lines}
+use Rattle.std.proofs.lemmas.List.{append_cancel_left}
 use Rattle.std.proofs.lemmas.List.Sums.{sum_by-cons, sum_by-append}
 use Rattle.std.proofs.lemmas.List.Folds.{list_any-append}
 use Rattle.std.proofs.lemmas.Slice.Eq.{bytes_eq-Decides}
 use Rattle.cap_model.specs.Settings.{QueueRow}
+use Rattle.cap_model.proofs.Paths.{IsUnder, before_dot, child_to, only_child}
 use Rattle.cap_config.specs.declared.entry.Entry.{Entry}
-use Rattle.cap_config.specs.Keys.{root, last_dot, is_dot, dot_or}
+use Rattle.cap_config.specs.Keys.{root, last_dot}
 use Rattle.cap_config.specs.Seen.{is_among}
 use Rattle.cap_config.specs.Values.{are_new, is_name_under}
 use Rattle.cap_config.specs.Queues.{is_queue, names_below, child}
@@ -20,81 +22,40 @@ use Rattle.cap_config.specs.Bounds.{are_bounded}
 use Rattle.cap_config.proofs.Steps.{not_true}
 use Rattle.cap_config.proofs.Kept.{lines_kept}
 use Rattle.cap_config.proofs.Found.{both, same_bytes, names_once, under_path}
-use Rattle.cap_config.proofs.Children.{name_no_dot}
-use Rattle.cap_config.proofs.RowPaths.{paths_of, either, in_some, paths_more, none_under, rows_are_queues}
+use Rattle.cap_config.proofs.Children.{name_no_dot, child_is, child_rest, count_no, under_child}
+use Rattle.cap_config.proofs.RowPaths.{paths_of, either, first_of_two, second_of_two, in_some, paths_more, none_under, rows_are_queues, rows_of_settings}
 
 -- how many rows a path has
 abbrev pub rows_for : List QueueRow → List ℕ → ℕ
 rows_for rows path = count_by (λ row. bytes_eq row.path path) rows
-
--- a rest of a path after a queue: nothing, or a dot and more
-abbrev pub starts_dot : List ℕ → Bool
-starts_dot [] = true
-starts_dot (b ∷ bytes) = is_dot b
-
-pub record IsBelow (p path : List ℕ) : Type 0 where
-  pub rest : List ℕ
-  pub whole : path ≡ p ++ rest
-  pub starts : starts_dot rest ≡ true
-
-pub append_none : (xs : List ℕ) → xs ++ [] ≡ xs
-append_none [] = refl
-append_none (x ∷ xs) = ap (λ (ys : List ℕ). x ∷ ys) (append_none xs)
 
 neither : (a b : Bool) → (a || b) ≡ false → (a ≡ false) × (b ≡ false)
 neither true b h = absurd (cc h)
 neither false b h = (refl, h)
 
 -- the paths of the rows under a queue are its own and those below it
-pub row_below_is : (entries : List Entry) (n : ℕ) (p path : List ℕ) → is_among (paths_of (rows_under n entries p)) path ≡ true → IsBelow p path
-row_below_is entries zero p path h = none_under (IsBelow p path) entries p path h
+pub row_below_is : (entries : List Entry) (n : ℕ) (p path : List ℕ) → is_among (paths_of (rows_under n entries p)) path ≡ true → IsUnder p path
+row_below_is entries zero p path h = none_under (IsUnder p path) entries p path h
 row_below_is entries (suc n) p path h =
-    either (IsBelow p path) (bytes_eq p path) (is_among (paths_of (flat_map (λ name. rows_under n entries (child p name)) (names_below entries p))) path) (sym (paths_more n entries p path) ∙ h)
-    (λ same. record { rest = []; whole = sym (same_bytes p path same) ∙ sym (append_none p); starts = refl })
-    (λ later. in_some (IsBelow p path) (λ name. rows_under n entries (child p name)) (names_below entries p) path later
-    (λ name in_list here.
-    let below = row_below_is entries n (child p name) path here in
-    record { rest = 46 ∷ name ++ below.rest; whole = below.whole ∙ append_assoc p (46 ∷ name) below.rest; starts = refl }))
-
--- the first name of a path
-abbrev front : List ℕ → List ℕ
-front [] = []
-front (b ∷ bytes) = cond (is_dot b) [] (b ∷ front bytes)
-
-pub dotless_cons : (first : Bool) (r : Option ℕ) → dot_or first r ≡ None → (first ≡ false) × (r ≡ None)
-dotless_cons first (Some i) h = absurd (cc h)
-dotless_cons true None h = absurd (cc h)
-dotless_cons false None h = (refl, refl)
-
-front_none : (rest : List ℕ) → starts_dot rest ≡ true → front rest ≡ []
-front_none [] h = refl
-front_none (b ∷ rest) h = rw h refl
-
-front_is : (name rest : List ℕ) → last_dot name ≡ None → starts_dot rest ≡ true → front (name ++ rest) ≡ name
-front_is [] rest none h = front_none rest h
-front_is (b ∷ name) rest none h =
-    let parts = dotless_cons (is_dot b) (last_dot name) none in
-    rw (parts.0, front_is name rest parts.1 h) refl
-
-after_dot : (p name rest : List ℕ) → drop (length p + 1) (child p name ++ rest) ≡ name ++ rest
-after_dot [] name rest = refl
-after_dot (b ∷ p) name rest =
-    ap (λ n. drop n (child (b ∷ p) name ++ rest)) (let e : suc (length p) + 1 ≡ suc (length p + 1) = omega arith in e) ∙ after_dot p name rest
+    either (IsUnder p path) (bytes_eq p path) (is_among (paths_of (flat_map (λ name. rows_under n entries (child p name)) (names_below entries p))) path) (sym (paths_more n entries p path) ∙ h)
+    (λ same. inl (sym (same_bytes p path same)))
+    (λ later. in_some (IsUnder p path) (λ name. rows_under n entries (child p name)) (names_below entries p) path later
+    (λ name in_list here. inr (under_child p name path (row_below_is entries n (child p name) path here))))
 
 -- which of the names a path below goes on with
-pub which : (p name path : List ℕ) → last_dot name ≡ None → IsBelow (child p name) path → front (drop (length p + 1) path) ≡ name
-which p name path none below = ap (λ (x : List ℕ). front (drop (length p + 1) x)) below.whole ∙ ap front (after_dot p name below.rest) ∙ front_is name below.rest none below.starts
+pub which : (p name path : List ℕ) → last_dot name ≡ None → IsUnder (child p name) path → before_dot (drop (length p + 1) path) ≡ name
+which p name path none under =
+    let below = under_child p name path under in
+    let only : child p name ≡ child_to p below.0 = only_child p (child p name) below.0 (child_is p name none) (subst (IsUnder (child p name)) below.1 under) in
+    let first : name ≡ before_dot below.0 = cc (append_cancel_left p (46 ∷ name) (46 ∷ before_dot below.0) only) in
+    ap (λ (x : List ℕ). before_dot (drop (length p + 1) x)) below.1 ∙ ap before_dot (child_rest p below.0) ∙ sym first
 
-longer : (p name path : List ℕ) → IsBelow (child p name) path → p ≡ path → ⊥
-longer p name path below e =
-    let l : length path ≡ length p + suc (length name) + length below.rest =
-    ap length below.whole ∙ length-append (child p name) below.rest ∙ ap (λ n. n + length below.rest) (length-append p (46 ∷ name)) in
+longer : (p name path : List ℕ) → IsUnder (child p name) path → p ≡ path → ⊥
+longer p name path under e =
+    let below = under_child p name path under in
+    let l : length path ≡ length p + suc (length below.0) = ap length below.1 ∙ length-append p (46 ∷ below.0) in
     let m : length p ≡ length path = ap length e in
     omega (arith, l, m)
-
-pub count_no : (b : Bool) (n : ℕ) → b ≡ false → cond b 1 0 + n ≡ n
-count_no true n h = absurd (cc h)
-count_no false n h = omega arith
 
 -- a path among none of the rows has none, and one among them has some
 none_for : (rows : List QueueRow) (path : List ℕ) → is_among (paths_of rows) path ≡ false → rows_for rows path ≡ 0
@@ -133,19 +94,11 @@ pub other_name : (b : Bool) (before : List (List ℕ)) (name x : List ℕ) → b
 other_name true before name x is out within = absurd (cc (sym out ∙ ap (is_among before) (same_bytes name x is) ∙ within))
 other_name false before name x is out within = refl
 
-either_yes : (a b : Bool) → a ≡ true → (a || b) ≡ true
-either_yes true b h = refl
-either_yes false b h = absurd (cc h)
-
-other_yes : (a b : Bool) → b ≡ true → (a || b) ≡ true
-other_yes true b h = refl
-other_yes false b h = h
-
 pub still_among : (before : List (List ℕ)) (name x : List ℕ) → is_among before x ≡ true → is_among (before ++ name ∷ []) x ≡ true
-still_among before name x h = list_any-append _ before (name ∷ []) ∙ either_yes (is_among before x) _ h
+still_among before name x h = list_any-append _ before (name ∷ []) ∙ first_of_two (is_among before x) _ h
 
 pub last_among : (before : List (List ℕ)) (name x : List ℕ) → bytes_eq name x ≡ true → is_among (before ++ name ∷ []) x ≡ true
-last_among before name x h = list_any-append _ before (name ∷ []) ∙ other_yes (is_among before x) _ (either_yes (bytes_eq name x) false h)
+last_among before name x h = list_any-append _ before (name ∷ []) ∙ second_of_two (is_among before x) _ (first_of_two (bytes_eq name x) false h)
 
 -- no name stands twice
 not_before : (before : List (List ℕ)) (x : List ℕ) (names : List (List ℕ)) → are_new before names ≡ true → is_among before x ≡ true → count_by (λ name. bytes_eq name x) names ≡ 0
@@ -208,7 +161,7 @@ rows_at_most entries all zero p path = no_rows entries p path
 rows_at_most entries all (suc n) p path =
     let f = λ (name : List ℕ). rows_under n entries (child p name) in
     let names = names_below entries p in
-    let x = front (drop (length p + 1) path) in
+    let x = before_dot (drop (length p + 1) path) in
     let each : (name : List ℕ) → is_name_under p name ≡ true → rows_for (f name) path ≤ cond (bytes_eq name x) 1 0 =
     λ name under. among_or (rows_for (f name) path ≤ cond (bytes_eq name x) 1 0) (is_among (paths_of (f name)) path)
     (λ there. one_of (bytes_eq name x) (rows_for (f name) path) ((bytes_eq-Decides name x).1 (sym (which p name path (name_no_dot p name under) (row_below_is entries n (child p name) path there)))) (rows_at_most entries all n (child p name) path))
@@ -223,10 +176,6 @@ rows_at_most entries all (suc n) p path =
 exactly_one : (b : Bool) (n : ℕ) → n ≤ 1 → (b ≡ true → 1 ≤ n) → (b ≡ false → n ≡ 0) → n ≡ cond b 1 0
 exactly_one true n most some none = let l = some refl in omega (arith, l, most)
 exactly_one false n most some none = none refl
-
-pub rows_of_settings : (entries : List Entry) → (settings_of entries).queues ≡ rows_under 16 entries root
-unfolding settings_of
-rows_of_settings entries = refl
 
 -- each queue has one row, and no other path has one
 pub one_row_each : (text : List ℕ) (entries : List Entry) → read_lines (lines text) ≡ Ok entries → whole_fault entries ≡ None → (path : List ℕ) →

@@ -137,44 +137,38 @@ no_shape : (a b : Option ConfigFault) → or_fault a b ≡ None → a ≡ None
 no_shape None b h = refl
 no_shape a b h = absurd (cc h)
 
-pub shape_is_none : (entries : List Entry) → whole_fault entries ≡ None → shape_fault entries ≡ None
+shape_is_none : (entries : List Entry) → whole_fault entries ≡ None → shape_fault entries ≡ None
 unfolding whole_fault
 shape_is_none entries h = no_shape (shape_fault entries) _ h
 
-deep_is_none : (entries : List Entry) → shape_fault entries ≡ None → too_deep_line entries ≡ None
-unfolding shape_fault
-deep_is_none entries h =
-    let over = or_else (over_maximum_line entries) GuaranteeOverMaximum None in
-    let many = or_else (too_many_line entries) TooManyQueues over in
-    let deep = or_else (too_deep_line entries) TooDeep many in
-    let astray = or_else (no_such_queue_line entries) NoSuchQueue deep in
-    let childless = or_else (no_child_line entries) NoChild astray in
-    let after_bounds = (no_other (allocation_line entries) BadValue childless h).1 in
-    let after_children = (no_other (no_child_line entries) NoChild astray after_bounds).1 in
-    let after_queues = (no_other (no_such_queue_line entries) NoSuchQueue deep after_children).1 in
-    (no_other (too_deep_line entries) TooDeep many after_queues).0
+-- the tests of the shape that laws speak of
+pub record HasShape (entries : List Entry) : Type 0 where
+  pub deep : too_deep_line entries ≡ None
+  pub many : too_many_line entries ≡ None
+  pub over : over_maximum_line entries ≡ None
 
-pub many_is_none : (entries : List Entry) → shape_fault entries ≡ None → too_many_line entries ≡ None
+pub shape_of : (entries : List Entry) → whole_fault entries ≡ None → HasShape entries
 unfolding shape_fault
-many_is_none entries h =
+shape_of entries none =
     let over = or_else (over_maximum_line entries) GuaranteeOverMaximum None in
     let many = or_else (too_many_line entries) TooManyQueues over in
     let deep = or_else (too_deep_line entries) TooDeep many in
     let astray = or_else (no_such_queue_line entries) NoSuchQueue deep in
     let childless = or_else (no_child_line entries) NoChild astray in
-    let after_bounds = (no_other (allocation_line entries) BadValue childless h).1 in
+    let after_bounds = (no_other (allocation_line entries) BadValue childless (shape_is_none entries none)).1 in
     let after_children = (no_other (no_child_line entries) NoChild astray after_bounds).1 in
     let after_queues = (no_other (no_such_queue_line entries) NoSuchQueue deep after_children).1 in
-    let after_levels = (no_other (too_deep_line entries) TooDeep many after_queues).1 in
-    (no_other (too_many_line entries) TooManyQueues over after_levels).0
+    let at_levels = no_other (too_deep_line entries) TooDeep many after_queues in
+    let at_counts = no_other (too_many_line entries) TooManyQueues over at_levels.1 in
+    record { deep = at_levels.0; many = at_counts.0; over = (no_other (over_maximum_line entries) GuaranteeOverMaximum None at_counts.1).0 }
 
 pub queue_level : (entries : List Entry) → whole_fault entries ≡ None → (path : List ℕ) → is_queue entries path ≡ true → level path ≤ 16
-queue_level entries none path h = level_small entries (deep_is_none entries (shape_is_none entries none)) path h
+queue_level entries none path h = level_small entries (shape_of entries none).deep path h
 
 pub levels_are_few : (text : List ℕ) (entries : List Entry) → read_lines (lines text) ≡ Ok entries → whole_fault entries ≡ None → (path : List ℕ) → is_queue entries path ≡ true → level path ≤ 16
 levels_are_few text entries is none path h = queue_level entries none path h
 
-rows_of_settings : (entries : List Entry) → (settings_of entries).queues ≡ rows_under 16 entries root
+pub rows_of_settings : (entries : List Entry) → (settings_of entries).queues ≡ rows_under 16 entries root
 unfolding settings_of
 rows_of_settings entries = refl
 

@@ -18,9 +18,10 @@ use Rattle.cap_config.specs.Tests.{whole_fault}
 use Rattle.cap_config.specs.Rows.{settings_of, rows_under}
 use Rattle.cap_config.specs.Bounds.{are_bounded}
 use Rattle.cap_config.specs.First.{settings_in, settings_after, unless_fault}
+use Rattle.cap_config.proofs.Children.{dotless_cons}
 use Rattle.cap_config.proofs.Least.{of_queues}
 use Rattle.cap_config.proofs.RowPaths.{paths_of, first_of_two, second_of_two, same_is, queue_rows}
-use Rattle.cap_config.proofs.RowCounts.{rows_for, rows_at_most, dotless_cons}
+use Rattle.cap_config.proofs.RowCounts.{rows_for, rows_at_most}
 
 -- where the settings of a text come from
 pub record IsMadeOf (text : List ℕ) (settings : Settings) : Type 0 where

@@ -7,7 +7,7 @@ use Rattle.cap_config.specs.declared.value.Value.{Value}
 use Rattle.cap_config.specs.declared.fault.ConfigFault.{ConfigFault}
 use Rattle.cap_config.specs.declared.fault.ConfigFaultKind.TheVariants.{BadLine, UnknownKey, Repeated, BadValue}
 use Rattle.cap_config.specs.Fault.{fault_at}
-use Rattle.cap_config.specs.Pieces.{parts_at, trimmed}
+use Rattle.cap_text.specs.Pieces.{parts_at, trimmed}
 use Rattle.cap_config.specs.Keys.{key_of}
 use Rattle.cap_config.specs.Seen.{is_among}
 use Rattle.cap_config.specs.Values.{value_of}

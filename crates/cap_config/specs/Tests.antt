@@ -1,6 +1,7 @@
 -- The tests over the whole text: each finds its least line.
 use Rattle.std.specs.Prelude.{ℕ, ◌+◌, List, [], ◌∷◌, length, find, Option, Some, None, Bool, true, false, not, ◌&&◌, ◌||◌, ◌==◌, slice_index, nat_lt, max, min, if◌then◌else◌, is_none}
 use Rattle.std.specs.List.{sum_by}
+use Rattle.std.specs.Option.{option_map}
 use Rattle.std.specs.Str.{bytes_eq}
 use Rattle.cap_config.specs.declared.entry.Entry.{Entry}
 use Rattle.cap_config.specs.declared.value.Value.{Value}
@@ -16,8 +17,7 @@ use Rattle.cap_config.specs.Queues.{same_setting, entry_for, is_queue, maximum, 
 
 -- the line of the first entry that passes a test
 unfoldable pub line_where : (Entry → Bool) → List Entry → Option ℕ
-line_where test [] = None
-line_where test (entry ∷ entries) = if test entry then Some entry.line else line_where test entries
+line_where test entries = option_map (λ entry. entry.line) (find test entries)
 
 -- the entry of a property of the whole cluster
 abbrev pub cluster_entry : List Entry → Setting → Option Entry

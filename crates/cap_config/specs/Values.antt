@@ -9,8 +9,8 @@ use Rattle.cap_config.specs.declared.value.Value.TheVariants.{Names, Amounts, Nu
 use Rattle.cap_config.specs.declared.key.Key.{Key}
 use Rattle.cap_config.specs.declared.setting.Setting.{Setting}
 use Rattle.cap_config.specs.declared.setting.Setting.TheVariants.{Queues, Capacity, MaximumCapacity, UserLimitFactor, State, MaximumApplications, MinimumMemory, MinimumVcores, MaximumMemory, MaximumVcores}
-use Rattle.cap_config.specs.Pieces.{parts_at, trimmed}
-use Rattle.cap_config.specs.Numbers.{number_of}
+use Rattle.cap_text.specs.Pieces.{parts_at, trimmed}
+use Rattle.cap_text.specs.Numbers.{number_of}
 use Rattle.cap_config.specs.Keys.{is_name}
 use Rattle.cap_config.specs.Seen.{is_among}
 
@@ -19,9 +19,13 @@ unfoldable pub names_of : List ℕ → List (List ℕ)
 names_of [] = []
 names_of (b ∷ bytes) = map trimmed (slice_split (λ c. c == 44) (b ∷ bytes))
 
+-- the greatest number of digits that a number may have
+abbrev pub digits_max : ℕ
+digits_max = 13
+
 -- a number from 1 on
 unfoldable pub number_within : ℕ → List ℕ → Option Value
-number_within most bytes = option_and_then (λ n. if nat_le 1 n && nat_le n most then Some (Number n) else None) (number_of bytes)
+number_within most bytes = option_and_then (λ n. if nat_le 1 n && nat_le n most then Some (Number n) else None) (number_of digits_max bytes)
 
 unfoldable pub state_of : List ℕ → Option Value
 state_of bytes =
@@ -30,7 +34,7 @@ state_of bytes =
 
 -- the number after a name
 unfoldable pub number_after : List ℕ → List ℕ → Option ℕ
-number_after name part = if starts_with nat_eq part name then number_of (drop (length name) part) else None
+number_after name part = if starts_with nat_eq part name then number_of digits_max (drop (length name) part) else None
 
 -- what stands between brackets
 unfoldable pub in_brackets : List ℕ → Option (List ℕ)

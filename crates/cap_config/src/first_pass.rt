@@ -9,10 +9,9 @@ ghost use Rattle.cap_config.specs.Entries.{is_passed_over, is_printable, line_pa
 use crate::entry::Entry;
 use crate::fault::{ConfigFault, ConfigFaultKind};
 use crate::key::key_of;
-use crate::lines::{split_line, split_once};
 use crate::seen::add_new;
-use crate::trim::trimmed;
 use crate::value::value_of;
+use cap_text::{split_line, split_once, trimmed};
 use std::alloc::Global;
 use std::collections::HashMap;
 

@@ -3,7 +3,7 @@ ghost use Rattle.cap_config.specs.Index.{IsIndex};
 ghost use Rattle.cap_config.specs.Tests.{exceeds, exceeds_limit, is_over_limit, is_over_maximum, over_maximum_line, is_over_parts, guaranteed_below, is_overspent, is_over_parent, over_parent_line};
 ghost use Rattle.cap_config.specs.Keys.{parts_at_last_dot};
 
-use crate::entry::Entry;
+use crate::entry::{Entry, line_of};
 use crate::index::{Index, child_bytes};
 use crate::key::split_last_dot;
 use crate::queues::{guaranteed, is_root, maximum};
@@ -14,16 +14,17 @@ use cap_vector::Resource;
 use std::alloc::{AllocError, Global};
 
 /// The first line that guarantees a queue more than its maximum capacity, own or inherited.
+#[tactic(auto, unfolding(crate::specs::Tests::line_where))]
 pub fn over_maximum_line(index: &Index) -> Option<usize>
     requires { IsIndex index.now }
     ensures { result ≡ over_maximum_line index.now.entries.now }
 {
-    for entry in index.entries {
-        if is_over_maximum(index, entry) {
-            return Some(entry.line);
-        }
-    }
-    None
+    line_of(
+        index
+            .entries
+            .iter()
+            .find(|entry| is_over_maximum(index, entry)),
+    )
 }
 
 fn is_over_maximum(index: &Index, entry: &Entry) -> bool

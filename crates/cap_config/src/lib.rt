@@ -9,15 +9,12 @@ mod guarantees;
 mod index;
 mod key;
 pub mod laws;
-mod lines;
 mod names;
-mod number;
 mod queues;
 mod reading;
 mod second_pass;
 mod seen;
 mod setting;
-mod trim;
 mod value;
 
 pub use config::{Config, QueueRow};

@@ -3,10 +3,9 @@ ghost use Rattle.cap_config.specs.Seen.{HasAll};
 ghost use Rattle.cap_config.specs.Values.{names_for, is_next, name_under};
 
 use crate::key::is_name;
-use crate::lines::split_once;
 use crate::seen::{add_new, was_seen};
-use crate::trim::trimmed;
 use cap_model::{PathText, ShortText};
+use cap_text::{split_once, trimmed};
 use std::alloc::{AllocError, Global};
 use std::collections::HashMap;
 use std::marker::Model;
@@ -15,7 +14,7 @@ use std::marker::Model;
 const PATH_MAX: usize = 255;
 
 /// The names of the queues below a queue, in the order of its list. Contracts see it as that list.
-#[derive(Debug, Drop)]
+#[derive(Drop)]
 pub struct Names<'t> {
     names: Vec<ShortText>,
     /// The same names, to look one up.

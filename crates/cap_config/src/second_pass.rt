@@ -4,7 +4,7 @@ ghost use Rattle.cap_config.specs.Index.{IsIndex};
 ghost use Rattle.cap_config.specs.Tests.{line_where, cluster_entry, number_or, line_or_zero, pair_line, lesser, allocation_line, lists_none, no_child_line, is_astray, no_such_queue_line, lists_deep, level, too_deep_line, listed_by, too_many_line, shape_fault, whole_fault};
 ghost use Rattle.cap_config.specs.First.{AnswersFault};
 
-use crate::entry::Entry;
+use crate::entry::{Entry, line_of};
 use crate::fault::{ConfigFault, ConfigFaultKind};
 use crate::guarantees::{over_maximum_line, over_parent_line};
 use crate::index::{Index, entry_at};
@@ -153,15 +153,11 @@ fn no_child_line(index: &Index) -> Option<usize>
 }
 
 /// The first line that lists no queue.
+#[tactic(auto, unfolding(crate::specs::Tests::line_where))]
 fn childless_line(entries: &[Entry]) -> Option<usize>
     ensures { result ≡ line_where lists_none entries.now }
 {
-    for entry in entries {
-        if lists_none(entry) {
-            return Some(entry.line);
-        }
-    }
-    None
+    line_of(entries.iter().find(|entry| lists_none(entry)))
 }
 
 fn lists_none(entry: &Entry) -> bool
@@ -174,16 +170,12 @@ fn lists_none(entry: &Entry) -> bool
 }
 
 /// The first line for a queue that is not in the tree.
+#[tactic(auto, unfolding(crate::specs::Tests::line_where))]
 fn no_such_queue_line(index: &Index) -> Option<usize>
     requires { IsIndex index.now }
     ensures { result ≡ no_such_queue_line index.now.entries.now }
 {
-    for entry in index.entries {
-        if is_astray(index, entry) {
-            return Some(entry.line);
-        }
-    }
-    None
+    line_of(index.entries.iter().find(|entry| is_astray(index, entry)))
 }
 
 fn is_astray(index: &Index, entry: &Entry) -> bool
@@ -197,15 +189,11 @@ fn is_astray(index: &Index, entry: &Entry) -> bool
 }
 
 /// The first line that lists queues on the level after the last.
+#[tactic(auto, unfolding(crate::specs::Tests::line_where))]
 fn too_deep_line(entries: &[Entry]) -> Option<usize>
     ensures { result ≡ too_deep_line entries.now }
 {
-    for entry in entries {
-        if lists_deep(entry) {
-            return Some(entry.line);
-        }
-    }
-    None
+    line_of(entries.iter().find(|entry| lists_deep(entry)))
 }
 
 fn lists_deep(entry: &Entry) -> bool

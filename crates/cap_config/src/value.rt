@@ -3,14 +3,15 @@ ghost use Rattle.std.specs.Option.{option_map};
 ghost use Rattle.cap_config.specs.Values.{value_of, listed, as_amounts, number_within, state_of, amounts_of, amounts_in, in_brackets, number_after, resource};
 
 use crate::key::Key;
-use crate::lines::split_once;
 use crate::names::{Names, names_for};
-use crate::number::number_of;
 use crate::setting::Setting;
-use crate::trim::trimmed;
 use cap_model::PathText;
+use cap_text::{number_of, split_once, trimmed};
 use cap_vector::{AMOUNT_MAX, Resource};
 use std::alloc::{AllocError, Global};
+
+/// The greatest number of digits that a number may have.
+const DIGITS_MAX: usize = 13;
 
 /// The greatest user limit factor.
 const FACTOR_MAX: u64 = 1000;
@@ -19,7 +20,7 @@ const FACTOR_MAX: u64 = 1000;
 const APPLICATIONS_MAX: u64 = 1_000_000;
 
 /// What a line sets its property to.
-#[derive(Debug, Drop)]
+#[derive(Drop)]
 pub enum Value<'t> {
     /// The names of the queues below.
     Names(Names<'t>),
@@ -83,7 +84,7 @@ fn as_amounts<'t>(amounts: Option<Resource<2>>) -> Option<Value<'t>>
 fn number_within<'t>(bytes: &[u8], most: u64) -> Option<Value<'t>>
     ensures { result ≡ number_within most bytes.now }
 {
-    match number_of(bytes) {
+    match number_of(bytes, DIGITS_MAX) {
         Some(number) if 1 <= number && number <= most => Some(Value::Number(number)),
         _ => None,
     }
@@ -164,5 +165,5 @@ fn number_after(name: &[u8], part: &[u8]) -> Option<u64>
     if !part.starts_with(name) {
         return None;
     }
-    number_of(&part[name.len()..])
+    number_of(&part[name.len()..], DIGITS_MAX)
 }

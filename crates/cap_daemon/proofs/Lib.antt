@@ -1,5 +1,4 @@
-pub mod Digits
-pub mod Blanks
+pub mod Commands
 pub mod Results
 pub mod Scripts
 pub mod Lines

@@ -12,7 +12,7 @@ use Rattle.cap_daemon.specs.declared.command.Command.TheVariants.{Nothing, Conf,
 use Rattle.cap_daemon.specs.Script.{IsCommand, IsOpeningLine, IsLaterLine, IsStep, IsScript, MayStep, MayFollow}
 use Rattle.cap_daemon.specs.Settings.{property_of, with_line, properties, settings_text, settings_fault}
 use Rattle.cap_daemon.specs.Progress.{Stands, Begins, FailsToBegin}
-use Rattle.cap_daemon.proofs.Blanks.{step_never_opens}
+use Rattle.cap_daemon.proofs.Commands.{step_never_opens}
 
 -- the lines before a last line all open the script, or the last line stands behind the first step
 last_line : (head body front : List (List ℕ)) (line : List ℕ) → front ++ line ∷ [] ≡ head ++ body → All IsOpeningLine head → All IsLaterLine body → (All IsOpeningLine front × IsOpeningLine line) ⊎ IsLaterLine line

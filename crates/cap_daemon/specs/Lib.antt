@@ -1,4 +1,3 @@
-pub mod Number
 pub mod Script
 pub mod Settings
 pub mod Streams

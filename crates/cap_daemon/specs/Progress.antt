@@ -1,5 +1,5 @@
 -- How far a text was played, whatever follows it.
-use Rattle.std.specs.Prelude.{◌≡◌, ℕ, List, ◌++◌, Bool, true, false, not, ◌==◌, Option, None, Some}
+use Rattle.std.specs.Prelude.{◌≡◌, ℕ, List, ◌++◌, Bool, true, false, Option, None, Some}
 use Rattle.std.specs.List.{All}
 use Rattle.std.specs.Str.Lines.{lines}
 use Rattle.cap_config.specs.declared.fault.ConfigFault.{ConfigFault}
@@ -9,9 +9,6 @@ use Rattle.cap_daemon.specs.declared.stop.Stop.{Stop}
 use Rattle.cap_daemon.specs.declared.stop.Stop.TheVariants.{Config, NoMemory}
 use Rattle.cap_daemon.specs.Script.{IsOpeningLine, IsStep, IsScript}
 use Rattle.cap_daemon.specs.Settings.{properties, settings_text, settings_fault}
-
-abbrev pub is_no_feed : ℕ → Bool
-is_no_feed b = not (b == 10)
 
 -- the text has these whole lines, and then what is begun
 abbrev pub Reads : List ℕ → List (List ℕ) → List ℕ → Type 0

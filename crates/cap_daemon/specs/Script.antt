@@ -1,14 +1,16 @@
 -- The lines of a script.
-use Rattle.std.specs.Prelude.{◌≡◌, ◌<◌, ◌⊎◌, ℕ, List, [], ◌∷◌, ◌++◌, codes, Bool, not, ◌==◌, length, IsOk}
+use Rattle.std.specs.Prelude.{◌≡◌, ◌<◌, ◌⊎◌, ℕ, List, [], ◌∷◌, ◌++◌, codes, Some, ◌^◌, length, IsOk}
 use Rattle.std.specs.List.{All}
 use Rattle.std.specs.Str.Lines.{lines}
 use Rattle.hex.specs.Hex.{decode_of}
 use Rattle.cap_daemon.specs.declared.command.Command.{Command}
 use Rattle.cap_daemon.specs.declared.command.Command.TheVariants.{Nothing, Conf, Open, Bytes, End}
-use Rattle.cap_daemon.specs.Number.{IsNumber}
+use Rattle.cap_text.specs.Numbers.{number_of}
 
-abbrev pub is_no_blank : ℕ → Bool
-is_no_blank b = not (b == 32)
+-- 1 to 10 decimal digits spell the number, and it fits a u32
+pub record IsNumber (digits : List ℕ) (n : ℕ) : Type 0 where
+  pub spelled : number_of 10 digits ≡ Some n
+  pub fits : n < 2 ^ 32
 
 -- the line is a word, a blank and a number
 abbrev pub IsNumbered : List ℕ → List ℕ → ℕ → Type 0

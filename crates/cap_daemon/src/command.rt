@@ -1,9 +1,11 @@
-ghost use Rattle.std.specs.Prelude.{◌≡◌, ◌∷◌, ◌++◌, true, IfSome, IfNone, IsSome};
-ghost use Rattle.std.specs.List.{list_all};
+ghost use Rattle.std.specs.Prelude.{ℕ, IfSome, IsSome};
 ghost use Rattle.cap_daemon.specs.declared.command.Command.{Command};
-ghost use Rattle.cap_daemon.specs.Script.{IsCommand, is_no_blank};
+ghost use Rattle.cap_daemon.specs.Script.{IsCommand, IsNumber};
 
-use crate::number::number_of;
+use cap_text::split_once;
+
+/// The greatest number of digits that a connection's number may have.
+const DIGITS_MAX: usize = 10;
 
 /// What a line of the script asks for.
 #[derive(Clone, Copy, Debug)]
@@ -35,23 +37,20 @@ pub(crate) fn command_of(line: &[u8]) -> Option<Command<'_>>
     if let Some(number) = line.strip_prefix(b"end ") {
         return Some(Command::End(number_of(number)?));
     }
-    let (number, piece) = cut_at_blank(line.strip_prefix(b"bytes ")?)?;
+    let (number, piece) = split_once(line.strip_prefix(b"bytes ")?, b' ')?;
     match number_of(number) {
         Some(number) => Some(Command::Bytes(number, piece)),
         None => None,
     }
 }
 
-/// The bytes before the first blank and those after it.
-fn cut_at_blank(bytes: &[u8]) -> Option<(&[u8], &[u8])>
-    ensures found { IfSome result (λ cut. bytes.now ≡ cut.0.now ++ 32 ∷ cut.1.now) }
-    ensures first { IfSome result (λ cut. list_all is_no_blank cut.0.now ≡ true) }
-    ensures none { IfNone result (list_all is_no_blank bytes.now ≡ true) }
+/// The number that 1 to 10 decimal digits spell, where it fits a u32.
+fn number_of(digits: &[u8]) -> Option<u32>
+    ensures found { IfSome result (λ n. IsNumber digits.now n) }
+    ensures only { (n : ℕ) → IsNumber digits.now n → IsSome result }
 {
-    for (i, byte) in bytes.iter().enumerate() {
-        if *byte == b' ' {
-            return Some((&bytes[..i], &bytes[i + 1..]));
-        }
+    match cap_text::number_of(digits, DIGITS_MAX) {
+        Some(number) if number <= u64::from(u32::MAX) => Some(number as u32),
+        _ => None,
     }
-    None
 }

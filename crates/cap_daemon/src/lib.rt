@@ -4,7 +4,6 @@
 mod command;
 mod counted;
 mod frames;
-mod number;
 mod player;
 mod report;
 mod script;

@@ -1,18 +1,19 @@
 ghost use Rattle.std.specs.Prelude.{◌≡◌, ◌<◌, ◌≤◌, ◌+◌, ◌++◌, ◌∷◌, ◌⊎◌, ◌↔◌, [], ℕ, List, true, false, length, Ok, Err, OnOk, IfOk, IfErr, IfSome, IfNone, is_some, None};
 ghost use Rattle.std.specs.Io.KnownBytes.{Consumes, IsAtEnd};
-ghost use Rattle.std.specs.List.{list_all};
 ghost use Rattle.std.specs.Str.Lines.{strip_carriage_return};
+ghost use Rattle.cap_text.specs.Pieces.{lacks};
 ghost use Rattle.cap_config.specs.declared.fault.ConfigFault.{ConfigFault};
 ghost use Rattle.cap_daemon.specs.declared.stop.Stop.TheVariants.{BadLine, Config as bad_config, Input as read_failed};
 ghost use Rattle.cap_daemon.specs.Script.{HasBadLine, IsScript};
 ghost use Rattle.cap_daemon.specs.Settings.{HasFault, IsDone};
-ghost use Rattle.cap_daemon.specs.Progress.{is_no_feed, IsPlayed, Stands, StopsAtStep};
+ghost use Rattle.cap_daemon.specs.Progress.{IsPlayed, Stands, StopsAtStep};
 ghost use Rattle.cap_daemon.specs.Streams.{failures_max, reads_max, input_failures, output_failures, IsOfScript};
 
 use crate::counted::Counted;
 use crate::report::finish;
 use crate::script::Script;
 use crate::stop::Stop;
+use cap_text::{split_once, without_return};
 use std::alloc::{AllocError, Global};
 use std::io::{Read, Write};
 
@@ -102,15 +103,15 @@ fn read_piece<'a, R: Read>(
 
 /// Plays the lines that end in these bytes, the first with what was begun before, and keeps what is begun of the next.
 fn play_lines(bytes: &[u8], begun: &mut Vec<u8>, script: &mut Script) -> Result<(), Stop>
-    requires { list_all is_no_feed begun.old.items ≡ true }
-    ensures begun { OnOk result (list_all is_no_feed begun.new.items ≡ true) }
+    requires { lacks 10 begun.old.items ≡ true }
+    ensures begun { OnOk result (lacks 10 begun.new.items ≡ true) }
     ensures good { (text : List ℕ) → IsPlayed text begun.old.items script.old.settings (is_some script.old.world) → OnOk result (IsPlayed (text ++ bytes.now) begun.new.items script.new.settings (is_some script.new.world)) }
     ensures bad { (n : ℕ) → result ≡ Err (BadLine n) → (text : List ℕ) → IsPlayed text begun.old.items script.old.settings (is_some script.old.world) → HasBadLine (text ++ bytes.now) }
     ensures fault { (fault : ConfigFault) → result ≡ Err (bad_config fault) → (text : List ℕ) → IsPlayed text begun.old.items script.old.settings (is_some script.old.world) → HasFault (text ++ bytes.now) ⊥ fault }
     ensures only { IfErr result IsOfScript }
 {
     let mut rest = bytes;
-    while let Some((front, after)) = cut_at_feed(rest) {
+    while let Some((front, after)) = split_once(rest, b'\n') {
         match play_line(front, begun, script) {
             Ok(()) => {}
             Err(stop) => return Err(stop),
@@ -139,23 +140,9 @@ fn play_line(last: &[u8], begun: &mut Vec<u8>, script: &mut Script) -> Result<()
     }
 }
 
-/// The bytes before the first line feed and those after it.
-fn cut_at_feed(bytes: &[u8]) -> Option<(&[u8], &[u8])>
-    ensures found { IfSome result (λ cut. bytes.now ≡ cut.0.now ++ 10 ∷ cut.1.now) }
-    ensures first { IfSome result (λ cut. list_all is_no_feed cut.0.now ≡ true) }
-    ensures none { IfNone result (list_all is_no_feed bytes.now ≡ true) }
-{
-    for (at, byte) in bytes.iter().enumerate() {
-        if *byte == b'\n' {
-            return Some((&bytes[..at], &bytes[at + 1..]));
-        }
-    }
-    None
-}
-
 /// Plays a last line that no line feed ends, if there is one. Settings that no step has read are read now.
 fn play_last(line: &[u8], script: &mut Script) -> Result<(), Stop>
-    requires { list_all is_no_feed line.now ≡ true }
+    requires { lacks 10 line.now ≡ true }
     ensures good { (text : List ℕ) → IsPlayed text line.now script.old.settings (is_some script.old.world) → OnOk result (IsDone text) }
     ensures bad { (n : ℕ) → result ≡ Err (BadLine n) → (text : List ℕ) → IsPlayed text line.now script.old.settings (is_some script.old.world) → HasBadLine text }
     ensures fault { (fault : ConfigFault) → result ≡ Err (bad_config fault) → (text : List ℕ) → IsPlayed text line.now script.old.settings (is_some script.old.world) → HasFault text (Unit {0}) fault }
@@ -167,15 +154,5 @@ fn play_last(line: &[u8], script: &mut Script) -> Result<(), Stop>
     match script.play(line) {
         Ok(()) => script.begin(),
         Err(stop) => Err(stop),
-    }
-}
-
-/// A line without the one carriage return at its end.
-fn without_return(line: &[u8]) -> &[u8]
-    ensures { result.now ≡ strip_carriage_return line.now }
-{
-    match line {
-        [front @ .., b'\r'] => front,
-        _ => line,
     }
 }

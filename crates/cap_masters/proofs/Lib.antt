@@ -1,3 +1,4 @@
 pub mod Processing
 pub mod TooLarge
 pub mod Refused
+pub mod Submitting

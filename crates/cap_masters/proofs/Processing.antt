@@ -1,12 +1,19 @@
 -- An allocate that is processed, and its answer.
-use Rattle.std.proofs.Common.{◌≡◌, ℕ, ◌+◌, ◌-◌, Bool, true, false, List, [], ◌∷◌, length, refl, sym, ◌∙◌, ap, subst, inl, arith}
+use Rattle.std.proofs.Common.{◌≡◌, ℕ, ◌+◌, ◌-◌, ◌<◌, ◌≤◌, Bool, true, false, List, [], ◌∷◌, ◌++◌, get_or, length, take, refl, sym, ◌∙◌, ap, subst, inl, arith}
 use Rattle.std.specs.Prelude.{Option, Some, None, IsSome, IfSome, not, ◌==◌, ◌&&◌, ◌||◌, is_some, is_none, filter, option_map, option_and_then, nat_lt, if◌then◌else◌}
-use Rattle.std.specs.List.{list_any}
+use Rattle.std.specs.List.{fold, list_any}
+use Rattle.std.proofs.lemmas.List.{take_more}
+use Rattle.std.proofs.lemmas.List.Sums.{fold-append}
 use Rattle.std.proofs.lemmas.Bool.Decides.{nat_tests}
-use Rattle.cap_model.specs.Calls.{Ask, Cause, CallRequest, CallReply, CallRefusal}
+use Rattle.cap_model.specs.Asks.{Ask}
+use Rattle.cap_model.specs.declared.news.Cause.{Cause}
+use Rattle.cap_model.specs.declared.request.Request.{Request}
+use Rattle.cap_model.specs.declared.reply.Reply.{Reply}
+use Rattle.cap_model.specs.declared.refusal.Refusal.{Refusal}
 use Rattle.cap_model.specs.Cascade.{earliest, holds_of}
 use Rattle.cap_model.specs.Flat.{Flat, App, Container, app_at, with_app}
-use Rattle.cap_model.specs.ResponseIds.{response_end, next_response, is_current, is_repeated, is_bad_id}
+use Rattle.cap_model.specs.Limits.{response_end}
+use Rattle.cap_model.specs.ResponseIds.{next_response, is_current, is_repeated, is_bad_id}
 use Rattle.cap_model.specs.Asking.{after_asks, after_ask, rounded, put_ask}
 use Rattle.cap_model.specs.Ending.{after_ends, with_ends, named_among}
 use Rattle.cap_model.specs.Allocate.{allocate_refusal, is_repeated_allocate, is_too_large, has_too_many_keys, released_by, after_wishes, after_telling, after_allocate, kept_reply}
@@ -43,7 +50,18 @@ has_some (Some x) b c h = refl
 app_is : (x y : App) → Some y ≡ Some x → y ≡ x
 app_is x y e = cc e
 
+-- one room less, and one ask less to come
+pub room_left : (asks n i room room' : ℕ) → asks ≤ room + i → room ≤ room' + (if n == n then 1 else 0) → asks ≤ room' + (i + 1)
+room_left asks n i room room' a b = let t : n == n ≡ true = grind (arith, nat_tests) in let weight : Bool → ℕ = λ x. if x then 1 else 0 in let one : weight (n == n) ≡ 1 = ap weight t in omega (arith, a, b, one)
+
 module _ {K : ℕ} where
+  -- one more ask is put
+  pub asks_step : (n i : ℕ) (asks : List Ask) (ask : Ask) (old before new : Flat K) → before ≡ after_asks n (take i asks) old → i < length asks → ask ≡ get_or asks i ask → new ≡ after_ask n before (rounded K before.settings ask) → new ≡ after_asks n (take (i + 1) asks) old
+  asks_step n i asks ask old before new so_far more item is =
+      let step : Flat K → Ask → Flat K = λ c a. after_ask n c (rounded K c.settings a) in
+      let one : take (i + 1) asks ≡ take i asks ++ ask ∷ [] = take_more asks i ask more ∙ ap (λ a. take i asks ++ a ∷ []) (sym item) in
+      is ∙ ap (λ c. step c ask) so_far ∙ sym (ap (λ xs. fold step old xs) one ∙ fold-append step old (take i asks) (ask ∷ []))
+
   -- asks and ends leave it
   asks_leave : (n : ℕ) (asks : List Ask) (old : Flat K) (m : ℕ) → option_map (λ (a : App). a.response) (app_at (after_asks n asks old) m) ≡ option_map (λ a. a.response) (app_at old m)
   asks_leave n [] old m = refl
@@ -68,15 +86,15 @@ module _ {K : ℕ} where
       by None g = let none : None ≡ Some a.response = sym (ap (option_map (λ (x : App). x.response)) g) ∙ e ∙ ap (option_map (λ (x : App). x.response)) f in absurd (cc none)
 
   -- after asks, releases and the telling
-  pub processed : (old asked ended told : Flat K) (n id ignored : ℕ) (asks : List Ask) (releases : List ℕ) → IsAt old n id → asked ≡ after_asks n asks old → ended ≡ after_ends Cause.released (released_by asked n releases) asked →
+  pub processed : (old asked ended told : Flat K) (n id ignored : ℕ) (asks : List Ask) (releases : List ℕ) → IsAt old n id → asked ≡ after_asks n asks old → ended ≡ after_ends Cause.Released (released_by asked n releases) asked →
       ignored + length (released_by asked n releases) ≡ length releases → IfSome (app_at ended n) (λ app. told ≡ with_app n (after_telling app.response ignored) ended) → told ≡ after_processed n id asks releases old
   processed old asked ended told n id ignored asks releases at a e i t =
       let live : asked.nodes.live ≡ old.nodes.live = ap (λ (c : Flat K). c.nodes.live) a ∙ (asks_keep n asks old).live in
       let named : released_by asked n releases ≡ released_by old n releases = ap (λ cs. named_among releases (filter (λ (c : Container). c.app == n) cs)) live in
-      let wishes : ended ≡ after_wishes old n asks releases = e ∙ (λ j. after_ends Cause.released (named j) (a j)) in
+      let wishes : ended ≡ after_wishes old n asks releases = e ∙ (λ j. after_ends Cause.Released (named j) (a j)) in
       let count : ignored ≡ length releases - length (released_by old n releases) = (let len = ap length named in omega (arith, i, len)) in
       let there = still_at old ended n id
-      (ap (λ (c : Flat K). option_map (λ (x : App). x.response) (app_at c n)) e ∙ ends_leave Cause.released (released_by asked n releases) asked n
+      (ap (λ (c : Flat K). option_map (λ (x : App). x.response) (app_at c n)) e ∙ ends_leave Cause.Released (released_by asked n releases) asked n
       ∙ ap (λ (c : Flat K). option_map (λ (x : App). x.response) (app_at c n)) a ∙ asks_leave n asks old n) at in
       at_some (app_at ended n) (there.0) (there.1) t
       ∙ (λ j. with_app n (after_telling (there.2 j) (count j)) (wishes j))
@@ -91,7 +109,7 @@ module _ {K : ℕ} where
       let fresh = not (is_repeated_allocate cluster n id) in
       none_of_five (is_none (app_at cluster n)) (not (holds_of (λ a. a.registered) (app_at cluster n))) (holds_of (λ a. is_bad_id a.response a.kept id) (app_at cluster n))
       (fresh && list_any (is_too_large cluster) asks) (fresh && holds_of (λ a. has_too_many_keys a asks) (app_at cluster n))
-      CallRefusal.unknown_application CallRefusal.not_registered CallRefusal.bad_response_id CallRefusal.ask_too_large CallRefusal.too_many_asks e
+      Refusal.UnknownApplication Refusal.NotRegistered Refusal.BadResponseId Refusal.AskTooLarge Refusal.TooManyAsks e
 
   -- one that repeats nothing has the id that was given last
   pub fresh_at : (cluster : Flat K) (n id : ℕ) (asks : List Ask) → allocate_refusal cluster n id asks ≡ None → is_repeated_allocate cluster n id ≡ false → IsAt cluster n id
@@ -107,7 +125,7 @@ module _ {K : ℕ} where
       let mid = after_wishes old n asks releases in
       let f = after_telling id (length releases - length (released_by old n releases)) in
       let change : App → App = λ app. if app.number == n then f app else app in
-      let there = still_at old mid n id (ends_leave Cause.released (released_by old n releases) (after_asks n asks old) n ∙ asks_leave n asks old n) at in
+      let there = still_at old mid n id (ends_leave Cause.Released (released_by old n releases) (after_asks n asks old) n ∙ asks_leave n asks old n) at in
       let found : app_at (with_app n f mid) n ≡ Some (change (there.0)) =
       find_changed (λ (a : App). a.number) change (λ a. same_if (a.number == n) (λ (x : App). x.number) (f a) a refl) n mid.apps.active ∙ ap (option_map change) (there.1) in
       let number : (there.0).number == n ≡ true = (Rattle.cap_model.proofs.Choosing.found (λ (a : App). a.number == n) mid.apps.active (there.0) (there.1)).1 in
@@ -122,11 +140,11 @@ module _ {K : ℕ} where
       by (Some a) h = has_some a.kept (nat_lt id response_end) (next_response id == a.response) h
 
   -- the answer is the kept reply of the new cluster
-  pub answered : (old new : Flat K) (n id : ℕ) (asks : List Ask) (releases : List ℕ) (reply : CallReply) → allocate_refusal old n id asks ≡ None → new ≡ after_allocate old n id asks releases → reply ≡ CallReply.allocate (kept_reply new n) →
-      flat_replies.Replies old (CallRequest.allocate n id asks releases) reply new
+  pub answered : (old new : Flat K) (n id : ℕ) (asks : List Ask) (releases : List ℕ) (reply : Reply K) → allocate_refusal old n id asks ≡ None → new ≡ after_allocate old n id asks releases → reply ≡ Reply.Allocate (kept_reply new n) →
+      flat_replies.Replies old (Request.Allocate n id asks releases) reply new
   answered old new n id asks releases reply none is told =
       inl (
-        told ∙ ap (λ (c : Flat K). CallReply.allocate (kept_reply c n)) is ∙ sym (ap (λ o. refused_or o (λ r. CallReply.refused r) (CallReply.allocate (kept_reply (after_allocate old n id asks releases) n))) none),
+        told ∙ ap (λ (c : Flat K). Reply.Allocate (kept_reply c n)) is ∙ sym (ap (λ o. refused_or o (λ r. Reply.Refused r) (Reply.Allocate (kept_reply (after_allocate old n id asks releases) n))) none),
         is ∙ sym (ap (λ o. refused_or o (λ r. old) (after_allocate old n id asks releases)) none),
       )
 

@@ -1,11 +1,15 @@
 -- What is known where no refusal holds, and how amounts are compared.
-use Rattle.std.proofs.Common.{◌≡◌, ℕ, Bool, true, false, List, [], ◌∷◌, refl, sym}
-use Rattle.std.specs.Prelude.{Option, Some, None, IsSome, IsTrue, ◌↔◌, is_none, not}
+use Rattle.std.proofs.Common.{◌≡◌, ℕ, Bool, true, false, List, [], ◌∷◌, refl, sym, ◌∙◌, ap}
+use Rattle.std.specs.Prelude.{Option, Some, None, IsSome, IsTrue, ◌↔◌, is_none, not, find, ◌==◌, ◌&&◌}
+use Rattle.std.specs.List.{list_any}
 use Rattle.cap_vector.specs.Vector.{Fits}
 use Rattle.cap_model.specs.Amounts.{fits}
 use Rattle.cap_model.specs.Cascade.{earliest, holds_of}
-use Rattle.cap_model.specs.Calls.{CallRefusal}
-use Rattle.cap_model.specs.Flat.{Flat, app_at}
+use Rattle.cap_model.specs.declared.refusal.Refusal.{Refusal}
+use Rattle.cap_model.specs.Asks.{Ask}
+use Rattle.cap_model.specs.Flat.{Flat, App, AppTable, app_at}
+use Rattle.cap_model.specs.ResponseIds.{is_bad_id, is_repeated}
+use Rattle.cap_model.specs.Allocate.{allocate_refusal, has_too_many_keys, is_too_large}
 use Rattle.cap_model.specs.FinishMaster.{finish_master_refusal}
 use Rattle.cap_model.proofs.Measures.{fits_amounts, amounts_fit}
 
@@ -25,4 +29,18 @@ fits_is false v most h = by (fits v most) refl
 
 -- an application whose finish is not refused is there
 pub finish_there : {K : ℕ} (cluster : Flat K) (n : ℕ) → finish_master_refusal cluster n ≡ None → IsSome (app_at cluster n)
-finish_there cluster n e = is_there (app_at cluster n) CallRefusal.unknown_application ((not (holds_of (λ a. a.registered) (app_at cluster n)), CallRefusal.not_registered) ∷ []) e
+finish_there cluster n e = is_there (app_at cluster n) Refusal.UnknownApplication ((not (holds_of (λ a. a.registered) (app_at cluster n)), Refusal.NotRegistered) ∷ []) e
+
+-- the tests of an allocate of an application that is there
+pub allocate_tests : {K : ℕ} (cluster : Flat K) (n id : ℕ) (asks : List Ask) (app : App) (unregistered bad repeated large many : Bool) → app_at cluster n ≡ Some app →
+    not app.registered ≡ unregistered → is_bad_id app.response app.kept id ≡ bad → is_repeated app.response app.kept id ≡ repeated → list_any (is_too_large cluster) asks ≡ large → has_too_many_keys app asks ≡ many →
+    allocate_refusal cluster n id asks ≡
+    earliest ((unregistered, Refusal.NotRegistered) ∷ (bad, Refusal.BadResponseId) ∷ (not repeated && large, Refusal.AskTooLarge) ∷ (not repeated && many, Refusal.TooManyAsks) ∷ [])
+allocate_tests cluster n id asks app unregistered bad repeated large many there a b c d e = rw (there, ← a, ← b, ← c, ← d, ← e) refl
+
+-- what the table of applications shows is what the flat cluster has
+pub app_shown : {K : ℕ} (cluster : Flat K) (table : AppTable) (n : ℕ) (app : App) → table ≡ cluster.apps → Some app ≡ find (λ (a : App). a.number == n) table.active → app_at cluster n ≡ Some app
+app_shown cluster table n app is found = ap (λ (t : AppTable). find (λ (a : App). a.number == n) t.active) (sym is) ∙ sym found
+
+pub app_missing : {K : ℕ} (cluster : Flat K) (table : AppTable) (n : ℕ) → table ≡ cluster.apps → None ≡ find (λ (a : App). a.number == n) table.active → app_at cluster n ≡ None
+app_missing cluster table n is missing = ap (λ (t : AppTable). find (λ (a : App). a.number == n) t.active) (sym is) ∙ sym missing

@@ -7,7 +7,8 @@ use Rattle.std.proofs.lemmas.Bool.{and_parts}
 use Rattle.std.proofs.lemmas.Bool.Decides.{nat_tests}
 use Rattle.cap_vector.specs.Vector.{IsResource}
 use Rattle.cap_model.specs.Texts.{is_graphic}
-use Rattle.cap_model.specs.Calls.{GrantedContainer, EndedContainer}
+use Rattle.cap_model.specs.News.{Grant}
+use Rattle.cap_model.specs.declared.news.End.{End}
 use Rattle.cap_messages.specs.Texts.{is_place}
 use Rattle.cap_messages.specs.Spelling.{text, resource, grant, FitsGrant, end}
 
@@ -25,7 +26,7 @@ short_place t h =
     let q = and_parts (nat_lt 0 (length t)) (nat_le (length t) 64) p.0 in
     let few = q.1 in grind (arith, nat_tests, few)
 
-pub length_grant : (g : GrantedContainer) → FitsGrant g → length (grant g) ≤ 109
+pub length_grant : (g : Grant) → FitsGrant g → length (grant g) ≤ 109
 unfolding grant
 length_grant g fits =
     let e : List ℕ = text g.host ++ resource g.resource in
@@ -37,14 +38,14 @@ length_grant g fits =
     let lh = short_place g.host fits.host in
     omega (arith, le, lr, lh)
 
-pub length_end : (e : EndedContainer) → length (end e) ≡ 9
+pub length_end : (e : End) → length (end e) ≡ 9
 unfolding end
 length_end e = omega arith
 
-pub length_grants : (gs : List GrantedContainer) → AllByRecursion FitsGrant gs → length (flat_map grant gs) ≤ 109 * length gs
+pub length_grants : (gs : List Grant) → AllByRecursion FitsGrant gs → length (flat_map grant gs) ≤ 109 * length gs
 length_grants [] fits = omega arith
 length_grants (g ∷ gs) fits = omega (arith, length-append (grant g) (flat_map grant gs), length_grant g fits.0, length_grants gs fits.1)
 
-pub length_ends : (es : List EndedContainer) → length (flat_map end es) ≤ 9 * length es
+pub length_ends : (es : List End) → length (flat_map end es) ≤ 9 * length es
 length_ends [] = omega arith
 length_ends (e ∷ es) = omega (arith, length-append (end e) (flat_map end es), length_end e, length_ends es)

@@ -10,11 +10,13 @@ use Rattle.cap_model.specs.declared.refusal.Refusal.{Refusal}
 use Rattle.cap_model.specs.declared.refusal.Refusal.TheVariants.{UnknownQueue, NotLeaf, QueueStopped, TooManyApplications, UnknownApplication, AlreadyRegistered, NotRegistered, BadResponseId, AskTooLarge, TooManyAsks, UnknownNode, HostTaken, TotalTooLarge, TooManyNodes, ZeroResource, NumbersSpent, NoMemory}
 use Rattle.cap_model.specs.declared.reply.Reply.{Reply}
 use Rattle.cap_model.specs.declared.reply.Reply.TheVariants.{Refused, Submit, RegisterMaster, Allocate, FinishMaster, RegisterNode, Heartbeat, NodeGone, QueueInfo, SetQueueState, ClusterInfo}
-use Rattle.cap_model.specs.Calls.{GrantedContainer, EndedContainer, Cause, HeartbeatReply}
-use Rattle.cap_model.specs.News.{cause_number}
-use Rattle.cap_model.specs.declared.replies.AllocateReply.{AllocateReply}
+use Rattle.cap_model.specs.News.{Grant, AllocateReply, cause_number}
+use Rattle.cap_model.specs.declared.news.End.{End}
+use Rattle.cap_model.specs.declared.news.Cause.{Cause}
+use Rattle.cap_model.specs.declared.replies.HeartbeatReply.{HeartbeatReply}
 use Rattle.cap_messages.specs.Texts.{is_place}
-use Rattle.cap_messages.specs.Spelling.{told_max, told, FitsListed, grant, FitsGrant, end, FitsEnd, allocated, FitsAllocated, beat, FitsBeat, text, resource, flag, counts, queue_report, reply_body, IsOfKind, FitsReply, IsReply, fault_reply}
+use Rattle.cap_model.specs.Limits.{news_max}
+use Rattle.cap_messages.specs.Spelling.{told, FitsListed, grant, FitsGrant, end, FitsEnd, allocated, FitsAllocated, beat, FitsBeat, text, resource, flag, queue_report, cluster_report, reply_body, IsOfKind, FitsReply, IsReply, fault_reply}
 use Rattle.cap_messages.specs.Fields.{◌>>=◌, byte_at, flag_at, number_at, amounts_at, text_at, pair_at, passing_at, times_at, all_at}
 use Rattle.cap_messages.specs.Reading.{head_at}
 use Rattle.cap_messages.proofs.FieldLaws.{some_is, IsField, is_pair, all_again, is_flag, is_u16, is_u32, is_u64, is_amounts, is_text_passing, is_times, is_made, is_field_of}
@@ -142,21 +144,21 @@ told_at field bytes = do
   n ← byte_at bytes
   times_at n.0 field n.1
 
-told_again : {A : Type 0} (field : List ℕ → Option (A × List ℕ)) (s : A → List ℕ) (F : A → Type 0) → IsField field s F → (xs : List A) (rest : List ℕ) → FitsListed told_max F xs → told_at field (told s xs ++ rest) ≡ Some (xs, rest)
+told_again : {A : Type 0} (field : List ℕ → Option (A × List ℕ)) (s : A → List ℕ) (F : A → Type 0) → IsField field s F → (xs : List A) (rest : List ℕ) → FitsListed news_max F xs → told_at field (told s xs ++ rest) ≡ Some (xs, rest)
 told_again field s F is xs rest fits = (is_times (length xs) field s F is).again xs rest (refl, fits.each)
 
 -- ---- what an Allocate gives
 
-abbrev Grant : Type 0
-Grant = ℕ × (ℕ × (ℕ × (ℕ × (List ℕ × List ℕ))))
+abbrev GrantParts : Type 0
+GrantParts = ℕ × (ℕ × (ℕ × (ℕ × (List ℕ × List ℕ))))
 
-abbrev FitsGrantParts : Grant → Type 0
+abbrev FitsGrantParts : GrantParts → Type 0
 FitsGrantParts x = (x.0 < 2 ^ 64) × ((x.1.0 < 2 ^ 32) × ((x.1.1.0 < 2 ^ 64) × ((x.1.1.1.0 < 2 ^ 64) × ((is_place x.1.1.1.1.0 ≡ true) × IsResource 2 x.1.1.1.1.1))))
 
-abbrev grant_parts : Grant → List ℕ
+abbrev grant_parts : GrantParts → List ℕ
 grant_parts x = to_be_bytes w64 x.0 ++ (to_be_bytes w32 x.1.0 ++ (to_be_bytes w64 x.1.1.0 ++ (to_be_bytes w64 x.1.1.1.0 ++ (text x.1.1.1.1.0 ++ resource x.1.1.1.1.1))))
 
-abbrev grant_parts_at : List ℕ → Option (Grant × List ℕ)
+abbrev grant_parts_at : List ℕ → Option (GrantParts × List ℕ)
 grant_parts_at bytes = pair_at (number_at w64) (pair_at (number_at w32) (pair_at (number_at w64) (pair_at (number_at w64) (pair_at (passing_at is_place text_at) (amounts_at 2 amount_max))))) bytes
 
 is_grant_parts : IsField grant_parts_at grant_parts FitsGrantParts
@@ -167,13 +169,13 @@ is_grant_parts =
     (is_pair _ _ _ _ _ _ is_u64
     (is_pair (passing_at is_place text_at) text (λ t. is_place t ≡ true) (amounts_at 2 amount_max) resource (IsResource 2) (is_text_passing is_place) (is_amounts 2 amount_max (omega arith))))))
 
-abbrev grant_from : Grant → GrantedContainer
+abbrev grant_from : GrantParts → Grant
 grant_from x = record { container = x.0; key = record { priority = x.1.0; request = x.1.1.0 }; node = x.1.1.1.0; host = x.1.1.1.1.0; resource = x.1.1.1.1.1 }
 
-abbrev grant_to : GrantedContainer → Grant
+abbrev grant_to : Grant → GrantParts
 grant_to g = (g.container, (g.key.priority, (g.key.request, (g.node, (g.host, g.resource)))))
 
-abbrev grant_at : List ℕ → Option (GrantedContainer × List ℕ)
+abbrev grant_at : List ℕ → Option (Grant × List ℕ)
 grant_at bytes = do
   x ← grant_parts_at bytes
   Some (grant_from x.0, x.1)
@@ -187,33 +189,33 @@ is_grant =
     (λ g h. (h.container, (h.priority, (h.request, (h.node, (h.host, h.resource))))))
 
 abbrev cause_of : ℕ → Cause
-cause_of n = if n == 1 then Cause.released else if n == 2 then Cause.ended_on_node else Cause.node_lost
+cause_of n = if n == 1 then Cause.Released else if n == 2 then Cause.EndedOnNode else Cause.NodeLost
 
 cause_again : (c : Cause) → cause_of (cause_number c) ≡ c
-cause_again Cause.released = refl
-cause_again Cause.ended_on_node = refl
-cause_again Cause.node_lost = refl
+cause_again Cause.Released = refl
+cause_again Cause.EndedOnNode = refl
+cause_again Cause.NodeLost = refl
 
 -- the end of a container, whatever the byte of its cause
-abbrev end_at : List ℕ → Option (EndedContainer × List ℕ)
+abbrev end_at : List ℕ → Option (End × List ℕ)
 end_at bytes = do
   n ← number_at w64 bytes
   b ← byte_at n.1
   Some (record { container = n.0; cause = cause_of b.0 }, b.1)
 
-end_again : (e : EndedContainer) (rest : List ℕ) → FitsEnd e → end_at (end e ++ rest) ≡ Some (e, rest)
+end_again : (e : End) (rest : List ℕ) → FitsEnd e → end_at (end e ++ rest) ≡ Some (e, rest)
 unfolding end
 end_again e rest fits =
     ap end_at (append_assoc (to_be_bytes w64 e.container) (cause_number e.cause ∷ []) rest)
     ∙ ap (λ (o : Option (ℕ × List ℕ)). o >>= λ n. byte_at n.1 >>= λ b. Some (record { container = n.0; cause = cause_of b.0 }, b.1)) (is_u64.again e.container (cause_number e.cause ∷ rest) fits)
     ∙ ap (λ (c : Cause). Some (record { container = e.container; cause = c }, rest)) (cause_again e.cause)
 
-ends_again : (es : List EndedContainer) (rest : List ℕ) → AllByRecursion FitsEnd es → times_at (length es) end_at (flat_map end es ++ rest) ≡ Some (es, rest)
+ends_again : (es : List End) (rest : List ℕ) → AllByRecursion FitsEnd es → times_at (length es) end_at (flat_map end es ++ rest) ≡ Some (es, rest)
 ends_again [] rest fits = refl
 ends_again (e ∷ es) rest fits = ap (times_at (suc (length es)) end_at) (append_assoc (end e) (flat_map end es) rest) ∙ rw (end_again e (flat_map end es ++ rest) fits.0, ends_again es rest fits.1) refl
 
 abbrev Allocated : Type 0
-Allocated = (ℕ × ℕ) × (List GrantedContainer × List EndedContainer)
+Allocated = (ℕ × ℕ) × (List Grant × List End)
 
 abbrev allocated_at : List ℕ → Option (Allocated × List ℕ)
 allocated_at bytes = do
@@ -238,18 +240,18 @@ from_ignored response o = do
   ends ← told_at end_at grants.1
   Some (((response, ignored.0), (grants.0, ends.0)), ends.1)
 
-abbrev from_grants : ℕ → ℕ → Option (List GrantedContainer × List ℕ) → Option (Allocated × List ℕ)
+abbrev from_grants : ℕ → ℕ → Option (List Grant × List ℕ) → Option (Allocated × List ℕ)
 from_grants response ignored o = do
   grants ← o
   ends ← told_at end_at grants.1
   Some (((response, ignored), (grants.0, ends.0)), ends.1)
 
-abbrev from_ends : ℕ → ℕ → List GrantedContainer → Option (List EndedContainer × List ℕ) → Option (Allocated × List ℕ)
+abbrev from_ends : ℕ → ℕ → List Grant → Option (List End × List ℕ) → Option (Allocated × List ℕ)
 from_ends response ignored grants o = do
   ends ← o
   Some (((response, ignored), (grants, ends.0)), ends.1)
 
-allocated_again : (response ignored : ℕ) (grants : List GrantedContainer) (ends : List EndedContainer) → response < 2 ^ 32 → ignored < 2 ^ 16 → FitsListed told_max FitsGrant grants → FitsListed told_max FitsEnd ends →
+allocated_again : (response ignored : ℕ) (grants : List Grant) (ends : List End) → response < 2 ^ 32 → ignored < 2 ^ 16 → FitsListed news_max FitsGrant grants → FitsListed news_max FitsEnd ends →
     allocated_at (to_be_bytes w32 response ++ (to_be_bytes w16 ignored ++ (told grant grants ++ told end ends))) ≡ Some (((response, ignored), (grants, ends)), [])
 allocated_again response ignored grants ends r i g e =
     ap from_response (is_u32.again response (to_be_bytes w16 ignored ++ (told grant grants ++ told end ends)) r)
@@ -258,7 +260,7 @@ allocated_again response ignored grants ends r i g e =
     ∙ ap (from_ends response ignored grants) (ap (times_at (length ends) end_at) (sym (append-nil (flat_map end ends))) ∙ ends_again ends [] e.each)
 
 abbrev reply_from : Allocated → Reply 2
-reply_from x = Allocate (record { response = x.0.0; ignored = x.0.1; grants = record { items = x.1.0 }; ends = record { items = x.1.1 } })
+reply_from x = Allocate (record { response = x.0.0; ignored = x.0.1; grants = x.1.0; ends = x.1.1 })
 
 -- ---- what a Heartbeat gives
 
@@ -279,40 +281,28 @@ is_beat = is_pair _ _ _ _ _ _ is_u32 (is_pair (number_at w16) (to_be_bytes w16) 
 
 -- ---- what a ClusterInfo gives
 
-abbrev Counts : Type 0
-Counts = ℕ × (ℕ × ℕ)
-
-abbrev FitsCounts : Counts → Type 0
-FitsCounts x = (x.0 < 2 ^ 32) × ((x.1.0 < 2 ^ 32) × (x.1.1 < 2 ^ 32))
-
-abbrev counts_of : Counts → List ℕ
-counts_of x = counts x.0 x.1.0 x.1.1
-
-abbrev counts_at : List ℕ → Option (Counts × List ℕ)
-counts_at bytes = pair_at (number_at w32) (pair_at (number_at w32) (number_at w32)) bytes
-
-is_counts : IsField counts_at counts_of FitsCounts
-unfolding counts
-is_counts =
-    is_pair (number_at w32) (to_be_bytes w32) (λ n. n < 2 ^ 32) (pair_at (number_at w32) (number_at w32)) (λ y. to_be_bytes w32 y.0 ++ to_be_bytes w32 y.1) (λ y. (y.0 < 2 ^ 32) × (y.1 < 2 ^ 32)) is_u32
-    (is_pair (number_at w32) (to_be_bytes w32) (λ n. n < 2 ^ 32) (number_at w32) (to_be_bytes w32) (λ n. n < 2 ^ 32) is_u32 is_u32)
-
+-- nodes, applications and containers, totals and use
 abbrev Info : Type 0
-Info = Counts × (List ℕ × List ℕ)
+Info = (((ℕ × ℕ) × ℕ) × List ℕ) × List ℕ
 
 abbrev FitsInfo : Info → Type 0
-FitsInfo x = FitsCounts x.0 × (IsResource 2 x.1.0 × IsSum 2 x.1.1)
+FitsInfo x = ((((x.0.0.0.0 < 2 ^ 32) × (x.0.0.0.1 < 2 ^ 32)) × (x.0.0.1 < 2 ^ 32)) × IsResource 2 x.0.1) × IsSum 2 x.1
 
 abbrev info_of : Info → List ℕ
-info_of x = counts_of x.0 ++ (resource x.1.0 ++ resource x.1.1)
+info_of x = (((to_be_bytes w32 x.0.0.0.0 ++ to_be_bytes w32 x.0.0.0.1) ++ to_be_bytes w32 x.0.0.1) ++ resource x.0.1) ++ resource x.1
 
 abbrev info_at : List ℕ → Option (Info × List ℕ)
-info_at bytes = pair_at counts_at (pair_at (amounts_at 2 amount_max) (amounts_at 2 sum_max)) bytes
+info_at bytes = pair_at (pair_at (pair_at (pair_at (number_at w32) (number_at w32)) (number_at w32)) (amounts_at 2 amount_max)) (amounts_at 2 sum_max) bytes
 
 is_info : IsField info_at info_of FitsInfo
 is_info =
-    is_pair counts_at counts_of FitsCounts (pair_at (amounts_at 2 amount_max) (amounts_at 2 sum_max)) (λ y. resource y.0 ++ resource y.1) (λ y. IsResource 2 y.0 × IsSum 2 y.1) is_counts
-    (is_pair (amounts_at 2 amount_max) resource (IsResource 2) (amounts_at 2 sum_max) resource (IsSum 2) (is_amounts 2 amount_max (omega arith)) (is_amounts 2 sum_max (omega arith)))
+    is_pair _ _ _ _ _ _
+    (is_pair _ _ _ _ _ _
+    (is_pair _ _ _ _ _ _
+    (is_pair (number_at w32) (to_be_bytes w32) (λ n. n < 2 ^ 32) (number_at w32) (to_be_bytes w32) (λ n. n < 2 ^ 32) is_u32 is_u32)
+    is_u32)
+    (is_amounts 2 amount_max (omega arith)))
+    (is_amounts 2 sum_max (omega arith))
 
 -- ---- what follows the status
 
@@ -329,7 +319,10 @@ abbrev lost : ℕ → Option (Reply 2)
 lost ended = Some (NodeGone ended)
 
 abbrev reported : Report → Option (Reply 2)
-reported x = Some (QueueInfo x.0.0.0.0.0 x.0.0.0.0.1 x.0.0.0.1 (maximum_of x.0.0.1) x.0.1 x.1)
+reported x = Some (QueueInfo (record { running = x.0.0.0.0.0; leaf = x.0.0.0.0.1; guaranteed = x.0.0.0.1; maximum = maximum_of x.0.0.1; used = x.0.1; applications = x.1 }))
+
+abbrev informed : Info → Option (Reply 2)
+informed x = Some (ClusterInfo (record { nodes = x.0.0.0.0; applications = x.0.0.0.1; containers = x.0.0.1; totals = x.0.1; used = x.1 }))
 
 abbrev granted_at : ℕ → List ℕ → Option (Reply 2)
 granted_at kind bytes =
@@ -342,7 +335,7 @@ granted_at kind bytes =
     if kind == 7 then (all_at (number_at w32) bytes >>= lost) else
     if kind == 8 then (all_at report_at bytes >>= reported) else
     if kind == 9 then (if length bytes == 0 then Some SetQueueState else None) else
-    if kind == 10 then (all_at info_at bytes >>= λ x. Some (ClusterInfo x.0.0 x.0.1.0 x.0.1.1 x.1.0 x.1.1)) else
+    if kind == 10 then (all_at info_at bytes >>= informed) else
     None
 
 abbrev reply_body_at : ℕ → List ℕ → Option (Reply 2)
@@ -351,23 +344,8 @@ reply_body_at kind bytes = do
   if status.0 == 0 then granted_at kind status.1 else (refusal_at status.0 >>= λ refusal. Some (Refused refusal))
 
 refused_again : (kind : ℕ) (refusal : Refusal) → reply_body_at kind (status_of refusal ∷ []) ≡ Some (Refused refusal)
-refused_again kind UnknownQueue = refl
-refused_again kind NotLeaf = refl
-refused_again kind QueueStopped = refl
-refused_again kind TooManyApplications = refl
-refused_again kind UnknownApplication = refl
-refused_again kind AlreadyRegistered = refl
-refused_again kind NotRegistered = refl
-refused_again kind BadResponseId = refl
-refused_again kind AskTooLarge = refl
-refused_again kind TooManyAsks = refl
-refused_again kind UnknownNode = refl
-refused_again kind HostTaken = refl
-refused_again kind TotalTooLarge = refl
-refused_again kind TooManyNodes = refl
-refused_again kind ZeroResource = refl
-refused_again kind NumbersSpent = refl
 refused_again kind NoMemory = refl
+refused_again kind _ = refl
 
 node_again : (node : ℕ) → node < 2 ^ 64 → granted_at 5 (to_be_bytes w64 node) ≡ Some (RegisterNode node)
 node_again node fits = ap (λ (o : Option ℕ). o >>= registered) (all_again (number_at w64) (to_be_bytes w64) (λ n. n < 2 ^ 64) is_u64 node fits)
@@ -380,11 +358,11 @@ bounds_again minimum maximum a b =
     let x : Bounds = (minimum, maximum) in
     ap (λ (o : Option Bounds). o >>= λ x. Some (RegisterMaster x.0 x.1)) (all_again bounds_at bounds_of FitsBounds is_bounds x (a, b))
 
-allocate_again : (r : AllocateReply 2) → FitsAllocated r → granted_at 3 (allocated r) ≡ Some (Allocate r)
+allocate_again : (r : AllocateReply) → FitsAllocated r → granted_at 3 (allocated r) ≡ Some (Allocate r)
 unfolding allocated
 allocate_again r fits =
     ap (λ (o : Option (Allocated × List ℕ)). (o >>= λ x. if length x.1 == 0 then Some x.0 else None) >>= λ x. Some (reply_from x))
-    (allocated_again r.response r.ignored r.grants.items r.ends.items fits.response fits.ignored fits.grants fits.ends)
+    (allocated_again r.response r.ignored r.grants r.ends fits.response fits.ignored fits.grants fits.ends)
 
 finish_again : (ended : ℕ) → ended < 2 ^ 32 → granted_at 4 (to_be_bytes w32 ended) ≡ Some (FinishMaster ended)
 finish_again ended fits = ap (λ (o : Option ℕ). o >>= finished) (all_again (number_at w32) (to_be_bytes w32) (λ n. n < 2 ^ 32) is_u32 ended fits)
@@ -401,11 +379,11 @@ lost_again ended fits = ap (λ (o : Option ℕ). o >>= lost) (all_again (number_
 report_again : (x : Report) → FitsReport x → granted_at 8 (report_of x) ≡ reported x
 report_again x fits = ap (λ (o : Option Report). o >>= reported) (all_again report_at report_of FitsReport is_report x fits)
 
-info_again : (x : Info) → FitsInfo x → granted_at 10 (info_of x) ≡ Some (ClusterInfo x.0.0 x.0.1.0 x.0.1.1 x.1.0 x.1.1)
-info_again x fits = rw (all_again info_at info_of FitsInfo is_info x fits) refl
+info_again : (x : Info) → FitsInfo x → granted_at 10 (info_of x) ≡ informed x
+info_again x fits = ap (λ (o : Option Info). o >>= informed) (all_again info_at info_of FitsInfo is_info x fits)
 
 reply_body_again : (kind : ℕ) (reply : Reply 2) → IsOfKind kind reply → FitsReply reply → reply_body_at kind (reply_body reply) ≡ Some reply
-unfolding queue_report
+unfolding queue_report cluster_report
 reply_body_again kind (Refused refusal) of_kind fits = refused_again kind refusal
 reply_body_again kind (Submit application) of_kind fits = rw of_kind (application_again application fits)
 reply_body_again kind (RegisterMaster minimum maximum) of_kind fits = rw of_kind (bounds_again minimum maximum fits.0 fits.1)
@@ -414,15 +392,13 @@ reply_body_again kind (FinishMaster ended) of_kind fits = rw of_kind (finish_aga
 reply_body_again kind (RegisterNode node) of_kind fits = rw of_kind (node_again node fits)
 reply_body_again kind (Heartbeat reply) of_kind fits = rw of_kind (beat_again reply fits)
 reply_body_again kind (NodeGone ended) of_kind fits = rw of_kind (lost_again ended fits)
-reply_body_again kind (QueueInfo running leaf guaranteed maximum used applications) of_kind fits =
-    let x : Report = (((((running, leaf), guaranteed), limit_to maximum), used), applications) in
-    let ok : FitsReport x = (((((tt, tt), fits.0), limit_fits maximum fits.1), fits.2), fits.3) in
-    rw of_kind (report_again x ok ∙ ap (λ (m : Option (List ℕ)). Some (QueueInfo running leaf guaranteed m used applications)) (maximum_again maximum))
+reply_body_again kind (QueueInfo r) of_kind fits =
+    let x : Report = (((((r.running, r.leaf), r.guaranteed), limit_to r.maximum), r.used), r.applications) in
+    let ok : FitsReport x = (((((tt, tt), fits.guaranteed), limit_fits r.maximum fits.maximum), fits.used), fits.applications) in
+    rw of_kind (report_again x ok ∙ ap (λ (m : Option (List ℕ)). Some (QueueInfo (record r { maximum = m }))) (maximum_again r.maximum))
 reply_body_again kind SetQueueState of_kind fits = rw of_kind refl
-reply_body_again kind (ClusterInfo nodes applications containers totals used) of_kind fits =
-    let x : Info = ((nodes, (applications, containers)), (totals, used)) in
-    let ok : FitsInfo x = ((fits.0, (fits.1, fits.2)), (fits.3, fits.4)) in
-    rw of_kind (ap (granted_at 10) (append_assoc (counts nodes applications containers) (resource totals) (resource used)) ∙ info_again x ok)
+reply_body_again kind (ClusterInfo r) of_kind fits =
+    rw of_kind (info_again ((((r.nodes, r.applications), r.containers), r.totals), r.used) ((((fits.nodes, fits.applications), fits.containers), fits.totals), fits.used))
 
 -- ---- the whole
 

@@ -10,8 +10,9 @@ use Rattle.cap_model.specs.declared.request.Request.TheVariants.{Submit, Registe
 use Rattle.cap_messages.specs.declared.fault.MessageFault.{MessageFault}
 use Rattle.cap_messages.specs.declared.fault.MessageFault.TheVariants as faults
 use Rattle.cap_messages.specs.Texts.{is_host, is_rack, is_path, is_user, is_place}
-use Rattle.cap_model.specs.Calls.{Ask}
-use Rattle.cap_messages.specs.Spelling.{asks_max, numbers_max, listed, FitsListed, ask, FitsAsk, FitsNumber, text, resource, flag, kind_of, request_body, FitsRequest, request_bytes, IsRequest, IsNoRequest}
+use Rattle.cap_model.specs.Asks.{Ask}
+use Rattle.cap_model.specs.Limits.{asks_max, numbers_max}
+use Rattle.cap_messages.specs.Spelling.{listed, FitsListed, ask, FitsAsk, FitsNumber, text, resource, flag, kind_of, request_body, FitsRequest, request_bytes, IsRequest, IsNoRequest}
 use Rattle.cap_messages.specs.Fields.{◌>>=◌, number_at, byte_at, text_at, flag_at, amounts_at, pair_at, passing_at, all_at, counted_at}
 use Rattle.cap_messages.specs.Submit.{submission_at, submit_at}
 use Rattle.cap_messages.specs.MasterCalls.{register_master_at, finish_master_at, wish_at, ask_of, ask_at, wishes_at, allocate_at}
@@ -356,17 +357,9 @@ body_again (QueueInfo path) fits = queue_info_again path fits
 body_again (SetQueueState path running) fits = set_queue_state_again path running fits
 body_again ClusterInfo fits = cluster_info_again
 
-kind_fits : (r : Request 2) → kind_of r < 256
-kind_fits (Submit path user) = omega arith
-kind_fits (RegisterMaster application) = omega arith
-kind_fits (Allocate application response asks releases) = omega arith
-kind_fits (FinishMaster application) = omega arith
-kind_fits (RegisterNode host rack total) = omega arith
-kind_fits (Heartbeat node response ended) = omega arith
-kind_fits (NodeGone node) = omega arith
-kind_fits (QueueInfo path) = omega arith
-kind_fits (SetQueueState path running) = omega arith
+pub kind_fits : (r : Request 2) → kind_of r < 256
 kind_fits ClusterInfo = omega arith
+kind_fits _ = omega arith
 
 -- ---- the whole
 

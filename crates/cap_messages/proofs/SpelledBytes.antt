@@ -10,17 +10,20 @@ use Rattle.cap_vector.specs.Vector.{zeros}
 use Rattle.cap_model.specs.Texts.{is_graphic, is_text}
 use Rattle.cap_model.specs.Refusals.{status_of}
 use Rattle.cap_model.specs.declared.refusal.Refusal.{Refusal}
-use Rattle.cap_model.specs.declared.refusal.Refusal.TheVariants.{UnknownQueue, NotLeaf, QueueStopped, TooManyApplications, UnknownApplication, AlreadyRegistered, NotRegistered, BadResponseId, AskTooLarge, TooManyAsks, UnknownNode, HostTaken, TotalTooLarge, TooManyNodes, ZeroResource, NumbersSpent, NoMemory}
 use Rattle.cap_model.specs.declared.request.Request.{Request}
-use Rattle.cap_model.specs.declared.request.Request.TheVariants as requests
 use Rattle.cap_model.specs.declared.reply.Reply.{Reply}
-use Rattle.cap_model.specs.declared.reply.Reply.TheVariants as replies
 use Rattle.cap_messages.specs.Texts.{is_host, is_rack}
-use Rattle.cap_model.specs.Calls.{Ask, GrantedContainer, EndedContainer, Cause, HeartbeatReply}
-use Rattle.cap_model.specs.News.{cause_number}
-use Rattle.cap_model.specs.declared.replies.AllocateReply.{AllocateReply}
-use Rattle.cap_messages.specs.Spelling.{listed, FitsListed, ask, FitsAsk, told_max, told, grant, FitsGrant, end, FitsEnd, allocated, FitsAllocated, beat, FitsReply, text, resource, flag, limit, counts, queue_report, kind_of, request_body, request_bytes, FitsRequest, reply_body, reply_bytes}
+use Rattle.cap_model.specs.Asks.{Ask}
+use Rattle.cap_model.specs.News.{Grant, AllocateReply, cause_number}
+use Rattle.cap_model.specs.declared.report.QueueReport.{QueueReport}
+use Rattle.cap_model.specs.declared.report.ClusterReport.{ClusterReport}
+use Rattle.cap_model.specs.declared.news.End.{End}
+use Rattle.cap_model.specs.declared.news.Cause.{Cause}
+use Rattle.cap_model.specs.declared.replies.HeartbeatReply.{HeartbeatReply}
+use Rattle.cap_model.specs.Limits.{news_max}
+use Rattle.cap_messages.specs.Spelling.{listed, FitsListed, ask, FitsAsk, told, grant, FitsGrant, end, FitsEnd, allocated, FitsAllocated, beat, FitsReply, text, resource, flag, limit, queue_report, cluster_report, kind_of, request_body, request_bytes, FitsRequest, reply_body, reply_bytes}
 use Rattle.cap_messages.specs.Laws.{IsBytes}
+use Rattle.cap_messages.proofs.RequestLaws.{kind_fits}
 
 abbrev Small : ℕ → Type 0
 Small b = b < 256
@@ -67,10 +70,6 @@ amounts : (v : List ℕ) → IsBytes (resource v)
 unfolding resource
 amounts v = each_amount v
 
-three_counts : (a b c : ℕ) → IsBytes (counts a b c)
-unfolding counts
-three_counts a b c = both (to_be_bytes w32 a ++ to_be_bytes w32 b) (to_be_bytes w32 c) (both (to_be_bytes w32 a) (to_be_bytes w32 b) (word a) (word b)) (word c)
-
 a_flag : (holds : Bool) → IsBytes (flag holds)
 a_flag false = one 0 [] (omega arith) (All-nil Small)
 a_flag true = one 1 [] (omega arith) (All-nil Small)
@@ -78,17 +77,29 @@ a_flag true = one 1 [] (omega arith) (All-nil Small)
 a_limit : (maximum : Option (List ℕ)) → IsBytes (limit maximum)
 a_limit maximum = both (flag (is_some maximum)) (resource (unwrap_or maximum (zeros 2))) (a_flag (is_some maximum)) (amounts (unwrap_or maximum (zeros 2)))
 
-report : (running leaf : Bool) (guaranteed : List ℕ) (maximum : Option (List ℕ)) (used : List ℕ) (applications : ℕ) → IsBytes (queue_report running leaf guaranteed maximum used applications)
+a_queue : (r : QueueReport 2) → IsBytes (queue_report r)
 unfolding queue_report
-report running leaf guaranteed maximum used applications =
-    let flags = flag running ++ flag leaf in
-    both (flags ++ resource guaranteed ++ limit maximum ++ resource used) (to_be_bytes w32 applications)
-    (both (flags ++ resource guaranteed ++ limit maximum) (resource used)
-    (both (flags ++ resource guaranteed) (limit maximum)
-    (both flags (resource guaranteed) (both (flag running) (flag leaf) (a_flag running) (a_flag leaf)) (amounts guaranteed))
-    (a_limit maximum))
-    (amounts used))
-    (word applications)
+a_queue r =
+    let flags = flag r.running ++ flag r.leaf in
+    both (flags ++ resource r.guaranteed ++ limit r.maximum ++ resource r.used) (to_be_bytes w32 r.applications)
+    (both (flags ++ resource r.guaranteed ++ limit r.maximum) (resource r.used)
+    (both (flags ++ resource r.guaranteed) (limit r.maximum)
+    (both flags (resource r.guaranteed) (both (flag r.running) (flag r.leaf) (a_flag r.running) (a_flag r.leaf)) (amounts r.guaranteed))
+    (a_limit r.maximum))
+    (amounts r.used))
+    (word r.applications)
+
+a_cluster : (r : ClusterReport 2) → IsBytes (cluster_report r)
+unfolding cluster_report
+a_cluster r =
+    let counts = to_be_bytes w32 r.nodes ++ to_be_bytes w32 r.applications ++ to_be_bytes w32 r.containers in
+    both (counts ++ resource r.totals) (resource r.used)
+    (both counts (resource r.totals)
+    (both (to_be_bytes w32 r.nodes ++ to_be_bytes w32 r.applications) (to_be_bytes w32 r.containers)
+    (both (to_be_bytes w32 r.nodes) (to_be_bytes w32 r.applications) (word r.nodes) (word r.applications))
+    (word r.containers))
+    (amounts r.totals))
+    (amounts r.used)
 
 two : (n : ℕ) → IsBytes (to_be_bytes w16 n)
 two n = All-from_recursion Small (to_be_bytes w16 n) (small _, (small _, tt))
@@ -109,10 +120,10 @@ an_ask a fits =
     (both (to_be_bytes w32 a.count) (resource a.resource ++ text a.place) (word a.count)
     (both (resource a.resource) (text a.place) (amounts a.resource) (a_text 64 a.place (omega arith) fits.place))))
 
-a_told : {A : Type 0} (spell : A → List ℕ) (F : A → Type 0) → ((x : A) → F x → IsBytes (spell x)) → (xs : List A) → FitsListed told_max F xs → IsBytes (told spell xs)
+a_told : {A : Type 0} (spell : A → List ℕ) (F : A → Type 0) → ((x : A) → F x → IsBytes (spell x)) → (xs : List A) → FitsListed news_max F xs → IsBytes (told spell xs)
 a_told spell F is xs fits = let few : length xs ≤ 64 = fits.few in one (length xs) (flat_map spell xs) (omega (arith, few)) (each_of spell F is xs fits.each)
 
-a_grant : (g : GrantedContainer) → FitsGrant g → IsBytes (grant g)
+a_grant : (g : Grant) → FitsGrant g → IsBytes (grant g)
 unfolding grant
 a_grant g fits =
     both (to_be_bytes w64 g.container) (to_be_bytes w32 g.key.priority ++ (to_be_bytes w64 g.key.request ++ (to_be_bytes w64 g.node ++ (text g.host ++ resource g.resource)))) (long g.container)
@@ -122,93 +133,61 @@ a_grant g fits =
     (both (text g.host) (resource g.resource) (a_text 64 g.host (omega arith) fits.host) (amounts g.resource)))))
 
 a_cause : (c : Cause) → cause_number c < 256
-a_cause Cause.released = omega arith
-a_cause Cause.ended_on_node = omega arith
-a_cause Cause.node_lost = omega arith
+a_cause Cause.Released = omega arith
+a_cause Cause.EndedOnNode = omega arith
+a_cause Cause.NodeLost = omega arith
 
-an_end : (e : EndedContainer) → FitsEnd e → IsBytes (end e)
+an_end : (e : End) → FitsEnd e → IsBytes (end e)
 unfolding end
 an_end e fits = both (to_be_bytes w64 e.container) (cause_number e.cause ∷ []) (long e.container) (one (cause_number e.cause) [] (a_cause e.cause) (All-nil Small))
 
-an_allocated : (r : AllocateReply 2) → FitsAllocated r → IsBytes (allocated r)
+an_allocated : (r : AllocateReply) → FitsAllocated r → IsBytes (allocated r)
 unfolding allocated
 an_allocated r fits =
-    both (to_be_bytes w32 r.response) (to_be_bytes w16 r.ignored ++ (told grant r.grants.items ++ told end r.ends.items)) (word r.response)
-    (both (to_be_bytes w16 r.ignored) (told grant r.grants.items ++ told end r.ends.items) (two r.ignored)
-    (both (told grant r.grants.items) (told end r.ends.items) (a_told grant FitsGrant a_grant r.grants.items fits.grants) (a_told end FitsEnd an_end r.ends.items fits.ends)))
+    both (to_be_bytes w32 r.response) (to_be_bytes w16 r.ignored ++ (told grant r.grants ++ told end r.ends)) (word r.response)
+    (both (to_be_bytes w16 r.ignored) (told grant r.grants ++ told end r.ends) (two r.ignored)
+    (both (told grant r.grants) (told end r.ends) (a_told grant FitsGrant a_grant r.grants fits.grants) (a_told end FitsEnd an_end r.ends fits.ends)))
 
 a_beat : (r : HeartbeatReply) → IsBytes (beat r)
 unfolding beat
 a_beat r = both (to_be_bytes w32 r.response) (to_be_bytes w16 r.ignored ++ to_be_bytes w32 r.live) (word r.response) (both (to_be_bytes w16 r.ignored) (to_be_bytes w32 r.live) (two r.ignored) (word r.live))
 
-kind_small : (r : Request 2) → kind_of r < 256
-kind_small (requests.Submit path user) = omega arith
-kind_small (requests.RegisterMaster application) = omega arith
-kind_small (requests.Allocate application response asks releases) = omega arith
-kind_small (requests.FinishMaster application) = omega arith
-kind_small (requests.RegisterNode host rack total) = omega arith
-kind_small (requests.Heartbeat node response ended) = omega arith
-kind_small (requests.NodeGone node) = omega arith
-kind_small (requests.QueueInfo path) = omega arith
-kind_small (requests.SetQueueState path running) = omega arith
-kind_small requests.ClusterInfo = omega arith
-
 body_bytes : (r : Request 2) → FitsRequest r → IsBytes (request_body r)
-body_bytes (requests.Submit path user) fits = both (text path) (text user) (a_text 255 path (omega arith) fits.0) (a_text 64 user (omega arith) fits.1)
-body_bytes (requests.RegisterMaster application) fits = long application
-body_bytes (requests.Allocate application response asks releases) fits =
+body_bytes (Request.Submit path user) fits = both (text path) (text user) (a_text 255 path (omega arith) fits.0) (a_text 64 user (omega arith) fits.1)
+body_bytes (Request.RegisterMaster application) fits = long application
+body_bytes (Request.Allocate application response asks releases) fits =
     both (to_be_bytes w64 application) (to_be_bytes w32 response ++ (listed ask asks ++ listed (to_be_bytes w64) releases)) (long application)
     (both (to_be_bytes w32 response) (listed ask asks ++ listed (to_be_bytes w64) releases) (word response)
     (both (listed ask asks) (listed (to_be_bytes w64) releases) (a_list _ ask FitsAsk an_ask asks fits.2) (a_list _ (to_be_bytes w64) _ (λ n f. long n) releases fits.3)))
-body_bytes (requests.FinishMaster application) fits = long application
-body_bytes (requests.RegisterNode host rack total) fits =
+body_bytes (Request.FinishMaster application) fits = long application
+body_bytes (Request.RegisterNode host rack total) fits =
     both (text host) (text rack ++ resource total) (a_text 64 host (omega arith) (host_is_text host fits.0)) (both (text rack) (resource total) (a_text 64 rack (omega arith) (rack_is_text rack fits.1)) (amounts total))
-body_bytes (requests.Heartbeat node response ended) fits =
+body_bytes (Request.Heartbeat node response ended) fits =
     both (to_be_bytes w64 node) (to_be_bytes w32 response ++ listed (to_be_bytes w64) ended) (long node) (both (to_be_bytes w32 response) (listed (to_be_bytes w64) ended) (word response) (a_list _ (to_be_bytes w64) _ (λ n f. long n) ended fits.2))
-body_bytes (requests.NodeGone node) fits = long node
-body_bytes (requests.QueueInfo path) fits = a_text 255 path (omega arith) fits
-body_bytes (requests.SetQueueState path running) fits = both (text path) (flag running) (a_text 255 path (omega arith) fits) (a_flag running)
-body_bytes requests.ClusterInfo fits = All-nil Small
+body_bytes (Request.NodeGone node) fits = long node
+body_bytes (Request.QueueInfo path) fits = a_text 255 path (omega arith) fits
+body_bytes (Request.SetQueueState path running) fits = both (text path) (flag running) (a_text 255 path (omega arith) fits) (a_flag running)
+body_bytes Request.ClusterInfo fits = All-nil Small
 
 pub request_is_bytes : (id : ℕ) (r : Request 2) → FitsRequest r → IsBytes (request_bytes id r)
-request_is_bytes id r fits = one 1 (kind_of r ∷ to_be_bytes w32 id ++ request_body r) (omega arith) (one (kind_of r) (to_be_bytes w32 id ++ request_body r) (kind_small r) (both (to_be_bytes w32 id) (request_body r) (word id) (body_bytes r fits)))
+request_is_bytes id r fits = one 1 (kind_of r ∷ to_be_bytes w32 id ++ request_body r) (omega arith) (one (kind_of r) (to_be_bytes w32 id ++ request_body r) (kind_fits r) (both (to_be_bytes w32 id) (request_body r) (word id) (body_bytes r fits)))
 
 status_small : (refusal : Refusal) → status_of refusal < 256
-status_small UnknownQueue = omega arith
-status_small NotLeaf = omega arith
-status_small QueueStopped = omega arith
-status_small TooManyApplications = omega arith
-status_small UnknownApplication = omega arith
-status_small AlreadyRegistered = omega arith
-status_small NotRegistered = omega arith
-status_small BadResponseId = omega arith
-status_small AskTooLarge = omega arith
-status_small TooManyAsks = omega arith
-status_small UnknownNode = omega arith
-status_small HostTaken = omega arith
-status_small TotalTooLarge = omega arith
-status_small TooManyNodes = omega arith
-status_small ZeroResource = omega arith
-status_small NumbersSpent = omega arith
-status_small NoMemory = omega arith
+status_small Refusal.NoMemory = omega arith
+status_small _ = omega arith
 
 reply_body_bytes : (r : Reply 2) → FitsReply r → IsBytes (reply_body r)
-reply_body_bytes (replies.Refused refusal) fits = one (status_of refusal) [] (status_small refusal) (All-nil Small)
-reply_body_bytes (replies.Submit application) fits = one 0 (to_be_bytes w64 application) (omega arith) (long application)
-reply_body_bytes (replies.RegisterMaster minimum maximum) fits = one 0 (resource minimum ++ resource maximum) (omega arith) (both (resource minimum) (resource maximum) (amounts minimum) (amounts maximum))
-reply_body_bytes (replies.Allocate reply) fits = one 0 (allocated reply) (omega arith) (an_allocated reply fits)
-reply_body_bytes (replies.FinishMaster ended) fits = one 0 (to_be_bytes w32 ended) (omega arith) (word ended)
-reply_body_bytes (replies.RegisterNode node) fits = one 0 (to_be_bytes w64 node) (omega arith) (long node)
-reply_body_bytes (replies.Heartbeat reply) fits = one 0 (beat reply) (omega arith) (a_beat reply)
-reply_body_bytes (replies.NodeGone ended) fits = one 0 (to_be_bytes w32 ended) (omega arith) (word ended)
-reply_body_bytes (replies.QueueInfo running leaf guaranteed maximum used applications) fits =
-    one 0 (queue_report running leaf guaranteed maximum used applications) (omega arith) (report running leaf guaranteed maximum used applications)
-reply_body_bytes replies.SetQueueState fits = one 0 [] (omega arith) (All-nil Small)
-reply_body_bytes (replies.ClusterInfo nodes applications containers totals used) fits =
-    one 0 (counts nodes applications containers ++ resource totals ++ resource used) (omega arith)
-    (both (counts nodes applications containers ++ resource totals) (resource used)
-    (both (counts nodes applications containers) (resource totals) (three_counts nodes applications containers) (amounts totals))
-    (amounts used))
+reply_body_bytes (Reply.Refused refusal) fits = one (status_of refusal) [] (status_small refusal) (All-nil Small)
+reply_body_bytes (Reply.Submit application) fits = one 0 (to_be_bytes w64 application) (omega arith) (long application)
+reply_body_bytes (Reply.RegisterMaster minimum maximum) fits = one 0 (resource minimum ++ resource maximum) (omega arith) (both (resource minimum) (resource maximum) (amounts minimum) (amounts maximum))
+reply_body_bytes (Reply.Allocate reply) fits = one 0 (allocated reply) (omega arith) (an_allocated reply fits)
+reply_body_bytes (Reply.FinishMaster ended) fits = one 0 (to_be_bytes w32 ended) (omega arith) (word ended)
+reply_body_bytes (Reply.RegisterNode node) fits = one 0 (to_be_bytes w64 node) (omega arith) (long node)
+reply_body_bytes (Reply.Heartbeat reply) fits = one 0 (beat reply) (omega arith) (a_beat reply)
+reply_body_bytes (Reply.NodeGone ended) fits = one 0 (to_be_bytes w32 ended) (omega arith) (word ended)
+reply_body_bytes (Reply.QueueInfo report) fits = one 0 (queue_report report) (omega arith) (a_queue report)
+reply_body_bytes Reply.SetQueueState fits = one 0 [] (omega arith) (All-nil Small)
+reply_body_bytes (Reply.ClusterInfo report) fits = one 0 (cluster_report report) (omega arith) (a_cluster report)
 
 pub reply_is_bytes : (id kind : ℕ) (r : Reply 2) → kind < 256 → FitsReply r → IsBytes (reply_bytes id kind r)
 reply_is_bytes id kind r lt fits = one 1 (kind ∷ to_be_bytes w32 id ++ reply_body r) (omega arith) (one kind (to_be_bytes w32 id ++ reply_body r) lt (both (to_be_bytes w32 id) (reply_body r) (word id) (reply_body_bytes r fits)))

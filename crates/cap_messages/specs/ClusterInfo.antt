@@ -1,7 +1,6 @@
 -- Reading the body of a ClusterInfo.
 use Rattle.std.specs.Prelude.{ℕ, List, length, Option, Some, None, ◌==◌, if◌then◌else◌}
 use Rattle.cap_model.specs.declared.request.Request.{Request}
-use Rattle.cap_model.specs.declared.request.Request.TheVariants as requests
 
 unfoldable pub cluster_info_at : List ℕ → Option (Request 2)
-cluster_info_at bytes = if length bytes == 0 then Some requests.ClusterInfo else None
+cluster_info_at bytes = if length bytes == 0 then Some Request.ClusterInfo else None

@@ -2,22 +2,21 @@
 use Rattle.std.specs.Prelude.{ℕ, List, Option, Some}
 use Rattle.std.specs.Int.{w32, w64}
 use Rattle.cap_vector.specs.Vector.{amount_max}
-use Rattle.cap_model.specs.Calls.{Ask}
+use Rattle.cap_model.specs.Asks.{Ask}
 use Rattle.cap_model.specs.declared.request.Request.{Request}
-use Rattle.cap_model.specs.declared.request.Request.TheVariants as requests
 use Rattle.cap_messages.specs.Fields.{◌>>=◌, pair_at, passing_at, all_at, counted_at, number_at, text_at, amounts_at}
 use Rattle.cap_messages.specs.Texts.{is_place}
-use Rattle.cap_messages.specs.Spelling.{asks_max, numbers_max}
+use Rattle.cap_model.specs.Limits.{asks_max, numbers_max}
 
 unfoldable pub register_master_at : List ℕ → Option (Request 2)
 register_master_at bytes = do
   application ← all_at (number_at w64) bytes
-  Some (requests.RegisterMaster application)
+  Some (Request.RegisterMaster application)
 
 unfoldable pub finish_master_at : List ℕ → Option (Request 2)
 finish_master_at bytes = do
   application ← all_at (number_at w64) bytes
-  Some (requests.FinishMaster application)
+  Some (Request.FinishMaster application)
 
 -- priority, request id, count, resource and place
 abbrev pub wish_at : List ℕ → Option ((ℕ × (ℕ × (ℕ × (List ℕ × List ℕ)))) × List ℕ)
@@ -38,4 +37,4 @@ wishes_at bytes = pair_at (number_at w64) (pair_at (number_at w32) (pair_at (cou
 unfoldable pub allocate_at : List ℕ → Option (Request 2)
 allocate_at bytes = do
   x ← all_at wishes_at bytes
-  Some (requests.Allocate x.0 x.1.0 x.1.1.0 x.1.1.1)
+  Some (Request.Allocate x.0 x.1.0 x.1.1.0 x.1.1.1)

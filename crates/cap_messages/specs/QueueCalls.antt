@@ -1,7 +1,6 @@
 -- Reading the bodies of a QueueInfo and a SetQueueState.
 use Rattle.std.specs.Prelude.{ℕ, List, Option, Some, Bool}
 use Rattle.cap_model.specs.declared.request.Request.{Request}
-use Rattle.cap_model.specs.declared.request.Request.TheVariants as requests
 use Rattle.cap_messages.specs.Fields.{◌>>=◌, pair_at, passing_at, all_at, text_at, flag_at}
 use Rattle.cap_messages.specs.Texts.{is_path}
 
@@ -11,7 +10,7 @@ path_at bytes = passing_at is_path text_at bytes
 unfoldable pub queue_info_at : List ℕ → Option (Request 2)
 queue_info_at bytes = do
   path ← all_at path_at bytes
-  Some (requests.QueueInfo path)
+  Some (Request.QueueInfo path)
 
 -- path, and whether the queue shall run
 abbrev pub queue_state_at : List ℕ → Option ((List ℕ × Bool) × List ℕ)
@@ -20,4 +19,4 @@ queue_state_at bytes = pair_at path_at flag_at bytes
 unfoldable pub set_queue_state_at : List ℕ → Option (Request 2)
 set_queue_state_at bytes = do
   x ← all_at queue_state_at bytes
-  Some (requests.SetQueueState x.0 x.1)
+  Some (Request.SetQueueState x.0 x.1)

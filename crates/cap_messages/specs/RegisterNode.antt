@@ -2,7 +2,6 @@
 use Rattle.std.specs.Prelude.{ℕ, List, Option, Some}
 use Rattle.cap_vector.specs.Vector.{amount_max}
 use Rattle.cap_model.specs.declared.request.Request.{Request}
-use Rattle.cap_model.specs.declared.request.Request.TheVariants as requests
 use Rattle.cap_messages.specs.Fields.{◌>>=◌, pair_at, passing_at, all_at, text_at, amounts_at}
 use Rattle.cap_messages.specs.Texts.{is_host, is_rack}
 
@@ -13,4 +12,4 @@ registration_at bytes = pair_at (passing_at is_host text_at) (pair_at (passing_a
 unfoldable pub register_node_at : List ℕ → Option (Request 2)
 register_node_at bytes = do
   x ← all_at registration_at bytes
-  Some (requests.RegisterNode x.0 x.1.0 x.1.1)
+  Some (Request.RegisterNode x.0 x.1.0 x.1.1)

@@ -1,7 +1,6 @@
 -- Reading the body of a Submit.
 use Rattle.std.specs.Prelude.{ℕ, List, Option, Some}
 use Rattle.cap_model.specs.declared.request.Request.{Request}
-use Rattle.cap_model.specs.declared.request.Request.TheVariants as requests
 use Rattle.cap_messages.specs.Fields.{◌>>=◌, pair_at, passing_at, all_at, text_at}
 use Rattle.cap_messages.specs.Texts.{is_path, is_user}
 
@@ -12,4 +11,4 @@ submission_at bytes = pair_at (passing_at is_path text_at) (passing_at is_user t
 unfoldable pub submit_at : List ℕ → Option (Request 2)
 submit_at bytes = do
   x ← all_at submission_at bytes
-  Some (requests.Submit x.0 x.1)
+  Some (Request.Submit x.0 x.1)

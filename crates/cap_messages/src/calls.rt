@@ -1,4 +1,4 @@
-ghost use Rattle.cap_model.specs.Runs.{Replies};
+ghost use Rattle.cap_model.specs.Replies.{Replies};
 ghost use Rattle.cap_messages.specs.Spelling.{IsOfKind, kind_of};
 
 use cap_commit::Cluster;
@@ -11,7 +11,7 @@ use std::alloc::Global;
 
 /// Makes the call that the request names, and answers it. A refusal changes nothing, and neither does want of memory.
 pub fn dispatch(_alloc: Global, cluster: &mut Cluster<2>, request: &Request<2>) -> Reply<2>
-    ensures replies { Replies cluster.old request.now result cluster.new }
+    ensures replies { Replies cluster.old.flat request.now result cluster.new.flat }
     ensures kind { IsOfKind (kind_of request.now) result }
 {
     match request {

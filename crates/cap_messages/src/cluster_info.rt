@@ -1,11 +1,11 @@
 ghost use Rattle.std.specs.Prelude.{◌≡◌, ◌≤◌, ◌+◌, ◌++◌, length};
 ghost use Rattle.cap_messages.specs.Fields.{Gives};
 ghost use Rattle.cap_messages.specs.ClusterInfo.{cluster_info_at};
-ghost use Rattle.cap_messages.specs.Spelling.{counts};
+ghost use Rattle.cap_messages.specs.Spelling.{cluster_report, FitsClusterReport};
 
 use crate::fault::MessageFault;
-use crate::output::Out;
-use cap_model::Request;
+use crate::output::{Out, put_amounts};
+use cap_model::{ClusterReport, Request};
 
 // The body of a ClusterInfo, which is empty.
 #[tactic(auto, unfolding(crate::specs::ClusterInfo::cluster_info_at))]
@@ -18,15 +18,18 @@ pub(crate) fn cluster_info_of(bytes: &[u8]) -> Result<Request<2>, MessageFault>
     Ok(Request::ClusterInfo)
 }
 
-// The counts with which its reply begins.
-#[tactic(auto, unfolding(crate::specs::Spelling::counts))]
-pub(crate) fn put_counts(nodes: u32, applications: u32, containers: u32, out: &mut Out)
-    requires { 12 ≤ out.old.spare }
-    ensures appends { out.new.items ≡ out.old.items ++ counts nodes applications containers }
-    ensures spare { out.new.spare + 12 ≡ out.old.spare }
-    ensures len { length (counts nodes applications containers) ≡ 12 }
+// What a ClusterInfo gives.
+#[tactic(auto, unfolding(crate::specs::Spelling::cluster_report))]
+pub(crate) fn put_cluster_report(report: &ClusterReport<2>, out: &mut Out)
+    requires { 44 ≤ out.old.spare }
+    ensures appends { out.new.items ≡ out.old.items ++ cluster_report report.now }
+    ensures spare { out.new.spare + 44 ≡ out.old.spare }
+    ensures len { length (cluster_report report.now) ≡ 44 }
+    ensures fits { FitsClusterReport report.now }
 {
-    out.extend_reserved(&nodes.to_be_bytes());
-    out.extend_reserved(&applications.to_be_bytes());
-    out.extend_reserved(&containers.to_be_bytes());
+    out.extend_reserved(&report.nodes.to_be_bytes());
+    out.extend_reserved(&report.applications.to_be_bytes());
+    out.extend_reserved(&report.containers.to_be_bytes());
+    put_amounts(&report.totals, out);
+    put_amounts(&report.used, out);
 }

@@ -4,7 +4,7 @@ ghost use Rattle.std.specs.Int.{w16, w64};
 ghost use Rattle.cap_messages.specs.Fields.{Gives, counted_at, number_at, passing_at};
 ghost use Rattle.cap_messages.specs.MasterCalls.{ask_at};
 ghost use Rattle.cap_messages.specs.Reading.{GivesInMemory};
-ghost use Rattle.cap_messages.specs.Spelling.{asks_max, numbers_max};
+ghost use Rattle.cap_model.specs.Limits.{asks_max, numbers_max};
 
 use crate::fault::MessageFault;
 use crate::fields::{amounts_of, text_of, u16_of, u32_of, u64_of};
@@ -89,6 +89,6 @@ fn ask_of(bytes: &[u8]) -> Result<(Ask<2>, &[u8]), MessageFault>
     };
     let (place, rest) = text_of(rest)?;
     let place = place_from(place)?;
-    let ask = Ask::new(&Key::new(priority, request), count, &resource, &place);
+    let ask = Ask::new(&Key { priority, request }, count, &resource, &place);
     Ok((ask, rest))
 }

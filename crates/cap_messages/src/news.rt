@@ -1,6 +1,6 @@
 ghost use Rattle.std.specs.Prelude.{◌≡◌, ◌≤◌, ◌+◌, ◌*◌, ◌++◌, length};
 ghost use Rattle.std.specs.List.{flat_map, AllByRecursion};
-ghost use Rattle.cap_messages.specs.Spelling.{grant, end, told, told_max, allocated, beat, FitsGrant, FitsEnd, FitsListed, FitsAllocated, FitsBeat};
+ghost use Rattle.cap_messages.specs.Spelling.{grant, end, told, allocated, beat, FitsGrant, FitsEnd, FitsAllocated, FitsBeat};
 
 use crate::output::{Out, put_amounts};
 use cap_model::{AllocateReply, End, Grant, HeartbeatReply};
@@ -17,8 +17,8 @@ fn put_grant(told: &Grant<2>, out: &mut Out)
     let key = told.key();
     let host = told.host();
     out.extend_reserved(&told.container().to_be_bytes());
-    out.extend_reserved(&key.priority().to_be_bytes());
-    out.extend_reserved(&key.request().to_be_bytes());
+    out.extend_reserved(&key.priority.to_be_bytes());
+    out.extend_reserved(&key.request.to_be_bytes());
     out.extend_reserved(&told.node().to_be_bytes());
     let host = host.as_bytes();
     out.extend_reserved(&[host.len() as u8]);
@@ -48,8 +48,8 @@ fn put_end(told: &End, out: &mut Out)
     ensures len { length (end told.now) ≤ 9 }
     ensures fits { FitsEnd told.now }
 {
-    out.extend_reserved(&told.container().to_be_bytes());
-    out.extend_reserved(&[told.cause().number()]);
+    out.extend_reserved(&told.container.to_be_bytes());
+    out.extend_reserved(&[told.cause.number()]);
 }
 
 // Ends, one after the other.
@@ -91,7 +91,7 @@ pub(crate) fn put_beat(reply: &HeartbeatReply, out: &mut Out)
     ensures len { length (beat reply.now) ≡ 10 }
     ensures fits { FitsBeat reply.now }
 {
-    out.extend_reserved(&reply.response().to_be_bytes());
-    out.extend_reserved(&reply.ignored().to_be_bytes());
-    out.extend_reserved(&reply.live().to_be_bytes());
+    out.extend_reserved(&reply.response.to_be_bytes());
+    out.extend_reserved(&reply.ignored.to_be_bytes());
+    out.extend_reserved(&reply.live.to_be_bytes());
 }

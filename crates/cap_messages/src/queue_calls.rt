@@ -1,15 +1,15 @@
 ghost use Rattle.std.specs.Prelude.{◌≡◌, ◌≤◌, ◌+◌, ◌++◌, length, IfSome};
-ghost use Rattle.cap_vector.specs.Vector.{IsResource, IsSum};
+ghost use Rattle.cap_vector.specs.Vector.{IsResource};
 ghost use Rattle.cap_messages.specs.Fields.{Gives};
 ghost use Rattle.cap_messages.specs.QueueCalls.{queue_info_at, set_queue_state_at};
-ghost use Rattle.cap_messages.specs.Spelling.{limit, queue_report};
+ghost use Rattle.cap_messages.specs.Spelling.{limit, queue_report, FitsQueueReport};
 
 use crate::fault::MessageFault;
 use crate::fields::{flag_of, text_of};
 use crate::output::{Out, put_amounts};
 use crate::texts::path_from;
-use cap_model::Request;
-use cap_vector::{Resource, Sum};
+use cap_model::{QueueReport, Request};
+use cap_vector::Resource;
 
 // The body of a QueueInfo, all of the bytes.
 #[tactic(auto, unfolding(crate::specs::QueueCalls::queue_info_at))]
@@ -60,26 +60,16 @@ fn put_limit(maximum: &Option<Resource<2>>, out: &mut Out)
 
 // What a QueueInfo gives.
 #[tactic(auto, unfolding(crate::specs::Spelling::queue_report))]
-pub(crate) fn put_queue_report(
-    running: bool,
-    leaf: bool,
-    guaranteed: &Resource<2>,
-    maximum: &Option<Resource<2>>,
-    used: &Sum<2>,
-    applications: u32,
-    out: &mut Out,
-)
+pub(crate) fn put_queue_report(report: &QueueReport<2>, out: &mut Out)
     requires { 55 ≤ out.old.spare }
-    ensures appends { out.new.items ≡ out.old.items ++ queue_report running leaf guaranteed.now maximum.now used.now applications }
+    ensures appends { out.new.items ≡ out.old.items ++ queue_report report.now }
     ensures spare { out.new.spare + 55 ≡ out.old.spare }
-    ensures len { length (queue_report running leaf guaranteed.now maximum.now used.now applications) ≡ 55 }
-    ensures guaranteed { IsResource 2 guaranteed.now }
-    ensures maximum { IfSome maximum.now (IsResource 2) }
-    ensures used { IsSum 2 used.now }
+    ensures len { length (queue_report report.now) ≡ 55 }
+    ensures fits { FitsQueueReport report.now }
 {
-    out.extend_reserved(&[running as u8, leaf as u8]);
-    put_amounts(guaranteed, out);
-    put_limit(maximum, out);
-    put_amounts(used, out);
-    out.extend_reserved(&applications.to_be_bytes());
+    out.extend_reserved(&[report.running as u8, report.leaf as u8]);
+    put_amounts(&report.guaranteed, out);
+    put_limit(&report.maximum, out);
+    put_amounts(&report.used, out);
+    out.extend_reserved(&report.applications.to_be_bytes());
 }

@@ -2,7 +2,7 @@ ghost use Rattle.std.specs.Prelude.{◌≡◌, ◌≤◌, ◌<◌, ◌+◌, ◌+
 ghost use Rattle.std.specs.Int.{w32, w64, to_be_bytes};
 ghost use Rattle.cap_messages.specs.Spelling.{IsOfKind, FitsReply, IsReply, reply_bytes, reply_body, fault_reply};
 
-use crate::cluster_info::put_counts;
+use crate::cluster_info::put_cluster_report;
 use crate::news::{put_allocated, put_beat};
 use crate::output::{Out, REPLY_ROOM, put_amounts};
 use crate::queue_calls::put_queue_report;
@@ -35,37 +35,14 @@ fn put_reply_body(reply: &Reply<2>, out: &mut Out)
             put_beat(reply, out);
         }
         Reply::NodeGone { ended } => put_count(*ended, out),
-        Reply::QueueInfo {
-            running,
-            leaf,
-            guaranteed,
-            maximum,
-            used,
-            applications,
-        } => {
+        Reply::QueueInfo { report } => {
             out.extend_reserved(&[0]);
-            put_queue_report(
-                *running,
-                *leaf,
-                guaranteed,
-                maximum,
-                used,
-                *applications,
-                out,
-            );
+            put_queue_report(report, out);
         }
         Reply::SetQueueState => out.extend_reserved(&[0]),
-        Reply::ClusterInfo {
-            nodes,
-            applications,
-            containers,
-            totals,
-            used,
-        } => {
+        Reply::ClusterInfo { report } => {
             out.extend_reserved(&[0]);
-            put_counts(*nodes, *applications, *containers, out);
-            put_amounts(totals, out);
-            put_amounts(used, out);
+            put_cluster_report(report, out);
         }
     }
 }

@@ -6,11 +6,14 @@ use Rattle.std.proofs.lemmas.List.Sums.{sum_by-cons, sum_by-append}
 use Rattle.std.proofs.lemmas.List.{append_assoc, append-nil}
 use Rattle.std.proofs.lemmas.List.Elements.{filter-append}
 use Rattle.std.proofs.lemmas.List.Folds.{list_any-append}
-use Rattle.cap_model.specs.Calls.{CallRequest, CallReply, CallRefusal}
+use Rattle.cap_model.specs.declared.request.Request.{Request}
+use Rattle.cap_model.specs.declared.reply.Reply.{Reply}
+use Rattle.cap_model.specs.declared.refusal.Refusal.{Refusal}
 use Rattle.cap_model.specs.Flat.{Flat, Container}
 use Rattle.cap_model.specs.Ending.{is_among}
 use Rattle.cap_model.specs.Replies.{refused_or, refusal_of, granted_reply, granted_cluster, after_request}
-use Rattle.cap_model.specs.Events.{ClusterEvent, Step, Run, after_event, granted_by, ever_granted, ended_between, ever_ended, is_no_memory}
+use Rattle.cap_model.specs.declared.event.Event.{Event}
+use Rattle.cap_model.specs.Events.{Step, Run, after_event, granted_by, ever_granted, ended_between, ever_ended, is_no_memory}
 use Rattle.cap_model.specs.Bounds.{IsRising}
 use Rattle.cap_model.specs.EngineLaws.{numbers_of, HasDistinctNumbers, StepIsDetermined, ContainersBalance, EndedOnce, LiveIsWhatWasNotEnded}
 use Rattle.cap_model.proofs.Choosing.{IsIn, in_left}
@@ -23,32 +26,24 @@ same_or : {A : Type 0} (b : Bool) (x : A) → x ≡ cond b x x
 same_or true x = refl
 same_or false x = refl
 
-not_lacking : {K : ℕ} (old : Flat K) (request : CallRequest) → is_no_memory (granted_reply old request) ≡ false
-not_lacking old (CallRequest.submit path user) = refl
-not_lacking old (CallRequest.register_master app) = refl
-not_lacking old (CallRequest.allocate app id asks releases) = refl
-not_lacking old (CallRequest.finish_master app) = refl
-not_lacking old (CallRequest.register_node host rack total) = refl
-not_lacking old (CallRequest.heartbeat node id ended) = refl
-not_lacking old (CallRequest.node_gone node) = refl
-not_lacking old (CallRequest.queue_info path) = refl
-not_lacking old (CallRequest.set_queue_state path running) = refl
-not_lacking old CallRequest.cluster_info = refl
+not_lacking : {K : ℕ} (old : Flat K) (request : Request K) → is_no_memory (granted_reply old request) ≡ false
+not_lacking old Request.ClusterInfo = refl
+not_lacking old _ = refl
 
 module _ {K : ℕ} (old : Flat K) where
-  answered : (request : CallRequest) (o : Option CallRefusal) →
+  answered : (request : Request K) (o : Option Refusal) →
       refused_or o (λ refusal. old) (granted_cluster old request)
-      ≡ cond (is_no_memory (refused_or o (λ refusal. CallReply.refused refusal) (granted_reply old request))) old (refused_or o (λ refusal. old) (granted_cluster old request))
+      ≡ cond (is_no_memory (refused_or o (λ refusal. Reply.Refused refusal) (granted_reply old request))) old (refused_or o (λ refusal. old) (granted_cluster old request))
   answered request None = sym (ap (λ b. cond b old (granted_cluster old request)) (not_lacking old request))
-  answered request (Some refusal) = same_or (is_no_memory (CallReply.refused refusal)) old
+  answered request (Some refusal) = same_or (is_no_memory {K = K} (Reply.Refused refusal)) old
 
-  pub determined : (new : Flat K) (event : ClusterEvent) → Step old event new → new ≡ after_event old event
-  determined new (ClusterEvent.call by request reply) (inl r) =
+  pub determined : (new : Flat K) (event : Event K) → Step old event new → new ≡ after_event old event
+  determined new (Event.Call by request reply) (inl r) =
       r.1 ∙ answered request (refusal_of old request) ∙ sym (ap (λ x. cond (is_no_memory x) old (after_request old request)) (r.0))
-  determined new (ClusterEvent.call by request reply) (inr r) =
+  determined new (Event.Call by request reply) (inr r) =
       r.1 ∙ sym (ap (λ x. cond (is_no_memory x) old (after_request old request)) (r.0.reply_is))
-  determined new (ClusterEvent.grant c) (admissible, number, after) = after
-  determined new (ClusterEvent.reserve r) (admissible, after) = after
+  determined new (Event.Grant c) (admissible, number, after) = after
+  determined new (Event.Reserve r) (admissible, after) = after
 
 -- members of lists in order
 
@@ -174,25 +169,25 @@ module _ {K : ℕ} where
       ∙ filter_none (λ c. not (is_among (old.nodes.live ++ more) c)) old.nodes.live
       (λ c m. ap not (among_itself (old.nodes.live ++ more) c (in_left c old.nodes.live more m)))
 
-  step_balance : (old new : Flat K) (event : ClusterEvent) → HasDistinctNumbers old → Step old event new → (test : Container → Bool) →
+  step_balance : (old new : Flat K) (event : Event K) → HasDistinctNumbers old → Step old event new → (test : Container → Bool) →
       count_by test new.nodes.live + count_by test (ended_between old new) ≡ count_by test old.nodes.live + count_by test (granted_by event)
-  step_balance old new (ClusterEvent.call by request reply) r s test =
+  step_balance old new (Event.Call by request reply) r s test =
       let t = reply_thins old new request reply s in
       let live : count_by test new.nodes.live ≡ count_by test (filter t.test old.nodes.live) = ap (count_by test) t.live in
       let ended : count_by test (ended_between old new) ≡ count_by test (filter (λ c. not (t.test c)) old.nodes.live) = ap (count_by test) (ended_by_thinning old new r t) in
       omega (arith, live, ended, count_parts test t.test old.nodes.live)
-  step_balance old new (ClusterEvent.grant c) r (admissible, number, after) test =
+  step_balance old new (Event.Grant c) r (admissible, number, after) test =
       let same : new.nodes.live ≡ old.nodes.live ++ c ∷ [] = ap (λ (x : Flat K). x.nodes.live) after in
       let live : count_by test new.nodes.live ≡ count_by test (old.nodes.live ++ c ∷ []) = ap (count_by test) same in
       let ended : count_by test (ended_between old new) ≡ 0 = ap (count_by test) (none_ended old new (c ∷ []) same) in
       omega (arith, live, ended, count_append test old.nodes.live (c ∷ []))
-  step_balance old new (ClusterEvent.reserve reservation) r (admissible, after) test =
+  step_balance old new (Event.Reserve reservation) r (admissible, after) test =
       let same : new.nodes.live ≡ old.nodes.live = ap (λ (x : Flat K). x.nodes.live) after in
       let live : count_by test new.nodes.live ≡ count_by test old.nodes.live = ap (count_by test) same in
       let ended : count_by test (ended_between old new) ≡ 0 = ap (count_by test) (none_ended old new [] (same ∙ sym (append-nil old.nodes.live))) in
       omega (arith, live, ended)
 
-  run_balance : (events : List ClusterEvent) (old new : Flat K) → HasDistinctNumbers old → Run old events new → (test : Container → Bool) →
+  run_balance : (events : List (Event K)) (old new : Flat K) → HasDistinctNumbers old → Run old events new → (test : Container → Bool) →
       count_by test new.nodes.live + count_by test (ever_ended old events) ≡ count_by test old.nodes.live + count_by test (ever_granted events)
   run_balance [] old new r e test = let same : count_by test new.nodes.live ≡ count_by test old.nodes.live = ap (λ (x : Flat K). count_by test x.nodes.live) (sym e) in omega (arith, same)
   run_balance (event ∷ events) old new r (mid, step, run) test =
@@ -251,25 +246,25 @@ twice_not false = refl
 
 module _ {K : ℕ} where
   -- after a step what lives is what lived and was granted, without what ended
-  step_live : (old new : Flat K) (event : ClusterEvent) → HasDistinctNumbers old → Step old event new →
+  step_live : (old new : Flat K) (event : Event K) → HasDistinctNumbers old → Step old event new →
       new.nodes.live ≡ filter (λ c. not (is_among (ended_between old new) c)) (old.nodes.live ++ granted_by event)
-  step_live old new (ClusterEvent.call by request reply) r s =
+  step_live old new (Event.Call by request reply) r s =
       let t = reply_thins old new request reply s in
       let ended = ended_by_thinning old new r t in
       t.live
       ∙ sym (filter_same (λ c. not (is_among (filter (λ d. not (t.test d)) old.nodes.live) c)) t.test old.nodes.live
       (λ c m. ap not (among_some (λ d. not (t.test d)) 1 old.nodes.live old.nodes.next_container c r m) ∙ twice_not (t.test c)))
       ∙ (λ i. filter (λ c. not (is_among (sym ended i) c)) (sym (append-nil old.nodes.live) i))
-  step_live old new (ClusterEvent.grant c) r (admissible, number, after) =
+  step_live old new (Event.Grant c) r (admissible, number, after) =
       let same : new.nodes.live ≡ old.nodes.live ++ c ∷ [] = ap (λ (x : Flat K). x.nodes.live) after in
       same ∙ sym (filter_whole (λ d. not (is_among [] d)) (old.nodes.live ++ c ∷ []) (λ d m. refl))
       ∙ ap (λ es. filter (λ d. not (is_among es d)) (old.nodes.live ++ c ∷ [])) (sym (none_ended old new (c ∷ []) same))
-  step_live old new (ClusterEvent.reserve reservation) r (admissible, after) =
+  step_live old new (Event.Reserve reservation) r (admissible, after) =
       let same : new.nodes.live ≡ old.nodes.live ++ [] = ap (λ (x : Flat K). x.nodes.live) after ∙ sym (append-nil old.nodes.live) in
       same ∙ sym (filter_whole (λ d. not (is_among [] d)) (old.nodes.live ++ []) (λ d m. refl))
       ∙ ap (λ es. filter (λ d. not (is_among es d)) (old.nodes.live ++ [])) (sym (none_ended old new [] same))
 
-  run_live : (events : List ClusterEvent) (old new : Flat K) → HasDistinctNumbers old → Run old events new →
+  run_live : (events : List (Event K)) (old new : Flat K) → HasDistinctNumbers old → Run old events new →
       new.nodes.live ≡ filter (λ c. not (is_among (ever_ended old events) c)) (old.nodes.live ++ ever_granted events)
   run_live [] old new r e =
       ap (λ (x : Flat K). x.nodes.live) (sym e) ∙ sym (append-nil old.nodes.live) ∙ sym (filter_whole (λ c. not (is_among [] c)) (old.nodes.live ++ []) (λ c m. refl))

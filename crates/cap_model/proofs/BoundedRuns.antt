@@ -7,7 +7,8 @@ use Rattle.cap_model.specs.Settings.{Settings}
 use Rattle.cap_model.specs.Amounts.{fits, times}
 use Rattle.cap_model.specs.Flat.{Flat, App, Container, Reservation, opened, is_under}
 use Rattle.cap_model.specs.Uses.{use_of, queue_use}
-use Rattle.cap_model.specs.Events.{ClusterEvent, Step, Run}
+use Rattle.cap_model.specs.declared.event.Event.{Event}
+use Rattle.cap_model.specs.Events.{Step, Run}
 use Rattle.cap_model.specs.Bounds.{FitsMaximum, IsLeaf, IsPlaced, IsQueueBounded, IsNodeBounded, IsReservationBounded, IsWellFormed, IsBounded}
 use Rattle.cap_model.specs.Listing.{IsListing}
 use Rattle.cap_model.specs.BoundLaws.{StepStaysBounded, RunsStayBounded, OpenedIsBounded}
@@ -20,7 +21,7 @@ use Rattle.cap_model.proofs.Listed.{listings_stand_below}
 use Rattle.cap_model.proofs.TreeSums.{trees_add_up}
 
 module _ {K : ℕ} where
-  step_bounded : (old new : Flat K) (event : ClusterEvent) → IsBounded old → Step old event new → IsBounded new
+  step_bounded : (old new : Flat K) (event : Event K) → IsBounded old → Step old event new → IsBounded new
   step_bounded old new event b s =
       let w = step_formed old new event b.formed s in
       record {
@@ -33,11 +34,11 @@ module _ {K : ℕ} where
         numbers = numbers_stay_distinct K old new event b.numbers s;
       }
 
-  run_bounded : (events : List ClusterEvent) (old new : Flat K) → IsBounded old → Run old events new → IsBounded new
+  run_bounded : (events : List (Event K)) (old new : Flat K) → IsBounded old → Run old events new → IsBounded new
   run_bounded [] old new b run = subst IsBounded run b
   run_bounded (event ∷ events) old new b (mid, step, run) = run_bounded events mid new (step_bounded old mid event b step) run
 
-  split_run : (first rest : List ClusterEvent) (old new : Flat K) → IsBounded old → Run old (first ++ rest) new → (mid : Flat K) × Run old first mid × Run mid rest new × IsBounded mid × IsBounded new
+  split_run : (first rest : List (Event K)) (old new : Flat K) → IsBounded old → Run old (first ++ rest) new → (mid : Flat K) × Run old first mid × Run mid rest new × IsBounded mid × IsBounded new
   split_run [] rest old new b run = (old, refl, run, b, run_bounded rest old new b run)
   split_run (event ∷ first) rest old new b (next, step, run) =
       let r = split_run first rest next new (step_bounded old next event b step) run in

@@ -4,7 +4,7 @@ use Rattle.std.specs.Prelude.{◌⊎◌, Option, Some, None, is_none, bytes_eq, 
 use Rattle.std.specs.Option.{option_or}
 use Rattle.std.proofs.lemmas.Slice.Eq.{bytes_eq-Decides}
 use Rattle.std.proofs.lemmas.Bool.Decides.{nat_tests}
-use Rattle.cap_model.specs.Calls.{Ask, same_key}
+use Rattle.cap_model.specs.Asks.{Ask, same_key}
 use Rattle.cap_model.specs.Flat.{ask_at}
 use Rattle.cap_model.specs.Cascade.{holds_of}
 use Rattle.cap_model.specs.Sight.{Sight, AppSight, NodeSight, seen_app}

@@ -1,7 +1,10 @@
 -- Container numbers are never used twice.
 use Rattle.std.proofs.Common.{◌≡◌, ℕ, ◌+◌, ◌≤◌, Bool, true, false, List, [], ◌∷◌, ◌++◌, refl, sym, ◌∙◌, ap, subst, inl, inr, arith}
 use Rattle.std.specs.Prelude.{Option, Some, None, cond, not, filter}
-use Rattle.cap_model.specs.Calls.{Ask, CallRequest, CallReply, CallRefusal}
+use Rattle.cap_model.specs.Asks.{Ask}
+use Rattle.cap_model.specs.declared.request.Request.{Request}
+use Rattle.cap_model.specs.declared.reply.Reply.{Reply}
+use Rattle.cap_model.specs.declared.refusal.Refusal.{Refusal}
 use Rattle.cap_model.specs.Flat.{Flat, Container}
 use Rattle.cap_model.specs.Asking.{after_asks, after_ask, rounded}
 use Rattle.cap_model.specs.Ending.{is_among}
@@ -9,7 +12,8 @@ use Rattle.cap_model.specs.FinishMaster.{containers_of}
 use Rattle.cap_model.specs.Allocate.{after_processed_allocate, is_repeated_allocate, released_by}
 use Rattle.cap_model.specs.Heartbeat.{after_processed_heartbeat, is_repeated_heartbeat, ended_by, containers_on}
 use Rattle.cap_model.specs.Replies.{refused_or, refusal_of, granted_cluster, Replies}
-use Rattle.cap_model.specs.Events.{ClusterEvent, Step, Run, ever_granted}
+use Rattle.cap_model.specs.declared.event.Event.{Event}
+use Rattle.cap_model.specs.Events.{Step, Run, ever_granted}
 use Rattle.cap_model.specs.Bounds.{IsRising}
 use Rattle.cap_model.specs.EngineLaws.{numbers_of, HasDistinctNumbers, NumbersStayDistinct, GrantedOnce}
 
@@ -66,26 +70,21 @@ module _ {K : ℕ} where
       record { test = λ c. not (is_among gone c); live = ap (λ cs. filter (λ c. not (is_among gone c)) cs) s.live; next = s.next }
 
   -- a call that is not refused ends some containers, and makes none
-  pub call_thins : (old : Flat K) (request : CallRequest) → IsThinned old (granted_cluster old request)
-  call_thins old (CallRequest.submit path user) = thinned_same old (granted_cluster old (CallRequest.submit path user)) (record { live = refl; next = refl })
-  call_thins old (CallRequest.register_master app) = thinned_same old (granted_cluster old (CallRequest.register_master app)) (record { live = refl; next = refl })
-  call_thins old (CallRequest.allocate app id asks releases) =
+  pub call_thins : (old : Flat K) (request : Request K) → IsThinned old (granted_cluster old request)
+  call_thins old (Request.Allocate app id asks releases) =
       either (is_repeated_allocate old app id) old (after_processed_allocate old app id asks releases) (processed_allocate_thins old app id asks releases)
-  call_thins old (CallRequest.finish_master app) = record { test = λ c. not (is_among (containers_of old app) c); live = refl; next = refl }
-  call_thins old (CallRequest.register_node host rack total) = thinned_same old (granted_cluster old (CallRequest.register_node host rack total)) (record { live = refl; next = refl })
-  call_thins old (CallRequest.heartbeat node id ended) =
+  call_thins old (Request.FinishMaster app) = record { test = λ c. not (is_among (containers_of old app) c); live = refl; next = refl }
+  call_thins old (Request.Heartbeat node id ended) =
       either (is_repeated_heartbeat old node id) old (after_processed_heartbeat old node id ended)
       (record { test = λ c. not (is_among (ended_by old node ended) c); live = refl; next = refl })
-  call_thins old (CallRequest.node_gone node) = record { test = λ c. not (is_among (containers_on old node) c); live = refl; next = refl }
-  call_thins old (CallRequest.queue_info path) = thinned_same old old (record { live = refl; next = refl })
-  call_thins old (CallRequest.set_queue_state path running) = thinned_same old (granted_cluster old (CallRequest.set_queue_state path running)) (record { live = refl; next = refl })
-  call_thins old CallRequest.cluster_info = thinned_same old old (record { live = refl; next = refl })
+  call_thins old (Request.NodeGone node) = record { test = λ c. not (is_among (containers_on old node) c); live = refl; next = refl }
+  call_thins old request = thinned_same old (granted_cluster old request) (record { live = refl; next = refl })
 
-  unless_refused : (o : Option CallRefusal) (old new : Flat K) → IsThinned old new → IsThinned old (refused_or o (λ refusal. old) new)
+  unless_refused : (o : Option Refusal) (old new : Flat K) → IsThinned old new → IsThinned old (refused_or o (λ refusal. old) new)
   unless_refused None old new t = t
   unless_refused (Some refusal) old new t = thinned_same old old (record { live = refl; next = refl })
 
-  pub reply_thins : (old new : Flat K) (request : CallRequest) (reply : CallReply) → Replies old request reply new → IsThinned old new
+  pub reply_thins : (old new : Flat K) (request : Request K) (reply : Reply K) → Replies old request reply new → IsThinned old new
   reply_thins old new request reply (inl r) = subst (λ c. IsThinned old c) (sym (r.1)) (unless_refused (refusal_of old request) old (granted_cluster old request) (call_thins old request))
   reply_thins old new request reply (inr r) = subst (λ c. IsThinned old c) (sym (r.1)) (thinned_same old old (record { live = refl; next = refl }))
 
@@ -95,22 +94,22 @@ module _ {K : ℕ} where
       let b : IsRising 1 (numbers_of new.nodes.live) old.nodes.next_container = subst (λ cs. IsRising 1 (numbers_of cs) old.nodes.next_container) (sym t.live) a in
       subst (λ n. IsRising 1 (numbers_of new.nodes.live) n) (sym t.next) b
 
-  step_numbers : (old new : Flat K) (event : ClusterEvent) → HasDistinctNumbers old → Step old event new → HasDistinctNumbers new
-  step_numbers old new (ClusterEvent.call by request reply) r s = thinned_numbers old new (reply_thins old new request reply s) r
-  step_numbers old new (ClusterEvent.grant c) r (admissible, number, after) =
+  step_numbers : (old new : Flat K) (event : Event K) → HasDistinctNumbers old → Step old event new → HasDistinctNumbers new
+  step_numbers old new (Event.Call by request reply) r s = thinned_numbers old new (reply_thins old new request reply s) r
+  step_numbers old new (Event.Grant c) r (admissible, number, after) =
       subst (λ cluster. HasDistinctNumbers cluster) (sym after) (rising_push 1 old.nodes.live c old.nodes.next_container number r)
-  step_numbers old new (ClusterEvent.reserve reservation) r (admissible, after) = subst (λ cluster. HasDistinctNumbers cluster) (sym after) r
+  step_numbers old new (Event.Reserve reservation) r (admissible, after) = subst (λ cluster. HasDistinctNumbers cluster) (sym after) r
 
-  run_numbers : (events : List ClusterEvent) (old new : Flat K) → Run old events new → IsRising old.nodes.next_container (numbers_of (ever_granted events)) new.nodes.next_container
+  run_numbers : (events : List (Event K)) (old new : Flat K) → Run old events new → IsRising old.nodes.next_container (numbers_of (ever_granted events)) new.nodes.next_container
   run_numbers [] old new e = let n : old.nodes.next_container ≡ new.nodes.next_container = ap (λ (c : Flat K). c.nodes.next_container) e in omega (arith, n)
-  run_numbers (ClusterEvent.call by request reply ∷ events) old new (mid, step, run) =
+  run_numbers (Event.Call by request reply ∷ events) old new (mid, step, run) =
       let t = reply_thins old mid request reply step in
       subst (λ n. IsRising n (numbers_of (ever_granted events)) new.nodes.next_container) t.next (run_numbers events mid new run)
-  run_numbers (ClusterEvent.grant c ∷ events) old new (mid, (admissible, number, after), run) =
+  run_numbers (Event.Grant c ∷ events) old new (mid, (admissible, number, after), run) =
       let n : mid.nodes.next_container ≡ old.nodes.next_container + 1 = ap (λ (x : Flat K). x.nodes.next_container) after in
       let rest = run_numbers events mid new run in
       (omega (arith, number), subst (λ m. IsRising m (numbers_of (ever_granted events)) new.nodes.next_container) (omega (arith, n, number)) rest)
-  run_numbers (ClusterEvent.reserve r ∷ events) old new (mid, (admissible, after), run) =
+  run_numbers (Event.Reserve r ∷ events) old new (mid, (admissible, after), run) =
       let n : mid.nodes.next_container ≡ old.nodes.next_container = ap (λ (x : Flat K). x.nodes.next_container) after in
       subst (λ m. IsRising m (numbers_of (ever_granted events)) new.nodes.next_container) n (run_numbers events mid new run)
 

@@ -2,7 +2,7 @@
 use Rattle.std.proofs.Common.{◌≡◌, ℕ, ◌+◌, ◌≤◌, Bool, true, false, List, [], ◌∷◌, ◌++◌, length, length-append, refl, sym, ◌∙◌, ap, subst, arith}
 use Rattle.std.specs.Prelude.{Some, None, not, ◌==◌, ◌&&◌, nat_lt, filter, find}
 use Rattle.std.proofs.lemmas.List.Sums.{length-filter, count_by-le-length}
-use Rattle.cap_model.specs.Calls.{Cause}
+use Rattle.cap_model.specs.declared.news.Cause.{Cause}
 use Rattle.cap_model.specs.Flat.{Flat, Container}
 use Rattle.cap_model.specs.Ending.{is_among, without, after_ends}
 use Rattle.cap_model.specs.EngineLaws.{HasDistinctNumbers}

@@ -3,14 +3,18 @@ use Rattle.std.proofs.Common.{◌≡◌, ℕ, Bool, true, false, List, [], ◌�
 use Rattle.std.specs.Prelude.{◌⊎◌, Option, Some, None, IsSome, is_some, is_none, cond, not, ◌&&◌, ◌||◌, ◌==◌, filter, find, map, option_map, bytes_eq, nat_eq, if◌then◌else◌}
 use Rattle.std.specs.List.{All, list_any, starts_with}
 use Rattle.cap_model.specs.Settings.{QueueRow}
-use Rattle.cap_model.specs.Calls.{Ask, CallRequest, CallReply, CallRefusal}
+use Rattle.cap_model.specs.Asks.{Ask}
+use Rattle.cap_model.specs.declared.request.Request.{Request}
+use Rattle.cap_model.specs.declared.reply.Reply.{Reply}
+use Rattle.cap_model.specs.declared.refusal.Refusal.{Refusal}
 use Rattle.cap_model.specs.Flat.{Flat, App, ClusterNode, Container, Reservation, app_at, queue_at, is_under}
 use Rattle.cap_model.specs.Submit.{has_children, submit_refusal, is_running}
 use Rattle.cap_model.specs.RegisterNode.{new_node}
 use Rattle.cap_model.specs.Allocate.{after_processed_allocate, is_repeated_allocate}
 use Rattle.cap_model.specs.Heartbeat.{after_processed_heartbeat, is_repeated_heartbeat, beat_of}
 use Rattle.cap_model.specs.Replies.{Replies, refused_or, refusal_of, granted_cluster}
-use Rattle.cap_model.specs.Events.{ClusterEvent, Step, after_grant, after_reserve, grant_proposal, reserve_proposal}
+use Rattle.cap_model.specs.declared.event.Event.{Event}
+use Rattle.cap_model.specs.Events.{Step, after_grant, after_reserve, grant_proposal, reserve_proposal}
 use Rattle.cap_model.specs.Sight.{sight_of}
 use Rattle.cap_model.specs.Admission.{NodeProposal, IsAdmissible}
 use Rattle.cap_model.specs.Bounds.{IsRising, HasDistinctPaths, IsTree, StandBelow, IsLeaf, IsPlaced, IsWellFormed}
@@ -93,16 +97,10 @@ module _ {K : ℕ} where
   beat_queues old n id ended true = same_queues old old refl
   beat_queues old n id ended false = same_queues old (after_processed_heartbeat old n id ended) refl
 
-  pub call_queues : (old : Flat K) (request : CallRequest) → HasSameQueues old (granted_cluster old request)
-  call_queues old (CallRequest.submit path user) = same_queues old (granted_cluster old (CallRequest.submit path user)) refl
-  call_queues old (CallRequest.register_master app) = same_queues old (granted_cluster old (CallRequest.register_master app)) refl
-  call_queues old (CallRequest.allocate app id asks releases) = allocate_queues old app id asks releases (is_repeated_allocate old app id)
-  call_queues old (CallRequest.finish_master app) = same_queues old (granted_cluster old (CallRequest.finish_master app)) refl
-  call_queues old (CallRequest.register_node host rack total) = same_queues old (granted_cluster old (CallRequest.register_node host rack total)) refl
-  call_queues old (CallRequest.heartbeat node id ended) = beat_queues old node id ended (is_repeated_heartbeat old node id)
-  call_queues old (CallRequest.node_gone node) = same_queues old (granted_cluster old (CallRequest.node_gone node)) refl
-  call_queues old (CallRequest.queue_info path) = same_queues old old refl
-  call_queues old (CallRequest.set_queue_state path running) = record {
+  pub call_queues : (old : Flat K) (request : Request K) → HasSameQueues old (granted_cluster old request)
+  call_queues old (Request.Allocate app id asks releases) = allocate_queues old app id asks releases (is_repeated_allocate old app id)
+  call_queues old (Request.Heartbeat node id ended) = beat_queues old node id ended (is_repeated_heartbeat old node id)
+  call_queues old (Request.SetQueueState path running) = record {
     change = λ q. if bytes_eq q.path path then record q { running = running } else q;
     keeps = record {
       path = λ q. same (bytes_eq q.path path) q (λ (x : QueueRow). x.path) refl;
@@ -124,7 +122,7 @@ module _ {K : ℕ} where
       same_factor : (b : Bool) (q : QueueRow) → (cond b (record q { running = running }) q).factor ≡ q.factor
       same_factor true q = refl
       same_factor false q = refl
-  call_queues old CallRequest.cluster_info = same_queues old old refl
+  call_queues old request = same_queues old (granted_cluster old request) refl
 
   leaf_kept : (old new : Flat K) → HasSameQueues old new → (path : List ℕ) → IsLeaf old path → IsLeaf new path
   leaf_kept old new s path l = record {
@@ -138,11 +136,11 @@ module _ {K : ℕ} where
   pub unrefused_leaf : (old : Flat K) (path : List ℕ) → submit_refusal old path ≡ None → IsLeaf old path
   unrefused_leaf old path e =
       let tests = none_holds
-      ((is_none (queue_at old path), CallRefusal.unknown_queue)
-      ∷ (has_children old path, CallRefusal.not_leaf)
-      ∷ (not (is_running old path), CallRefusal.queue_stopped)
-      ∷ (Rattle.std.specs.Prelude.nat_le old.settings.application_limit (Rattle.std.specs.Prelude.length old.apps.active), CallRefusal.too_many_applications)
-      ∷ (Rattle.std.specs.Prelude.nat_le Rattle.cap_model.specs.Limits.number_end old.apps.next, CallRefusal.numbers_spent)
+      ((is_none (queue_at old path), Refusal.UnknownQueue)
+      ∷ (has_children old path, Refusal.NotLeaf)
+      ∷ (not (is_running old path), Refusal.QueueStopped)
+      ∷ (Rattle.std.specs.Prelude.nat_le old.settings.application_limit (Rattle.std.specs.Prelude.length old.apps.active), Refusal.TooManyApplications)
+      ∷ (Rattle.std.specs.Prelude.nat_le Rattle.cap_model.specs.Limits.number_end old.apps.next, Refusal.NumbersSpent)
       ∷ []) e in
       record { present = true_of_none (queue_at old path) tests.0; childless = tests.1.0 }
 
@@ -189,17 +187,12 @@ module _ {K : ℕ} where
       by true x = refl
       by false x = refl
 
-  call_nodes : (old : Flat K) (request : CallRequest) → HasNodeNumbers old → HasNodeNumbers (granted_cluster old request)
-  call_nodes old (CallRequest.submit path user) r = r
-  call_nodes old (CallRequest.register_master app) r = r
-  call_nodes old (CallRequest.allocate app id asks releases) r = allocate_nodes old app id asks releases (is_repeated_allocate old app id) r
-  call_nodes old (CallRequest.finish_master app) r = r
-  call_nodes old (CallRequest.register_node host rack total) r = rising_more (λ (node : ClusterNode). node.number) 1 old.nodes.present (new_node old host rack total) old.nodes.next_node refl r
-  call_nodes old (CallRequest.heartbeat node id ended) r = beat_nodes old node id ended (is_repeated_heartbeat old node id) r
-  call_nodes old (CallRequest.node_gone m) r = rising_kept (λ (node : ClusterNode). node.number) (λ node. not (node.number == m)) 1 old.nodes.present old.nodes.next_node r
-  call_nodes old (CallRequest.queue_info path) r = r
-  call_nodes old (CallRequest.set_queue_state path running) r = r
-  call_nodes old CallRequest.cluster_info r = r
+  call_nodes : (old : Flat K) (request : Request K) → HasNodeNumbers old → HasNodeNumbers (granted_cluster old request)
+  call_nodes old (Request.Allocate app id asks releases) r = allocate_nodes old app id asks releases (is_repeated_allocate old app id) r
+  call_nodes old (Request.RegisterNode host rack total) r = rising_more (λ (node : ClusterNode). node.number) 1 old.nodes.present (new_node old host rack total) old.nodes.next_node refl r
+  call_nodes old (Request.Heartbeat node id ended) r = beat_nodes old node id ended (is_repeated_heartbeat old node id) r
+  call_nodes old (Request.NodeGone m) r = rising_kept (λ (node : ClusterNode). node.number) (λ node. not (node.number == m)) 1 old.nodes.present old.nodes.next_node r
+  call_nodes old _ r = r
 
   -- places
   pub places_of : (cluster : Flat K) → IsWellFormed cluster → HasPlaces cluster
@@ -227,16 +220,16 @@ module _ {K : ℕ} where
   }
 
   -- what holds of a cluster and after each call that is not refused holds after each call
-  pub after_call : (P : Flat K → Type 0) (old : Flat K) → P old → ((request : CallRequest) → refusal_of old request ≡ None → P (granted_cluster old request)) →
-      (new : Flat K) (request : CallRequest) (reply : CallReply) → Replies old request reply new → P new
+  pub after_call : (P : Flat K → Type 0) (old : Flat K) → P old → ((request : Request K) → refusal_of old request ≡ None → P (granted_cluster old request)) →
+      (new : Flat K) (request : Request K) (reply : Reply K) → Replies old request reply new → P new
   after_call P old h f new request reply (inl r) = subst P (sym (r.1)) (by (refusal_of old request) refl)
     where
-      by : (o : Option CallRefusal) → refusal_of old request ≡ o → P (refused_or o (λ refusal. old) (granted_cluster old request))
+      by : (o : Option Refusal) → refusal_of old request ≡ o → P (refused_or o (λ refusal. old) (granted_cluster old request))
       by None e = f request e
       by (Some refusal) e = h
   after_call P old h f new request reply (inr r) = subst P (sym (r.1)) h
 
-  call_formed : (old : Flat K) → IsWellFormed old → (request : CallRequest) → refusal_of old request ≡ None → IsWellFormed (granted_cluster old request)
+  call_formed : (old : Flat K) → IsWellFormed old → (request : Request K) → refusal_of old request ≡ None → IsWellFormed (granted_cluster old request)
   call_formed old w request e =
       formed old (granted_cluster old request) w (call_queues old request) (call_moves old request e) (call_nodes old request w.nodes)
       (places_stay old (granted_cluster old request) (lessened old (places_of old w) request) (places_of old w))
@@ -273,12 +266,12 @@ module _ {K : ℕ} where
     | inr (inr g) ↦ absurd g
   ]
 
-  pub step_formed : (old new : Flat K) (event : ClusterEvent) → IsWellFormed old → Step old event new → IsWellFormed new
-  step_formed old new (ClusterEvent.call by request reply) w s = after_call IsWellFormed old w (call_formed old w) new request reply s
-  step_formed old new (ClusterEvent.grant c) w (admissible, number, after) =
+  pub step_formed : (old new : Flat K) (event : Event K) → IsWellFormed old → Step old event new → IsWellFormed new
+  step_formed old new (Event.Call by request reply) w s = after_call IsWellFormed old w (call_formed old w) new request reply s
+  step_formed old new (Event.Grant c) w (admissible, number, after) =
       subst IsWellFormed (sym after)
       (formed old (after_grant old c) w (same_queues old (after_grant old c) refl) (AppsMove.change (grant_change old c)) w.nodes (grant_places old c (places_of old w) (its_place old (grant_proposal c) w admissible)))
-  step_formed old new (ClusterEvent.reserve r) w (admissible, after) =
+  step_formed old new (Event.Reserve r) w (admissible, after) =
       subst IsWellFormed (sym after)
       (formed old (after_reserve old r) w (same_queues old (after_reserve old r) refl) (AppsMove.change (no_change old (after_reserve old r) refl refl)) w.nodes
       (reserve_places old r (places_of old w) (its_place old (reserve_proposal r) w admissible)))

@@ -12,7 +12,7 @@ use Rattle.cap_vector.proofs.AmountLemmas.{amount-plus, amount-less}
 use Rattle.cap_model.specs.Settings.{QueueRow}
 use Rattle.cap_model.specs.Cascade.{holds_of}
 use Rattle.cap_model.specs.Amounts.{fits, times}
-use Rattle.cap_model.specs.Calls.{same_key}
+use Rattle.cap_model.specs.Asks.{same_key}
 use Rattle.cap_model.specs.Flat.{Flat, ClusterNode, Container, Reservation, app_at, node_at, is_under}
 use Rattle.cap_model.specs.Uses.{use_of, queue_use, user_use, node_held, node_free}
 use Rattle.cap_model.specs.Sight.{sight_of, app_sight, node_sight, queue_sight, seen_app, seen_node, seen_queue, QueueSight, NodeSight}

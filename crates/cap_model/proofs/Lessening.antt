@@ -2,7 +2,9 @@
 use Rattle.std.proofs.Common.{◌≡◌, ℕ, Bool, true, false, List, [], ◌∷◌, refl, sym, ◌∙◌, ap, subst, inl, inr, arith}
 use Rattle.std.specs.Prelude.{◌⊎◌, Option, Some, None, IsSome, cond, not, ◌&&◌, ◌==◌, ◌-◌, filter, find, option_map, if◌then◌else◌}
 use Rattle.std.proofs.lemmas.Bool.Decides.{nat_tests}
-use Rattle.cap_model.specs.Calls.{Ask, CallRequest, Cause}
+use Rattle.cap_model.specs.Asks.{Ask}
+use Rattle.cap_model.specs.declared.request.Request.{Request}
+use Rattle.cap_model.specs.declared.news.Cause.{Cause}
 use Rattle.cap_model.specs.Flat.{Flat, App, ClusterNode, Container, Reservation, app_at, node_at, is_for}
 use Rattle.cap_model.specs.Asking.{after_asks, after_ask, rounded, keep_first}
 use Rattle.cap_model.specs.Ending.{is_among}
@@ -135,12 +137,12 @@ module _ {K : ℕ} where
       only_apps old (after_processed_allocate old n id asks releases) (allocate_change old n id asks releases) (processed_allocate_thins old n id asks releases) a.reserved a.present
 
   -- where an application goes, nothing of it stays
-  pub gone_app : (old : Flat K) (m app node : ℕ) → IsSite (granted_cluster old (CallRequest.finish_master m)) app node → m == app ≡ false
+  pub gone_app : (old : Flat K) (m app node : ℕ) → IsSite (granted_cluster old (Request.FinishMaster m)) app node → m == app ≡ false
   gone_app old m app node (inl (c, g, a, e)) = let other : c.app == m ≡ false = not_among (λ (d : Container). d.app == m) old.nodes.live c g in grind (arith, nat_tests, other, a)
   gone_app old m app node (inr (r, g, a, e)) =
       let other : r.app == m ≡ false = not_true (r.app == m) (of_filter (λ (x : Reservation). not (x.app == m)) old.nodes.reserved r g).0 in grind (arith, nat_tests, other, a)
 
-  gone_node : (old : Flat K) (m app node : ℕ) → IsSite (granted_cluster old (CallRequest.node_gone m)) app node → m == node ≡ false
+  gone_node : (old : Flat K) (m app node : ℕ) → IsSite (granted_cluster old (Request.NodeGone m)) app node → m == node ≡ false
   gone_node old m app node (inl (c, g, a, e)) = let other : c.node == m ≡ false = not_among (λ (d : Container). d.node == m) old.nodes.live c g in grind (arith, nat_tests, other, e)
   gone_node old m app node (inr (r, g, a, e)) =
       let other : r.node == m ≡ false = not_true (r.node == m) (of_filter (λ (x : Reservation). not (x.node == m)) old.nodes.reserved r g).0 in grind (arith, nat_tests, other, e)
@@ -149,7 +151,7 @@ module _ {K : ℕ} where
   beat_less old n id ended t = record {
     live = t;
     reserved = part_itself old.nodes.reserved;
-    apps = λ app node s. change_stands old (after_processed_heartbeat old n id ended) (ends_change Cause.ended_on_node _ old (after_processed_heartbeat old n id ended) refl refl) app;
+    apps = λ app node s. change_stands old (after_processed_heartbeat old n id ended) (ends_change Cause.EndedOnNode _ old (after_processed_heartbeat old n id ended) refl refl) app;
     nodes = λ app node s. ap capacity (find_changed (λ (x : ClusterNode). x.number) beaten (λ x. kept_node (x.number == n) (λ (y : ClusterNode). y.number) _ x refl) node old.nodes.present)
         ∙ capacity_kept beaten (λ x. kept_node (x.number == n) (λ (y : ClusterNode). y.total) _ x refl) (node_at old node);
     present = λ node m.
@@ -165,27 +167,27 @@ module _ {K : ℕ} where
       beaten : ClusterNode → ClusterNode
       beaten node = if node.number == n then record node { response = (beat_of old n id ended).response; kept = Some (beat_of old n id ended) } else node
 
-  pub lessened : (old : Flat K) → HasPlaces old → (request : CallRequest) → IsLessened old (granted_cluster old request)
-  lessened old h (CallRequest.submit path user) = record {
-    live = call_thins old (CallRequest.submit path user);
+  pub lessened : (old : Flat K) → HasPlaces old → (request : Request K) → IsLessened old (granted_cluster old request)
+  lessened old h (Request.Submit path user) = record {
+    live = call_thins old (Request.Submit path user);
     reserved = part_itself old.nodes.reserved;
     apps = λ app node s. ap standing (find_with_more (λ (a : App). a.number) app old.apps.active (new_app old path user ∷ []) (h app node s).0);
     nodes = λ app node s. refl;
     present = old_node old;
   }
-  lessened old h (CallRequest.register_master app) =
-      only_apps old (granted_cluster old (CallRequest.register_master app)) (one_change app (λ a. record a { registered = true }) (record { number = λ a. refl; leaf = λ a. refl; user = λ a. refl }) old)
-      (call_thins old (CallRequest.register_master app)) (part_itself old.nodes.reserved) refl
-  lessened old h (CallRequest.allocate app id asks releases) = less_if (is_repeated_allocate old app id) old (after_processed_allocate old app id asks releases) (allocate_less old app id asks releases)
-  lessened old h (CallRequest.finish_master m) = record {
-    live = call_thins old (CallRequest.finish_master m);
+  lessened old h (Request.RegisterMaster app) =
+      only_apps old (granted_cluster old (Request.RegisterMaster app)) (one_change app (λ a. record a { registered = true }) (record { number = λ a. refl; leaf = λ a. refl; user = λ a. refl }) old)
+      (call_thins old (Request.RegisterMaster app)) (part_itself old.nodes.reserved) refl
+  lessened old h (Request.Allocate app id asks releases) = less_if (is_repeated_allocate old app id) old (after_processed_allocate old app id asks releases) (allocate_less old app id asks releases)
+  lessened old h (Request.FinishMaster m) = record {
+    live = call_thins old (Request.FinishMaster m);
     reserved = part_filter (λ (r : Reservation). not (r.app == m)) old.nodes.reserved;
     apps = λ app node s. ap standing (find_others (λ (a : App). a.number) m app (gone_app old m app node s) old.apps.active);
     nodes = λ app node s. refl;
     present = old_node old;
   }
-  lessened old h (CallRequest.register_node host rack total) = record {
-    live = call_thins old (CallRequest.register_node host rack total);
+  lessened old h (Request.RegisterNode host rack total) = record {
+    live = call_thins old (Request.RegisterNode host rack total);
     reserved = part_itself old.nodes.reserved;
     apps = λ app node s. refl;
     nodes = λ app node s. ap capacity (find_with_more (λ (x : ClusterNode). x.number) node old.nodes.present (new_node old host rack total ∷ []) (h app node s).1);
@@ -195,16 +197,14 @@ module _ {K : ℕ} where
       | inr (inr g) ↦ absurd g
     ];
   }
-  lessened old h (CallRequest.heartbeat node id ended) =
+  lessened old h (Request.Heartbeat node id ended) =
       less_if (is_repeated_heartbeat old node id) old (after_processed_heartbeat old node id ended)
       (beat_less old node id ended (record { test = λ c. not (is_among (ended_by old node ended) c); live = refl; next = refl }))
-  lessened old h (CallRequest.node_gone m) = record {
-    live = call_thins old (CallRequest.node_gone m);
+  lessened old h (Request.NodeGone m) = record {
+    live = call_thins old (Request.NodeGone m);
     reserved = part_filter (λ (r : Reservation). not (r.node == m)) old.nodes.reserved;
-    apps = λ app node s. change_stands old (granted_cluster old (CallRequest.node_gone m)) (ends_change Cause.node_lost (containers_on old m) old (granted_cluster old (CallRequest.node_gone m)) refl refl) app;
+    apps = λ app node s. change_stands old (granted_cluster old (Request.NodeGone m)) (ends_change Cause.NodeLost (containers_on old m) old (granted_cluster old (Request.NodeGone m)) refl refl) app;
     nodes = λ app node s. ap capacity (find_others (λ (x : ClusterNode). x.number) m node (gone_node old m app node s) old.nodes.present);
     present = λ node g. old_node old node (of_filter (λ (x : ClusterNode). not (x.number == m)) old.nodes.present node g).1;
   }
-  lessened old h (CallRequest.queue_info path) = nothing_less old old refl refl refl refl refl refl
-  lessened old h (CallRequest.set_queue_state path running) = nothing_less old (granted_cluster old (CallRequest.set_queue_state path running)) refl refl refl refl refl refl
-  lessened old h CallRequest.cluster_info = nothing_less old old refl refl refl refl refl refl
+  lessened old h request = nothing_less old (granted_cluster old request) refl refl refl refl refl refl

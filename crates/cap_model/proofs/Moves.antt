@@ -2,7 +2,11 @@
 use Rattle.std.proofs.Common.{◌≡◌, ℕ, ◌+◌, Bool, true, false, List, [], ◌∷◌, ◌++◌, refl, sym, ◌∙◌, ap, subst, inl, inr}
 use Rattle.std.specs.Prelude.{Option, Some, None, cond, not, ◌==◌, length, ◌-◌, filter, map, if◌then◌else◌}
 use Rattle.std.proofs.lemmas.List.{map-id}
-use Rattle.cap_model.specs.Calls.{Ask, Cause, CallRequest, CallReply, CallRefusal}
+use Rattle.cap_model.specs.Asks.{Ask}
+use Rattle.cap_model.specs.declared.news.Cause.{Cause}
+use Rattle.cap_model.specs.declared.request.Request.{Request}
+use Rattle.cap_model.specs.declared.reply.Reply.{Reply}
+use Rattle.cap_model.specs.declared.refusal.Refusal.{Refusal}
 use Rattle.cap_model.specs.Flat.{Flat, App, Container, with_app}
 use Rattle.cap_model.specs.Asking.{after_asks, after_ask, rounded, put_ask}
 use Rattle.cap_model.specs.Ending.{with_ends}
@@ -10,7 +14,8 @@ use Rattle.cap_model.specs.Submit.{new_app, submit_refusal}
 use Rattle.cap_model.specs.Allocate.{after_telling, after_wishes, after_processed_allocate, is_repeated_allocate, released_by}
 use Rattle.cap_model.specs.Heartbeat.{after_processed_heartbeat, is_repeated_heartbeat, ended_by, containers_on}
 use Rattle.cap_model.specs.Replies.{refused_or, refusal_of, granted_cluster, Replies}
-use Rattle.cap_model.specs.Events.{ClusterEvent, Step, after_grant, news_of, take_one}
+use Rattle.cap_model.specs.declared.event.Event.{Event}
+use Rattle.cap_model.specs.Events.{Step, after_grant, news_of, take_one}
 use Rattle.cap_model.proofs.Members.{map_twice}
 use Rattle.cap_model.proofs.Telling.{kept_if}
 
@@ -93,60 +98,57 @@ module _ {K : ℕ} where
       let w = after_wishes old n asks releases in
       let x = after_asks n asks old in
       two_changes old w (after_processed_allocate old n id asks releases)
-      (two_changes old x w (asks_change n asks old) (ends_change Cause.released (released_by old n releases) x w refl refl))
+      (two_changes old x w (asks_change n asks old) (ends_change Cause.Released (released_by old n releases) x w refl refl))
       (one_change n (after_telling id (length releases - length (released_by old n releases))) (record { number = λ a. refl; leaf = λ a. refl; user = λ a. refl }) w)
 
   either : (b : Bool) (old new : Flat K) → AppsChange old new → AppsChange old (cond b old new)
   either true old new t = no_change old old refl refl
   either false old new t = t
 
-  pub call_moves : (old : Flat K) (request : CallRequest) → refusal_of old request ≡ None → AppsMove old (granted_cluster old request)
-  call_moves old (CallRequest.submit path user) o = AppsMove.comes (record { app = new_app old path user; number = refl; unrefused = o; active = refl; next = refl })
-  call_moves old (CallRequest.register_master app) o = AppsMove.change (one_change app (λ a. record a { registered = true }) (record { number = λ a. refl; leaf = λ a. refl; user = λ a. refl }) old)
-  call_moves old (CallRequest.allocate app id asks releases) o =
+  pub call_moves : (old : Flat K) (request : Request K) → refusal_of old request ≡ None → AppsMove old (granted_cluster old request)
+  call_moves old (Request.Submit path user) o = AppsMove.comes (record { app = new_app old path user; number = refl; unrefused = o; active = refl; next = refl })
+  call_moves old (Request.RegisterMaster app) o = AppsMove.change (one_change app (λ a. record a { registered = true }) (record { number = λ a. refl; leaf = λ a. refl; user = λ a. refl }) old)
+  call_moves old (Request.Allocate app id asks releases) o =
       AppsMove.change (either (is_repeated_allocate old app id) old (after_processed_allocate old app id asks releases) (allocate_change old app id asks releases))
-  call_moves old (CallRequest.finish_master app) o = AppsMove.goes (record { number = app; active = refl; next = refl })
-  call_moves old (CallRequest.register_node host rack total) o = AppsMove.change (no_change old (granted_cluster old (CallRequest.register_node host rack total)) refl refl)
-  call_moves old (CallRequest.heartbeat node id ended) o =
+  call_moves old (Request.FinishMaster app) o = AppsMove.goes (record { number = app; active = refl; next = refl })
+  call_moves old (Request.Heartbeat node id ended) o =
       AppsMove.change (either (is_repeated_heartbeat old node id) old (after_processed_heartbeat old node id ended)
-      (ends_change Cause.ended_on_node (ended_by old node ended) old (after_processed_heartbeat old node id ended) refl refl))
-  call_moves old (CallRequest.node_gone node) o = AppsMove.change (ends_change Cause.node_lost (containers_on old node) old (granted_cluster old (CallRequest.node_gone node)) refl refl)
-  call_moves old (CallRequest.queue_info path) o = AppsMove.change (no_change old old refl refl)
-  call_moves old (CallRequest.set_queue_state path running) o = AppsMove.change (no_change old (granted_cluster old (CallRequest.set_queue_state path running)) refl refl)
-  call_moves old CallRequest.cluster_info o = AppsMove.change (no_change old old refl refl)
+      (ends_change Cause.EndedOnNode (ended_by old node ended) old (after_processed_heartbeat old node id ended) refl refl))
+  call_moves old (Request.NodeGone node) o = AppsMove.change (ends_change Cause.NodeLost (containers_on old node) old (granted_cluster old (Request.NodeGone node)) refl refl)
+  call_moves old request o = AppsMove.change (no_change old (granted_cluster old request) refl refl)
 
-  unless_refused : (o : Option CallRefusal) (old : Flat K) (request : CallRequest) → refusal_of old request ≡ o → AppsMove old (refused_or o (λ refusal. old) (granted_cluster old request))
+  unless_refused : (o : Option Refusal) (old : Flat K) (request : Request K) → refusal_of old request ≡ o → AppsMove old (refused_or o (λ refusal. old) (granted_cluster old request))
   unless_refused None old request e = call_moves old request e
   unless_refused (Some refusal) old request e = AppsMove.change (no_change old old refl refl)
 
-  reply_moves : (old new : Flat K) (request : CallRequest) (reply : CallReply) → Replies old request reply new → AppsMove old new
+  reply_moves : (old new : Flat K) (request : Request K) (reply : Reply K) → Replies old request reply new → AppsMove old new
   reply_moves old new request reply (inl r) = subst (λ c. AppsMove old c) (sym (r.1)) (unless_refused (refusal_of old request) old request refl)
   reply_moves old new request reply (inr r) = subst (λ c. AppsMove old c) (sym (r.1)) (AppsMove.change (no_change old old refl refl))
 
   -- an allocate, a heartbeat, a lost node and a grant change applications, and let none go or come
-  reply_changes : (old new : Flat K) (request : CallRequest) (reply : CallReply) → AppsChange old (granted_cluster old request) → Replies old request reply new → AppsChange old new
+  reply_changes : (old new : Flat K) (request : Request K) (reply : Reply K) → AppsChange old (granted_cluster old request) → Replies old request reply new → AppsChange old new
   reply_changes old new request reply c (inl r) = subst (λ x. AppsChange old x) (sym (r.1)) (by (refusal_of old request))
     where
-      by : (o : Option CallRefusal) → AppsChange old (refused_or o (λ refusal. old) (granted_cluster old request))
+      by : (o : Option Refusal) → AppsChange old (refused_or o (λ refusal. old) (granted_cluster old request))
       by None = c
       by (Some refusal) = no_change old old refl refl
   reply_changes old new request reply c (inr r) = subst (λ x. AppsChange old x) (sym (r.1)) (no_change old old refl refl)
 
-  pub allocate_changes : (old new : Flat K) (n id : ℕ) (asks : List Ask) (releases : List ℕ) (reply : CallReply) → Replies old (CallRequest.allocate n id asks releases) reply new → AppsChange old new
+  pub allocate_changes : (old new : Flat K) (n id : ℕ) (asks : List Ask) (releases : List ℕ) (reply : Reply K) → Replies old (Request.Allocate n id asks releases) reply new → AppsChange old new
   allocate_changes old new n id asks releases reply r =
-      reply_changes old new (CallRequest.allocate n id asks releases) reply
+      reply_changes old new (Request.Allocate n id asks releases) reply
       (either (is_repeated_allocate old n id) old (after_processed_allocate old n id asks releases) (allocate_change old n id asks releases)) r
 
-  pub beat_changes : (old new : Flat K) (node id : ℕ) (ended : List ℕ) (reply : CallReply) → Replies old (CallRequest.heartbeat node id ended) reply new → AppsChange old new
+  pub beat_changes : (old new : Flat K) (node id : ℕ) (ended : List ℕ) (reply : Reply K) → Replies old (Request.Heartbeat node id ended) reply new → AppsChange old new
   beat_changes old new node id ended reply r =
-      reply_changes old new (CallRequest.heartbeat node id ended) reply
+      reply_changes old new (Request.Heartbeat node id ended) reply
       (either (is_repeated_heartbeat old node id) old (after_processed_heartbeat old node id ended)
-      (ends_change Cause.ended_on_node (ended_by old node ended) old (after_processed_heartbeat old node id ended) refl refl)) r
+      (ends_change Cause.EndedOnNode (ended_by old node ended) old (after_processed_heartbeat old node id ended) refl refl)) r
 
-  pub lost_changes : (old new : Flat K) (node : ℕ) (reply : CallReply) → Replies old (CallRequest.node_gone node) reply new → AppsChange old new
+  pub lost_changes : (old new : Flat K) (node : ℕ) (reply : Reply K) → Replies old (Request.NodeGone node) reply new → AppsChange old new
   lost_changes old new node reply r =
-      reply_changes old new (CallRequest.node_gone node) reply
-      (ends_change Cause.node_lost (containers_on old node) old (granted_cluster old (CallRequest.node_gone node)) refl refl) r
+      reply_changes old new (Request.NodeGone node) reply
+      (ends_change Cause.NodeLost (containers_on old node) old (granted_cluster old (Request.NodeGone node)) refl refl) r
 
   pub grant_change : (old : Flat K) (c : Container) → AppsChange old (after_grant old c)
   grant_change old c = record {
@@ -156,9 +158,9 @@ module _ {K : ℕ} where
     next = refl;
   }
 
-  pub step_moves : (old new : Flat K) (event : ClusterEvent) → Step old event new → AppsMove old new
-  step_moves old new (ClusterEvent.call by request reply) s = reply_moves old new request reply s
-  step_moves old new (ClusterEvent.grant c) (admissible, number, after) =
+  pub step_moves : (old new : Flat K) (event : Event K) → Step old event new → AppsMove old new
+  step_moves old new (Event.Call by request reply) s = reply_moves old new request reply s
+  step_moves old new (Event.Grant c) (admissible, number, after) =
       subst (λ x. AppsMove old x) (sym after)
       (AppsMove.change (grant_change old c))
-  step_moves old new (ClusterEvent.reserve r) (admissible, after) = subst (λ x. AppsMove old x) (sym after) (AppsMove.change (no_change old _ refl refl))
+  step_moves old new (Event.Reserve r) (admissible, after) = subst (λ x. AppsMove old x) (sym after) (AppsMove.change (no_change old _ refl refl))

@@ -4,7 +4,8 @@ use Rattle.std.specs.Prelude.{Option, Some, None, cond, not, ◌&&◌, ◌||◌,
 use Rattle.std.specs.List.{list_any, sum_by, cons_option}
 use Rattle.std.proofs.lemmas.Bool.Decides.{nat_tests}
 use Rattle.std.proofs.lemmas.List.Sums.{sum_by-cons}
-use Rattle.cap_model.specs.Calls.{Cause, EndedContainer}
+use Rattle.cap_model.specs.declared.news.Cause.{Cause}
+use Rattle.cap_model.specs.declared.news.End.{End}
 use Rattle.cap_model.specs.Flat.{Container}
 use Rattle.cap_model.specs.Ending.{is_among, named_among}
 use Rattle.cap_model.specs.Bounds.{IsRising}
@@ -198,9 +199,9 @@ count_lost g t low live high r =
     ap (count_by g) (sym (filter_same (λ c. not (not (is_among (filter t live) c))) t live (λ c m. twice_not (is_among (filter t live) c) ∙ among_some t low live high c r m)))
 
 -- ends of containers, counted by number
-pub count_ends : (cause : Cause) (n number : ℕ) (gone : List Container) → count_by (λ (e : EndedContainer). e.container == number) (ends_of cause n gone) ≡ count_by (λ (c : Container). c.app == n && c.number == number) gone
+pub count_ends : (cause : Cause) (n number : ℕ) (gone : List Container) → count_by (λ (e : End). e.container == number) (ends_of cause n gone) ≡ count_by (λ (c : Container). c.app == n && c.number == number) gone
 count_ends cause n number gone =
-    sum_by_map (λ (c : Container). record { container = c.number; cause = cause }) (λ (e : EndedContainer). one_where (e.container == number)) (filter (λ c. c.app == n) gone)
+    sum_by_map (λ (c : Container). record { container = c.number; cause = cause }) (λ (e : End). one_where (e.container == number)) (filter (λ c. c.app == n) gone)
     ∙ count_kept (λ (c : Container). c.number == number) (λ c. c.app == n) gone
 
 pub count_of : (n number : ℕ) (xs : List Container) → count_by (λ (c : Container). c.number == number) (filter (λ c. c.app == n) xs) ≡ count_by (λ (c : Container). c.app == n && c.number == number) xs

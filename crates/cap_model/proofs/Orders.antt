@@ -8,7 +8,7 @@ use Rattle.std.proofs.Common.{arith, refl, sym, ◌∙◌, ap}
 use Rattle.std.proofs.lemmas.Cmp.{nat_cmp_total, nat_list_cmp_total, lists_total, on_total, then_total, ranked}
 use Rattle.std.proofs.Math.Nat.{mul_right_comm, mul-lt-mul_of_pos_right}
 use Rattle.cap_model.specs.Fullness.{share_cmp, shares_cmp}
-use Rattle.cap_model.specs.Calls.{ask_key_cmp}
+use Rattle.cap_model.specs.Asks.{ask_key_cmp}
 use Rattle.cap_model.specs.Choice.{level_cmp, rank_cmp}
 
 scaled_rank : (a b k : ℕ) (r : Ordering) → 0 < k → MatchOrdering r (a < b) (a ≡ b) (b < a) → MatchOrdering r (a * k < b * k) (a * k ≡ b * k) (b * k < a * k)

@@ -43,12 +43,6 @@ none_is_large k bound None v none long is e =
     ]
 none_is_large k bound (Some x) v none long is e = rw (test_from_within bound v (is.0 refl).within) (not-true none (sym e))
 
--- the first of tests, said in other words
-pub earliest-as : {A B : Type 0} (f : A → B) (tests : List (Bool × A)) → option_map f (earliest tests) ≡ earliest (map (λ t. (t.0, f t.1)) tests)
-earliest-as f [] = refl
-earliest-as f ((true, a) ∷ tests) = refl
-earliest-as f ((false, a) ∷ tests) = earliest-as f tests
-
 -- no test holds
 none_of_submit : {A : Type 0} (a b c d e : Bool) (p q r s t : A) → earliest ((a, p) ∷ (b, q) ∷ (c, r) ∷ (d, s) ∷ (e, t) ∷ []) ≡ None → (d ≡ false) × (e ≡ false)
 none_of_submit true b c d e p q r s t h = absurd cc

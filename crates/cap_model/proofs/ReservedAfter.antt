@@ -8,7 +8,8 @@ use Rattle.std.proofs.lemmas.List.Filters.{sum_by-filter_both}
 use Rattle.std.proofs.lemmas.List.Folds.{list_any-append}
 use Rattle.cap_model.specs.Cascade.{holds_of}
 use Rattle.cap_model.specs.Amounts.{fits}
-use Rattle.cap_model.specs.Calls.{Key, same_key, Ask}
+use Rattle.cap_model.specs.declared.ask.Key.{Key}
+use Rattle.cap_model.specs.Asks.{same_key, Ask}
 use Rattle.cap_model.specs.Flat.{Flat, App, ClusterNode, Container, Reservation, app_at, node_at, is_for, ask_at, reservation_on}
 use Rattle.cap_model.specs.Sight.{NodeSight, sight_of, node_sight, seen_node}
 use Rattle.cap_model.specs.Admission.{NodeProposal, is_wanted, is_reserved_for, node_reservation, fits_total}

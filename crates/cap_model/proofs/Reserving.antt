@@ -7,7 +7,8 @@ use Rattle.std.proofs.lemmas.Bool.Decides.{nat_tests}
 use Rattle.std.proofs.lemmas.List.Sums.{length-filter}
 use Rattle.cap_model.specs.Cascade.{holds_of}
 use Rattle.cap_model.specs.Amounts.{fits}
-use Rattle.cap_model.specs.Calls.{Key, same_key, Ask}
+use Rattle.cap_model.specs.declared.ask.Key.{Key}
+use Rattle.cap_model.specs.Asks.{same_key, Ask}
 use Rattle.cap_model.specs.Flat.{Flat, App, ClusterNode, Reservation, app_at, node_at, is_for, ask_at}
 use Rattle.cap_model.specs.Asking.{after_ask, after_asks, rounded, put_ask, reservations_left, is_changed}
 use Rattle.cap_model.specs.Bounds.{IsReservationBounded, reservations_for}

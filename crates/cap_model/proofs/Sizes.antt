@@ -9,7 +9,9 @@ use Rattle.std.proofs.lemmas.List.Sums.{length-filter, count_by-le-length, sum_b
 use Rattle.cap_vector.specs.Vector.{amount, amount_max, plus, is_zero, is_within, IsWithin}
 use Rattle.cap_vector.proofs.AmountLemmas.{amount-plus, within_from_test}
 use Rattle.cap_model.specs.Limits.{number_end, nodes_max}
-use Rattle.cap_model.specs.Calls.{Ask, CallRequest, CallRefusal}
+use Rattle.cap_model.specs.Asks.{Ask}
+use Rattle.cap_model.specs.declared.request.Request.{Request}
+use Rattle.cap_model.specs.declared.refusal.Refusal.{Refusal}
 use Rattle.cap_model.specs.Amounts.{part}
 use Rattle.cap_model.specs.Flat.{Flat, ClusterNode, queue_at}
 use Rattle.cap_model.specs.Submit.{submit_refusal, has_children, is_running}
@@ -17,7 +19,8 @@ use Rattle.cap_model.specs.RegisterNode.{register_node_refusal, total_of_nodes, 
 use Rattle.cap_model.specs.Allocate.{after_processed_allocate, is_repeated_allocate}
 use Rattle.cap_model.specs.Heartbeat.{after_processed_heartbeat, is_repeated_heartbeat, beat_of}
 use Rattle.cap_model.specs.Replies.{refusal_of, granted_cluster}
-use Rattle.cap_model.specs.Events.{ClusterEvent, Step, Run}
+use Rattle.cap_model.specs.declared.event.Event.{Event}
+use Rattle.cap_model.specs.Events.{Step, Run}
 use Rattle.cap_model.specs.Bounds.{IsWithinSizes}
 use Rattle.cap_model.specs.BoundLaws.{SizesStay, RunsStayWithinSizes, OpenedIsWithinSizes}
 use Rattle.cap_model.proofs.Reasons.{none_holds}
@@ -86,11 +89,11 @@ module _ {K : ℕ} where
       AreNodesWithin K (old.nodes.present ++ new_node old host rack total ∷ []) (old.nodes.next_node + 1)
   register_nodes old host rack total e a =
       let tests = none_holds
-      ((list_any (λ (node : ClusterNode). bytes_eq node.host host) old.nodes.present, CallRefusal.host_taken)
-      ∷ (not (is_within amount_max (plus (total_of_nodes old) total)), CallRefusal.total_too_large)
-      ∷ (nat_le nodes_max (length old.nodes.present), CallRefusal.too_many_nodes)
-      ∷ (is_zero total, CallRefusal.zero_resource)
-      ∷ (nat_le number_end old.nodes.next_node, CallRefusal.numbers_spent)
+      ((list_any (λ (node : ClusterNode). bytes_eq node.host host) old.nodes.present, Refusal.HostTaken)
+      ∷ (not (is_within amount_max (plus (total_of_nodes old) total)), Refusal.TotalTooLarge)
+      ∷ (nat_le nodes_max (length old.nodes.present), Refusal.TooManyNodes)
+      ∷ (is_zero total, Refusal.ZeroResource)
+      ∷ (nat_le number_end old.nodes.next_node, Refusal.NumbersSpent)
       ∷ []) e in
       let within = within_from_test amount_max (plus (total_of_nodes old) total) (not-false (is_within amount_max (plus (total_of_nodes old) total)) tests.1.0) in
       let few = tests.1.1.0 in
@@ -106,15 +109,12 @@ module _ {K : ℕ} where
         numbers = (let f : old.nodes.next_node < number_end = grind (arith, nat_tests, left) in omega (arith, f));
       }
 
-  call_nodes : (old : Flat K) (request : CallRequest) → refusal_of old request ≡ None → AreNodesWithin K old.nodes.present old.nodes.next_node →
+  call_nodes : (old : Flat K) (request : Request K) → refusal_of old request ≡ None → AreNodesWithin K old.nodes.present old.nodes.next_node →
       AreNodesWithin K (granted_cluster old request).nodes.present (granted_cluster old request).nodes.next_node
-  call_nodes old (CallRequest.submit path user) e a = a
-  call_nodes old (CallRequest.register_master app) e a = a
-  call_nodes old (CallRequest.allocate app id asks releases) e a = allocate_nodes old app id asks releases (is_repeated_allocate old app id) a
-  call_nodes old (CallRequest.finish_master app) e a = a
-  call_nodes old (CallRequest.register_node host rack total) e a = register_nodes old host rack total e a
-  call_nodes old (CallRequest.heartbeat node id ended) e a = beat_nodes old node id ended (is_repeated_heartbeat old node id) a
-  call_nodes old (CallRequest.node_gone m) e a = record {
+  call_nodes old (Request.Allocate app id asks releases) e a = allocate_nodes old app id asks releases (is_repeated_allocate old app id) a
+  call_nodes old (Request.RegisterNode host rack total) e a = register_nodes old host rack total e a
+  call_nodes old (Request.Heartbeat node id ended) e a = beat_nodes old node id ended (is_repeated_heartbeat old node id) a
+  call_nodes old (Request.NodeGone m) e a = record {
     totals = λ k h.
         let b = a.totals k h in
         let p = part_sum (λ (x : ClusterNode). amount x.total k) old.nodes.present (filter (λ x. not (x.number == m)) old.nodes.present) (part_filter (λ x. not (x.number == m)) old.nodes.present) in
@@ -122,19 +122,17 @@ module _ {K : ℕ} where
     few = (let b = a.few in let l = few_kept (λ (x : ClusterNode). not (x.number == m)) old.nodes.present in omega (arith, b, l));
     numbers = a.numbers;
   }
-  call_nodes old (CallRequest.queue_info path) e a = a
-  call_nodes old (CallRequest.set_queue_state path running) e a = a
-  call_nodes old CallRequest.cluster_info e a = a
+  call_nodes old _ e a = a
 
   -- an application enters only where a number is left
   number_left : (old : Flat K) (path : List ℕ) → submit_refusal old path ≡ None → old.apps.next < number_end
   number_left old path e =
       let tests = none_holds
-      ((is_none (queue_at old path), CallRefusal.unknown_queue)
-      ∷ (has_children old path, CallRefusal.not_leaf)
-      ∷ (not (is_running old path), CallRefusal.queue_stopped)
-      ∷ (nat_le old.settings.application_limit (length old.apps.active), CallRefusal.too_many_applications)
-      ∷ (nat_le number_end old.apps.next, CallRefusal.numbers_spent)
+      ((is_none (queue_at old path), Refusal.UnknownQueue)
+      ∷ (has_children old path, Refusal.NotLeaf)
+      ∷ (not (is_running old path), Refusal.QueueStopped)
+      ∷ (nat_le old.settings.application_limit (length old.apps.active), Refusal.TooManyApplications)
+      ∷ (nat_le number_end old.apps.next, Refusal.NumbersSpent)
       ∷ []) e in
       let left = tests.1.1.1.1.0 in
       grind (arith, nat_tests, left)
@@ -144,7 +142,7 @@ module _ {K : ℕ} where
   app_numbers old new (AppsMove.goes m) h = let next = m.next in omega (arith, next, h)
   app_numbers old new (AppsMove.comes m) h = let next = m.next in let left = number_left old m.app.leaf m.unrefused in omega (arith, next, left)
 
-  call_sizes : (old : Flat K) → IsWithinSizes old → (request : CallRequest) → refusal_of old request ≡ None → IsWithinSizes (granted_cluster old request)
+  call_sizes : (old : Flat K) → IsWithinSizes old → (request : Request K) → refusal_of old request ≡ None → IsWithinSizes (granted_cluster old request)
   call_sizes old s request e =
       let new = granted_cluster old request in
       let a = call_nodes old request e (nodes_of old s) in
@@ -163,9 +161,9 @@ module _ {K : ℕ} where
         container_numbers = omega (arith, next, numbers);
       }
 
-  step_sizes : (old new : Flat K) (event : ClusterEvent) → IsWithinSizes old → Step old event new → IsWithinSizes new
-  step_sizes old new (ClusterEvent.call by request reply) s r = after_call IsWithinSizes old s (λ request e. call_sizes old s request e) new request reply r
-  step_sizes old new (ClusterEvent.grant c) s (admissible, number, after) =
+  step_sizes : (old new : Flat K) (event : Event K) → IsWithinSizes old → Step old event new → IsWithinSizes new
+  step_sizes old new (Event.Call by request reply) s r = after_call IsWithinSizes old s (λ request e. call_sizes old s request e) new request reply r
+  step_sizes old new (Event.Grant c) s (admissible, number, after) =
       let few = (admissible.0).few_live in
       let left = (admissible.0).numbers_left in
       let pushed = length-append old.nodes.live (c ∷ []) in
@@ -178,15 +176,15 @@ module _ {K : ℕ} where
         node_numbers = s.node_numbers;
         container_numbers = omega (arith, left);
       })
-  step_sizes old new (ClusterEvent.reserve r) s (admissible, after) =
+  step_sizes old new (Event.Reserve r) s (admissible, after) =
       subst IsWithinSizes (sym after)
       (record { totals = s.totals; nodes = s.nodes; live = s.live; app_numbers = s.app_numbers; node_numbers = s.node_numbers; container_numbers = s.container_numbers })
 
-  run_sizes : (events : List ClusterEvent) (old new : Flat K) → IsWithinSizes old → Run old events new → IsWithinSizes new
+  run_sizes : (events : List (Event K)) (old new : Flat K) → IsWithinSizes old → Run old events new → IsWithinSizes new
   run_sizes [] old new s run = subst IsWithinSizes run s
   run_sizes (event ∷ events) old new s (mid, step, run) = run_sizes events mid new (step_sizes old mid event s step) run
 
-  split_sizes : (first rest : List ClusterEvent) (old new : Flat K) → IsWithinSizes old → Run old (first ++ rest) new → (mid : Flat K) × Run old first mid × Run mid rest new × IsWithinSizes mid × IsWithinSizes new
+  split_sizes : (first rest : List (Event K)) (old new : Flat K) → IsWithinSizes old → Run old (first ++ rest) new → (mid : Flat K) × Run old first mid × Run mid rest new × IsWithinSizes mid × IsWithinSizes new
   split_sizes [] rest old new s run = (old, refl, run, s, run_sizes rest old new s run)
   split_sizes (event ∷ first) rest old new s (next, step, run) =
       let r = split_sizes first rest next new (step_sizes old next event s step) run in

@@ -5,22 +5,29 @@ use Rattle.std.specs.Option.{option_map_or, option_or}
 use Rattle.std.proofs.lemmas.Bool.Decides.{nat_tests}
 use Rattle.std.proofs.lemmas.List.{take-append-drop, append-nil}
 use Rattle.std.proofs.lemmas.List.Folds.{find-append}
-use Rattle.cap_model.specs.Calls.{Ask, Cause, GrantedContainer, CallRequest, CallReply, CallRefusal}
+use Rattle.cap_model.specs.Asks.{Ask}
+use Rattle.cap_model.specs.declared.news.Cause.{Cause}
+use Rattle.cap_model.specs.News.{Grant}
+use Rattle.cap_model.specs.declared.request.Request.{Request}
+use Rattle.cap_model.specs.declared.reply.Reply.{Reply}
+use Rattle.cap_model.specs.declared.refusal.Refusal.{Refusal}
 use Rattle.cap_model.specs.Flat.{Flat, App, Container, app_at, with_app}
 use Rattle.cap_model.specs.Asking.{after_asks, after_ask, rounded, put_ask}
 use Rattle.cap_model.specs.Ending.{with_ends}
 use Rattle.cap_model.specs.Submit.{new_app}
-use Rattle.cap_model.specs.Allocate.{news_max, nothing_told, after_telling, after_wishes, after_processed_allocate, kept_reply, is_repeated_allocate, released_by}
+use Rattle.cap_model.specs.Limits.{news_max}
+use Rattle.cap_model.specs.Allocate.{nothing_told, after_telling, after_wishes, after_processed_allocate, kept_reply, is_repeated_allocate, released_by}
 use Rattle.cap_model.specs.Heartbeat.{after_processed_heartbeat, is_repeated_heartbeat, ended_by, containers_on}
 use Rattle.cap_model.specs.Replies.{refused_or, refusal_of, granted_reply, granted_cluster, reply_to}
-use Rattle.cap_model.specs.Events.{ClusterEvent, Step, after_grant, news_of, take_one}
+use Rattle.cap_model.specs.declared.event.Event.{Event}
+use Rattle.cap_model.specs.Events.{Step, after_grant, news_of, take_one}
 use Rattle.cap_model.specs.NewsLaws.{untold_grants, told_grants, new_grants, GrantsAreToldInOrder}
 use Rattle.cap_model.proofs.Choosing.{found}
 
 abbrev pub is_number : ℕ → App → Bool
 is_number n app = app.number == n
 
-abbrev grants_in : Option App → List GrantedContainer
+abbrev grants_in : Option App → List Grant
 grants_in o = option_map_or (λ app. app.grants) o []
 
 mapped : (f : App → App) (b : Bool) (x : App) (o p : Option App) → p ≡ option_map f o → cond b (Some (f x)) p ≡ option_map f (cond b (Some x) o)
@@ -99,7 +106,7 @@ module _ {K : ℕ} where
   ends_keep cause gone c n = kept_at (with_ends cause gone) (record { number = λ a. refl; grants = λ a. refl }) n c.apps.active
 
   wishes_keep : (old : Flat K) (m : ℕ) (asks : List Ask) (releases : List ℕ) (n : ℕ) → untold_grants (after_wishes old m asks releases) n ≡ untold_grants old n
-  wishes_keep old m asks releases n = ends_keep Cause.released (released_by old m releases) (after_asks m asks old) n ∙ asks_keep m asks old n
+  wishes_keep old m asks releases n = ends_keep Cause.Released (released_by old m releases) (after_asks m asks old) n ∙ asks_keep m asks old n
 
   -- a processed allocate tells its own application, and nobody else
   telling : (m id ignored : ℕ) (w : Flat K) (n : ℕ) (b : Bool) → m == n ≡ b →
@@ -152,16 +159,16 @@ pub only_where : (c : Bool) → c && true ≡ c
 only_where true = refl
 only_where false = refl
 
-granted_in : (change : App → App) (news : GrantedContainer) → ((a : App) → (change a).grants ≡ a.grants ++ news ∷ []) → (o : Option App) → IsSome (option_map change o) → grants_in (option_map change o) ≡ grants_in o ++ news ∷ []
+granted_in : (change : App → App) (news : Grant) → ((a : App) → (change a).grants ≡ a.grants ++ news ∷ []) → (o : Option App) → IsSome (option_map change o) → grants_in (option_map change o) ≡ grants_in o ++ news ∷ []
 granted_in change news e None h = absurd (cc h)
 granted_in change news e (Some a) h = e a
 
 module _ {K : ℕ} (old : Flat K) (n : ℕ) where
   -- the law at an event and the cluster after it
-  abbrev IsToldAt : ClusterEvent → Flat K → Type 0
+  abbrev IsToldAt : Event K → Flat K → Type 0
   IsToldAt event new = IsSome (app_at new n) → told_grants old n event ++ untold_grants new n ≡ untold_grants old n ++ new_grants old n event
 
-  as_before : {xs : List GrantedContainer} → xs ≡ untold_grants old n → xs ≡ untold_grants old n ++ []
+  as_before : {xs : List Grant} → xs ≡ untold_grants old n → xs ≡ untold_grants old n ++ []
   as_before e = e ∙ sym (append-nil (untold_grants old n))
 
   allocate_tells : (m id : ℕ) (asks : List Ask) (releases : List ℕ) (b : Bool) →
@@ -181,39 +188,28 @@ module _ {K : ℕ} (old : Flat K) (n : ℕ) where
 
   beat_tells : (node id : ℕ) (ended : List ℕ) (b : Bool) → untold_grants (cond b old (after_processed_heartbeat old node id ended)) n ≡ untold_grants old n
   beat_tells node id ended true = refl
-  beat_tells node id ended false = ends_keep Cause.ended_on_node (ended_by old node ended) old n
+  beat_tells node id ended false = ends_keep Cause.EndedOnNode (ended_by old node ended) old n
 
-  call_tells : (by : ℕ) (request : CallRequest) → IsToldAt (ClusterEvent.call by request (granted_reply old request)) (granted_cluster old request)
-  call_tells by (CallRequest.submit path user) h =
+  call_tells : (by : ℕ) (request : Request K) → IsToldAt (Event.Call by request (granted_reply old request)) (granted_cluster old request)
+  call_tells by (Request.Submit path user) h =
       as_before (ap grants_in (find-append (is_number n) old.apps.active (new_app old path user ∷ [])) ∙ one_more (find (is_number n) old.apps.active) (old.apps.next == n) (new_app old path user) refl)
-  call_tells by (CallRequest.register_master app) h =
+  call_tells by (Request.RegisterMaster app) h =
       as_before (kept_at (λ a. if a.number == app then record a { registered = true } else a) (only_at app (λ a. record a { registered = true }) (record { number = λ a. refl; grants = λ a. refl })) n old.apps.active)
-  call_tells by (CallRequest.allocate app id asks releases) h = as_before (allocate_tells app id asks releases (is_repeated_allocate old app id))
-  call_tells by (CallRequest.finish_master app) h = as_before (finish_tells app (app == n) refl h)
-  call_tells by (CallRequest.register_node host rack total) h = as_before refl
-  call_tells by (CallRequest.heartbeat node id ended) h = as_before (beat_tells node id ended (is_repeated_heartbeat old node id))
-  call_tells by (CallRequest.node_gone node) h = as_before (ends_keep Cause.node_lost (containers_on old node) old n)
-  call_tells by (CallRequest.queue_info path) h = as_before refl
-  call_tells by (CallRequest.set_queue_state path running) h = as_before refl
-  call_tells by CallRequest.cluster_info h = as_before refl
+  call_tells by (Request.Allocate app id asks releases) h = as_before (allocate_tells app id asks releases (is_repeated_allocate old app id))
+  call_tells by (Request.FinishMaster app) h = as_before (finish_tells app (app == n) refl h)
+  call_tells by (Request.Heartbeat node id ended) h = as_before (beat_tells node id ended (is_repeated_heartbeat old node id))
+  call_tells by (Request.NodeGone node) h = as_before (ends_keep Cause.NodeLost (containers_on old node) old n)
+  call_tells by _ h = as_before refl
 
-  pub refused_tells : (by : ℕ) (request : CallRequest) (refusal : CallRefusal) → told_grants old n (ClusterEvent.call by request (CallReply.refused refusal)) ≡ []
-  refused_tells by (CallRequest.submit path user) refusal = refl
-  refused_tells by (CallRequest.register_master app) refusal = refl
-  refused_tells by (CallRequest.allocate app id asks releases) refusal = refl
-  refused_tells by (CallRequest.finish_master app) refusal = refl
-  refused_tells by (CallRequest.register_node host rack total) refusal = refl
-  refused_tells by (CallRequest.heartbeat node id ended) refusal = refl
-  refused_tells by (CallRequest.node_gone node) refusal = refl
-  refused_tells by (CallRequest.queue_info path) refusal = refl
-  refused_tells by (CallRequest.set_queue_state path running) refusal = refl
-  refused_tells by CallRequest.cluster_info refusal = refl
+  pub refused_tells : (by : ℕ) (request : Request K) (refusal : Refusal) → told_grants old n (Event.Call by request (Reply.Refused refusal)) ≡ []
+  refused_tells by Request.ClusterInfo refusal = refl
+  refused_tells by _ refusal = refl
 
-  refusal_tells : (by : ℕ) (request : CallRequest) (refusal : CallRefusal) → IsToldAt (ClusterEvent.call by request (CallReply.refused refusal)) old
+  refusal_tells : (by : ℕ) (request : Request K) (refusal : Refusal) → IsToldAt (Event.Call by request (Reply.Refused refusal)) old
   refusal_tells by request refusal h = as_before (ap (λ xs. xs ++ untold_grants old n) (refused_tells by request refusal))
 
-  reply_tells : (by : ℕ) (request : CallRequest) (o : Option CallRefusal) →
-      IsToldAt (ClusterEvent.call by request (refused_or o (λ refusal. CallReply.refused refusal) (granted_reply old request))) (refused_or o (λ refusal. old) (granted_cluster old request))
+  reply_tells : (by : ℕ) (request : Request K) (o : Option Refusal) →
+      IsToldAt (Event.Call by request (refused_or o (λ refusal. Reply.Refused refusal) (granted_reply old request))) (refused_or o (λ refusal. old) (granted_cluster old request))
   reply_tells by request None = call_tells by request
   reply_tells by request (Some refusal) = refusal_tells by request refusal
 
@@ -231,13 +227,13 @@ module _ {K : ℕ} (old : Flat K) (n : ℕ) where
       ∙ at_this c.app n (granting c) e (find (is_number n) old.apps.active) (found_at n old.apps.active) in
       ap grants_in at ∙ granted_in (granting c) (news_of old c) (λ a. refl) (app_at old n) (subst (λ o. IsSome o) at h)
 
-  step_tells : (event : ClusterEvent) (new : Flat K) → Step old event new → IsToldAt event new
-  step_tells (ClusterEvent.call by request reply) new (inl r) =
-      subst (λ x. IsToldAt (ClusterEvent.call by request x) new) (sym (r.0)) (subst (λ x. IsToldAt (ClusterEvent.call by request (reply_to old request)) x) (sym (r.1)) (reply_tells by request (refusal_of old request)))
-  step_tells (ClusterEvent.call by request reply) new (inr r) =
-      subst (λ x. IsToldAt (ClusterEvent.call by request x) new) (sym (r.0.reply_is)) (subst (λ x. IsToldAt (ClusterEvent.call by request (CallReply.refused CallRefusal.no_memory)) x) (sym (r.1)) (refusal_tells by request CallRefusal.no_memory))
-  step_tells (ClusterEvent.grant c) new (admissible, number, after) = subst (λ x. IsToldAt (ClusterEvent.grant c) x) (sym after) (grant_tells c (c.app == n) refl)
-  step_tells (ClusterEvent.reserve r) new (admissible, after) = subst (λ x. IsToldAt (ClusterEvent.reserve r) x) (sym after) (λ h. as_before refl)
+  step_tells : (event : Event K) (new : Flat K) → Step old event new → IsToldAt event new
+  step_tells (Event.Call by request reply) new (inl r) =
+      subst (λ x. IsToldAt (Event.Call by request x) new) (sym (r.0)) (subst (λ x. IsToldAt (Event.Call by request (reply_to old request)) x) (sym (r.1)) (reply_tells by request (refusal_of old request)))
+  step_tells (Event.Call by request reply) new (inr r) =
+      subst (λ x. IsToldAt (Event.Call by request x) new) (sym (r.0.reply_is)) (subst (λ x. IsToldAt (Event.Call by request (Reply.Refused Refusal.NoMemory)) x) (sym (r.1)) (refusal_tells by request Refusal.NoMemory))
+  step_tells (Event.Grant c) new (admissible, number, after) = subst (λ x. IsToldAt (Event.Grant c) x) (sym after) (grant_tells c (c.app == n) refl)
+  step_tells (Event.Reserve r) new (admissible, after) = subst (λ x. IsToldAt (Event.Reserve r) x) (sym after) (λ h. as_before refl)
 
 pub grants_are_told_in_order : GrantsAreToldInOrder
 grants_are_told_in_order K old new n event step h = step_tells old n event new step h

@@ -5,19 +5,26 @@ use Rattle.std.specs.Option.{option_map_or, option_or}
 use Rattle.std.proofs.lemmas.Bool.Decides.{nat_tests}
 use Rattle.std.proofs.lemmas.List.{take-append-drop, append-nil}
 use Rattle.std.proofs.lemmas.List.Folds.{find-append}
-use Rattle.cap_model.specs.Calls.{Ask, Cause, EndedContainer, CallRequest, CallReply, CallRefusal}
+use Rattle.cap_model.specs.Asks.{Ask}
+use Rattle.cap_model.specs.declared.news.Cause.{Cause}
+use Rattle.cap_model.specs.declared.news.End.{End}
+use Rattle.cap_model.specs.declared.request.Request.{Request}
+use Rattle.cap_model.specs.declared.reply.Reply.{Reply}
+use Rattle.cap_model.specs.declared.refusal.Refusal.{Refusal}
 use Rattle.cap_model.specs.Flat.{Flat, App, Container, app_at, with_app}
 use Rattle.cap_model.specs.Asking.{after_asks, after_ask, rounded, put_ask}
 use Rattle.cap_model.specs.Ending.{with_ends}
 use Rattle.cap_model.specs.Submit.{new_app}
-use Rattle.cap_model.specs.Allocate.{news_max, nothing_told, after_telling, after_wishes, after_processed_allocate, kept_reply, is_repeated_allocate, released_by}
+use Rattle.cap_model.specs.Limits.{news_max}
+use Rattle.cap_model.specs.Allocate.{nothing_told, after_telling, after_wishes, after_processed_allocate, kept_reply, is_repeated_allocate, released_by}
 use Rattle.cap_model.specs.Heartbeat.{after_processed_heartbeat, is_repeated_heartbeat, ended_by, containers_on}
 use Rattle.cap_model.specs.Replies.{refused_or, refusal_of, granted_reply, granted_cluster, reply_to}
-use Rattle.cap_model.specs.Events.{ClusterEvent, Step, after_grant, news_of, take_one}
+use Rattle.cap_model.specs.declared.event.Event.{Event}
+use Rattle.cap_model.specs.Events.{Step, after_grant, news_of, take_one}
 use Rattle.cap_model.specs.NewsLaws.{untold_ends, told_ends, new_ends, ends_of, EndsAreToldInOrder}
 use Rattle.cap_model.proofs.Telling.{is_number, find_mapped, kept_if, numbers_at, elsewhere, at_number, found_at, others_stay, gone_is_none, not_none, nothing_where, only_where}
 
-abbrev ends_in : Option App → List EndedContainer
+abbrev ends_in : Option App → List End
 ends_in o = option_map_or (λ app. app.ends) o []
 
 -- a change that keeps numbers and ends
@@ -91,15 +98,15 @@ module _ {K : ℕ} where
 
 module _ {K : ℕ} (old : Flat K) (n : ℕ) where
   -- the law at an event and the cluster after it
-  abbrev IsToldAt : ClusterEvent → Flat K → Type 0
+  abbrev IsToldAt : Event K → Flat K → Type 0
   IsToldAt event new = IsSome (app_at new n) → told_ends old n event ++ untold_ends new n ≡ untold_ends old n ++ new_ends old n event
 
-  as_before : {xs : List EndedContainer} → xs ≡ untold_ends old n → xs ≡ untold_ends old n ++ []
+  as_before : {xs : List End} → xs ≡ untold_ends old n → xs ≡ untold_ends old n ++ []
   as_before e = e ∙ sym (append-nil (untold_ends old n))
 
   allocate_tells : (m id : ℕ) (asks : List Ask) (releases : List ℕ) (b : Bool) → IsSome (app_at (cond b old (after_processed_allocate old m id asks releases)) n) →
       (if m == n && not b then (kept_reply (cond b old (after_processed_allocate old m id asks releases)) m).ends else []) ++ untold_ends (cond b old (after_processed_allocate old m id asks releases)) n
-      ≡ untold_ends old n ++ (if b then [] else ends_of Cause.released n (released_by old m releases))
+      ≡ untold_ends old n ++ (if b then [] else ends_of Cause.Released n (released_by old m releases))
   allocate_tells m id asks releases true h = as_before (ap (λ xs. xs ++ untold_ends old n) (nothing_where (m == n) (kept_reply old m).ends))
   allocate_tells m id asks releases false h =
       let ignored : ℕ = length releases - length (released_by old m releases) in
@@ -107,12 +114,12 @@ module _ {K : ℕ} (old : Flat K) (n : ℕ) where
       let x = after_asks m asks old in
       let gone = released_by old m releases in
       let there : IsSome (find (is_number n) x.apps.active) =
-      there_before (with_ends Cause.released gone) (λ a. refl) n x.apps.active
+      there_before (with_ends Cause.Released gone) (λ a. refl) n x.apps.active
       (there_before (λ a. cond (a.number == m) (after_telling id ignored a) a) (numbers_at m (after_telling id ignored) (λ a. refl)) n w.apps.active h) in
       ap (λ c. (if c then (kept_reply (with_app m (after_telling id ignored) w) m).ends else []) ++ untold_ends (with_app m (after_telling id ignored) w) n) (only_where (m == n))
       ∙ telling m id ignored w n (m == n) refl
-      ∙ ended_at Cause.released gone n x.apps.active there
-      ∙ ap (λ xs. xs ++ ends_of Cause.released n gone) (asks_keep m asks old n)
+      ∙ ended_at Cause.Released gone n x.apps.active there
+      ∙ ap (λ xs. xs ++ ends_of Cause.Released n gone) (asks_keep m asks old n)
 
   finish_tells : (m : ℕ) (b : Bool) → m == n ≡ b → IsSome (find (is_number n) (filter (λ app. not (app.number == m)) old.apps.active)) →
       ends_in (find (is_number n) (filter (λ app. not (app.number == m)) old.apps.active)) ≡ untold_ends old n
@@ -120,40 +127,29 @@ module _ {K : ℕ} (old : Flat K) (n : ℕ) where
   finish_tells m false e h = ap ends_in (others_stay m n e old.apps.active)
 
   beat_tells : (node id : ℕ) (ended : List ℕ) (b : Bool) → IsSome (app_at (cond b old (after_processed_heartbeat old node id ended)) n) →
-      untold_ends (cond b old (after_processed_heartbeat old node id ended)) n ≡ untold_ends old n ++ (if b then [] else ends_of Cause.ended_on_node n (ended_by old node ended))
+      untold_ends (cond b old (after_processed_heartbeat old node id ended)) n ≡ untold_ends old n ++ (if b then [] else ends_of Cause.EndedOnNode n (ended_by old node ended))
   beat_tells node id ended true h = as_before refl
   beat_tells node id ended false h =
-      ended_at Cause.ended_on_node (ended_by old node ended) n old.apps.active (there_before (with_ends Cause.ended_on_node (ended_by old node ended)) (λ a. refl) n old.apps.active h)
+      ended_at Cause.EndedOnNode (ended_by old node ended) n old.apps.active (there_before (with_ends Cause.EndedOnNode (ended_by old node ended)) (λ a. refl) n old.apps.active h)
 
-  call_tells : (by : ℕ) (request : CallRequest) → IsToldAt (ClusterEvent.call by request (granted_reply old request)) (granted_cluster old request)
-  call_tells by (CallRequest.submit path user) h =
+  call_tells : (by : ℕ) (request : Request K) → IsToldAt (Event.Call by request (granted_reply old request)) (granted_cluster old request)
+  call_tells by (Request.Submit path user) h =
       as_before (ap ends_in (find-append (is_number n) old.apps.active (new_app old path user ∷ [])) ∙ one_more (find (is_number n) old.apps.active) (old.apps.next == n) (new_app old path user) refl)
-  call_tells by (CallRequest.register_master app) h =
+  call_tells by (Request.RegisterMaster app) h =
       as_before (kept_at (λ a. if a.number == app then record a { registered = true } else a) (only_at app (λ a. record a { registered = true }) (record { number = λ a. refl; ends = λ a. refl })) n old.apps.active)
-  call_tells by (CallRequest.allocate app id asks releases) h = allocate_tells app id asks releases (is_repeated_allocate old app id) h
-  call_tells by (CallRequest.finish_master app) h = as_before (finish_tells app (app == n) refl h)
-  call_tells by (CallRequest.register_node host rack total) h = as_before refl
-  call_tells by (CallRequest.heartbeat node id ended) h = beat_tells node id ended (is_repeated_heartbeat old node id) h
-  call_tells by (CallRequest.node_gone node) h =
-      ended_at Cause.node_lost (containers_on old node) n old.apps.active (there_before (with_ends Cause.node_lost (containers_on old node)) (λ a. refl) n old.apps.active h)
-  call_tells by (CallRequest.queue_info path) h = as_before refl
-  call_tells by (CallRequest.set_queue_state path running) h = as_before refl
-  call_tells by CallRequest.cluster_info h = as_before refl
+  call_tells by (Request.Allocate app id asks releases) h = allocate_tells app id asks releases (is_repeated_allocate old app id) h
+  call_tells by (Request.FinishMaster app) h = as_before (finish_tells app (app == n) refl h)
+  call_tells by (Request.Heartbeat node id ended) h = beat_tells node id ended (is_repeated_heartbeat old node id) h
+  call_tells by (Request.NodeGone node) h =
+      ended_at Cause.NodeLost (containers_on old node) n old.apps.active (there_before (with_ends Cause.NodeLost (containers_on old node)) (λ a. refl) n old.apps.active h)
+  call_tells by _ h = as_before refl
 
-  refusal_tells : (by : ℕ) (request : CallRequest) (refusal : CallRefusal) → IsToldAt (ClusterEvent.call by request (CallReply.refused refusal)) old
-  refusal_tells by (CallRequest.submit path user) refusal h = as_before refl
-  refusal_tells by (CallRequest.register_master app) refusal h = as_before refl
-  refusal_tells by (CallRequest.allocate app id asks releases) refusal h = as_before refl
-  refusal_tells by (CallRequest.finish_master app) refusal h = as_before refl
-  refusal_tells by (CallRequest.register_node host rack total) refusal h = as_before refl
-  refusal_tells by (CallRequest.heartbeat node id ended) refusal h = as_before refl
-  refusal_tells by (CallRequest.node_gone node) refusal h = as_before refl
-  refusal_tells by (CallRequest.queue_info path) refusal h = as_before refl
-  refusal_tells by (CallRequest.set_queue_state path running) refusal h = as_before refl
-  refusal_tells by CallRequest.cluster_info refusal h = as_before refl
+  refusal_tells : (by : ℕ) (request : Request K) (refusal : Refusal) → IsToldAt (Event.Call by request (Reply.Refused refusal)) old
+  refusal_tells by Request.ClusterInfo refusal h = as_before refl
+  refusal_tells by _ refusal h = as_before refl
 
-  reply_tells : (by : ℕ) (request : CallRequest) (o : Option CallRefusal) →
-      IsToldAt (ClusterEvent.call by request (refused_or o (λ refusal. CallReply.refused refusal) (granted_reply old request))) (refused_or o (λ refusal. old) (granted_cluster old request))
+  reply_tells : (by : ℕ) (request : Request K) (o : Option Refusal) →
+      IsToldAt (Event.Call by request (refused_or o (λ refusal. Reply.Refused refusal) (granted_reply old request))) (refused_or o (λ refusal. old) (granted_cluster old request))
   reply_tells by request None = call_tells by request
   reply_tells by request (Some refusal) = refusal_tells by request refusal
 
@@ -162,13 +158,13 @@ module _ {K : ℕ} (old : Flat K) (n : ℕ) where
       kept_at (λ a. if a.number == c.app then record a { asks = take_one c.key a.asks; grants = a.grants ++ news_of old c ∷ [] } else a)
       (only_at c.app (λ a. record a { asks = take_one c.key a.asks; grants = a.grants ++ news_of old c ∷ [] }) (record { number = λ a. refl; ends = λ a. refl })) n old.apps.active
 
-  step_tells : (event : ClusterEvent) (new : Flat K) → Step old event new → IsToldAt event new
-  step_tells (ClusterEvent.call by request reply) new (inl r) =
-      subst (λ x. IsToldAt (ClusterEvent.call by request x) new) (sym (r.0)) (subst (λ x. IsToldAt (ClusterEvent.call by request (reply_to old request)) x) (sym (r.1)) (reply_tells by request (refusal_of old request)))
-  step_tells (ClusterEvent.call by request reply) new (inr r) =
-      subst (λ x. IsToldAt (ClusterEvent.call by request x) new) (sym (r.0.reply_is)) (subst (λ x. IsToldAt (ClusterEvent.call by request (CallReply.refused CallRefusal.no_memory)) x) (sym (r.1)) (refusal_tells by request CallRefusal.no_memory))
-  step_tells (ClusterEvent.grant c) new (admissible, number, after) = subst (λ x. IsToldAt (ClusterEvent.grant c) x) (sym after) (λ h. as_before (grant_tells c))
-  step_tells (ClusterEvent.reserve r) new (admissible, after) = subst (λ x. IsToldAt (ClusterEvent.reserve r) x) (sym after) (λ h. as_before refl)
+  step_tells : (event : Event K) (new : Flat K) → Step old event new → IsToldAt event new
+  step_tells (Event.Call by request reply) new (inl r) =
+      subst (λ x. IsToldAt (Event.Call by request x) new) (sym (r.0)) (subst (λ x. IsToldAt (Event.Call by request (reply_to old request)) x) (sym (r.1)) (reply_tells by request (refusal_of old request)))
+  step_tells (Event.Call by request reply) new (inr r) =
+      subst (λ x. IsToldAt (Event.Call by request x) new) (sym (r.0.reply_is)) (subst (λ x. IsToldAt (Event.Call by request (Reply.Refused Refusal.NoMemory)) x) (sym (r.1)) (refusal_tells by request Refusal.NoMemory))
+  step_tells (Event.Grant c) new (admissible, number, after) = subst (λ x. IsToldAt (Event.Grant c) x) (sym after) (λ h. as_before (grant_tells c))
+  step_tells (Event.Reserve r) new (admissible, after) = subst (λ x. IsToldAt (Event.Reserve r) x) (sym after) (λ h. as_before refl)
 
 pub ends_are_told_in_order : EndsAreToldInOrder
 ends_are_told_in_order K old new n event step h = step_tells old n event new step h

@@ -5,13 +5,19 @@ use Rattle.std.specs.List.{cons_option}
 use Rattle.std.specs.Option.{option_map_or}
 use Rattle.std.proofs.lemmas.Bool.Decides.{nat_tests}
 use Rattle.std.proofs.lemmas.List.{append-nil}
-use Rattle.cap_model.specs.Calls.{Ask, Cause, EndedContainer, CallRequest, CallReply, CallRefusal}
+use Rattle.cap_model.specs.Asks.{Ask}
+use Rattle.cap_model.specs.declared.news.Cause.{Cause}
+use Rattle.cap_model.specs.declared.news.End.{End}
+use Rattle.cap_model.specs.declared.request.Request.{Request}
+use Rattle.cap_model.specs.declared.reply.Reply.{Reply}
+use Rattle.cap_model.specs.declared.refusal.Refusal.{Refusal}
 use Rattle.cap_model.specs.Flat.{Flat, App, Container, app_at}
 use Rattle.cap_model.specs.Ending.{named_among}
 use Rattle.cap_model.specs.Allocate.{is_repeated_allocate, released_by}
 use Rattle.cap_model.specs.Heartbeat.{is_repeated_heartbeat, ended_by, containers_on}
 use Rattle.cap_model.specs.Replies.{reply_to}
-use Rattle.cap_model.specs.Events.{ClusterEvent, Step, Run, after_event}
+use Rattle.cap_model.specs.declared.event.Event.{Event}
+use Rattle.cap_model.specs.Events.{Step, Run, after_event}
 use Rattle.cap_model.specs.Bounds.{IsPlaced, IsWellFormed}
 use Rattle.cap_model.specs.NewsLaws.{untold_ends, told_ends, new_ends, ends_of, ever_told_ends, ever_new_ends, EndsAreToldOverRuns}
 use Rattle.cap_model.proofs.Choosing.{IsIn, found, of_filter}
@@ -43,20 +49,12 @@ none_of : (cause : Cause) (n : ℕ) (gone : List Container) → ((c : Container)
 none_of cause n gone f = ap (map (λ c. record { container = c.number; cause = cause })) (filter_none (λ (c : Container). c.app == n) gone f)
 
 -- a refused call tells nothing, and ends nothing
-pub refused_ends : {K : ℕ} (old : Flat K) (n : ℕ) (by : ℕ) (request : CallRequest) (refusal : CallRefusal) →
-    (told_ends old n (ClusterEvent.call by request (CallReply.refused refusal)) ≡ []) × (new_ends old n (ClusterEvent.call by request (CallReply.refused refusal)) ≡ [])
-refused_ends old n by (CallRequest.submit path user) refusal = (refl, refl)
-refused_ends old n by (CallRequest.register_master app) refusal = (refl, refl)
-refused_ends old n by (CallRequest.allocate app id asks releases) refusal = (refl, refl)
-refused_ends old n by (CallRequest.finish_master app) refusal = (refl, refl)
-refused_ends old n by (CallRequest.register_node host rack total) refusal = (refl, refl)
-refused_ends old n by (CallRequest.heartbeat node id ended) refusal = (refl, refl)
-refused_ends old n by (CallRequest.node_gone node) refusal = (refl, refl)
-refused_ends old n by (CallRequest.queue_info path) refusal = (refl, refl)
-refused_ends old n by (CallRequest.set_queue_state path running) refusal = (refl, refl)
-refused_ends old n by CallRequest.cluster_info refusal = (refl, refl)
+pub refused_ends : {K : ℕ} (old : Flat K) (n : ℕ) (by : ℕ) (request : Request K) (refusal : Refusal) →
+    (told_ends old n (Event.Call by request (Reply.Refused refusal)) ≡ []) × (new_ends old n (Event.Call by request (Reply.Refused refusal)) ≡ [])
+refused_ends old n by Request.ClusterInfo refusal = (refl, refl)
+refused_ends old n by _ refusal = (refl, refl)
 
-abbrev untold_in : Option App → List EndedContainer
+abbrev untold_in : Option App → List End
 untold_in o = option_map_or (λ app. app.ends) o []
 
 module _ {K : ℕ} where
@@ -71,11 +69,11 @@ module _ {K : ℕ} where
             absurd (not_none (app_at old c.app) (ap (app_at old) same ∙ missing) (each_of (λ (x : Container). IsPlaced old x.app x.node) old.nodes.live w.live c m).0)
         by false e = refl
 
-    abbrev IsQuiet : ClusterEvent → Type 0
+    abbrev IsQuiet : Event K → Type 0
     IsQuiet event = (told_ends old n event ≡ []) × (new_ends old n event ≡ [])
 
-    released_elsewhere : (by app id : ℕ) (asks : List Ask) (releases : List ℕ) (reply : CallReply) → app == n ≡ false → IsQuiet (ClusterEvent.call by (CallRequest.allocate app id asks releases) reply)
-    released_elsewhere by app id asks releases (CallReply.allocate reply) e = (
+    released_elsewhere : (by app id : ℕ) (asks : List Ask) (releases : List ℕ) (reply : Reply K) → app == n ≡ false → IsQuiet (Event.Call by (Request.Allocate app id asks releases) reply)
+    released_elsewhere by app id asks releases (Reply.Allocate reply) e = (
       ap (λ b. cond (b && not (is_repeated_allocate old app id)) reply.ends []) e,
       nothing (is_repeated_allocate old app id),
     )
@@ -86,52 +84,46 @@ module _ {K : ℕ} where
             let its = f.0 in
             grind (arith, nat_tests, its, e)
 
-        nothing : (b : Bool) → (if b then [] else ends_of Cause.released n (released_by old app releases)) ≡ []
+        nothing : (b : Bool) → (if b then [] else ends_of Cause.Released n (released_by old app releases)) ≡ []
         nothing true = refl
-        nothing false = none_of Cause.released n (released_by old app releases) other
+        nothing false = none_of Cause.Released n (released_by old app releases) other
     released_elsewhere by app id asks releases _ e = (refl, refl)
 
-    allocate_quiet : (by app id : ℕ) (asks : List Ask) (releases : List ℕ) (reply : CallReply) → reply ≡ reply_to old (CallRequest.allocate app id asks releases) → (b : Bool) → app == n ≡ b →
-        IsQuiet (ClusterEvent.call by (CallRequest.allocate app id asks releases) reply)
+    allocate_quiet : (by app id : ℕ) (asks : List Ask) (releases : List ℕ) (reply : Reply K) → reply ≡ reply_to old (Request.Allocate app id asks releases) → (b : Bool) → app == n ≡ b →
+        IsQuiet (Event.Call by (Request.Allocate app id asks releases) reply)
     allocate_quiet by app id asks releases reply r true e =
-        subst (λ x. IsQuiet (ClusterEvent.call by (CallRequest.allocate app id asks releases) x)) (sym (r ∙ reply_is_refused old n missing app id asks releases e))
-        (refused_ends old n by (CallRequest.allocate app id asks releases) CallRefusal.unknown_application)
+        subst (λ x. IsQuiet (Event.Call by (Request.Allocate app id asks releases) x)) (sym (r ∙ reply_is_refused old n missing app id asks releases e))
+        (refused_ends old n by (Request.Allocate app id asks releases) Refusal.UnknownApplication)
     allocate_quiet by app id asks releases reply r false e = released_elsewhere by app id asks releases reply e
 
-    beat_quiet : (by node id : ℕ) (ended : List ℕ) (reply : CallReply) → IsQuiet (ClusterEvent.call by (CallRequest.heartbeat node id ended) reply)
-    beat_quiet by node id ended (CallReply.heartbeat reply) = (refl, nothing (is_repeated_heartbeat old node id))
+    beat_quiet : (by node id : ℕ) (ended : List ℕ) (reply : Reply K) → IsQuiet (Event.Call by (Request.Heartbeat node id ended) reply)
+    beat_quiet by node id ended (Reply.Heartbeat reply) = (refl, nothing (is_repeated_heartbeat old node id))
       where
-        nothing : (b : Bool) → (if b then [] else ends_of Cause.ended_on_node n (ended_by old node ended)) ≡ []
+        nothing : (b : Bool) → (if b then [] else ends_of Cause.EndedOnNode n (ended_by old node ended)) ≡ []
         nothing true = refl
         nothing false =
-            none_of Cause.ended_on_node n (ended_by old node ended)
+            none_of Cause.EndedOnNode n (ended_by old node ended)
             (λ c m. not_live c (of_filter (λ (x : Container). x.node == node) old.nodes.live c (named_in ended (containers_on old node) c m)).1)
     beat_quiet by node id ended _ = (refl, refl)
 
-    lost_quiet : (by node : ℕ) (reply : CallReply) → IsQuiet (ClusterEvent.call by (CallRequest.node_gone node) reply)
-    lost_quiet by node (CallReply.node_gone count) = (refl, none_of Cause.node_lost n (containers_on old node) (λ c m. not_live c (of_filter (λ (x : Container). x.node == node) old.nodes.live c m).1))
+    lost_quiet : (by node : ℕ) (reply : Reply K) → IsQuiet (Event.Call by (Request.NodeGone node) reply)
+    lost_quiet by node (Reply.NodeGone count) = (refl, none_of Cause.NodeLost n (containers_on old node) (λ c m. not_live c (of_filter (λ (x : Container). x.node == node) old.nodes.live c m).1))
     lost_quiet by node _ = (refl, refl)
 
-    call_quiet : (by : ℕ) (request : CallRequest) (reply : CallReply) → reply ≡ reply_to old request → IsQuiet (ClusterEvent.call by request reply)
-    call_quiet by (CallRequest.submit path user) reply r = (refl, refl)
-    call_quiet by (CallRequest.register_master app) reply r = (refl, refl)
-    call_quiet by (CallRequest.allocate app id asks releases) reply r = allocate_quiet by app id asks releases reply r (app == n) refl
-    call_quiet by (CallRequest.finish_master app) reply r = (refl, refl)
-    call_quiet by (CallRequest.register_node host rack total) reply r = (refl, refl)
-    call_quiet by (CallRequest.heartbeat node id ended) reply r = beat_quiet by node id ended reply
-    call_quiet by (CallRequest.node_gone node) reply r = lost_quiet by node reply
-    call_quiet by (CallRequest.queue_info path) reply r = (refl, refl)
-    call_quiet by (CallRequest.set_queue_state path running) reply r = (refl, refl)
-    call_quiet by CallRequest.cluster_info reply r = (refl, refl)
+    call_quiet : (by : ℕ) (request : Request K) (reply : Reply K) → reply ≡ reply_to old request → IsQuiet (Event.Call by request reply)
+    call_quiet by (Request.Allocate app id asks releases) reply r = allocate_quiet by app id asks releases reply r (app == n) refl
+    call_quiet by (Request.Heartbeat node id ended) reply r = beat_quiet by node id ended reply
+    call_quiet by (Request.NodeGone node) reply r = lost_quiet by node reply
+    call_quiet by _ reply r = (refl, refl)
 
     -- who is not there is told nothing, and nothing of it ends
-    pub step_quiet : (new : Flat K) (event : ClusterEvent) → Step old event new → IsQuiet event
-    step_quiet new (ClusterEvent.call by request reply) (inl r) = call_quiet by request reply (r.0)
-    step_quiet new (ClusterEvent.call by request reply) (inr r) = subst (λ x. IsQuiet (ClusterEvent.call by request x)) (sym (r.0.reply_is)) (refused_ends old n by request CallRefusal.no_memory)
-    step_quiet new (ClusterEvent.grant c) s = (refl, refl)
-    step_quiet new (ClusterEvent.reserve r) s = (refl, refl)
+    pub step_quiet : (new : Flat K) (event : Event K) → Step old event new → IsQuiet event
+    step_quiet new (Event.Call by request reply) (inl r) = call_quiet by request reply (r.0)
+    step_quiet new (Event.Call by request reply) (inr r) = subst (λ x. IsQuiet (Event.Call by request x)) (sym (r.0.reply_is)) (refused_ends old n by request Refusal.NoMemory)
+    step_quiet new (Event.Grant c) s = (refl, refl)
+    step_quiet new (Event.Reserve r) s = (refl, refl)
 
-  pub never_told : (events : List ClusterEvent) (old new : Flat K) (n : ℕ) → app_at old n ≡ None → n < old.apps.next → IsWellFormed old → Run old events new →
+  pub never_told : (events : List (Event K)) (old new : Flat K) (n : ℕ) → app_at old n ≡ None → n < old.apps.next → IsWellFormed old → Run old events new →
       (ever_told_ends old n events ≡ []) × (ever_new_ends old n events ≡ []) × (app_at new n ≡ None)
   never_told [] old new n e h w run = (refl, refl, ap (λ (c : Flat K). app_at c n) (sym run) ∙ e)
   never_told (event ∷ events) old new n e h w (mid, step, run) =
@@ -145,26 +137,20 @@ module _ {K : ℕ} where
       )
 
   -- an application that goes is told nothing by the step, and nothing of it is to be told
-  gone_quietly : (old new : Flat K) (event : ClusterEvent) (n : ℕ) → Step old event new → IsSome (app_at old n) → app_at new n ≡ None → (told_ends old n event ≡ []) × (new_ends old n event ≡ [])
-  gone_quietly old new (ClusterEvent.call by (CallRequest.submit path user) reply) n s h e = (refl, refl)
-  gone_quietly old new (ClusterEvent.call by (CallRequest.register_master app) reply) n s h e = (refl, refl)
-  gone_quietly old new (ClusterEvent.call by (CallRequest.allocate app id asks releases) reply) n s h e = absurd (kept_change old new (allocate_changes old new app id asks releases reply s) n h e)
-  gone_quietly old new (ClusterEvent.call by (CallRequest.finish_master app) reply) n s h e = (refl, refl)
-  gone_quietly old new (ClusterEvent.call by (CallRequest.register_node host rack total) reply) n s h e = (refl, refl)
-  gone_quietly old new (ClusterEvent.call by (CallRequest.heartbeat node id ended) reply) n s h e = absurd (kept_change old new (beat_changes old new node id ended reply s) n h e)
-  gone_quietly old new (ClusterEvent.call by (CallRequest.node_gone node) reply) n s h e = absurd (kept_change old new (lost_changes old new node reply s) n h e)
-  gone_quietly old new (ClusterEvent.call by (CallRequest.queue_info path) reply) n s h e = (refl, refl)
-  gone_quietly old new (ClusterEvent.call by (CallRequest.set_queue_state path running) reply) n s h e = (refl, refl)
-  gone_quietly old new (ClusterEvent.call by CallRequest.cluster_info reply) n s h e = (refl, refl)
-  gone_quietly old new (ClusterEvent.grant c) n s h e = (refl, refl)
-  gone_quietly old new (ClusterEvent.reserve r) n s h e = (refl, refl)
+  gone_quietly : (old new : Flat K) (event : Event K) (n : ℕ) → Step old event new → IsSome (app_at old n) → app_at new n ≡ None → (told_ends old n event ≡ []) × (new_ends old n event ≡ [])
+  gone_quietly old new (Event.Call by (Request.Allocate app id asks releases) reply) n s h e = absurd (kept_change old new (allocate_changes old new app id asks releases reply s) n h e)
+  gone_quietly old new (Event.Call by (Request.Heartbeat node id ended) reply) n s h e = absurd (kept_change old new (beat_changes old new node id ended reply s) n h e)
+  gone_quietly old new (Event.Call by (Request.NodeGone node) reply) n s h e = absurd (kept_change old new (lost_changes old new node reply s) n h e)
+  gone_quietly old new (Event.Call by _ reply) n s h e = (refl, refl)
+  gone_quietly old new (Event.Grant c) n s h e = (refl, refl)
+  gone_quietly old new (Event.Reserve r) n s h e = (refl, refl)
 
   -- the law of a run
-  abbrev IsToldOver : List ClusterEvent → Flat K → Flat K → ℕ → Type 0
+  abbrev IsToldOver : List (Event K) → Flat K → Flat K → ℕ → Type 0
   IsToldOver events old new n =
-      (left : List EndedContainer) × (ever_told_ends old n events ++ left ≡ untold_ends old n ++ ever_new_ends old n events) × (IsSome (app_at new n) → left ≡ untold_ends new n)
+      (left : List End) × (ever_told_ends old n events ++ left ≡ untold_ends old n ++ ever_new_ends old n events) × (IsSome (app_at new n) → left ≡ untold_ends new n)
 
-  run_tells : (events : List ClusterEvent) (old new : Flat K) (n : ℕ) → IsWellFormed old → Run old events new → IsToldOver events old new n
+  run_tells : (events : List (Event K)) (old new : Flat K) (n : ℕ) → IsWellFormed old → Run old events new → IsToldOver events old new n
   run_tells [] old new n w run = (untold_ends old n, sym (append-nil (untold_ends old n)), λ h. ap (λ (c : Flat K). untold_ends c n) run)
   run_tells (event ∷ events) old new n w (mid, step, run) =
       by (run_tells events mid new n (step_formed old mid event w step) run) (there_or_not (app_at mid n)) (there_or_not (app_at old n))

@@ -6,12 +6,17 @@ use Rattle.std.proofs.lemmas.Bool.Decides.{nat_tests}
 use Rattle.std.proofs.lemmas.List.{append_assoc, append-nil, map-append}
 use Rattle.std.proofs.lemmas.List.Elements.{filter-append}
 use Rattle.std.proofs.lemmas.List.Folds.{find-append}
-use Rattle.cap_model.specs.Calls.{GrantedContainer, Ask, CallRequest, CallReply, CallRefusal}
+use Rattle.cap_model.specs.News.{Grant}
+use Rattle.cap_model.specs.Asks.{Ask}
+use Rattle.cap_model.specs.declared.request.Request.{Request}
+use Rattle.cap_model.specs.declared.reply.Reply.{Reply}
+use Rattle.cap_model.specs.declared.refusal.Refusal.{Refusal}
 use Rattle.cap_model.specs.Flat.{Flat, App, Container, app_at}
 use Rattle.cap_model.specs.Sight.{sight_of, seen_app, app_sight, AppSight}
 use Rattle.cap_model.specs.Allocate.{allocate_refusal, is_repeated_allocate}
 use Rattle.cap_model.specs.Replies.{refused_or, granted_reply, reply_to}
-use Rattle.cap_model.specs.Events.{ClusterEvent, Step, Run, after_event, news_of, granted_by, ever_granted}
+use Rattle.cap_model.specs.declared.event.Event.{Event}
+use Rattle.cap_model.specs.Events.{Step, Run, after_event, news_of, granted_by, ever_granted}
 use Rattle.cap_model.specs.Bounds.{IsRising}
 use Rattle.cap_model.specs.EngineLaws.{numbers_of, HasAppNumbers, AppNumbersStayDistinct}
 use Rattle.cap_model.specs.NewsLaws.{untold_grants, told_grants, new_grants, ever_told_grants, ever_new_grants, GrantsAreToldOverRuns, NewGrantsAreOfTheGranted}
@@ -48,7 +53,7 @@ unseen n (x ∷ xs) e = by (x.number == n) x.registered refl e (unseen n xs)
     by false true t g f = ap (λ b. cond b (Some (app_sight x)) (find (λ (app : AppSight). app.number == n) rest)) t ∙ f g
     by false false t g f = f g
 
-abbrev untold_in : Option App → List GrantedContainer
+abbrev untold_in : Option App → List Grant
 untold_in o = option_map_or (λ app. app.grants) o []
 
 pub mapped_none : (f : App → App) (o : Option App) → option_map f o ≡ None → o ≡ None
@@ -109,48 +114,40 @@ module _ {K : ℕ} where
   -- who is not there is told nothing and granted nothing
 
   module _ (old : Flat K) (n : ℕ) (missing : app_at old n ≡ None) where
-    pub unknown : (app id : ℕ) (asks : List Ask) → app == n ≡ true → allocate_refusal old app id asks ≡ Some CallRefusal.unknown_application
+    pub unknown : (app id : ℕ) (asks : List Ask) → app == n ≡ true → allocate_refusal old app id asks ≡ Some Refusal.UnknownApplication
     unknown app id asks e =
         let same : app ≡ n = grind (arith, nat_tests, e) in
         let gone : app_at old app ≡ None = ap (app_at old) same ∙ missing in
-        where_true (is_none (app_at old app)) (Some CallRefusal.unknown_application) _ (ap is_none gone)
+        where_true (is_none (app_at old app)) (Some Refusal.UnknownApplication) _ (ap is_none gone)
 
-    refused_nothing : (by : ℕ) (request : CallRequest) (reply : CallReply) (refusal : CallRefusal) → reply ≡ CallReply.refused refusal → told_grants old n (ClusterEvent.call by request reply) ≡ []
-    refused_nothing by request reply refusal e = ap (λ r. told_grants old n (ClusterEvent.call by request r)) e ∙ refused_tells old n by request refusal
+    refused_nothing : (by : ℕ) (request : Request K) (reply : Reply K) (refusal : Refusal) → reply ≡ Reply.Refused refusal → told_grants old n (Event.Call by request reply) ≡ []
+    refused_nothing by request reply refusal e = ap (λ r. told_grants old n (Event.Call by request r)) e ∙ refused_tells old n by request refusal
 
-    pub reply_is_refused : (app id : ℕ) (asks : List Ask) (releases : List ℕ) → app == n ≡ true → reply_to old (CallRequest.allocate app id asks releases) ≡ CallReply.refused CallRefusal.unknown_application
-    reply_is_refused app id asks releases e = ap (λ o. refused_or o (λ refusal. CallReply.refused refusal) (granted_reply old (CallRequest.allocate app id asks releases))) (unknown app id asks e)
+    pub reply_is_refused : (app id : ℕ) (asks : List Ask) (releases : List ℕ) → app == n ≡ true → reply_to old (Request.Allocate app id asks releases) ≡ Reply.Refused Refusal.UnknownApplication
+    reply_is_refused app id asks releases e = ap (λ o. refused_or o (λ refusal. Reply.Refused refusal) (granted_reply old (Request.Allocate app id asks releases))) (unknown app id asks e)
 
-    elsewhere_nothing : (by app id : ℕ) (asks : List Ask) (releases : List ℕ) (reply : CallReply) → app == n ≡ false → told_grants old n (ClusterEvent.call by (CallRequest.allocate app id asks releases) reply) ≡ []
-    elsewhere_nothing by app id asks releases (CallReply.allocate reply) e = ap (λ b. cond (b && not (is_repeated_allocate old app id)) reply.grants []) e
+    elsewhere_nothing : (by app id : ℕ) (asks : List Ask) (releases : List ℕ) (reply : Reply K) → app == n ≡ false → told_grants old n (Event.Call by (Request.Allocate app id asks releases) reply) ≡ []
+    elsewhere_nothing by app id asks releases (Reply.Allocate reply) e = ap (λ b. cond (b && not (is_repeated_allocate old app id)) reply.grants []) e
     elsewhere_nothing by app id asks releases _ e = refl
 
-    allocate_nothing : (by app id : ℕ) (asks : List Ask) (releases : List ℕ) (reply : CallReply) → reply ≡ reply_to old (CallRequest.allocate app id asks releases) → (b : Bool) → app == n ≡ b →
-        told_grants old n (ClusterEvent.call by (CallRequest.allocate app id asks releases) reply) ≡ []
-    allocate_nothing by app id asks releases reply r true e = refused_nothing by (CallRequest.allocate app id asks releases) reply CallRefusal.unknown_application (r ∙ reply_is_refused app id asks releases e)
+    allocate_nothing : (by app id : ℕ) (asks : List Ask) (releases : List ℕ) (reply : Reply K) → reply ≡ reply_to old (Request.Allocate app id asks releases) → (b : Bool) → app == n ≡ b →
+        told_grants old n (Event.Call by (Request.Allocate app id asks releases) reply) ≡ []
+    allocate_nothing by app id asks releases reply r true e = refused_nothing by (Request.Allocate app id asks releases) reply Refusal.UnknownApplication (r ∙ reply_is_refused app id asks releases e)
     allocate_nothing by app id asks releases reply r false e = elsewhere_nothing by app id asks releases reply e
 
-    call_nothing : (by : ℕ) (request : CallRequest) (reply : CallReply) → reply ≡ reply_to old request → told_grants old n (ClusterEvent.call by request reply) ≡ []
-    call_nothing by (CallRequest.submit path user) reply r = refl
-    call_nothing by (CallRequest.register_master app) reply r = refl
-    call_nothing by (CallRequest.allocate app id asks releases) reply r = allocate_nothing by app id asks releases reply r (app == n) refl
-    call_nothing by (CallRequest.finish_master app) reply r = refl
-    call_nothing by (CallRequest.register_node host rack total) reply r = refl
-    call_nothing by (CallRequest.heartbeat node id ended) reply r = refl
-    call_nothing by (CallRequest.node_gone node) reply r = refl
-    call_nothing by (CallRequest.queue_info path) reply r = refl
-    call_nothing by (CallRequest.set_queue_state path running) reply r = refl
-    call_nothing by CallRequest.cluster_info reply r = refl
+    call_nothing : (by : ℕ) (request : Request K) (reply : Reply K) → reply ≡ reply_to old request → told_grants old n (Event.Call by request reply) ≡ []
+    call_nothing by (Request.Allocate app id asks releases) reply r = allocate_nothing by app id asks releases reply r (app == n) refl
+    call_nothing by _ reply r = refl
 
-    tells_nothing : (new : Flat K) (event : ClusterEvent) → Step old event new → told_grants old n event ≡ []
-    tells_nothing new (ClusterEvent.call by request reply) (inl r) = call_nothing by request reply (r.0)
-    tells_nothing new (ClusterEvent.call by request reply) (inr r) = refused_nothing by request reply CallRefusal.no_memory (r.0.reply_is)
-    tells_nothing new (ClusterEvent.grant c) s = refl
-    tells_nothing new (ClusterEvent.reserve r) s = refl
+    tells_nothing : (new : Flat K) (event : Event K) → Step old event new → told_grants old n event ≡ []
+    tells_nothing new (Event.Call by request reply) (inl r) = call_nothing by request reply (r.0)
+    tells_nothing new (Event.Call by request reply) (inr r) = refused_nothing by request reply Refusal.NoMemory (r.0.reply_is)
+    tells_nothing new (Event.Grant c) s = refl
+    tells_nothing new (Event.Reserve r) s = refl
 
-    grants_nothing : (new : Flat K) (event : ClusterEvent) → Step old event new → new_grants old n event ≡ []
-    grants_nothing new (ClusterEvent.call by request reply) s = refl
-    grants_nothing new (ClusterEvent.grant c) (admissible, number, after) = by (c.app == n) refl
+    grants_nothing : (new : Flat K) (event : Event K) → Step old event new → new_grants old n event ≡ []
+    grants_nothing new (Event.Call by request reply) s = refl
+    grants_nothing new (Event.Grant c) (admissible, number, after) = by (c.app == n) refl
       where
         by : (b : Bool) → c.app == n ≡ b → cond b (news_of old c ∷ []) [] ≡ []
         by true e =
@@ -159,10 +156,10 @@ module _ {K : ℕ} where
             let no : is_some (seen_app (sight_of old) c.app) ≡ false = ap is_some gone in
             absurd (cc (no, admissible.0.registered))
         by false e = refl
-    grants_nothing new (ClusterEvent.reserve r) s = refl
+    grants_nothing new (Event.Reserve r) s = refl
 
   -- the law of a run, for an application that is not there at its opening and whose number was used
-  never_told : (events : List ClusterEvent) (old new : Flat K) (n : ℕ) → app_at old n ≡ None → n < old.apps.next → Run old events new →
+  never_told : (events : List (Event K)) (old new : Flat K) (n : ℕ) → app_at old n ≡ None → n < old.apps.next → Run old events new →
       (ever_told_grants old n events ≡ []) × (ever_new_grants old n events ≡ []) × (app_at new n ≡ None)
   never_told [] old new n e h run = (refl, refl, ap (λ (c : Flat K). app_at c n) (sym run) ∙ e)
   never_told (event ∷ events) old new n e h (mid, step, run) =
@@ -179,26 +176,18 @@ module _ {K : ℕ} where
       not_none (app_at old n) (mapped_none m.change (app_at old n) (sym (ap (find (is_number n)) m.active ∙ find_mapped m.change m.keeps.number n old.apps.active) ∙ e)) h
 
   -- an application that goes is told and granted nothing by the step
-  gone_quietly : (old new : Flat K) (event : ClusterEvent) (n : ℕ) → Step old event new → IsSome (app_at old n) → app_at new n ≡ None → (told_grants old n event ≡ []) × (new_grants old n event ≡ [])
-  gone_quietly old new (ClusterEvent.call by (CallRequest.submit path user) reply) n s h e = (refl, refl)
-  gone_quietly old new (ClusterEvent.call by (CallRequest.register_master app) reply) n s h e = (refl, refl)
-  gone_quietly old new (ClusterEvent.call by (CallRequest.allocate app id asks releases) reply) n s h e = absurd (kept_change old new (allocate_changes old new app id asks releases reply s) n h e)
-  gone_quietly old new (ClusterEvent.call by (CallRequest.finish_master app) reply) n s h e = (refl, refl)
-  gone_quietly old new (ClusterEvent.call by (CallRequest.register_node host rack total) reply) n s h e = (refl, refl)
-  gone_quietly old new (ClusterEvent.call by (CallRequest.heartbeat node id ended) reply) n s h e = (refl, refl)
-  gone_quietly old new (ClusterEvent.call by (CallRequest.node_gone node) reply) n s h e = (refl, refl)
-  gone_quietly old new (ClusterEvent.call by (CallRequest.queue_info path) reply) n s h e = (refl, refl)
-  gone_quietly old new (ClusterEvent.call by (CallRequest.set_queue_state path running) reply) n s h e = (refl, refl)
-  gone_quietly old new (ClusterEvent.call by CallRequest.cluster_info reply) n s h e = (refl, refl)
-  gone_quietly old new (ClusterEvent.grant c) n (admissible, number, after) h e = absurd (kept_change old new (subst (λ x. AppsChange old x) (sym after) (grant_change old c)) n h e)
-  gone_quietly old new (ClusterEvent.reserve r) n s h e = (refl, refl)
+  gone_quietly : (old new : Flat K) (event : Event K) (n : ℕ) → Step old event new → IsSome (app_at old n) → app_at new n ≡ None → (told_grants old n event ≡ []) × (new_grants old n event ≡ [])
+  gone_quietly old new (Event.Call by (Request.Allocate app id asks releases) reply) n s h e = absurd (kept_change old new (allocate_changes old new app id asks releases reply s) n h e)
+  gone_quietly old new (Event.Call by _ reply) n s h e = (refl, refl)
+  gone_quietly old new (Event.Grant c) n (admissible, number, after) h e = absurd (kept_change old new (subst (λ x. AppsChange old x) (sym after) (grant_change old c)) n h e)
+  gone_quietly old new (Event.Reserve r) n s h e = (refl, refl)
 
   -- the law of a run
-  abbrev IsToldOver : List ClusterEvent → Flat K → Flat K → ℕ → Type 0
+  abbrev IsToldOver : List (Event K) → Flat K → Flat K → ℕ → Type 0
   IsToldOver events old new n =
-      (left : List GrantedContainer) × (ever_told_grants old n events ++ left ≡ untold_grants old n ++ ever_new_grants old n events) × (IsSome (app_at new n) → left ≡ untold_grants new n)
+      (left : List Grant) × (ever_told_grants old n events ++ left ≡ untold_grants old n ++ ever_new_grants old n events) × (IsSome (app_at new n) → left ≡ untold_grants new n)
 
-  run_tells : (events : List ClusterEvent) (old new : Flat K) (n : ℕ) → HasAppNumbers old → Run old events new → IsToldOver events old new n
+  run_tells : (events : List (Event K)) (old new : Flat K) (n : ℕ) → HasAppNumbers old → Run old events new → IsToldOver events old new n
   run_tells [] old new n r run = (untold_grants old n, sym (append-nil (untold_grants old n)), λ h. ap (λ (c : Flat K). untold_grants c n) run)
   run_tells (event ∷ events) old new n r (mid, step, run) =
       by (run_tells events mid new n (app_numbers_move old mid (step_moves old mid event step) r) run) (there_or_not (app_at mid n)) (there_or_not (app_at old n))
@@ -235,19 +224,19 @@ grants_are_told_over_runs K events old new n r run = run_tells events old new n 
 
 -- the grants that are added are those of the containers granted
 
-added_by : {K : ℕ} (old : Flat K) (n : ℕ) (event : ClusterEvent) → map (λ g. g.container) (new_grants old n event) ≡ numbers_of (filter (λ c. c.app == n) (granted_by event))
-added_by old n (ClusterEvent.call by request reply) = refl
-added_by old n (ClusterEvent.grant c) = by (c.app == n)
+added_by : {K : ℕ} (old : Flat K) (n : ℕ) (event : Event K) → map (λ g. g.container) (new_grants old n event) ≡ numbers_of (filter (λ c. c.app == n) (granted_by event))
+added_by old n (Event.Call by request reply) = refl
+added_by old n (Event.Grant c) = by (c.app == n)
   where
     by : (b : Bool) → map (λ g. g.container) (cond b (news_of old c ∷ []) []) ≡ numbers_of (cond b (c ∷ []) [])
     by true = refl
     by false = refl
-added_by old n (ClusterEvent.reserve r) = refl
+added_by old n (Event.Reserve r) = refl
 
-added : {K : ℕ} (events : List ClusterEvent) (old : Flat K) (n : ℕ) → map (λ g. g.container) (ever_new_grants old n events) ≡ numbers_of (filter (λ c. c.app == n) (ever_granted events))
+added : {K : ℕ} (events : List (Event K)) (old : Flat K) (n : ℕ) → map (λ g. g.container) (ever_new_grants old n events) ≡ numbers_of (filter (λ c. c.app == n) (ever_granted events))
 added [] old n = refl
 added (event ∷ events) old n =
-    map-append (λ (g : GrantedContainer). g.container) (new_grants old n event) (ever_new_grants (after_event old event) n events)
+    map-append (λ (g : Grant). g.container) (new_grants old n event) (ever_new_grants (after_event old event) n events)
     ∙ (λ i. added_by old n event i ++ added events (after_event old event) n i)
     ∙ sym (map-append (λ (c : Container). c.number) (filter (λ c. c.app == n) (granted_by event)) (filter (λ c. c.app == n) (ever_granted events)))
     ∙ ap numbers_of (sym (filter-append (λ (c : Container). c.app == n) (granted_by event) (ever_granted events)))

@@ -2,12 +2,14 @@
 use Rattle.std.proofs.Common.{◌≡◌, ℕ, ◌≤◌, ◌<◌, Bool, true, false, List, [], ◌∷◌, refl, sym, ◌∙◌, ap, subst, inl, inr, arith}
 use Rattle.std.specs.Prelude.{Some, None, cond, ◌==◌, find}
 use Rattle.std.proofs.lemmas.Bool.Decides.{nat_tests}
-use Rattle.cap_model.specs.Calls.{Ask, CallRequest}
+use Rattle.cap_model.specs.Asks.{Ask}
+use Rattle.cap_model.specs.declared.request.Request.{Request}
 use Rattle.cap_model.specs.Flat.{Flat, ClusterNode, app_at, node_at}
 use Rattle.cap_model.specs.Allocate.{after_processed_allocate, is_repeated_allocate}
 use Rattle.cap_model.specs.Heartbeat.{after_processed_heartbeat, is_repeated_heartbeat}
 use Rattle.cap_model.specs.Replies.{granted_cluster}
-use Rattle.cap_model.specs.Events.{ClusterEvent, Step, Run}
+use Rattle.cap_model.specs.declared.event.Event.{Event}
+use Rattle.cap_model.specs.Events.{Step, Run}
 use Rattle.cap_model.specs.Bounds.{IsWellFormed}
 use Rattle.cap_model.specs.BoundLaws.{NumbersAreNotUsedAgain}
 use Rattle.cap_model.proofs.Choosing.{IsIn}
@@ -44,19 +46,12 @@ module _ {K : ℕ} where
   beat_next old n id ended true = omega arith
   beat_next old n id ended false = omega arith
 
-  call_next : (old : Flat K) (request : CallRequest) → old.nodes.next_node ≤ (granted_cluster old request).nodes.next_node
-  call_next old (CallRequest.submit path user) = omega arith
-  call_next old (CallRequest.register_master app) = omega arith
-  call_next old (CallRequest.allocate app id asks releases) = allocate_next old app id asks releases (is_repeated_allocate old app id)
-  call_next old (CallRequest.finish_master app) = omega arith
-  call_next old (CallRequest.register_node host rack total) = omega arith
-  call_next old (CallRequest.heartbeat node id ended) = beat_next old node id ended (is_repeated_heartbeat old node id)
-  call_next old (CallRequest.node_gone node) = omega arith
-  call_next old (CallRequest.queue_info path) = omega arith
-  call_next old (CallRequest.set_queue_state path running) = omega arith
-  call_next old CallRequest.cluster_info = omega arith
+  call_next : (old : Flat K) (request : Request K) → old.nodes.next_node ≤ (granted_cluster old request).nodes.next_node
+  call_next old (Request.Allocate app id asks releases) = allocate_next old app id asks releases (is_repeated_allocate old app id)
+  call_next old (Request.Heartbeat node id ended) = beat_next old node id ended (is_repeated_heartbeat old node id)
+  call_next old _ = omega arith
 
-  call_spent : (old : Flat K) (n : ℕ) → IsWellFormed old → IsSpent n old → (request : CallRequest) → IsSpent n (granted_cluster old request)
+  call_spent : (old : Flat K) (n : ℕ) → IsWellFormed old → IsSpent n old → (request : Request K) → IsSpent n (granted_cluster old request)
   call_spent old n w s request =
       let new = granted_cluster old request in
       let l = lessened old (places_of old w) request in
@@ -70,16 +65,16 @@ module _ {K : ℕ} where
             ]),
       )
 
-  step_spent : (old new : Flat K) (event : ClusterEvent) (n : ℕ) → IsWellFormed old → IsSpent n old → Step old event new → IsSpent n new
-  step_spent old new (ClusterEvent.call by request reply) n w s r = after_call (IsSpent n) old s (λ request e. call_spent old n w s request) new request reply r
-  step_spent old new (ClusterEvent.grant c) n w s (admissible, number, after) = subst (IsSpent n) (sym after) s
-  step_spent old new (ClusterEvent.reserve r) n w s (admissible, after) = subst (IsSpent n) (sym after) s
+  step_spent : (old new : Flat K) (event : Event K) (n : ℕ) → IsWellFormed old → IsSpent n old → Step old event new → IsSpent n new
+  step_spent old new (Event.Call by request reply) n w s r = after_call (IsSpent n) old s (λ request e. call_spent old n w s request) new request reply r
+  step_spent old new (Event.Grant c) n w s (admissible, number, after) = subst (IsSpent n) (sym after) s
+  step_spent old new (Event.Reserve r) n w s (admissible, after) = subst (IsSpent n) (sym after) s
 
-  run_nodes : (events : List ClusterEvent) (old new : Flat K) (n : ℕ) → IsWellFormed old → IsSpent n old → Run old events new → node_at new n ≡ None
+  run_nodes : (events : List (Event K)) (old new : Flat K) (n : ℕ) → IsWellFormed old → IsSpent n old → Run old events new → node_at new n ≡ None
   run_nodes [] old new n w s run = ap (λ (c : Flat K). node_at c n) (sym run) ∙ s.1
   run_nodes (event ∷ events) old new n w s (mid, step, run) = run_nodes events mid new n (step_formed old mid event w step) (step_spent old mid event n w s step) run
 
-  run_apps : (events : List ClusterEvent) (old new : Flat K) (n : ℕ) → n < old.apps.next → app_at old n ≡ None → Run old events new → app_at new n ≡ None
+  run_apps : (events : List (Event K)) (old new : Flat K) (n : ℕ) → n < old.apps.next → app_at old n ≡ None → Run old events new → app_at new n ≡ None
   run_apps [] old new n h e run = ap (λ (c : Flat K). app_at c n) (sym run) ∙ e
   run_apps (event ∷ events) old new n h e (mid, step, run) =
       let s = stays_missing old mid (step_moves old mid event step) n e h in

@@ -1,11 +1,13 @@
 -- When a proposal may be granted or reserved, and the first reason why not.
 use Rattle.std.specs.Prelude.{◌≡◌, ◌⊎◌, ℕ, ◌<◌, Bool, true, false, not, ◌&&◌, ◌||◌, List, [], ◌∷◌, Option, None, is_some, is_none, option_and_then, unwrap_or, option_map, position, nat_le, bytes_eq, if◌then◌else◌}
 use Rattle.std.specs.List.{list_all}
-use Rattle.cap_vector.specs.Vector.{plus, less}
-use Rattle.cap_model.specs.Limits.{number_end}
+use Rattle.cap_vector.specs.Vector.{exchanged}
+use Rattle.cap_model.specs.Limits.{number_end, live_max}
 use Rattle.cap_model.specs.Cascade.{earliest, holds_of}
 use Rattle.cap_model.specs.Amounts.{fits, times}
-use Rattle.cap_model.specs.Calls.{Key, Ask}
+use Rattle.cap_model.specs.Texts.{star}
+use Rattle.cap_model.specs.declared.ask.Key.{Key}
+use Rattle.cap_model.specs.Asks.{Ask}
 use Rattle.cap_model.specs.Flat.{Reservation, is_for, ask_at}
 use Rattle.cap_model.specs.Sight.{Sight, QueueSight, NodeSight, seen_app, seen_node, seen_queue, queues_to, still_wanted}
 
@@ -54,17 +56,21 @@ reason_number fits_now = 11
 reason_number never_fits = 12
 reason_number numbers_spent = 13
 
--- the greatest number of containers that are live at once
-abbrev pub live_max : ℕ
-live_max = 65536
-
 abbrev pub is_grant : ProposalKind → Bool
 is_grant grant = true
 is_grant reserve = false
 
+-- whether a use is within the maximum of a queue, where it has one
+abbrev pub fits_maximum : Option (List ℕ) → List ℕ → Bool
+fits_maximum maximum used = is_none maximum || holds_of (fits used) maximum
+
+-- whether the use of a user is within a leaf's user limit factor times its guarantee
+abbrev pub fits_user_limit : ℕ → List ℕ → List ℕ → Bool
+fits_user_limit factor guaranteed used = fits used (times factor guaranteed)
+
 -- whether a place is anywhere (an asterisk), the node's host or its rack
 abbrev pub takes_place : List ℕ → NodeSight → Bool
-takes_place place node = bytes_eq place (42 ∷ []) || bytes_eq place node.host || bytes_eq place node.rack
+takes_place place node = bytes_eq place (star ∷ []) || bytes_eq place node.host || bytes_eq place node.rack
 
 module _ {K : ℕ} where
   -- the ask that a proposal is for
@@ -102,7 +108,7 @@ module _ {K : ℕ} where
 
   -- a use as the proposal would leave it
   abbrev pub use_after : Sight K → NodeProposal → List ℕ → List ℕ
-  use_after sight p used = plus (less used (replaced sight p)) p.resource
+  use_after sight p used = exchanged (replaced sight p) p.resource used
 
   -- the leaf queue and the user of the proposal's application
   abbrev pub leaf_path : Sight K → NodeProposal → List ℕ
@@ -113,7 +119,7 @@ module _ {K : ℕ} where
 
   -- whether a queue would stay within its maximum, where it has one
   abbrev pub stays_in_maximum : Sight K → NodeProposal → QueueSight → Bool
-  stays_in_maximum sight p q = is_none q.row.maximum || holds_of (fits (use_after sight p q.used)) q.row.maximum
+  stays_in_maximum sight p q = fits_maximum q.row.maximum (use_after sight p q.used)
 
   -- whether every queue from the root down to the leaf would
   abbrev pub stays_in_maxima : Sight K → NodeProposal → Bool
@@ -126,7 +132,7 @@ module _ {K : ℕ} where
   -- whether the user would stay within the leaf's user limit factor times its guarantee
   abbrev pub stays_in_user_limit : Sight K → NodeProposal → Bool
   stays_in_user_limit sight p =
-      holds_of (λ q. fits (use_after sight p (q.used_by (user_name sight p))) (times q.row.factor q.row.guaranteed)) (seen_queue sight (leaf_path sight p))
+      holds_of (λ q. fits_user_limit q.row.factor q.row.guaranteed (use_after sight p (q.used_by (user_name sight p)))) (seen_queue sight (leaf_path sight p))
 
   -- what every proposal needs: its ask, its node, the place, the maxima of its queues, the user limit, and numbers
   pub record IsWithinLimits (sight : Sight K) (p : NodeProposal) : Type 0 where

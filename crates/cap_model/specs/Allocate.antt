@@ -3,18 +3,16 @@ use Rattle.std.specs.Prelude.{ℕ, ◌-◌, Bool, not, ◌&&◌, List, [], ◌�
 use Rattle.std.specs.List.{fold, list_any}
 use Rattle.cap_model.specs.Cascade.{earliest, holds_of}
 use Rattle.cap_model.specs.Amounts.{fits}
-use Rattle.cap_model.specs.Calls.{Ask, Cause, AllocateReply, CallRefusal, CallReply}
+use Rattle.cap_model.specs.Limits.{keys_max, news_max}
+use Rattle.cap_model.specs.Asks.{Ask}
+use Rattle.cap_model.specs.declared.news.Cause.{Cause}
+use Rattle.cap_model.specs.News.{AllocateReply}
+use Rattle.cap_model.specs.declared.refusal.Refusal.{Refusal}
+use Rattle.cap_model.specs.declared.reply.Reply.{Reply}
 use Rattle.cap_model.specs.Flat.{Flat, App, Container, app_at, with_app}
 use Rattle.cap_model.specs.ResponseIds.{next_response, is_repeated, is_bad_id}
 use Rattle.cap_model.specs.Ending.{named_among, after_ends}
 use Rattle.cap_model.specs.Asking.{put_ask, after_asks}
-
--- the greatest number of keys of one application, and of grants and of ends in one reply
-abbrev pub keys_max : ℕ
-keys_max = 256
-
-abbrev pub news_max : ℕ
-news_max = 64
 
 -- the reply before there is one
 abbrev pub nothing_told : AllocateReply
@@ -52,16 +50,16 @@ module _ {K : ℕ} where
   is_too_large cluster ask = nat_le 1 ask.count && not (fits ask.resource cluster.settings.maximum_allocation)
 
   -- why an allocate is refused
-  abbrev pub allocate_refusal : Flat K → ℕ → ℕ → List Ask → Option CallRefusal
+  abbrev pub allocate_refusal : Flat K → ℕ → ℕ → List Ask → Option Refusal
   allocate_refusal cluster n id asks =
       let app = app_at cluster n in
       let fresh = not (is_repeated_allocate cluster n id) in
       earliest (
-      (is_none app, CallRefusal.unknown_application)
-      ∷ (not (holds_of (λ a. a.registered) app), CallRefusal.not_registered)
-      ∷ (holds_of (λ a. is_bad_id a.response a.kept id) app, CallRefusal.bad_response_id)
-      ∷ (fresh && list_any (is_too_large cluster) asks, CallRefusal.ask_too_large)
-      ∷ (fresh && holds_of (λ a. has_too_many_keys a asks) app, CallRefusal.too_many_asks)
+      (is_none app, Refusal.UnknownApplication)
+      ∷ (not (holds_of (λ a. a.registered) app), Refusal.NotRegistered)
+      ∷ (holds_of (λ a. is_bad_id a.response a.kept id) app, Refusal.BadResponseId)
+      ∷ (fresh && list_any (is_too_large cluster) asks, Refusal.AskTooLarge)
+      ∷ (fresh && holds_of (λ a. has_too_many_keys a asks) app, Refusal.TooManyAsks)
       ∷ [])
 
   -- the live containers of the application that its releases name
@@ -70,7 +68,7 @@ module _ {K : ℕ} where
 
   -- the cluster after the asks and the releases
   abbrev pub after_wishes : Flat K → ℕ → List Ask → List ℕ → Flat K
-  after_wishes cluster n asks releases = after_ends Cause.released (released_by cluster n releases) (after_asks n asks cluster)
+  after_wishes cluster n asks releases = after_ends Cause.Released (released_by cluster n releases) (after_asks n asks cluster)
 
   -- the cluster after a processed allocate: a release that names nothing is counted as ignored
   abbrev pub after_processed_allocate : Flat K → ℕ → ℕ → List Ask → List ℕ → Flat K
@@ -87,5 +85,5 @@ module _ {K : ℕ} where
   kept_reply cluster n = unwrap_or (option_and_then (λ app. app.kept) (app_at cluster n)) nothing_told
 
   -- its reply is the one that is kept after it
-  abbrev pub allocate_reply : Flat K → ℕ → ℕ → List Ask → List ℕ → CallReply
-  allocate_reply cluster n id asks releases = CallReply.allocate (kept_reply (after_allocate cluster n id asks releases) n)
+  abbrev pub allocate_reply : Flat K → ℕ → ℕ → List Ask → List ℕ → Reply K
+  allocate_reply cluster n id asks releases = Reply.Allocate (kept_reply (after_allocate cluster n id asks releases) n)

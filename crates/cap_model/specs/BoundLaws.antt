@@ -1,19 +1,21 @@
 -- Laws of the bounds: what holds in every state of a run.
 use Rattle.std.specs.Prelude.{◌≡◌, ◌↔◌, ◌⊎◌, ℕ, ◌+◌, ◌<◌, true, List, Some, None, map, filter, ◌∷◌, ◌++◌, count_by, ◌&&◌, if◌then◌else◌}
 use Rattle.std.specs.List.{All, range_with_len}
-use Rattle.cap_model.specs.Calls.{Ask}
+use Rattle.cap_model.specs.Texts.{dot}
+use Rattle.cap_model.specs.Asks.{Ask}
 use Rattle.cap_model.specs.Flat.{Flat, App, opened, app_at, node_at, is_under, is_child_of}
 use Rattle.cap_model.specs.Settings.{Settings, QueueRow}
 use Rattle.cap_vector.specs.Vector.{IsSum}
 use Rattle.cap_model.specs.Uses.{wanted, queue_use}
 use Rattle.cap_model.specs.Listing.{IsListing}
 use Rattle.cap_model.specs.Sight.{sight_of, still_wanted}
-use Rattle.cap_model.specs.Events.{ClusterEvent, Step, Run}
+use Rattle.cap_model.specs.declared.event.Event.{Event}
+use Rattle.cap_model.specs.Events.{Step, Run}
 use Rattle.cap_model.specs.Bounds.{AreApart, IsQueueBounded, IsNodeBounded, IsReservationBounded, IsSumOfChildren, has_path, is_tree, IsTree, StandBelow, depth, IsWellFormed, IsBounded, IsWithinSizes}
 
 -- a queue is in or under another exactly where it has the other's path or a path that begins with it and a dot
 abbrev pub UnderByPath : Type 0
-UnderByPath = (path queue : List ℕ) → (is_under path queue ≡ true) ↔ ((queue ≡ path) ⊎ ((rest : List ℕ) × (queue ≡ path ++ 46 ∷ rest)))
+UnderByPath = (path queue : List ℕ) → (is_under path queue ≡ true) ↔ ((queue ≡ path) ⊎ ((rest : List ℕ) × (queue ≡ path ++ dot ∷ rest)))
 
 -- whether queues are a tree is told by the test
 abbrev pub TreesAreTested : Type 0
@@ -46,33 +48,33 @@ TreesAddUp = (K : ℕ) (cluster : Flat K) → IsWellFormed cluster → All (IsSu
 
 -- a step from a well-formed cluster leaves a well-formed one
 abbrev pub StepStaysWellFormed : Type 0
-StepStaysWellFormed = (K : ℕ) (old new : Flat K) (event : ClusterEvent) → IsWellFormed old → Step old event new → IsWellFormed new
+StepStaysWellFormed = (K : ℕ) (old new : Flat K) (event : Event K) → IsWellFormed old → Step old event new → IsWellFormed new
 
 -- the number of an application or of a node that has gone is never used again
 abbrev pub NumbersAreNotUsedAgain : Type 0
 NumbersAreNotUsedAgain =
-    (K : ℕ) (events : List ClusterEvent) (old new : Flat K) (n : ℕ) → IsWellFormed old → Run old events new →
+    (K : ℕ) (events : List (Event K)) (old new : Flat K) (n : ℕ) → IsWellFormed old → Run old events new →
     (n < old.apps.next → app_at old n ≡ None → app_at new n ≡ None) × (n < old.nodes.next_node → node_at old n ≡ None → node_at new n ≡ None)
 
 -- a step from a bounded cluster keeps each queue within its maximum and each user within the user limit
 abbrev pub QueuesStayBounded : Type 0
-QueuesStayBounded = (K : ℕ) (old new : Flat K) (event : ClusterEvent) → IsBounded old → Step old event new → All (IsQueueBounded new) new.settings.queues
+QueuesStayBounded = (K : ℕ) (old new : Flat K) (event : Event K) → IsBounded old → Step old event new → All (IsQueueBounded new) new.settings.queues
 
 -- it keeps what runs on each node within the node's total
 abbrev pub NodesStayBounded : Type 0
-NodesStayBounded = (K : ℕ) (old new : Flat K) (event : ClusterEvent) → IsBounded old → Step old event new → All (IsNodeBounded new) new.nodes.present
+NodesStayBounded = (K : ℕ) (old new : Flat K) (event : Event K) → IsBounded old → Step old event new → All (IsNodeBounded new) new.nodes.present
 
 -- it keeps reservations on different nodes
 abbrev pub ReservationsStayApart : Type 0
-ReservationsStayApart = (K : ℕ) (old new : Flat K) (event : ClusterEvent) → IsBounded old → Step old event new → AreApart new.nodes.reserved
+ReservationsStayApart = (K : ℕ) (old new : Flat K) (event : Event K) → IsBounded old → Step old event new → AreApart new.nodes.reserved
 
 -- it keeps each reservation on a node that it fits, and for an ask that counts at least as many as room is reserved for
 abbrev pub ReservationsStayBounded : Type 0
-ReservationsStayBounded = (K : ℕ) (old new : Flat K) (event : ClusterEvent) → IsBounded old → Step old event new → All (IsReservationBounded new) new.nodes.reserved
+ReservationsStayBounded = (K : ℕ) (old new : Flat K) (event : Event K) → IsBounded old → Step old event new → All (IsReservationBounded new) new.nodes.reserved
 
 -- a step from a bounded cluster leaves a bounded one
 abbrev pub StepStaysBounded : Type 0
-StepStaysBounded = (K : ℕ) (old new : Flat K) (event : ClusterEvent) → IsBounded old → Step old event new → IsBounded new
+StepStaysBounded = (K : ℕ) (old new : Flat K) (event : Event K) → IsBounded old → Step old event new → IsBounded new
 
 -- a cluster that was opened just now over listed queues is bounded
 abbrev pub OpenedIsBounded : Type 0
@@ -81,7 +83,7 @@ OpenedIsBounded = (K : ℕ) (settings : Settings) → IsListing settings.queues 
 -- every state of a run from a bounded cluster is bounded: the one after each beginning of its events, and so the closing one
 abbrev pub RunsStayBounded : Type 0
 RunsStayBounded =
-    (K : ℕ) (first rest : List ClusterEvent) (old new : Flat K) → IsBounded old → Run old (first ++ rest) new →
+    (K : ℕ) (first rest : List (Event K)) (old new : Flat K) → IsBounded old → Run old (first ++ rest) new →
     (mid : Flat K) × Run old first mid × Run mid rest new × IsBounded mid × IsBounded new
 
 -- what a sight shows as still wanted is the ask's count less the reservations for it
@@ -90,11 +92,11 @@ WantedIsSeen = (K : ℕ) (cluster : Flat K) (app : ℕ) (ask : Ask) → IsBounde
 
 -- a step leaves a cluster within its sizes, and so does a run
 abbrev pub SizesStay : Type 0
-SizesStay = (K : ℕ) (old new : Flat K) (event : ClusterEvent) → IsWithinSizes old → Step old event new → IsWithinSizes new
+SizesStay = (K : ℕ) (old new : Flat K) (event : Event K) → IsWithinSizes old → Step old event new → IsWithinSizes new
 
 abbrev pub RunsStayWithinSizes : Type 0
 RunsStayWithinSizes =
-    (K : ℕ) (first rest : List ClusterEvent) (old new : Flat K) → IsWithinSizes old → Run old (first ++ rest) new →
+    (K : ℕ) (first rest : List (Event K)) (old new : Flat K) → IsWithinSizes old → Run old (first ++ rest) new →
     (mid : Flat K) × Run old first mid × Run mid rest new × IsWithinSizes mid × IsWithinSizes new
 
 -- a cluster that was opened just now is within them

@@ -2,13 +2,13 @@
 use Rattle.std.specs.Prelude.{◌≡◌, ℕ, ◌+◌, ◌≤◌, Bool, true, false, not, ◌&&◌, is_some, if◌then◌else◌, List, [], ◌∷◌, ◌++◌, Option, Some, None, IsSome, map, find, filter, length, count_by, ◌==◌, nat_le, bytes_eq}
 use Rattle.std.specs.List.{All, list_any, list_all}
 use Rattle.cap_vector.specs.Vector.{amount_max, IsWithin}
+use Rattle.cap_model.specs.Texts.{dot}
 use Rattle.cap_model.specs.Cascade.{holds_of}
 use Rattle.cap_model.specs.Amounts.{fits, times, sum_where}
 use Rattle.cap_model.specs.Settings.{QueueRow}
-use Rattle.cap_model.specs.Calls.{Key}
+use Rattle.cap_model.specs.declared.ask.Key.{Key}
 use Rattle.cap_model.specs.Flat.{Flat, ClusterNode, Reservation, is_for, ask_at, app_at, node_at, queue_at, is_under, is_child_of}
-use Rattle.cap_model.specs.Limits.{number_end, nodes_max}
-use Rattle.cap_model.specs.Admission.{live_max}
+use Rattle.cap_model.specs.Limits.{nodes_max, live_max, number_end}
 use Rattle.cap_model.specs.Submit.{has_children}
 use Rattle.cap_model.specs.RegisterNode.{total_of_nodes}
 use Rattle.cap_model.specs.Uses.{queue_use, user_use, node_held}
@@ -40,7 +40,7 @@ has_path queues path = is_some (find (λ r. bytes_eq r.path path) queues)
 -- queues that are a tree: no path stands there twice, and where a path is there, so is each beginning of it that ends before a dot
 pub record IsTree (queues : List QueueRow) : Type 0 where
   pub distinct : HasDistinctPaths queues
-  pub above : All (λ q. (front rest : List ℕ) → q.path ≡ front ++ 46 ∷ rest → has_path queues front ≡ true) queues
+  pub above : All (λ q. (front rest : List ℕ) → q.path ≡ front ++ dot ∷ rest → has_path queues front ≡ true) queues
 
 -- each queue of a list stands before those under it
 abbrev pub StandBelow : List QueueRow → Type 0
@@ -49,14 +49,14 @@ StandBelow (q ∷ queues) = (list_any (λ r. is_under r.path q.path) queues ≡ 
 
 -- how far down a queue is: the dots of its path
 abbrev pub depth : List ℕ → ℕ
-depth path = count_by (λ b. b == 46) path
+depth path = count_by (λ b. b == dot) path
 
 -- the beginnings of a path that end before a dot
 abbrev pub fronts : List ℕ → List (List ℕ)
 fronts [] = []
 fronts (b ∷ path) =
     let longer = map (λ front. b ∷ front) (fronts path) in
-    if b == 46 then [] ∷ longer else longer
+    if b == dot then [] ∷ longer else longer
 
 -- whether no path stands in a list of queues twice
 abbrev pub has_distinct_paths : List QueueRow → Bool

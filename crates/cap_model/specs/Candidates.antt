@@ -1,7 +1,7 @@
 -- The choice computed: all that might be proposed on a node, written out.
 use Rattle.std.specs.Prelude.{ℕ, List, [], ◌∷◌, Option, Some, None, is_none, flat_map, filter, if◌then◌else◌}
 use Rattle.std.specs.Option.{option_or}
-use Rattle.cap_model.specs.Calls.{Ask}
+use Rattle.cap_model.specs.Asks.{Ask}
 use Rattle.cap_model.specs.Sight.{Sight, AppSight, NodeSight}
 use Rattle.cap_model.specs.Admission.{NodeProposal, ProposalKind, reason_of}
 use Rattle.cap_model.specs.Choice.{is_after, ring_from}

@@ -1,7 +1,7 @@
 -- How containers end.
 use Rattle.std.specs.Prelude.{ℕ, Bool, List, [], ◌∷◌, ◌++◌, map, find, filter, not, ◌==◌}
 use Rattle.std.specs.List.{list_any, cons_option}
-use Rattle.cap_model.specs.Calls.{Cause}
+use Rattle.cap_model.specs.declared.news.Cause.{Cause}
 use Rattle.cap_model.specs.Flat.{Flat, App, Container}
 
 -- whether a container is among these

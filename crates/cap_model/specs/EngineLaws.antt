@@ -8,7 +8,8 @@ use Rattle.cap_model.specs.Choice.{rank_cmp, rank_of, IsNodeChoice, IsChoiceFrom
 use Rattle.cap_model.specs.Candidates.{choice_on, choice_from}
 use Rattle.std.specs.declared.cmp.Ordering.TheVariants.{Equal}
 use Rattle.cap_model.specs.Ending.{is_among}
-use Rattle.cap_model.specs.Events.{ClusterEvent, Step, Run, grant_proposal, reserve_proposal, after_grant, after_reserve, after_event, ever_granted, ever_ended}
+use Rattle.cap_model.specs.declared.event.Event.{Event}
+use Rattle.cap_model.specs.Events.{Step, Run, grant_proposal, reserve_proposal, after_grant, after_reserve, after_event, ever_granted, ever_ended}
 use Rattle.cap_model.specs.Bounds.{IsRising}
 
 -- a proposal has no reason to be rejected exactly where it is admissible
@@ -23,8 +24,8 @@ ReasonsAreInOrder = (K : ℕ) (sight : Sight K) (p : NodeProposal) → map (λ t
 abbrev pub PassedIsStep : Type 0
 PassedIsStep =
     (K : ℕ) (old : Flat K)
-    → ((c : Container) → c.number ≡ old.nodes.next_container → reason_of (sight_of old) (grant_proposal c) ≡ None → Step old (ClusterEvent.grant c) (after_grant old c))
-    × ((r : Reservation) → reason_of (sight_of old) (reserve_proposal r) ≡ None → Step old (ClusterEvent.reserve r) (after_reserve old r))
+    → ((c : Container) → c.number ≡ old.nodes.next_container → reason_of (sight_of old) (grant_proposal c) ≡ None → Step old (Event.Grant c) (after_grant old c))
+    × ((r : Reservation) → reason_of (sight_of old) (reserve_proposal r) ≡ None → Step old (Event.Reserve r) (after_reserve old r))
 
 -- two admissible proposals of one node are never of one rank
 abbrev pub OneOfEachRank : Type 0
@@ -41,7 +42,7 @@ ChoiceFromIsComputed = (K : ℕ) (sight : Sight K) (start : ℕ) → IsChoiceFro
 
 -- the cluster after a step is determined by the event
 abbrev pub StepIsDetermined : Type 0
-StepIsDetermined = (K : ℕ) (old new : Flat K) (event : ClusterEvent) → Step old event new → new ≡ after_event old event
+StepIsDetermined = (K : ℕ) (old new : Flat K) (event : Event K) → Step old event new → new ≡ after_event old event
 
 -- the numbers of containers
 abbrev pub numbers_of : List Container → List ℕ
@@ -53,29 +54,29 @@ HasDistinctNumbers cluster = IsRising 1 (numbers_of cluster.nodes.live) cluster.
 
 -- a step keeps the numbers of live containers distinct and below the next
 abbrev pub NumbersStayDistinct : Type 0
-NumbersStayDistinct = (K : ℕ) (old new : Flat K) (event : ClusterEvent) → HasDistinctNumbers old → Step old event new → HasDistinctNumbers new
+NumbersStayDistinct = (K : ℕ) (old new : Flat K) (event : Event K) → HasDistinctNumbers old → Step old event new → HasDistinctNumbers new
 
 -- the containers that a run grants have rising numbers, from the first that was free at its start: none is granted twice
 abbrev pub GrantedOnce : Type 0
 GrantedOnce =
-    (K : ℕ) (events : List ClusterEvent) (old new : Flat K) → Run old events new → IsRising old.nodes.next_container (numbers_of (ever_granted events)) new.nodes.next_container
+    (K : ℕ) (events : List (Event K)) (old new : Flat K) → Run old events new → IsRising old.nodes.next_container (numbers_of (ever_granted events)) new.nodes.next_container
 
 -- of the containers that pass any test, those live at the close and those ever ended are as many as those live at the opening and those
 -- ever granted: none is lost, none is doubled
 abbrev pub ContainersBalance : Type 0
 ContainersBalance =
-    (K : ℕ) (events : List ClusterEvent) (old new : Flat K) → HasDistinctNumbers old → Run old events new → (test : Container → Bool) →
+    (K : ℕ) (events : List (Event K)) (old new : Flat K) → HasDistinctNumbers old → Run old events new → (test : Container → Bool) →
     count_by test new.nodes.live + count_by test (ever_ended old events) ≡ count_by test old.nodes.live + count_by test (ever_granted events)
 
 -- no container is ended twice in a run
 abbrev pub EndedOnce : Type 0
 EndedOnce =
-    (K : ℕ) (events : List ClusterEvent) (old new : Flat K) → HasDistinctNumbers old → Run old events new → (n : ℕ) → count_by (λ c. c.number == n) (ever_ended old events) ≤ 1
+    (K : ℕ) (events : List (Event K)) (old new : Flat K) → HasDistinctNumbers old → Run old events new → (n : ℕ) → count_by (λ c. c.number == n) (ever_ended old events) ≤ 1
 
 -- the closing live containers are the opening ones with the granted, without the ended, in this order
 abbrev pub LiveIsWhatWasNotEnded : Type 0
 LiveIsWhatWasNotEnded =
-    (K : ℕ) (events : List ClusterEvent) (old new : Flat K) → HasDistinctNumbers old → Run old events new →
+    (K : ℕ) (events : List (Event K)) (old new : Flat K) → HasDistinctNumbers old → Run old events new →
     new.nodes.live ≡ filter (λ c. not (is_among (ever_ended old events) c)) (old.nodes.live ++ ever_granted events)
 
 -- the active applications have rising numbers below the next
@@ -84,4 +85,4 @@ HasAppNumbers cluster = IsRising 1 (map (λ app. app.number) cluster.apps.active
 
 -- a step keeps the numbers of applications distinct and below the next
 abbrev pub AppNumbersStayDistinct : Type 0
-AppNumbersStayDistinct = (K : ℕ) (old new : Flat K) (event : ClusterEvent) → HasAppNumbers old → Step old event new → HasAppNumbers new
+AppNumbersStayDistinct = (K : ℕ) (old new : Flat K) (event : Event K) → HasAppNumbers old → Step old event new → HasAppNumbers new

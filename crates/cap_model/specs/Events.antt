@@ -1,17 +1,16 @@
 -- Events of the whole cluster, its steps and runs, and what was ever granted and ended.
 use Rattle.std.specs.Prelude.{◌≡◌, ℕ, ◌+◌, ◌-◌, Bool, not, List, [], ◌∷◌, ◌++◌, filter, map, option_map, unwrap_or, flat_map, ◌==◌, if◌then◌else◌}
-use Rattle.cap_model.specs.Calls.{Key, same_key, Ask, GrantedContainer, CallRequest, CallReply, CallRefusal}
+use Rattle.cap_model.specs.declared.ask.Key.{Key}
+use Rattle.cap_model.specs.Asks.{same_key, Ask}
+use Rattle.cap_model.specs.News.{Grant}
+use Rattle.cap_model.specs.declared.reply.Reply.{Reply}
+use Rattle.cap_model.specs.declared.refusal.Refusal.{Refusal}
 use Rattle.cap_model.specs.Flat.{Flat, Container, Reservation, node_at, with_app, with_reserved}
 use Rattle.cap_model.specs.Ending.{is_among}
 use Rattle.cap_model.specs.Sight.{sight_of}
 use Rattle.cap_model.specs.Admission.{NodeProposal, ProposalKind, IsAdmissible}
 use Rattle.cap_model.specs.Replies.{Replies, after_request}
-
--- an event of the cluster: a call by a connection with its reply, a container granted, or room reserved
-pub data ClusterEvent : Type 0 where
-  call : (by : ℕ) (request : CallRequest) (reply : CallReply) → ClusterEvent
-  grant : (container : Container) → ClusterEvent
-  reserve : (reservation : Reservation) → ClusterEvent
+use Rattle.cap_model.specs.declared.event.Event.{Event}
 
 -- the proposals that an event of a grant or of a reservation came from
 abbrev pub grant_proposal : Container → NodeProposal
@@ -24,24 +23,24 @@ reserve_proposal r = record { kind = ProposalKind.reserve; app = r.app; key = r.
 abbrev pub take_one : Key → List Ask → List Ask
 take_one key asks = filter (λ ask. not (ask.count == 0)) (map (λ (ask : Ask). if same_key ask.key key then record ask { count = ask.count - 1 } else ask) asks)
 
--- whether a reply says that no memory was found, so that the cluster is the same
-abbrev pub is_no_memory : CallReply → Bool
-is_no_memory (CallReply.refused CallRefusal.no_memory) = Bool.true
-is_no_memory _ = Bool.false
-
--- the containers that an event granted
-abbrev pub granted_by : ClusterEvent → List Container
-granted_by (ClusterEvent.grant c) = c ∷ []
-granted_by (ClusterEvent.call by request reply) = []
-granted_by (ClusterEvent.reserve r) = []
-
--- the containers that a run granted
-abbrev pub ever_granted : List ClusterEvent → List Container
-ever_granted events = flat_map granted_by events
-
 module _ {K : ℕ} where
+  -- whether a reply says that no memory was found, so that the cluster is the same
+  abbrev pub is_no_memory : Reply K → Bool
+  is_no_memory (Reply.Refused Refusal.NoMemory) = Bool.true
+  is_no_memory _ = Bool.false
+
+  -- the containers that an event granted
+  abbrev pub granted_by : Event K → List Container
+  granted_by (Event.Grant c) = c ∷ []
+  granted_by (Event.Call by request reply) = []
+  granted_by (Event.Reserve r) = []
+
+  -- the containers that a run granted
+  abbrev pub ever_granted : List (Event K) → List Container
+  ever_granted events = flat_map granted_by events
+
   -- a granted container as its application is to be told of it
-  abbrev pub news_of : Flat K → Container → GrantedContainer
+  abbrev pub news_of : Flat K → Container → Grant
   news_of cluster c = record {
     container = c.number;
     key = c.key;
@@ -69,28 +68,28 @@ module _ {K : ℕ} where
 
   -- One step of the cluster: a call that is answered by the reply function, or an admissible grant of the next container number,
   -- or an admissible reservation.
-  abbrev pub Step : Flat K → ClusterEvent → Flat K → Type 0
-  Step old (ClusterEvent.call by request reply) new = Replies old request reply new
-  Step old (ClusterEvent.grant c) new =
+  abbrev pub Step : Flat K → Event K → Flat K → Type 0
+  Step old (Event.Call by request reply) new = Replies old request reply new
+  Step old (Event.Grant c) new =
       IsAdmissible (sight_of old) (grant_proposal c) × (c.number ≡ old.nodes.next_container) × (new ≡ after_grant old c)
-  Step old (ClusterEvent.reserve r) new = IsAdmissible (sight_of old) (reserve_proposal r) × (new ≡ after_reserve old r)
+  Step old (Event.Reserve r) new = IsAdmissible (sight_of old) (reserve_proposal r) × (new ≡ after_reserve old r)
 
   -- a run: the events lead from old to new, one step each
-  abbrev pub Run : Flat K → List ClusterEvent → Flat K → Type 0
+  abbrev pub Run : Flat K → List (Event K) → Flat K → Type 0
   Run old [] new = old ≡ new
   Run old (event ∷ events) new = (mid : Flat K) × Step old event mid × Run mid events new
 
   -- the cluster after an event that could be
-  abbrev pub after_event : Flat K → ClusterEvent → Flat K
-  after_event old (ClusterEvent.call by request reply) = if is_no_memory reply then old else after_request old request
-  after_event old (ClusterEvent.grant c) = after_grant old c
-  after_event old (ClusterEvent.reserve r) = after_reserve old r
+  abbrev pub after_event : Flat K → Event K → Flat K
+  after_event old (Event.Call by request reply) = if is_no_memory reply then old else after_request old request
+  after_event old (Event.Grant c) = after_grant old c
+  after_event old (Event.Reserve r) = after_reserve old r
 
   -- the containers that were live before and are not after
   abbrev pub ended_between : Flat K → Flat K → List Container
   ended_between old new = filter (λ c. not (is_among new.nodes.live c)) old.nodes.live
 
   -- the containers that a run ended, event by event
-  abbrev pub ever_ended : Flat K → List ClusterEvent → List Container
+  abbrev pub ever_ended : Flat K → List (Event K) → List Container
   ever_ended old [] = []
   ever_ended old (event ∷ events) = ended_between old (after_event old event) ++ ever_ended (after_event old event) events

@@ -2,7 +2,9 @@
 use Rattle.std.specs.Prelude.{ℕ, zero, suc, true, List, [], ◌∷◌, Option, Some, None, codes}
 use Rattle.std.specs.List.{fold}
 use Rattle.cap_model.specs.Settings.{Settings, QueueRow}
-use Rattle.cap_model.specs.Calls.{Key, Ask, CallRequest}
+use Rattle.cap_model.specs.declared.ask.Key.{Key}
+use Rattle.cap_model.specs.Asks.{Ask}
+use Rattle.cap_model.specs.declared.request.Request.{Request}
 use Rattle.cap_model.specs.Flat.{Flat, Container, opened}
 use Rattle.cap_model.specs.Admission.{NodeProposal, ProposalKind}
 use Rattle.cap_model.specs.Replies.{after_request}
@@ -39,25 +41,25 @@ two_queues = with_queues (
     ∷ [])
 
 -- the cluster after some calls, none of which lacks memory
-abbrev pub after_calls : Flat 2 → List CallRequest → Flat 2
+abbrev pub after_calls : Flat 2 → List (Request 2) → Flat 2
 after_calls cluster requests = fold after_request cluster requests
 
 -- two applications, one in each queue, both registered
-abbrev pub two_masters : List CallRequest
+abbrev pub two_masters : List (Request 2)
 two_masters =
-    CallRequest.submit (codes "root.a") (codes "u1")
-    ∷ CallRequest.submit (codes "root.b") (codes "u2")
-    ∷ CallRequest.register_master 1
-    ∷ CallRequest.register_master 2
+    Request.Submit (codes "root.a") (codes "u1")
+    ∷ Request.Submit (codes "root.b") (codes "u2")
+    ∷ Request.RegisterMaster 1
+    ∷ Request.RegisterMaster 2
     ∷ []
 
 -- one node of 8192 MiB and 8 vcores, and the two applications
 abbrev pub small : Flat 2
-small = after_calls (opened two_queues) (CallRequest.register_node (codes "n1") (codes "/r1") (mb_and_vcores 8192 8) ∷ two_masters)
+small = after_calls (opened two_queues) (Request.RegisterNode (codes "n1") (codes "/r1") (mb_and_vcores 8192 8) ∷ two_masters)
 
 -- an allocate with asks alone
-abbrev pub asks_of : ℕ → ℕ → List Ask → CallRequest
-asks_of app id asks = CallRequest.allocate app id asks []
+abbrev pub asks_of : ℕ → ℕ → List Ask → Request 2
+asks_of app id asks = Request.Allocate app id asks []
 
 -- a proposal to grant, and one to reserve
 abbrev pub grant_of : ℕ → Key → ℕ → List ℕ → NodeProposal

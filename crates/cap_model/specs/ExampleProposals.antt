@@ -1,7 +1,8 @@
 -- Worked examples: proposals that are made, admitted and rejected.
 use Rattle.std.specs.Prelude.{◌≡◌, true, false, not, [], ◌∷◌, Some, None, filter, bytes_eq, codes}
 use Rattle.cap_model.specs.Settings.{Settings}
-use Rattle.cap_model.specs.Calls.{CallRequest, CallReply}
+use Rattle.cap_model.specs.declared.request.Request.{Request}
+use Rattle.cap_model.specs.declared.reply.Reply.{Reply}
 use Rattle.cap_model.specs.Flat.{Flat, opened}
 use Rattle.cap_model.specs.Uses.{queue_use}
 use Rattle.cap_model.specs.Sight.{sight_of}
@@ -27,11 +28,11 @@ abbrev pub under_middle : Flat 2
 under_middle =
     after_calls (granted 2 2 (key 0 0) 1 (mb_and_vcores 1024 1)
     (after_calls (opened middle_queue) (
-    CallRequest.register_node (codes "n1") (codes "/r1") (mb_and_vcores 8192 8)
-    ∷ CallRequest.submit (codes "root.g.p.l") (codes "u1")
-    ∷ CallRequest.submit (codes "root.g.q.l") (codes "u2")
-    ∷ CallRequest.register_master 1
-    ∷ CallRequest.register_master 2
+    Request.RegisterNode (codes "n1") (codes "/r1") (mb_and_vcores 8192 8)
+    ∷ Request.Submit (codes "root.g.p.l") (codes "u1")
+    ∷ Request.Submit (codes "root.g.q.l") (codes "u2")
+    ∷ Request.RegisterMaster 1
+    ∷ Request.RegisterMaster 2
     ∷ [])))
     (asks_of 1 0 (ask_anywhere (key 1 0) 2 (mb_and_vcores 1024 1) ∷ []) ∷ [])
 
@@ -64,15 +65,15 @@ ReservationKeepsOthersOut =
     × (reason_of (sight_of crowded_reserved) (grant_of 2 (key 1 0) 1 (mb_and_vcores 1024 1)) ≡ Some RejectReason.reserved_by_other)
 
 -- the first container ends on the node
-abbrev pub one_ended : CallRequest
-one_ended = CallRequest.heartbeat 1 0 (1 ∷ [])
+abbrev pub one_ended : Request 2
+one_ended = Request.Heartbeat 1 0 (1 ∷ [])
 
 -- once a container has ended there is room: the reservation is converted, and the use stays as it is
 abbrev pub ReservationIsConverted : Type 0
 ReservationIsConverted =
     let ended = after_request crowded_reserved one_ended in
     let converted = granted 1 1 (key 1 1) 1 (mb_and_vcores 3072 1) ended in
-    (reply_to crowded_reserved one_ended ≡ CallReply.heartbeat (record { response = 1; ignored = 0; live = 5 }))
+    (reply_to crowded_reserved one_ended ≡ Reply.Heartbeat (record { response = 1; ignored = 0; live = 5 }))
     × (queue_use ended (codes "root.a") ≡ mb_and_vcores 8192 6)
     × (choice_from (sight_of ended) 0 ≡ Some (grant_of 1 (key 1 1) 1 (mb_and_vcores 3072 1)))
     × (queue_use converted (codes "root.a") ≡ mb_and_vcores 8192 6)
@@ -84,8 +85,8 @@ two_reservations =
     reserved 1 (key 3 0) 2 (mb_and_vcores 3072 1) (reserved 1 (key 3 0) 1 (mb_and_vcores 3072 1)
     (after_calls (granted 1 1 (key 0 0) 2 (mb_and_vcores 2048 1) (granted 1 1 (key 0 0) 1 (mb_and_vcores 2048 1)
     (after_calls (after_calls (opened two_queues) (
-    CallRequest.register_node (codes "n1") (codes "/r1") (mb_and_vcores 4096 4)
-    ∷ CallRequest.register_node (codes "n2") (codes "/r1") (mb_and_vcores 4096 4)
+    Request.RegisterNode (codes "n1") (codes "/r1") (mb_and_vcores 4096 4)
+    ∷ Request.RegisterNode (codes "n2") (codes "/r1") (mb_and_vcores 4096 4)
     ∷ []))
     two_masters)))
     (asks_of 1 0 (ask_anywhere (key 3 0) 2 (mb_and_vcores 3072 1) ∷ []) ∷ [])))
@@ -138,9 +139,9 @@ ReplacedAskRejected =
 -- the node went and came back under a new number, so an old proposal names no node
 abbrev pub ReturnedNodeIsAnother : Type 0
 ReturnedNodeIsAnother =
-    let gone = after_request one_asked (CallRequest.node_gone 1) in
-    let back = CallRequest.register_node (codes "n1") (codes "/r1") (mb_and_vcores 8192 8) in
-    (reply_to gone back ≡ CallReply.register_node 2)
+    let gone = after_request one_asked (Request.NodeGone 1) in
+    let back = Request.RegisterNode (codes "n1") (codes "/r1") (mb_and_vcores 8192 8) in
+    (reply_to gone back ≡ Reply.RegisterNode 2)
     × (reason_of (sight_of (after_request gone back)) (grant_of 1 (key 1 0) 1 (mb_and_vcores 1024 1)) ≡ Some RejectReason.no_node)
     × (choice_from (sight_of (after_request gone back)) 0 ≡ Some (grant_of 1 (key 1 0) 2 (mb_and_vcores 1024 1)))
 
@@ -151,13 +152,13 @@ NodeFillsUp =
     let full = granted 2 1 (key 1 0) 1 (mb_and_vcores 4096 1) asked in
     (reason_of (sight_of (granted 1 1 (key 1 0) 1 (mb_and_vcores 4096 1) asked)) (grant_of 1 (key 1 0) 1 (mb_and_vcores 4096 1)) ≡ None)
     × (reason_of (sight_of full) (grant_of 1 (key 1 0) 1 (mb_and_vcores 4096 1)) ≡ Some RejectReason.no_room)
-    × (reply_to full (CallRequest.node_gone 1) ≡ CallReply.node_gone 2)
-    × (queue_use (after_request full (CallRequest.node_gone 1)) (codes "root") ≡ mb_and_vcores 0 0)
+    × (reply_to full (Request.NodeGone 1) ≡ Reply.NodeGone 2)
+    × (queue_use (after_request full (Request.NodeGone 1)) (codes "root") ≡ mb_and_vcores 0 0)
 
 -- the nodes are gone round from the starting position, counted from 0 and modulo their number
 abbrev pub RingFromTheStart : Type 0
 RingFromTheStart =
-    let two = after_calls one_asked (CallRequest.register_node (codes "n2") (codes "/r1") (mb_and_vcores 8192 8) ∷ []) in
+    let two = after_calls one_asked (Request.RegisterNode (codes "n2") (codes "/r1") (mb_and_vcores 8192 8) ∷ []) in
     (choice_from (sight_of two) 1 ≡ Some (grant_of 1 (key 1 0) 2 (mb_and_vcores 1024 1)))
     × (choice_from (sight_of two) 2 ≡ Some (grant_of 1 (key 1 0) 1 (mb_and_vcores 1024 1)))
 
@@ -168,9 +169,9 @@ OtherReasons =
     let sight = sight_of one_asked in
     let placed = sight_of (after_calls small (asks_of 1 0 (record { key = key 1 0; count = 1; resource = mb_and_vcores 1024 1; place = codes "n2" } ∷ []) ∷ [])) in
     let large = sight_of (after_calls (opened two_queues) (
-    CallRequest.register_node (codes "n1") (codes "/r1") (mb_and_vcores 4096 4)
-    ∷ CallRequest.submit (codes "root.a") (codes "u1")
-    ∷ CallRequest.register_master 1
+    Request.RegisterNode (codes "n1") (codes "/r1") (mb_and_vcores 4096 4)
+    ∷ Request.Submit (codes "root.a") (codes "u1")
+    ∷ Request.RegisterMaster 1
     ∷ asks_of 1 0 (ask_anywhere (key 1 0) 1 (mb_and_vcores 8192 1) ∷ [])
     ∷ [])) in
     (reason_of sight (grant_of 3 (key 1 0) 1 (mb_and_vcores 1024 1)) ≡ Some RejectReason.no_app)

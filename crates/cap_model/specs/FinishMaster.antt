@@ -1,16 +1,17 @@
 -- FinishMaster: an application ends, and all that it had with it.
 use Rattle.std.specs.Prelude.{ℕ, List, [], ◌∷◌, Option, length, not, is_none, filter, ◌==◌}
 use Rattle.cap_model.specs.Cascade.{earliest, holds_of}
-use Rattle.cap_model.specs.Calls.{CallRefusal, CallReply}
+use Rattle.cap_model.specs.declared.refusal.Refusal.{Refusal}
+use Rattle.cap_model.specs.declared.reply.Reply.{Reply}
 use Rattle.cap_model.specs.Flat.{Flat, Container, app_at, with_reserved}
 use Rattle.cap_model.specs.Ending.{without}
 
 module _ {K : ℕ} where
   -- why it is refused
-  abbrev pub finish_master_refusal : Flat K → ℕ → Option CallRefusal
+  abbrev pub finish_master_refusal : Flat K → ℕ → Option Refusal
   finish_master_refusal cluster n = earliest (
-      (is_none (app_at cluster n), CallRefusal.unknown_application)
-      ∷ (not (holds_of (λ a. a.registered) (app_at cluster n)), CallRefusal.not_registered)
+      (is_none (app_at cluster n), Refusal.UnknownApplication)
+      ∷ (not (holds_of (λ a. a.registered) (app_at cluster n)), Refusal.NotRegistered)
       ∷ [])
 
   -- the live containers of an application
@@ -25,5 +26,5 @@ module _ {K : ℕ} where
       record unreserved { apps = record unreserved.apps { active = filter (λ app. not (app.number == n)) unreserved.apps.active } }
 
   -- how many of its containers ended
-  abbrev pub finish_master_reply : Flat K → ℕ → CallReply
-  finish_master_reply cluster n = CallReply.finish_master (length (containers_of cluster n))
+  abbrev pub finish_master_reply : Flat K → ℕ → Reply K
+  finish_master_reply cluster n = Reply.FinishMaster (length (containers_of cluster n))

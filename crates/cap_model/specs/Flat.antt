@@ -2,8 +2,13 @@
 use Rattle.std.specs.Prelude.{ℕ, Bool, List, [], ◌∷◌, Option, map, find, ◌==◌, ◌&&◌, bytes_eq, if◌then◌else◌}
 use Rattle.std.specs.List.{starts_with, list_any}
 use Rattle.std.specs.Prelude.{nat_eq, ◌||◌, ◌++◌}
+use Rattle.cap_model.specs.Texts.{dot}
 use Rattle.cap_model.specs.Settings.{Settings, QueueRow}
-use Rattle.cap_model.specs.Calls.{Key, same_key, Ask, GrantedContainer, EndedContainer, AllocateReply, HeartbeatReply}
+use Rattle.cap_model.specs.declared.ask.Key.{Key}
+use Rattle.cap_model.specs.Asks.{same_key, Ask}
+use Rattle.cap_model.specs.News.{Grant, AllocateReply}
+use Rattle.cap_model.specs.declared.news.End.{End}
+use Rattle.cap_model.specs.declared.replies.HeartbeatReply.{HeartbeatReply}
 
 -- an active application: its leaf queue and user, its standing with its master, its asks in order of key, and the news not yet told
 pub record App : Type 0 where
@@ -14,8 +19,8 @@ pub record App : Type 0 where
   pub response : ℕ
   pub kept : Option AllocateReply
   pub asks : List Ask
-  pub grants : List GrantedContainer
-  pub ends : List EndedContainer
+  pub grants : List Grant
+  pub ends : List End
 
 -- the active applications, in order of number
 pub record AppTable : Type 0 where
@@ -62,16 +67,16 @@ pub record Flat (K : ℕ) : Type 0 where
 
 -- whether a queue is the one of this path, or stands under it
 abbrev pub is_under : List ℕ → List ℕ → Bool
-is_under path queue = bytes_eq path queue || starts_with nat_eq queue (path ++ 46 ∷ [])
+is_under path queue = bytes_eq path queue || starts_with nat_eq queue (path ++ dot ∷ [])
 
 -- the last name of a dotted path
 abbrev pub name_of : List ℕ → List ℕ
 name_of [] = []
-name_of (b ∷ path) = if list_any (λ x. x == 46) (b ∷ path) then name_of path else b ∷ path
+name_of (b ∷ path) = if list_any (λ x. x == dot) (b ∷ path) then name_of path else b ∷ path
 
 -- whether a queue is a child of another
 abbrev pub is_child_of : List ℕ → List ℕ → Bool
-is_child_of parent queue = bytes_eq queue (parent ++ 46 ∷ name_of queue)
+is_child_of parent queue = bytes_eq queue (parent ++ dot ∷ name_of queue)
 
 -- whether a reservation is for this key of this application
 abbrev pub is_for : ℕ → Key → Reservation → Bool

@@ -1,7 +1,10 @@
 -- Heartbeat: a node manager reports which containers have ended on it.
 use Rattle.std.specs.Prelude.{ℕ, ◌-◌, Bool, List, [], ◌∷◌, Option, Some, length, is_none, filter, unwrap_or, option_and_then, ◌==◌, if◌then◌else◌}
 use Rattle.cap_model.specs.Cascade.{earliest, holds_of}
-use Rattle.cap_model.specs.Calls.{Cause, HeartbeatReply, CallRefusal, CallReply}
+use Rattle.cap_model.specs.declared.news.Cause.{Cause}
+use Rattle.cap_model.specs.declared.replies.HeartbeatReply.{HeartbeatReply}
+use Rattle.cap_model.specs.declared.refusal.Refusal.{Refusal}
+use Rattle.cap_model.specs.declared.reply.Reply.{Reply}
 use Rattle.cap_model.specs.Flat.{Flat, Container, node_at, with_node}
 use Rattle.cap_model.specs.ResponseIds.{next_response, is_repeated, is_bad_id}
 use Rattle.cap_model.specs.Ending.{named_among, after_ends}
@@ -12,10 +15,10 @@ no_beat = record { response = 0; ignored = 0; live = 0 }
 
 module _ {K : ℕ} where
   -- why a heartbeat is refused
-  abbrev pub heartbeat_refusal : Flat K → ℕ → ℕ → Option CallRefusal
+  abbrev pub heartbeat_refusal : Flat K → ℕ → ℕ → Option Refusal
   heartbeat_refusal cluster n id = earliest (
-      (holds_of (λ node. is_bad_id node.response node.kept id) (node_at cluster n), CallRefusal.bad_response_id)
-      ∷ (is_none (node_at cluster n), CallRefusal.unknown_node)
+      (holds_of (λ node. is_bad_id node.response node.kept id) (node_at cluster n), Refusal.BadResponseId)
+      ∷ (is_none (node_at cluster n), Refusal.UnknownNode)
       ∷ [])
 
   -- whether it repeats the last processed one
@@ -41,12 +44,12 @@ module _ {K : ℕ} where
   abbrev pub after_processed_heartbeat : Flat K → ℕ → ℕ → List ℕ → Flat K
   after_processed_heartbeat cluster n id ended =
       let beat = beat_of cluster n id ended in
-      with_node n (λ node. record node { response = beat.response; kept = Some beat }) (after_ends Cause.ended_on_node (ended_by cluster n ended) cluster)
+      with_node n (λ node. record node { response = beat.response; kept = Some beat }) (after_ends Cause.EndedOnNode (ended_by cluster n ended) cluster)
 
   -- the cluster after a heartbeat that is not refused: a repeated one changes nothing
   abbrev pub after_heartbeat : Flat K → ℕ → ℕ → List ℕ → Flat K
   after_heartbeat cluster n id ended = if is_repeated_heartbeat cluster n id then cluster else after_processed_heartbeat cluster n id ended
 
   -- its reply is the one that is kept after it
-  abbrev pub heartbeat_reply : Flat K → ℕ → ℕ → List ℕ → CallReply
-  heartbeat_reply cluster n id ended = CallReply.heartbeat (unwrap_or (option_and_then (λ node. node.kept) (node_at (after_heartbeat cluster n id ended) n)) no_beat)
+  abbrev pub heartbeat_reply : Flat K → ℕ → ℕ → List ℕ → Reply K
+  heartbeat_reply cluster n id ended = Reply.Heartbeat (unwrap_or (option_and_then (λ node. node.kept) (node_at (after_heartbeat cluster n id ended) n)) no_beat)

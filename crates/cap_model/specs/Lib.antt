@@ -6,7 +6,8 @@ pub mod Listing
 pub mod Cascade
 pub mod Amounts
 pub mod Fullness
-pub mod Calls
+pub mod Asks
+pub mod News
 pub mod Flat
 pub mod Uses
 pub mod Sight
@@ -26,9 +27,6 @@ pub mod NodeGone
 pub mod QueueCalls
 pub mod Replies
 pub mod Events
-pub mod News
-pub mod Messages
-pub mod Runs
 pub mod Bounds
 pub mod ExampleClusters
 pub mod ExampleShares

@@ -1,6 +1,7 @@
 -- The list of a cluster's queues: each queue before those under it, the children of one queue one after the other.
 use Rattle.std.specs.Prelude.{◌≡◌, ℕ, ◌≤◌, true, List, [], ◌∷◌}
 use Rattle.std.specs.List.{All}
+use Rattle.cap_model.specs.Limits.{depth_max, factor_max}
 use Rattle.cap_model.specs.Settings.{QueueRow}
 use Rattle.cap_model.specs.Flat.{is_under, is_child_of}
 use Rattle.cap_model.specs.QueueCalls.{root_path}
@@ -21,13 +22,6 @@ IsListed before (q ∷ queues) = MayFollow before q.path × IsListed q.path queu
 abbrev pub IsListedFromRoot : List QueueRow → Type 0
 IsListedFromRoot [] = ⊥
 IsListedFromRoot (q ∷ queues) = (q.path ≡ root_path) × IsListed root_path queues
-
--- the greatest number of levels below the root, and the greatest user limit factor
-abbrev pub depth_max : ℕ
-depth_max = 15
-
-abbrev pub factor_max : ℕ
-factor_max = 1000
 
 -- the queues of settings: a tree, listed from the root, on at most 16 levels
 pub record IsListing (queues : List QueueRow) : Type 0 where

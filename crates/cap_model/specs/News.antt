@@ -1,26 +1,26 @@
--- Why a container ended, in the words of the code and of the flat cluster.
-use Rattle.std.specs.Prelude.{◌≡◌, ℕ, refl}
+-- What an application is told: the containers that it was granted, and those that have ended.
+use Rattle.std.specs.Prelude.{ℕ, List}
+use Rattle.cap_model.specs.declared.ask.Key.{Key}
 use Rattle.cap_model.specs.declared.news.Cause.{Cause}
-use Rattle.cap_model.specs.declared.news.Cause.TheVariants as causes
-use Rattle.cap_model.specs.Calls as calls
-
-abbrev pub as_cause : Cause → calls.Cause
-as_cause causes.Released = calls.Cause.released
-as_cause causes.EndedOnNode = calls.Cause.ended_on_node
-as_cause causes.NodeLost = calls.Cause.node_lost
-
-abbrev pub of_cause : calls.Cause → Cause
-of_cause calls.Cause.released = causes.Released
-of_cause calls.Cause.ended_on_node = causes.EndedOnNode
-of_cause calls.Cause.node_lost = causes.NodeLost
-
-pub of_as_cause : (c : Cause) → of_cause (as_cause c) ≡ c
-of_as_cause causes.Released = refl
-of_as_cause causes.EndedOnNode = refl
-of_as_cause causes.NodeLost = refl
+use Rattle.cap_model.specs.declared.news.End.{End}
 
 -- the number of a cause in messages
-abbrev pub cause_number : calls.Cause → ℕ
-cause_number calls.Cause.released = 1
-cause_number calls.Cause.ended_on_node = 2
-cause_number calls.Cause.node_lost = 3
+abbrev pub cause_number : Cause → ℕ
+cause_number Cause.Released = 1
+cause_number Cause.EndedOnNode = 2
+cause_number Cause.NodeLost = 3
+
+-- a granted container as its application is told of it
+pub record Grant : Type 0 where
+  pub container : ℕ
+  pub key : Key
+  pub node : ℕ
+  pub host : List ℕ
+  pub resource : List ℕ
+
+-- the answer to a processed allocate: the new response id, how many releases named nothing, and the news
+pub record AllocateReply : Type 0 where
+  pub response : ℕ
+  pub ignored : ℕ
+  pub grants : List Grant
+  pub ends : List End

@@ -1,23 +1,25 @@
 -- NodeGone: a node is declared lost.
 use Rattle.std.specs.Prelude.{ℕ, [], ◌∷◌, Option, length, not, is_none, filter, ◌==◌}
 use Rattle.cap_model.specs.Cascade.{earliest}
-use Rattle.cap_model.specs.Calls.{Cause, CallRefusal, CallReply}
+use Rattle.cap_model.specs.declared.news.Cause.{Cause}
+use Rattle.cap_model.specs.declared.refusal.Refusal.{Refusal}
+use Rattle.cap_model.specs.declared.reply.Reply.{Reply}
 use Rattle.cap_model.specs.Flat.{Flat, node_at, with_reserved}
 use Rattle.cap_model.specs.Ending.{after_ends}
 use Rattle.cap_model.specs.Heartbeat.{containers_on}
 
 module _ {K : ℕ} where
   -- why it is refused
-  abbrev pub node_gone_refusal : Flat K → ℕ → Option CallRefusal
-  node_gone_refusal cluster n = earliest ((is_none (node_at cluster n), CallRefusal.unknown_node) ∷ [])
+  abbrev pub node_gone_refusal : Flat K → ℕ → Option Refusal
+  node_gone_refusal cluster n = earliest ((is_none (node_at cluster n), Refusal.UnknownNode) ∷ [])
 
   -- its containers end in order of number, its reservation is dropped, and the node goes
   abbrev pub after_node_gone : Flat K → ℕ → Flat K
   after_node_gone cluster n =
-      let left = after_ends Cause.node_lost (containers_on cluster n) cluster in
+      let left = after_ends Cause.NodeLost (containers_on cluster n) cluster in
       let unreserved = with_reserved (filter (λ r. not (r.node == n)) left.nodes.reserved) left in
       record unreserved { nodes = record unreserved.nodes { present = filter (λ node. not (node.number == n)) unreserved.nodes.present } }
 
   -- how many of its containers ended
-  abbrev pub node_gone_reply : Flat K → ℕ → CallReply
-  node_gone_reply cluster n = CallReply.node_gone (length (containers_on cluster n))
+  abbrev pub node_gone_reply : Flat K → ℕ → Reply K
+  node_gone_reply cluster n = Reply.NodeGone (length (containers_on cluster n))

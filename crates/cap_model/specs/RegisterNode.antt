@@ -5,7 +5,8 @@ use Rattle.cap_vector.specs.Vector.{amount_max, plus, is_zero, is_within}
 use Rattle.cap_model.specs.Limits.{number_end, nodes_max}
 use Rattle.cap_model.specs.Cascade.{earliest}
 use Rattle.cap_model.specs.Amounts.{sum_where}
-use Rattle.cap_model.specs.Calls.{CallRefusal, CallReply}
+use Rattle.cap_model.specs.declared.refusal.Refusal.{Refusal}
+use Rattle.cap_model.specs.declared.reply.Reply.{Reply}
 use Rattle.cap_model.specs.Flat.{Flat, ClusterNode}
 
 -- what the nodes have together, of k resources
@@ -18,13 +19,13 @@ module _ {K : ℕ} where
   total_of_nodes cluster = sum_of_totals K cluster.nodes.present
 
   -- why a node is refused
-  abbrev pub register_node_refusal : Flat K → List ℕ → List ℕ → Option CallRefusal
+  abbrev pub register_node_refusal : Flat K → List ℕ → List ℕ → Option Refusal
   register_node_refusal cluster host total = earliest (
-      (list_any (λ node. bytes_eq node.host host) cluster.nodes.present, CallRefusal.host_taken)
-      ∷ (not (is_within amount_max (plus (total_of_nodes cluster) total)), CallRefusal.total_too_large)
-      ∷ (nat_le nodes_max (length cluster.nodes.present), CallRefusal.too_many_nodes)
-      ∷ (is_zero total, CallRefusal.zero_resource)
-      ∷ (nat_le number_end cluster.nodes.next_node, CallRefusal.numbers_spent)
+      (list_any (λ node. bytes_eq node.host host) cluster.nodes.present, Refusal.HostTaken)
+      ∷ (not (is_within amount_max (plus (total_of_nodes cluster) total)), Refusal.TotalTooLarge)
+      ∷ (nat_le nodes_max (length cluster.nodes.present), Refusal.TooManyNodes)
+      ∷ (is_zero total, Refusal.ZeroResource)
+      ∷ (nat_le number_end cluster.nodes.next_node, Refusal.NumbersSpent)
       ∷ [])
 
   -- the new node, of the next number
@@ -39,5 +40,5 @@ module _ {K : ℕ} where
     };
   }
 
-  abbrev pub register_node_reply : Flat K → CallReply
-  register_node_reply cluster = CallReply.register_node cluster.nodes.next_node
+  abbrev pub register_node_reply : Flat K → Reply K
+  register_node_reply cluster = Reply.RegisterNode cluster.nodes.next_node

@@ -1,9 +1,6 @@
 -- Response ids: which request is the next one, and which repeats the last.
 use Rattle.std.specs.Prelude.{ℕ, ◌+◌, ◌%◌, Bool, ◌&&◌, not, ◌||◌, Option, is_some, nat_lt, ◌==◌}
-
--- response ids stay below 2^31, and begin again at 0
-abbrev pub response_end : ℕ
-response_end = 2147483648
+use Rattle.cap_model.specs.Limits.{response_end}
 
 -- the response id that answers a processed request of this id
 abbrev pub next_response : ℕ → ℕ

@@ -1,28 +1,30 @@
 -- Submit: an application enters a leaf queue.
 use Rattle.std.specs.Prelude.{ℕ, ◌+◌, Bool, List, [], ◌∷◌, ◌++◌, Option, None, length, not, is_none, filter, nat_eq, nat_le}
 use Rattle.std.specs.List.{list_any, list_all, starts_with}
+use Rattle.cap_model.specs.Texts.{dot}
 use Rattle.cap_model.specs.Limits.{number_end}
 use Rattle.cap_model.specs.Cascade.{earliest}
-use Rattle.cap_model.specs.Calls.{CallRefusal, CallReply}
+use Rattle.cap_model.specs.declared.refusal.Refusal.{Refusal}
+use Rattle.cap_model.specs.declared.reply.Reply.{Reply}
 use Rattle.cap_model.specs.Flat.{Flat, App, is_under, queue_at}
 
 module _ {K : ℕ} where
   -- whether a queue has children
   abbrev pub has_children : Flat K → List ℕ → Bool
-  has_children cluster path = list_any (λ q. starts_with nat_eq q.path (path ++ 46 ∷ [])) cluster.settings.queues
+  has_children cluster path = list_any (λ q. starts_with nat_eq q.path (path ++ dot ∷ [])) cluster.settings.queues
 
   -- whether a queue takes applications: it and every queue above it are RUNNING
   abbrev pub is_running : Flat K → List ℕ → Bool
   is_running cluster path = list_all (λ q. q.running) (filter (λ q. is_under q.path path) cluster.settings.queues)
 
   -- why a submit is refused
-  abbrev pub submit_refusal : Flat K → List ℕ → Option CallRefusal
+  abbrev pub submit_refusal : Flat K → List ℕ → Option Refusal
   submit_refusal cluster path = earliest (
-      (is_none (queue_at cluster path), CallRefusal.unknown_queue)
-      ∷ (has_children cluster path, CallRefusal.not_leaf)
-      ∷ (not (is_running cluster path), CallRefusal.queue_stopped)
-      ∷ (nat_le cluster.settings.application_limit (length cluster.apps.active), CallRefusal.too_many_applications)
-      ∷ (nat_le number_end cluster.apps.next, CallRefusal.numbers_spent)
+      (is_none (queue_at cluster path), Refusal.UnknownQueue)
+      ∷ (has_children cluster path, Refusal.NotLeaf)
+      ∷ (not (is_running cluster path), Refusal.QueueStopped)
+      ∷ (nat_le cluster.settings.application_limit (length cluster.apps.active), Refusal.TooManyApplications)
+      ∷ (nat_le number_end cluster.apps.next, Refusal.NumbersSpent)
       ∷ [])
 
   -- the new application, of the next number, not yet registered
@@ -42,5 +44,5 @@ module _ {K : ℕ} where
   abbrev pub after_submit : Flat K → List ℕ → List ℕ → Flat K
   after_submit cluster path user = record cluster { apps = record { active = cluster.apps.active ++ new_app cluster path user ∷ []; next = cluster.apps.next + 1 } }
 
-  abbrev pub submit_reply : Flat K → CallReply
-  submit_reply cluster = CallReply.submit cluster.apps.next
+  abbrev pub submit_reply : Flat K → Reply K
+  submit_reply cluster = Reply.Submit cluster.apps.next

@@ -7,6 +7,13 @@ use Rattle.std.proofs.Common.{length-take-le}
 abbrev pub is_graphic : ℕ → Bool
 is_graphic b = nat_le 33 b && nat_le b 126
 
+-- the byte between the names of a path, and the one that is any place
+abbrev pub dot : ℕ
+dot = 46
+
+abbrev pub star : ℕ
+star = 42
+
 -- 1 to most bytes, each graphic
 abbrev pub is_text : ℕ → List ℕ → Bool
 is_text most bytes = (nat_lt 0 (length bytes) && nat_le (length bytes) most) && list_all is_graphic bytes

@@ -3,7 +3,7 @@ use Rattle.std.specs.Prelude.{ℕ, ◌-◌, Bool, List, ◌++◌, map, filter, l
 use Rattle.cap_vector.specs.Vector.{less}
 use Rattle.cap_model.specs.Cascade.{holds_of}
 use Rattle.cap_model.specs.Amounts.{sum_where}
-use Rattle.cap_model.specs.Calls.{Ask}
+use Rattle.cap_model.specs.Asks.{Ask}
 use Rattle.cap_model.specs.Flat.{Flat, App, ClusterNode, Container, Reservation, app_at, is_under, is_for}
 
 -- what a live container or a reservation counts for: its application and its resource

@@ -1,50 +1,20 @@
 ghost use Rattle.std.specs.Prelude.{◌≡◌, ◌==◌, ◌&&◌};
-ghost use Rattle.cap_model.specs.Calls.{same_key};
+ghost use Rattle.cap_model.specs.Asks.{same_key};
 
 use crate::text::ShortText;
 use cap_vector::Resource;
 use std::marker::Model;
 
-/// The key of an ask within its application: the priority of the request, of which the smaller number is served first, and the
-/// allocation request id.
+/// The key of an ask within its application.
 #[derive(Clone, Copy, Debug, PartialEq, Eq)]
 pub struct Key {
-    priority: u32,
-    request: u64,
-}
-
-impl Model for Key {
-    ghost use Rattle.cap_model.specs.Calls.{Key as Pair};
-
-    ghost Value = { Pair };
-
-    ghost view = { λ k. record { priority = k.priority; request = k.request } };
-
-    ghost inverse = { λ k. record { priority = k.priority; request = k.request } };
+    /// The priority of the request: the smaller number is served first.
+    pub priority: u32,
+    /// The allocation request id.
+    pub request: u64,
 }
 
 impl Key {
-    /// The key of this priority and allocation request id.
-    pub fn new(priority: u32, request: u64) -> Key
-        ensures { result ≡ record { priority = priority; request = request } }
-    {
-        Key { priority, request }
-    }
-
-    /// The priority: the smaller number is served first.
-    pub fn priority(&self) -> u32
-        ensures { result ≡ self.now.priority }
-    {
-        self.priority
-    }
-
-    /// The allocation request id.
-    pub fn request(&self) -> u64
-        ensures { result ≡ self.now.request }
-    {
-        self.request
-    }
-
     /// Whether it is the same key.
     pub fn is_same(&self, other: &Key) -> bool
         ensures { result ≡ same_key self.now other.now }
@@ -64,7 +34,7 @@ pub struct Ask<const K: usize> {
 }
 
 impl<const K: usize> Model for Ask<K> {
-    ghost use Rattle.cap_model.specs.Calls.{Ask as Wish};
+    ghost use Rattle.cap_model.specs.Asks.{Ask as Wish};
 
     ghost Value = { Wish };
 

@@ -1,3 +1,4 @@
+use crate::container::{Container, Reservation};
 use crate::reply::Reply;
 use crate::request::Request;
 
@@ -9,5 +10,13 @@ pub enum Event<const K: usize> {
         by: u32,
         request: Request<K>,
         reply: Reply<K>,
+    },
+    /// A container was granted, and is live from then on.
+    Grant {
+        container: Container<K>,
+    },
+    /// Room was reserved on a node.
+    Reserve {
+        reservation: Reservation<K>,
     },
 }

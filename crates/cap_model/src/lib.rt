@@ -4,6 +4,7 @@
 #![tactic(auto)]
 
 mod ask;
+mod container;
 mod event;
 pub mod examples;
 pub mod laws;
@@ -13,11 +14,13 @@ mod no_memory;
 mod refusal;
 mod replies;
 mod reply;
+mod report;
 mod request;
 mod response_ids;
 mod text;
 
 pub use ask::{Ask, Key};
+pub use container::{Container, Reservation};
 pub use event::Event;
 pub use list::{Asks, List, Numbers};
 pub use news::{Cause, End, Grant};
@@ -25,6 +28,7 @@ pub use no_memory::NoMemory;
 pub use refusal::{Refusal, first_refusal};
 pub use replies::{AllocateReply, HeartbeatReply, NEWS_MAX};
 pub use reply::Reply;
+pub use report::{ClusterReport, QueueReport};
 pub use request::Request;
 pub use response_ids::{is_bad, next_response, repeats};
 pub use text::{PathText, ShortText, Text};

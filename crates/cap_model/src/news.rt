@@ -1,12 +1,12 @@
 ghost use Rattle.std.specs.Prelude.{◌≡◌};
-ghost use Rattle.cap_model.specs.News.{as_cause};
+ghost use Rattle.cap_model.specs.News.{cause_number};
 
 use crate::ask::Key;
 use crate::text::ShortText;
 use cap_vector::Resource;
 use std::marker::Model;
 
-/// A granted container as its application is told of it, with what it has in MiB and vcores.
+/// A granted container as it is reported to its application, with what it has in MiB and vcores.
 #[derive(Clone, Copy, Debug, PartialEq, Eq)]
 pub struct Grant<const K: usize> {
     container: u64,
@@ -17,9 +17,9 @@ pub struct Grant<const K: usize> {
 }
 
 impl<const K: usize> Model for Grant<K> {
-    ghost use Rattle.cap_model.specs.Calls.{GrantedContainer};
+    ghost use Rattle.cap_model.specs.News.{Grant as Row};
 
-    ghost Value = { GrantedContainer };
+    ghost Value = { Row };
 
     ghost view = { λ g. record { container = g.container; key = g.key; node = g.node; host = g.host; resource = g.resource } };
 
@@ -86,7 +86,10 @@ impl<const K: usize> Default for Grant<K> {
     fn default() -> Grant<K> {
         Grant {
             container: 0,
-            key: Key::new(0, 0),
+            key: Key {
+                priority: 0,
+                request: 0,
+            },
             node: 0,
             host: ShortText::any(),
             resource: Resource::zero(),
@@ -98,65 +101,33 @@ impl<const K: usize> Default for Grant<K> {
 #[derive(Clone, Copy, Debug, PartialEq, Eq)]
 pub enum Cause {
     /// Its application released it.
-    Released = 1,
+    Released,
     /// Its node reported that it has ended.
-    EndedOnNode = 2,
+    EndedOnNode,
     /// Its node was declared lost.
-    NodeLost = 3,
+    NodeLost,
 }
 
 impl Cause {
-    ghost use Rattle.cap_model.specs.News.{cause_number};
-
     /// The number of the cause in messages.
     pub fn number(self) -> u8
-        ensures { result ≡ cause_number (as_cause self) }
+        ensures { result ≡ cause_number self }
     {
-        self as u8
+        match self {
+            Cause::Released => 1,
+            Cause::EndedOnNode => 2,
+            Cause::NodeLost => 3,
+        }
     }
 }
 
-/// An ended container as its application is told of it.
+/// An ended container as it is reported to its application.
 #[derive(Clone, Copy, Debug, PartialEq, Eq)]
 pub struct End {
-    container: u64,
-    cause: Cause,
-}
-
-impl Model for End {
-    ghost use Rattle.cap_model.specs.Calls.{EndedContainer};
-    ghost use Rattle.cap_model.specs.News.{as_cause, of_cause, of_as_cause};
-
-    ghost Value = { EndedContainer };
-
-    ghost view = { λ e. record { container = e.container; cause = as_cause e.cause } };
-
-    ghost inverse = { λ e. record { container = e.container; cause = of_cause e.cause } };
-
-    ghost inverse_ok = { λ e h i. record { container = e.container; cause = of_as_cause e.cause i } };
-}
-
-impl End {
-    /// The end of the container of this number.
-    pub fn new(container: u64, cause: Cause) -> End
-        ensures { result ≡ record { container = container; cause = as_cause cause } }
-    {
-        End { container, cause }
-    }
-
     /// The number of the container.
-    pub fn container(&self) -> u64
-        ensures { result ≡ self.now.container }
-    {
-        self.container
-    }
-
+    pub container: u64,
     /// Why it ended.
-    pub fn cause(&self) -> Cause
-        ensures { as_cause result ≡ self.now.cause }
-    {
-        self.cause
-    }
+    pub cause: Cause,
 }
 
 impl Default for End {

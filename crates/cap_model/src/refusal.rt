@@ -6,39 +6,39 @@ ghost use Rattle.cap_model.specs.Cascade.{earliest};
 #[derive(Clone, Copy, Debug, PartialEq, Eq)]
 pub enum Refusal {
     /// No queue has this path.
-    UnknownQueue = 1,
+    UnknownQueue,
     /// An application is submitted to a queue with children.
-    NotLeaf = 2,
+    NotLeaf,
     /// An application is submitted to a queue that is STOPPED, or under one that is.
-    QueueStopped = 3,
+    QueueStopped,
     /// As many applications are active as `yarn.scheduler.capacity.maximum-applications` allows.
-    TooManyApplications = 4,
+    TooManyApplications,
     /// No active application has this number.
-    UnknownApplication = 5,
+    UnknownApplication,
     /// The application's master is registered.
-    AlreadyRegistered = 6,
+    AlreadyRegistered,
     /// The application's master is not registered.
-    NotRegistered = 7,
+    NotRegistered,
     /// The response id is neither the last one answered, nor one before it with a kept reply.
-    BadResponseId = 8,
+    BadResponseId,
     /// An ask passes the maximum allocation.
-    AskTooLarge = 9,
+    AskTooLarge,
     /// More than 256 keys of the application would stand.
-    TooManyAsks = 10,
+    TooManyAsks,
     /// No node of this number is present.
-    UnknownNode = 11,
+    UnknownNode,
     /// A present node has this host.
-    HostTaken = 12,
+    HostTaken,
     /// The sum of all nodes' totals would pass 2^40 in some resource.
-    TotalTooLarge = 13,
+    TotalTooLarge,
     /// 4,096 nodes are present.
-    TooManyNodes = 14,
+    TooManyNodes,
     /// A node's total is 0 in every resource.
-    ZeroResource = 15,
+    ZeroResource,
     /// The next application or node number would be 2^62.
-    NumbersSpent = 16,
+    NumbersSpent,
     /// No memory was found for the call.
-    NoMemory = 20,
+    NoMemory,
 }
 
 impl Refusal {
@@ -50,7 +50,25 @@ impl Refusal {
         ensures value { result ≡ status_of self }
         ensures refused { 0 < result }
     {
-        self as u8
+        match self {
+            Refusal::UnknownQueue => 1,
+            Refusal::NotLeaf => 2,
+            Refusal::QueueStopped => 3,
+            Refusal::TooManyApplications => 4,
+            Refusal::UnknownApplication => 5,
+            Refusal::AlreadyRegistered => 6,
+            Refusal::NotRegistered => 7,
+            Refusal::BadResponseId => 8,
+            Refusal::AskTooLarge => 9,
+            Refusal::TooManyAsks => 10,
+            Refusal::UnknownNode => 11,
+            Refusal::HostTaken => 12,
+            Refusal::TotalTooLarge => 13,
+            Refusal::TooManyNodes => 14,
+            Refusal::ZeroResource => 15,
+            Refusal::NumbersSpent => 16,
+            Refusal::NoMemory => 20,
+        }
     }
 }
 

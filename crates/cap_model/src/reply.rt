@@ -1,6 +1,7 @@
 use crate::refusal::Refusal;
 use crate::replies::{AllocateReply, HeartbeatReply};
-use cap_vector::{Resource, Sum};
+use crate::report::{ClusterReport, QueueReport};
+use cap_vector::Resource;
 
 /// The answer to a request: a refusal, or what the call of that name gives.
 #[derive(Debug, PartialEq, Eq, Drop)]
@@ -31,22 +32,11 @@ pub enum Reply<const K: usize> {
     NodeGone {
         ended: u32,
     },
-    /// A queue runs where its own state and that of each queue above it is RUNNING. Applications count in and under it. None
-    /// where the queue has no maximum, its own or inherited.
     QueueInfo {
-        running: bool,
-        leaf: bool,
-        guaranteed: Resource<K>,
-        maximum: Option<Resource<K>>,
-        used: Sum<K>,
-        applications: u32,
+        report: QueueReport<K>,
     },
     SetQueueState,
     ClusterInfo {
-        nodes: u32,
-        applications: u32,
-        containers: u32,
-        totals: Resource<K>,
-        used: Sum<K>,
+        report: ClusterReport<K>,
     },
 }

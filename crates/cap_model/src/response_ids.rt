@@ -1,5 +1,6 @@
 ghost use Rattle.std.specs.Prelude.{◌≡◌, ◌<◌};
-ghost use Rattle.cap_model.specs.ResponseIds.{response_end, next_response, repeats, is_bad};
+ghost use Rattle.cap_model.specs.Limits.{response_end};
+ghost use Rattle.cap_model.specs.ResponseIds.{next_response, repeats, is_bad};
 
 /// Response ids stay below this, and begin again at 0.
 const RESPONSE_END: u32 = 1 << 31;

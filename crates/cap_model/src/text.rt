@@ -1,6 +1,6 @@
 ghost use Rattle.std.specs.Prelude.{◌≡◌, ◌↔◌, length, IfSome, IsSome, true};
 ghost use Rattle.std.specs.List.{list_all};
-ghost use Rattle.cap_model.specs.Texts.{is_graphic, is_text};
+ghost use Rattle.cap_model.specs.Texts.{star, is_graphic, is_text};
 
 use std::marker::Model;
 
@@ -38,7 +38,7 @@ impl ShortText {
 
     /// `*`: the place that is anywhere.
     pub fn any() -> ShortText
-        ensures { result ≡ 42 ∷ [] }
+        ensures { result ≡ star ∷ [] }
     {
         let Some(any) = ShortText::new(b"*") else {
             unreachable!()

@@ -7,7 +7,7 @@ use Rattle.std.proofs.lemmas.Bool.Decides.{nat_tests}
 use Rattle.std.proofs.lemmas.List.Sums.{count_by-le-length}
 use Rattle.cap_vector.specs.Vector.{plus, less, Fits}
 use Rattle.cap_vector.proofs.AmountLemmas.{amount-plus, amount-less}
-use Rattle.cap_model.specs.Admission.{live_max}
+use Rattle.cap_model.specs.Limits.{live_max}
 use Rattle.cap_model.specs.Amounts.{sum_where}
 use Rattle.cap_model.specs.Bounds.{IsRising}
 use Rattle.cap_model.specs.Flat.{Container}

@@ -1,9 +1,14 @@
 -- The nodes with what their containers hold, and the live containers.
-use Rattle.std.specs.Prelude.{◌≡◌, ℕ, ◌+◌, ◌-◌, ◌<◌, List, Option, IsSome, map, find, count_by, ◌==◌, if◌then◌else◌}
-use Rattle.std.specs.List.{AllByRecursion}
+use Rattle.std.specs.Prelude.{◌≡◌, ℕ, ◌+◌, ◌-◌, ◌<◌, ◌≤◌, List, length, not, ◌&&◌, ◌||◌, Option, None, Some, Bool, false, IsSome, map, find, count_by, ◌==◌, if◌then◌else◌}
+use Rattle.std.specs.List.{AllByRecursion, list_any}
+use Rattle.std.specs.BTreeMap.{is_at}
+use Rattle.std.specs.Map.{values_of}
+use Rattle.std.specs.Ordering.{nat_cmp, ordering_then}
+use Rattle.std.specs.declared.cmp.Ordering.{Ordering}
 use Rattle.cap_vector.specs.Vector.{Fits, IsWithin, amount_max, plus, less}
-use Rattle.cap_model.specs.Admission.{live_max}
+use Rattle.cap_model.specs.Limits.{live_max}
 use Rattle.cap_model.specs.Amounts.{sum_where}
+use Rattle.cap_model.specs.Bounds.{IsRising}
 use Rattle.cap_model.specs.Flat.{ClusterNode, Container}
 use Rattle.cap_nodes.specs.Tables.{beaten}
 
@@ -64,3 +69,34 @@ pub record IsTied (K : ℕ) (live : List Container) (p : Place) : Type 0 where
 pub record AreTied (K : ℕ) (places : List Place) (live : List Container) : Type 0 where
   pub ties : AllByRecursion (IsTied K live) places
   pub homes : AllByRecursion (λ c. IsSome (place_at places c.node)) live
+
+-- pairs in the order of their firsts, then of their seconds
+abbrev pub pair_cmp : ℕ × ℕ → ℕ × ℕ → Ordering
+pair_cmp x y = ordering_then (nat_cmp x.0 y.0) (nat_cmp x.1 y.1)
+
+-- whether an owner has the container of a number, by pairs of both
+abbrev pub has : List (ℕ × ℕ) → ℕ → ℕ → Bool
+has pairs owner number = list_any (is_at (pair_cmp (owner, number))) pairs
+
+-- the pairs with one more, and without it
+abbrev pub HasMore : ℕ → ℕ → List (ℕ × ℕ) → List (ℕ × ℕ) → Type 0
+HasMore owner number old new = (o n : ℕ) → has new o n ≡ (owner == o && number == n || has old o n)
+
+abbrev pub HasLess : ℕ → ℕ → List (ℕ × ℕ) → List (ℕ × ℕ) → Type 0
+HasLess owner number old new = (o n : ℕ) → has new o n ≡ (not (owner == o && number == n) && has old o n)
+
+-- whether a container is an owner's
+abbrev pub is_of : (Container → ℕ) → Option Container → ℕ → Bool
+is_of key None owner = false
+is_of key (Some c) owner = key c == owner
+
+-- each owner has its live containers by the pairs
+abbrev pub IsIndex : (Container → ℕ) → List Container → List (ℕ × ℕ) → Type 0
+IsIndex key live pairs = (owner number : ℕ) → has pairs owner number ≡ is_of key (find (λ c. c.number == number) live) owner
+
+-- the entries are the containers by number, which rise and are few
+abbrev pub IsLive : List (ℕ × Container) → ℕ → Type 0
+IsLive entries next =
+    (entries ≡ tagged (λ c. c.number) (values_of entries))
+    × IsRising 1 (map (λ c. c.number) (values_of entries)) next
+    × (length (values_of entries) ≤ live_max)

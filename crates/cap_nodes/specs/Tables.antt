@@ -2,7 +2,7 @@
 use Rattle.std.specs.Prelude.{ℕ, ◌+◌, List, [], ◌∷◌, ◌++◌, Option, Some, None, map, find, filter, not, ◌==◌, if◌then◌else◌}
 use Rattle.cap_vector.specs.Vector.{less}
 use Rattle.cap_model.specs.Amounts.{sum_where}
-use Rattle.cap_model.specs.Calls.{Key}
+use Rattle.cap_model.specs.declared.ask.Key.{Key}
 use Rattle.cap_model.specs.Flat.{ClusterNode, Container, NodeTable}
 use Rattle.cap_model.specs.ResponseIds.{next_response}
 

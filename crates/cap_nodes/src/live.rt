@@ -1,35 +1,35 @@
 ghost use Rattle.std.specs.Prelude.{◌≡◌, ℕ, ◌+◌, ◌<◌, ◌≤◌, ◌++◌, ◌∷◌, [], ◌==◌, ◌&&◌, nat_lt, length, map, find, filter, not, IfOk, OnErr};
-ghost use Rattle.cap_model.specs.Admission.{live_max};
+ghost use Rattle.cap_model.specs.Limits.{live_max, number_end};
 ghost use Rattle.cap_model.specs.Bounds.{IsRising};
-ghost use Rattle.cap_model.specs.Limits.{number_end};
 
-use crate::container::Container;
-use cap_model::{Key, NoMemory};
+use crate::owners::Owners;
+use cap_model::{Container, Key, NoMemory};
 use cap_vector::Resource;
 use std::alloc::Global;
 use std::collections::BTreeMap;
 use std::marker::Model;
-use std::ops::Bound;
 
-/// The live containers in order of number, and the number of the next.
+/// The live containers in order of number, and the number of the next. Each application and each node finds its own without
+/// the others.
 #[derive(Drop)]
 pub(crate) struct Live<const K: usize> {
     containers: BTreeMap<u64, Container<K>>,
+    of_apps: Owners,
+    on_nodes: Owners,
     next: u64,
 }
 
 impl<const K: usize> Model for Live<K> {
-    ghost use Rattle.std.specs.Prelude.{◌≡◌, ◌≤◌, length, map};
     ghost use Rattle.std.specs.BTreeMap.{values};
-    ghost use Rattle.cap_model.specs.Admission.{live_max};
-    ghost use Rattle.cap_model.specs.Bounds.{IsRising};
-    ghost use Rattle.cap_nodes.specs.Places.{LiveTable, tagged};
+    ghost use Rattle.cap_nodes.specs.Places.{LiveTable, IsIndex, IsLive};
 
     ghost Value = { LiveTable };
 
     ghost view = { λ l. record { live = values l.containers; next = l.next } };
 
-    ghost invariant = { λ l. (l.containers.entries ≡ tagged (λ c. c.number) (values l.containers)) × (IsRising 1 (map (λ c. c.number) (values l.containers)) l.next) × (length (values l.containers) ≤ live_max) };
+    ghost invariant = { λ l. IsLive l.containers.entries l.next
+        × IsIndex (λ c. c.app) (values l.containers) l.of_apps
+        × IsIndex (λ c. c.node) (values l.containers) l.on_nodes };
 }
 
 impl<const K: usize> Live<K> {
@@ -39,6 +39,8 @@ impl<const K: usize> Live<K> {
     {
         Live {
             containers: BTreeMap::new(alloc),
+            of_apps: Owners::new(alloc),
+            on_nodes: Owners::new(alloc),
             next: 1,
         }
     }
@@ -89,9 +91,21 @@ impl<const K: usize> Live<K> {
             node,
             resource: *resource,
         };
+        self.of_apps.insert(app, number)?;
+        match self.on_nodes.insert(node, number) {
+            Ok(()) => {}
+            Err(_) => {
+                self.of_apps.remove(app, number);
+                return Err(NoMemory);
+            }
+        }
         match self.containers.insert(number, container) {
             Ok(_) => {}
-            Err(_) => return Err(NoMemory),
+            Err(_) => {
+                self.of_apps.remove(app, number);
+                self.on_nodes.remove(node, number);
+                return Err(NoMemory);
+            }
         }
         self.next = number + 1;
         Ok(number)
@@ -99,38 +113,35 @@ impl<const K: usize> Live<K> {
 
     /// The container of this number is live no longer. Where none is, nothing changes.
     pub(crate) fn remove(&mut self, number: u64)
-        ensures { self.new ≡ record self.old { live = filter (λ c. not (c.number == number)) self.old.live } }
+        ensures rising { IsRising 1 (map (λ c. c.number) self.old.live) self.old.next }
+        ensures left { self.new ≡ record self.old { live = filter (λ c. not (c.number == number)) self.old.live } }
     {
-        self.containers.remove(&number);
+        match self.containers.remove(&number) {
+            Some(container) => {
+                self.of_apps.remove(container.app, number);
+                self.on_nodes.remove(container.node, number);
+            }
+            None => {}
+        }
     }
 
     /// The live container of an application with the least number above `after`, none where there is none.
     pub(crate) fn next_of_app(&self, app: u64, after: u64) -> Option<Container<K>>
         ensures { result ≡ find (λ c. c.app == app && nat_lt after c.number) self.now.live }
     {
-        for (_, container) in self
-            .containers
-            .range((Bound::Excluded(after), Bound::Unbounded))
-        {
-            if container.app() == app {
-                return Some(*container);
-            }
-        }
-        None
+        let Some(number) = self.of_apps.next(app, after) else {
+            return None;
+        };
+        self.containers.get(&number).copied()
     }
 
     /// The live container on a node with the least number above `after`, none where there is none.
     pub(crate) fn next_on_node(&self, node: u64, after: u64) -> Option<Container<K>>
         ensures { result ≡ find (λ c. c.node == node && nat_lt after c.number) self.now.live }
     {
-        for (_, container) in self
-            .containers
-            .range((Bound::Excluded(after), Bound::Unbounded))
-        {
-            if container.node() == node {
-                return Some(*container);
-            }
-        }
-        None
+        let Some(number) = self.on_nodes.next(node, after) else {
+            return None;
+        };
+        self.containers.get(&number).copied()
     }
 }

@@ -22,7 +22,7 @@ impl<const K: usize> Model for Node<K> {
     ghost use Rattle.std.specs.Prelude.{◌<◌};
     ghost use Rattle.cap_model.specs.Flat.{ClusterNode};
     ghost use Rattle.cap_vector.specs.Vector.{IsResource};
-    ghost use Rattle.cap_model.specs.ResponseIds.{response_end};
+    ghost use Rattle.cap_model.specs.Limits.{response_end};
 
     ghost Value = { ClusterNode };
 
@@ -128,6 +128,10 @@ impl<const K: usize> Node<K> {
     {
         let response = next_response(self.response);
         self.response = response;
-        self.kept = Some(HeartbeatReply::new(response, ignored, live));
+        self.kept = Some(HeartbeatReply {
+            response,
+            ignored,
+            live,
+        });
     }
 }

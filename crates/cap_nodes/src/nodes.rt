@@ -1,19 +1,17 @@
-ghost use Rattle.std.specs.Prelude.{◌≡◌, ◌+◌, ◌<◌, ◌≤◌, ◌==◌, ◌&&◌, nat_lt, [], IsSome, IfOk, OnErr, bytes_eq, length, map, find, true};
+ghost use Rattle.std.specs.Prelude.{◌≡◌, ◌+◌, ◌<◌, ◌≤◌, ◌==◌, ◌&&◌, nat_lt, [], IsSome, Some, IfOk, OnErr, bytes_eq, length, map, find, true};
 ghost use Rattle.std.specs.List.{All, list_any};
 ghost use Rattle.std.specs.Option.{option_copied};
 ghost use Rattle.cap_vector.specs.Vector.{Fits, IsWithin, amount_max, plus};
-ghost use Rattle.cap_model.specs.Admission.{live_max};
+ghost use Rattle.cap_model.specs.Limits.{live_max, nodes_max, number_end};
 ghost use Rattle.cap_model.specs.Amounts.{fits};
 ghost use Rattle.cap_model.specs.Bounds.{IsRising};
-ghost use Rattle.cap_model.specs.Limits.{nodes_max, number_end};
 ghost use Rattle.cap_model.specs.RegisterNode.{sum_of_totals};
 ghost use Rattle.cap_nodes.specs.Tables.{none, node_in, container_in, containers_on, held_on, free_on, with_new_node, with_container, without_container, beaten, change_node, without_node};
 
-use crate::container::Container;
 use crate::live::Live;
 use crate::node::Node;
 use crate::present::Present;
-use cap_model::{Key, NoMemory, ShortText};
+use cap_model::{Container, Key, NoMemory, ShortText};
 use cap_vector::{Resource, checked_add, minus};
 use std::alloc::Global;
 use std::marker::Model;
@@ -52,9 +50,12 @@ impl<const K: usize> Nodes<K> {
         }
     }
 
-    /// The node of this number, none where none is present.
+    /// The node of this number, none where none is present. All have numbers from 1 that rise and are below the next, and what the
+    /// live containers on each hold fits its total.
     pub fn node(&self, number: u64) -> Option<&Node<K>>
-        ensures { option_copied result ≡ node_in self.now number }
+        ensures found { option_copied result ≡ node_in self.now number }
+        ensures rising { IsRising 1 (map (λ node. node.number) self.now.present) self.now.next_node }
+        ensures held { All (λ node. fits (held_on K self.now node.number) node.total ≡ true) self.now.present }
     {
         match self.present.get(number) {
             Some(place) => Some(place.node()),
@@ -72,8 +73,10 @@ impl<const K: usize> Nodes<K> {
 
     /// What all nodes have together, in MiB and vcores.
     pub fn total(&self) -> Resource<K>
-        ensures { result ≡ sum_of_totals K self.now.present }
+        ensures value { result ≡ sum_of_totals K self.now.present }
+        ensures within { IsWithin amount_max (sum_of_totals K self.now.present) }
     {
+        let _amounts = self.total.amounts();
         self.total
     }
 
@@ -98,9 +101,12 @@ impl<const K: usize> Nodes<K> {
         self.present.is_host_taken(host)
     }
 
-    /// The live container of this number, none where none is live.
+    /// The live container of this number, none where none is live. Each is on a present node, and all have numbers from 1 that rise
+    /// and are below the next.
     pub fn container(&self, number: u64) -> Option<Container<K>>
-        ensures { result ≡ container_in self.now number }
+        ensures found { result ≡ container_in self.now number }
+        ensures rising { IsRising 1 (map (λ c. c.number) self.now.live) self.now.next_container }
+        ensures homes { All (λ c. IsSome (node_in self.now c.node)) self.now.live }
     {
         self.live.get(number)
     }
@@ -184,14 +190,11 @@ impl<const K: usize> Nodes<K> {
     }
 
     /// A live container ends: its node has its resource back.
-    pub fn lift(&mut self, number: u64)
-        requires { IsSome (container_in self.old number) }
-        ensures { self.new ≡ without_container number self.old }
+    pub fn lift(&mut self, container: &Container<K>)
+        requires { container_in self.old container.now.number ≡ Some container.now }
+        ensures { self.new ≡ without_container container.now.number self.old }
     {
-        let Some(container) = self.live.get(number) else {
-            unreachable!()
-        };
-        self.live.remove(number);
+        self.live.remove(container.number());
         self.present.lift(container.node(), &container.resource());
     }
 
@@ -229,21 +232,5 @@ impl<const K: usize> Nodes<K> {
         ensures { result ≡ find (λ c. c.node == node && nat_lt after c.number) self.now.live }
     {
         self.live.next_on_node(node, after)
-    }
-
-    /// What is true of every table: each live container is on a present node, numbers rise and are below the next, what the live
-    /// containers on a node hold fits its total, and neither nodes, nor containers, nor what all nodes have are too many.
-    pub fn law(&self)
-        ensures homes { All (λ c. IsSome (node_in self.now c.node)) self.now.live }
-        ensures nodes { IsRising 1 (map (λ node. node.number) self.now.present) self.now.next_node }
-        ensures containers { IsRising 1 (map (λ c. c.number) self.now.live) self.now.next_container }
-        ensures held { All (λ node. fits (held_on K self.now node.number) node.total ≡ true) self.now.present }
-        ensures few_nodes { length self.now.present ≤ nodes_max }
-        ensures few_live { length self.now.live ≤ live_max }
-        ensures total { IsWithin amount_max (sum_of_totals K self.now.present) }
-    {
-        let _nodes = (self.present.count(), self.present.next());
-        let _live = (self.live.count(), self.live.next());
-        let _total = self.total.amounts();
     }
 }

@@ -1,63 +1,77 @@
 -- Calls that are refused and calls that are granted.
-use Rattle.std.proofs.Common.{◌≡◌, ℕ, true, false, List, [], length, Bor, Option, Some, None, refl, sym, ◌∙◌, ap}
-use Rattle.std.specs.Prelude.{is_some, IsSome, ◌==◌}
+use Rattle.std.proofs.Common.{◌≡◌, ℕ, Bool, true, false, List, length, Bor, Option, Some, None, refl, sym, ◌∙◌, ap}
+use Rattle.std.specs.Prelude.{bytes_eq, find, is_some, IsSome}
 use Rattle.std.specs.Option.{option_copied}
 use Rattle.cap_model.specs.Settings.{QueueRow}
-use Rattle.cap_model.specs.Calls.{Cause, CallRequest, CallReply, CallRefusal, QueueReport}
-use Rattle.cap_model.specs.Flat.{Flat, ClusterNode, queue_at, node_at}
+use Rattle.cap_model.specs.declared.news.Cause.{Cause}
+use Rattle.cap_model.specs.declared.request.Request.{Request}
+use Rattle.cap_model.specs.declared.reply.Reply.{Reply}
+use Rattle.cap_model.specs.declared.refusal.Refusal.{Refusal}
+use Rattle.cap_model.specs.declared.report.QueueReport.{QueueReport}
+use Rattle.cap_model.specs.Flat.{Flat, ClusterNode, NodeTable, queue_at, node_at}
 use Rattle.cap_model.specs.Ending.{after_ends}
 use Rattle.cap_model.specs.Heartbeat.{containers_on}
 use Rattle.cap_model.specs.NodeGone.{node_gone_refusal}
-use Rattle.cap_model.specs.EngineLaws.{HasDistinctNumbers}
-use Rattle.cap_model.proofs.Drains.{none_passes}
+use Rattle.cap_nodes.specs.Tables.{node_in}
 use Rattle.cap_commit.specs.Changes.{without_node}
-use Rattle.cap_model.specs.QueueCalls.{queue_report, queue_refusal}
+use Rattle.cap_model.specs.QueueCalls.{after_set_queue_state, queue_report, queue_refusal}
+use Rattle.cap_tree.specs.Rows.{Row, IsAt, queues_of}
+use Rattle.cap_tree.specs.Spot.{path_at}
+use Rattle.cap_commit.proofs.RowsAt.{is_found}
 use Rattle.cap_model.specs.Replies.{refusal_of, granted_reply, granted_cluster, reply_to, after_request}
 
 module _ {K : ℕ} (cluster : Flat K) where
-  pub granted_is : (request : CallRequest) → refusal_of cluster request ≡ None →
+  pub granted_is : (request : Request K) → refusal_of cluster request ≡ None →
       (granted_reply cluster request ≡ reply_to cluster request) × (granted_cluster cluster request ≡ after_request cluster request)
   granted_is request e = rw e (refl, refl)
 
-  pub refused_is : (request : CallRequest) (refusal : CallRefusal) → refusal_of cluster request ≡ Some refusal →
-      (CallReply.refused refusal ≡ reply_to cluster request) × (cluster ≡ after_request cluster request)
+  pub refused_is : (request : Request K) (refusal : Refusal) → refusal_of cluster request ≡ Some refusal →
+      (Reply.Refused refusal ≡ reply_to cluster request) × (cluster ≡ after_request cluster request)
   refused_is request refusal e = rw e (refl, refl)
 
   -- the queue that is reported is there
-  pub report_is : (path : List ℕ) (report : QueueReport) → true ≡ is_some (queue_at cluster path) → report ≡ queue_report cluster path →
-      (CallReply.queue_info report ≡ reply_to cluster (CallRequest.queue_info path)) × (cluster ≡ after_request cluster (CallRequest.queue_info path))
+  pub report_is : (path : List ℕ) (report : QueueReport K) → true ≡ is_some (queue_at cluster path) → report ≡ queue_report cluster path →
+      (Reply.QueueInfo report ≡ reply_to cluster (Request.QueueInfo path)) × (cluster ≡ after_request cluster (Request.QueueInfo path))
   report_is path report found is =
-      let granted = granted_is (CallRequest.queue_info path) (not_refused (queue_at cluster path) refl) in
-      (ap (λ r. CallReply.queue_info r) is ∙ granted.0, granted.1)
+      let granted = granted_is (Request.QueueInfo path) (not_refused (queue_at cluster path) refl) in
+      (ap (λ r. Reply.QueueInfo r) is ∙ granted.0, granted.1)
     where
       not_refused : (o : Option QueueRow) → queue_at cluster path ≡ o → queue_refusal cluster path ≡ None
       not_refused None e = absurd (cc (found, e))
       not_refused (Some q) e = rw e refl
 
-  -- the node is seen, or not
-  pub none_seen : (n : ℕ) (seen : Option (Bor ClusterNode)) → option_copied seen ≡ node_at cluster n → is_some seen ≡ false → node_at cluster n ≡ None
-  none_seen n None is e = sym is
-  none_seen n (Some x) is e = absurd (cc e)
+  -- the state is set of a queue that is at a position
+  pub state_is : (rows : List Row) (path position : List ℕ) (running : Bool) (new : Flat K) → queues_of rows ≡ cluster.settings.queues → IsAt rows path position → new ≡ after_set_queue_state cluster (path_at position rows) running →
+      (Reply.SetQueueState ≡ reply_to cluster (Request.SetQueueState path running)) × (new ≡ after_request cluster (Request.SetQueueState path running))
+  state_is rows path position running new queues at is =
+      let there : is_some (queue_at cluster path) ≡ true = ap (λ (qs : List QueueRow). is_some (find (λ q. bytes_eq q.path path) qs)) (sym queues) ∙ is_found rows path position at in
+      let granted = granted_is (Request.SetQueueState path running) (found_queue (queue_at cluster path) refl there) in
+      (granted.0, is ∙ ap (λ p. after_set_queue_state cluster p running) at.path_is ∙ granted.1)
+    where
+      found_queue : (o : Option QueueRow) → queue_at cluster path ≡ o → is_some o ≡ true → queue_refusal cluster path ≡ None
+      found_queue None e some = absurd (cc some)
+      found_queue (Some q) e some = rw e refl
 
-  pub some_seen : (n : ℕ) (seen : Option (Bor ClusterNode)) → option_copied seen ≡ node_at cluster n → is_some seen ≡ true → IsSome (node_at cluster n)
-  some_seen n None is e = absurd (cc e)
-  some_seen n (Some x) is e = ap is_some (sym is)
+  -- the node is seen, or not
+  pub none_seen : (nodes : NodeTable) (n : ℕ) (seen : Option (Bor ClusterNode)) → nodes ≡ cluster.nodes → option_copied seen ≡ node_in nodes n → is_some seen ≡ false → node_at cluster n ≡ None
+  none_seen nodes n None same is e = ap (λ (t : NodeTable). node_in t n) (sym same) ∙ sym is
+  none_seen nodes n (Some x) same is e = absurd (cc e)
+
+  pub some_seen : (nodes : NodeTable) (n : ℕ) (seen : Option (Bor ClusterNode)) → nodes ≡ cluster.nodes → option_copied seen ≡ node_in nodes n → is_some seen ≡ true → IsSome (node_at cluster n)
+  some_seen nodes n None same is e = absurd (cc e)
+  some_seen nodes n (Some x) same is e = ap is_some (ap (λ (t : NodeTable). node_in t n) (sym same) ∙ sym is)
 
   -- a node that is not there is not lost
   pub gone_refused : (n : ℕ) → node_at cluster n ≡ None →
-      (CallReply.refused CallRefusal.unknown_node ≡ reply_to cluster (CallRequest.node_gone n)) × (cluster ≡ after_request cluster (CallRequest.node_gone n))
-  gone_refused n none = refused_is (CallRequest.node_gone n) CallRefusal.unknown_node (rw none refl)
-
-  -- nothing is left on a node when all that was there has ended
-  pub none_left : (n : ℕ) → HasDistinctNumbers cluster → containers_on (after_ends Cause.node_lost (containers_on cluster n) cluster) n ≡ []
-  none_left n rising = none_passes (λ c. c.node == n) cluster rising
+      (Reply.Refused Refusal.UnknownNode ≡ reply_to cluster (Request.NodeGone n)) × (cluster ≡ after_request cluster (Request.NodeGone n))
+  gone_refused n none = refused_is (Request.NodeGone n) Refusal.UnknownNode (rw none refl)
 
   pub gone_is : (n : ℕ) (left new : Flat K) (ended : ℕ) → IsSome (node_at cluster n) → ended ≡ length (containers_on cluster n) →
-      left ≡ after_ends Cause.node_lost (containers_on cluster n) cluster → new ≡ without_node n left →
-      (CallReply.node_gone ended ≡ reply_to cluster (CallRequest.node_gone n)) × (new ≡ after_request cluster (CallRequest.node_gone n))
+      left ≡ after_ends Cause.NodeLost (containers_on cluster n) cluster → new ≡ without_node n left →
+      (Reply.NodeGone ended ≡ reply_to cluster (Request.NodeGone n)) × (new ≡ after_request cluster (Request.NodeGone n))
   gone_is n left new ended there count left_is is =
-      let granted = granted_is (CallRequest.node_gone n) (not_refused (node_at cluster n) refl) in
-      (ap (λ m. CallReply.node_gone m) count ∙ granted.0, is ∙ ap (λ x. without_node n x) left_is ∙ granted.1)
+      let granted = granted_is (Request.NodeGone n) (not_refused (node_at cluster n) refl) in
+      (ap (λ m. Reply.NodeGone m) count ∙ granted.0, is ∙ ap (λ x. without_node n x) left_is ∙ granted.1)
     where
       not_refused : (o : Option ClusterNode) → node_at cluster n ≡ o → node_gone_refusal cluster n ≡ None
       not_refused None e = absurd (cc (there, e))

@@ -4,11 +4,15 @@ use Rattle.std.specs.Prelude.{nat_lt, is_some, IsSome, cond, not, filter, find, 
 use Rattle.std.proofs.lemmas.Bool.Decides.{nat_tests}
 use Rattle.std.proofs.lemmas.List.Sums.{length-filter}
 use Rattle.std.proofs.lemmas.List.Filters.{length-filter_both}
-use Rattle.cap_model.specs.Calls.{Cause, CallRequest, CallReply, CallRefusal}
-use Rattle.cap_model.specs.Flat.{Flat, ClusterNode, Container, node_at, with_node}
+use Rattle.cap_model.specs.declared.news.Cause.{Cause}
+use Rattle.cap_model.specs.declared.request.Request.{Request}
+use Rattle.cap_model.specs.declared.reply.Reply.{Reply}
+use Rattle.cap_model.specs.declared.refusal.Refusal.{Refusal}
+use Rattle.cap_model.specs.Flat.{Flat, ClusterNode, Container, NodeTable, node_at, with_node}
 use Rattle.cap_model.specs.Bounds.{IsRising}
 use Rattle.cap_model.specs.Cascade.{earliest}
-use Rattle.cap_model.specs.ResponseIds.{response_end, next_response, is_current, is_repeated, is_bad_id}
+use Rattle.cap_model.specs.Limits.{response_end}
+use Rattle.cap_model.specs.ResponseIds.{next_response, is_current, is_repeated, is_bad_id}
 use Rattle.cap_model.specs.Ending.{is_among, after_ends}
 use Rattle.cap_model.specs.Heartbeat.{heartbeat_refusal, is_repeated_heartbeat, containers_on, ended_by, beat_of, after_processed_heartbeat, after_heartbeat}
 use Rattle.cap_model.specs.EngineLaws.{HasDistinctNumbers}
@@ -18,7 +22,8 @@ use Rattle.cap_model.proofs.Members.{rising_kept, found_by_number, find_changed}
 use Rattle.cap_model.proofs.Balance.{filter_same, filter_twice, filter_whole, among_itself}
 use Rattle.cap_model.proofs.NamedEnds.{is_named, count_named, among_named}
 use Rattle.cap_trackers.specs.Beats.{IsKept, kept_beat}
-use Rattle.cap_trackers.proofs.Answering.{granted_is}
+use Rattle.cap_nodes.specs.Tables.{node_in}
+use Rattle.cap_trackers.proofs.Answering.{granted_is, refused_is}
 
 -- a node that answered one more heartbeat
 abbrev beaten : ℕ → ℕ → ClusterNode → ClusterNode
@@ -48,7 +53,7 @@ first_false : (a b : Bool) → a && b ≡ true → a ≡ true
 first_false true b e = refl
 first_false false b e = absurd (cc e)
 
-is_not_bad : (b : Bool) → earliest ((b, CallRefusal.bad_response_id) ∷ (false, CallRefusal.unknown_node) ∷ []) ≡ None → b ≡ false
+is_not_bad : (b : Bool) → earliest ((b, Refusal.BadResponseId) ∷ (false, Refusal.UnknownNode) ∷ []) ≡ None → b ≡ false
 is_not_bad true e = absurd (cc e)
 is_not_bad false e = refl
 
@@ -79,6 +84,28 @@ module _ {K : ℕ} (cluster : Flat K) (n : ℕ) where
           rw (find_changed (λ (y : ClusterNode). y.number) change (λ y. same (y.number == n) y) n cluster.nodes.present, e)
           (kept (x.number == n) x (found (λ (y : ClusterNode). y.number == n) cluster.nodes.present x e).1)
 
+-- what the table of nodes shows is what the flat cluster has
+pub node_shown : {K : ℕ} (cluster : Flat K) (nodes : NodeTable) (n : ℕ) (x : ClusterNode) → nodes ≡ cluster.nodes → Some x ≡ node_in nodes n → node_at cluster n ≡ Some x
+node_shown cluster nodes n x is found = ap (λ (t : NodeTable). node_in t n) (sym is) ∙ sym found
+
+pub node_missing : {K : ℕ} (cluster : Flat K) (nodes : NodeTable) (n : ℕ) → nodes ≡ cluster.nodes → None ≡ node_in nodes n → node_at cluster n ≡ None
+node_missing cluster nodes n is missing = ap (λ (t : NodeTable). node_in t n) (sym is) ∙ sym missing
+
+-- the tests of a heartbeat, of a node that is there and of one that is not
+module _ {K : ℕ} (cluster : Flat K) (n id : ℕ) where
+  pub is_again : (x : ClusterNode) (b : Bool) → node_at cluster n ≡ Some x → is_repeated x.response x.kept id ≡ b → is_repeated_heartbeat cluster n id ≡ b
+  is_again x b there e = rw there e
+
+  pub unrefused : (x : ClusterNode) → node_at cluster n ≡ Some x → is_bad_id x.response x.kept id ≡ false → heartbeat_refusal cluster n id ≡ None
+  unrefused x there good = rw (there, good) refl
+
+  pub unknown_refused : (ended : List ℕ) → node_at cluster n ≡ None → (Reply.Refused Refusal.UnknownNode ≡ reply_to cluster (Request.Heartbeat n id ended)) × (cluster ≡ after_request cluster (Request.Heartbeat n id ended))
+  unknown_refused ended none = refused_is cluster (Request.Heartbeat n id ended) Refusal.UnknownNode (rw none refl)
+
+  pub bad_refused : (ended : List ℕ) (x : ClusterNode) → node_at cluster n ≡ Some x → is_bad_id x.response x.kept id ≡ true →
+      (Reply.Refused Refusal.BadResponseId ≡ reply_to cluster (Request.Heartbeat n id ended)) × (cluster ≡ after_request cluster (Request.Heartbeat n id ended))
+  bad_refused ended x there bad = refused_is cluster (Request.Heartbeat n id ended) Refusal.BadResponseId (rw (there, bad) refl)
+
 module _ {K : ℕ} (cluster : Flat K) (n id : ℕ) where
   -- a heartbeat that repeats the last one finds its reply
   pub kept_repeated : is_repeated_heartbeat cluster n id ≡ true → IsKept cluster n
@@ -87,13 +114,6 @@ module _ {K : ℕ} (cluster : Flat K) (n id : ℕ) where
       by : (o : Option ClusterNode) → node_at cluster n ≡ o → IsKept cluster n
       by None e = absurd (cc (rw e at repeated))
       by (Some x) e = rw e (first_false (is_some x.kept) (nat_lt id response_end) (first_false (is_some x.kept && nat_lt id response_end) (next_response id == x.response) (rw e at repeated)))
-
-  pub there_is : heartbeat_refusal cluster n id ≡ None → IsSome (node_at cluster n)
-  there_is none = by (node_at cluster n) refl
-    where
-      by : (o : Option ClusterNode) → node_at cluster n ≡ o → IsSome (node_at cluster n)
-      by None e = absurd (cc (rw e at none))
-      by (Some x) e = rw e refl
 
   -- the id is the one that the node answered last
   answered_last : heartbeat_refusal cluster n id ≡ None → is_repeated_heartbeat cluster n id ≡ false → (x : ClusterNode) → node_at cluster n ≡ Some x → x.response ≡ id
@@ -105,7 +125,7 @@ module _ {K : ℕ} (cluster : Flat K) (n id : ℕ) where
 
   module _ (ended : List ℕ) where
     abbrev pub heard : Flat K
-    heard = after_ends Cause.ended_on_node (ended_by cluster n ended) cluster
+    heard = after_ends Cause.EndedOnNode (ended_by cluster n ended) cluster
 
     -- those that are left on the node
     pub left_there : HasDistinctNumbers cluster → length (containers_on heard n) + length (ended_by cluster n ended) ≡ length (containers_on cluster n)
@@ -153,8 +173,8 @@ module _ {K : ℕ} (cluster : Flat K) (n id : ℕ) where
         by x m false e = refl
 
     -- the reply is the kept one
-    pub told_is : (new : Flat K) (reply : CallReply) → heartbeat_refusal cluster n id ≡ None → reply ≡ CallReply.heartbeat (kept_beat new n) → new ≡ after_heartbeat cluster n id ended →
-        (reply ≡ reply_to cluster (CallRequest.heartbeat n id ended)) × (new ≡ after_request cluster (CallRequest.heartbeat n id ended))
+    pub told_is : (new : Flat K) (reply : Reply K) → heartbeat_refusal cluster n id ≡ None → reply ≡ Reply.Heartbeat (kept_beat new n) → new ≡ after_heartbeat cluster n id ended →
+        (reply ≡ reply_to cluster (Request.Heartbeat n id ended)) × (new ≡ after_request cluster (Request.Heartbeat n id ended))
     told_is new reply none told is =
-        let granted = granted_is cluster (CallRequest.heartbeat n id ended) none in
-        (told ∙ ap (λ (x : Flat K). CallReply.heartbeat (kept_beat x n)) is ∙ granted.0, is ∙ granted.1)
+        let granted = granted_is cluster (Request.Heartbeat n id ended) none in
+        (told ∙ ap (λ (x : Flat K). Reply.Heartbeat (kept_beat x n)) is ∙ granted.0, is ∙ granted.1)

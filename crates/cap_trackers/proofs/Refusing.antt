@@ -1,6 +1,6 @@
 -- The first test that holds is the refusal.
-use Rattle.std.proofs.Common.{◌≡◌, ◌∙◌, ℕ, Bool, List, [], ◌∷◌, length, Option, ap}
-use Rattle.std.specs.Prelude.{not, nat_le, bytes_eq, option_map}
+use Rattle.std.proofs.Common.{◌≡◌, ℕ, Bool, List, [], ◌∷◌, length, Option}
+use Rattle.std.specs.Prelude.{not, nat_le, bytes_eq}
 use Rattle.std.specs.List.{list_any}
 use Rattle.cap_vector.specs.Vector.{amount_max, plus, is_within, is_zero}
 use Rattle.cap_model.specs.declared.refusal.Refusal.{Refusal}
@@ -8,9 +8,7 @@ use Rattle.cap_model.specs.declared.refusal.Refusal.TheVariants.{HostTaken, Tota
 use Rattle.cap_model.specs.Limits.{nodes_max, number_end}
 use Rattle.cap_model.specs.Cascade.{earliest}
 use Rattle.cap_model.specs.Flat.{Flat}
-use Rattle.cap_model.specs.Messages.{as_refusal}
 use Rattle.cap_model.specs.RegisterNode.{register_node_refusal, total_of_nodes}
-use Rattle.cap_model.proofs.Registering.{earliest-as}
 
 pub refusal_is : {K : ℕ} (cluster : Flat K) (host total : List ℕ) (first : Option Refusal) (taken large many none spent : Bool)
     → first ≡ earliest ((taken, HostTaken) ∷ (large, TotalTooLarge) ∷ (many, TooManyNodes) ∷ (none, ZeroResource) ∷ (spent, NumbersSpent) ∷ [])
@@ -19,6 +17,6 @@ pub refusal_is : {K : ℕ} (cluster : Flat K) (host total : List ℕ) (first : O
     → many ≡ nat_le nodes_max (length cluster.nodes.present)
     → none ≡ is_zero total
     → spent ≡ nat_le number_end cluster.nodes.next_node
-    → option_map as_refusal first ≡ register_node_refusal cluster host total
+    → first ≡ register_node_refusal cluster host total
 refusal_is cluster host total first taken large many none spent is a b c d e =
-    rw (← a, ← b, ← c, ← d, ← e) (ap (λ o. option_map as_refusal o) is ∙ earliest-as as_refusal ((taken, HostTaken) ∷ (large, TotalTooLarge) ∷ (many, TooManyNodes) ∷ (none, ZeroResource) ∷ (spent, NumbersSpent) ∷ []))
+    rw (← a, ← b, ← c, ← d, ← e) is

@@ -1,6 +1,6 @@
 -- The reply that a node keeps.
 use Rattle.std.specs.Prelude.{ℕ, IsSome, unwrap_or, option_and_then}
-use Rattle.cap_model.specs.Calls.{HeartbeatReply}
+use Rattle.cap_model.specs.declared.replies.HeartbeatReply.{HeartbeatReply}
 use Rattle.cap_model.specs.Flat.{Flat, node_at}
 use Rattle.cap_model.specs.Heartbeat.{no_beat}
 

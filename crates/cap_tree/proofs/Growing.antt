@@ -10,7 +10,8 @@ use Rattle.std.proofs.lemmas.Slice.Eq.{bytes_eq-Decides}
 use Rattle.cap_model.specs.Settings.{QueueRow}
 use Rattle.cap_model.specs.Flat.{is_under, name_of}
 use Rattle.cap_model.specs.Bounds.{HasDistinctPaths, has_path, depth}
-use Rattle.cap_model.specs.Listing.{IsListed, IsListing, depth_max}
+use Rattle.cap_model.specs.Listing.{IsListed, IsListing}
+use Rattle.cap_model.specs.Limits.{depth_max}
 use Rattle.cap_model.specs.QueueCalls.{root_path}
 use Rattle.cap_model.proofs.Choosing.{IsIn, in_right, in_either}
 use Rattle.cap_model.proofs.Members.{each_of, of_each, in_map}

@@ -1,6 +1,5 @@
 pub mod Adding
 pub mod Callers
-pub mod Changes
 pub mod Finding
 pub mod Finds
 pub mod Growing
@@ -12,3 +11,4 @@ pub mod Rooms
 pub mod RowPaths
 pub mod Spots
 pub mod Users
+pub mod Within

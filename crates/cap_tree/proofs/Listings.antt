@@ -5,7 +5,8 @@ use Rattle.std.specs.List.{All, list_any}
 use Rattle.cap_model.specs.Settings.{QueueRow}
 use Rattle.cap_model.specs.Flat.{is_under}
 use Rattle.cap_model.specs.Bounds.{HasDistinctPaths, has_path, depth}
-use Rattle.cap_model.specs.Listing.{MayFollow, IsListed, IsListedFromRoot, IsListing, depth_max, factor_max}
+use Rattle.cap_model.specs.Listing.{MayFollow, IsListed, IsListedFromRoot, IsListing}
+use Rattle.cap_model.specs.Limits.{depth_max, factor_max}
 use Rattle.cap_model.proofs.Members.{each_of, of_each, of_map}
 use Rattle.cap_tree.specs.Spot.{change_along, leads_to}
 use Rattle.cap_tree.specs.Queue.{Queue, with_running}

@@ -1,14 +1,14 @@
 -- What is on the way to a place, and below it.
 use Rattle.std.proofs.Common.{◌≡◌, ℕ, zero, suc, ◌+◌, ◌-◌, ◌≤◌, ◌<◌, Bool, true, false, cond, ◌&&◌, List, [], ◌∷◌, ◌++◌, length, get_or, Option, Some, None, refl, sym, ◌∙◌, ap, arith, map, ◌≢◌, subst, take, drop}
-use Rattle.std.specs.Prelude.{bytes_eq, nat_eq, filter, ◌||◌, ◌==◌}
-use Rattle.std.specs.List.{All, list_all}
+use Rattle.std.specs.Prelude.{bytes_eq, nat_eq, nat_lt, not, option_map, if◌then◌else◌, ◌||◌, ◌==◌}
+use Rattle.std.specs.List.{All, position_or_len}
 use Rattle.std.specs.Cmp.Lexicographic.{pointwise}
 use Rattle.std.proofs.lemmas.Bool.Decides.{nat_tests}
 use Rattle.std.proofs.lemmas.List.Elements.{All-get_or}
 use Rattle.std.proofs.lemmas.Bool.{eq-eqb, ne_eqb}
 use Rattle.std.proofs.lemmas.List.{get_or_default, append-nil}
-use Rattle.cap_tree.specs.Spot.{Spot, leads_to, leads_below, under, below, spots, place_of, all_along, has_below}
-use Rattle.cap_tree.proofs.Spots.{steps-is, rest-is, steps-empty}
+use Rattle.cap_tree.specs.Spot.{Spot, leads_to, leads_below, under, below, spots, place_of, along, first_failing, has_below}
+use Rattle.cap_tree.proofs.Spots.{steps-is, steps-empty}
 
 abbrev placed : ℕ → Option (List ℕ) → Option (List ℕ) → Option (List ℕ)
 placed i None rest = rest
@@ -67,67 +67,89 @@ inside name path h l n =
     record { is = whole name path h ∙ ap (λ r. name ++ r) (steps-is rest l) ∙ ap (λ b. name ++ (b ∷ take (length rest - 1) (drop 1 rest))) n }
 
 module _ {T : Type 0} where
-  -- what passes on the way
+  -- what is on the way
+
+  along-none_under : (name : List ℕ) (i j : ℕ) (p : List ℕ) (ss rest : List (Spot T)) → j ≢ i → along (i ∷ p) (map (under name j) ss ++ rest) ≡ along (i ∷ p) rest
+  along-none_under name i j p [] rest h = refl
+  along-none_under name i j p (s ∷ ss) rest h = rw (ne_eqb j i h) (along-none_under name i j p ss rest h)
+
+  along-under : (name : List ℕ) (i : ℕ) (p : List ℕ) (ss rest : List (Spot T)) → along (i ∷ p) rest ≡ [] → along (i ∷ p) (map (under name i) ss ++ rest) ≡ map (under name i) (along p ss)
+  along-under name i p [] rest h = h
+  along-under name i p (s ∷ ss) rest h = rw (eq-eqb i i refl) (by (leads_to s.place p) (along-under name i p ss rest h))
+    where
+      by : (b : Bool) → along (i ∷ p) (map (under name i) ss ++ rest) ≡ map (under name i) (along p ss) →
+          cond b (under name i s ∷ along (i ∷ p) (map (under name i) ss ++ rest)) (along (i ∷ p) (map (under name i) ss ++ rest)) ≡ map (under name i) (cond b (s ∷ along p ss) (along p ss))
+      by true e = ap (λ t. under name i s ∷ t) e
+      by false e = e
+
+  along-none_below : (name : List ℕ) (i j : ℕ) (p : List ℕ) (kids : List (List (Spot T))) → i < j → along (i ∷ p) (below name j kids) ≡ []
+  along-none_below name i j p [] h = refl
+  along-none_below name i j p (k ∷ ks) h =
+      along-none_under name i j p k (below name (suc j) ks) (λ e. absurd (omega arith)) ∙ along-none_below name i (suc j) p ks (omega arith)
+
+  along-below : (name : List ℕ) (i j n : ℕ) (p : List ℕ) (kids : List (List (Spot T))) → i ≡ j + n → along (i ∷ p) (below name j kids) ≡ map (under name i) (along p (get_or kids n []))
+  along-below name i j n p [] h = refl
+  along-below name i j zero p (k ∷ ks) h =
+      let e : j ≡ i = omega arith in
+      rw e (along-under name i p k (below name (suc i) ks) (along-none_below name i (suc i) p ks (omega arith)))
+  along-below name i j (suc n) p (k ∷ ks) h =
+      along-none_under name i j p k (below name (suc j) ks) (λ e. absurd (omega arith)) ∙ along-below name i (suc j) n p ks (omega arith)
+
+  along-root_under : (name : List ℕ) (j : ℕ) (ss rest : List (Spot T)) → along [] (map (under name j) ss ++ rest) ≡ along [] rest
+  along-root_under name j [] rest = refl
+  along-root_under name j (s ∷ ss) rest = along-root_under name j ss rest
+
+  along-root_below : (name : List ℕ) (j : ℕ) (kids : List (List (Spot T))) → along [] (below name j kids) ≡ []
+  along-root_below name j [] = refl
+  along-root_below name j (k ∷ ks) = along-root_under name j k (below name (suc j) ks) ∙ along-root_below name (suc j) ks
+
+  -- which is the first that fails there
 
   module _ (test : T → Bool) where
-    abbrev along : List ℕ → List (Spot T) → Bool
-    along p ss = list_all (λ s. test s.item) (filter (λ s. leads_to s.place p) ss)
+    -- the level at a spot that passes or not, where those after it have this one
+    abbrev pub level_from : Bool → Option ℕ → Option ℕ
+    level_from b o = if b then option_map (λ n. n + 1) o else Some 0
 
-    along-none_under : (name : List ℕ) (i j : ℕ) (p : List ℕ) (ss rest : List (Spot T)) → j ≢ i → along (i ∷ p) (map (under name j) ss ++ rest) ≡ along (i ∷ p) rest
-    along-none_under name i j p [] rest h = refl
-    along-none_under name i j p (s ∷ ss) rest h = rw (ne_eqb j i h) (along-none_under name i j p ss rest h)
+    pub failing-cons : (s : Spot T) (ss : List (Spot T)) → first_failing test (s ∷ ss) ≡ level_from (test s.item) (first_failing test ss)
+    failing-cons s ss = by (test s.item) (position_or_len (λ (t : Spot T). not (test t.item)) ss) (length ss)
+      where
+        by : (b : Bool) (n l : ℕ) → cond (nat_lt (cond (not (not b)) (1 + n) 0) (suc l)) (Some (cond (not (not b)) (1 + n) 0)) None ≡ level_from b (cond (nat_lt n l) (Some n) None)
+        by false n l = let z : nat_lt 0 (suc l) ≡ true = grind (arith, nat_tests) in ap (λ c. cond c (Some 0) None) z
+        by true n l = more (nat_lt n l) (nat_lt (1 + n) (suc l)) (grind (arith, nat_tests))
+          where
+            more : (b c : Bool) → c ≡ b → cond c (Some (1 + n)) None ≡ option_map (λ k. k + 1) (cond b (Some n) None)
+            more true true e = let z : 1 + n ≡ n + 1 = omega arith in ap Some z
+            more false false e = refl
+            more true false e = absurd (cc e)
+            more false true e = absurd (cc e)
 
-    along-under_cases : (b : Bool) (s : Spot T) (xs ys : List (Spot T)) → list_all (λ t. test t.item) xs ≡ list_all (λ t. test t.item) ys → (name : List ℕ) (i : ℕ) →
-        list_all (λ t. test t.item) (cond b (under name i s ∷ xs) xs) ≡ list_all (λ t. test t.item) (cond b (s ∷ ys) ys)
-    along-under_cases true s xs ys e name i = ap (λ c. test s.item && c) e
-    along-under_cases false s xs ys e name i = e
+    failing-map : (name : List ℕ) (i : ℕ) (ss : List (Spot T)) → first_failing test (map (under name i) ss) ≡ first_failing test ss
+    failing-map name i [] = refl
+    failing-map name i (s ∷ ss) = failing-cons (under name i s) (map (under name i) ss) ∙ ap (level_from (test s.item)) (failing-map name i ss) ∙ sym (failing-cons s ss)
 
-    along-under : (name : List ℕ) (i : ℕ) (p : List ℕ) (ss rest : List (Spot T)) → along (i ∷ p) rest ≡ true → along (i ∷ p) (map (under name i) ss ++ rest) ≡ along p ss
-    along-under name i p [] rest h = h
-    along-under name i p (s ∷ ss) rest h =
-        rw (eq-eqb i i refl) (along-under_cases (leads_to s.place p) s (filter (λ t. leads_to t.place (i ∷ p)) (map (under name i) ss ++ rest)) (filter (λ t. leads_to t.place p) ss) (along-under name i p ss rest h) name i)
+    failing-spots : (name : T → List ℕ) (item : T) (kids : List (List (Spot T))) (steps : List ℕ) → first_failing test (along steps (spots name item kids)) ≡ level_from (test item) (first_failing test (along steps (below (name item) 0 kids)))
+    failing-spots name item kids steps = failing-cons (record { place = []; path = name item; item = item }) (along steps (below (name item) 0 kids))
 
-    along-none_below : (name : List ℕ) (i j : ℕ) (p : List ℕ) (kids : List (List (Spot T))) → i < j → along (i ∷ p) (below name j kids) ≡ true
-    along-none_below name i j p [] h = refl
-    along-none_below name i j p (k ∷ ks) h =
-        along-none_under name i j p k (below name (suc j) ks) (λ e. absurd (omega arith)) ∙ along-none_below name i (suc j) p ks (omega arith)
+    pub failing-root : (name : T → List ℕ) (item : T) (kids : List (List (Spot T))) (value : List (Spot T)) (steps : List ℕ) → spots name item kids ≡ value → test item ≡ false →
+        Some 0 ≡ first_failing test (along steps value)
+    failing-root name item kids value steps e t = rw (← e) (sym (failing-spots name item kids steps ∙ ap (λ b. level_from b (first_failing test (along steps (below (name item) 0 kids)))) t))
 
-    along-below : (name : List ℕ) (i j n : ℕ) (p : List ℕ) (kids : List (List (Spot T))) → i ≡ j + n → along (i ∷ p) (below name j kids) ≡ along p (get_or kids n [])
-    along-below name i j n p [] h = refl
-    along-below name i j zero p (k ∷ ks) h =
-        let e : j ≡ i = omega arith in
-        rw e (along-under name i p k (below name (suc i) ks) (along-none_below name i (suc i) p ks (omega arith)))
-    along-below name i j (suc n) p (k ∷ ks) h =
-        along-none_under name i j p k (below name (suc j) ks) (λ e. absurd (omega arith)) ∙ along-below name i (suc j) n p ks (omega arith)
+    pub failing-at_root : (name : T → List ℕ) (item : T) (kids : List (List (Spot T))) (value : List (Spot T)) (steps : List ℕ) → spots name item kids ≡ value → length steps < 1 → test item ≡ true →
+        None ≡ first_failing test (along steps value)
+    failing-at_root name item kids value steps e h t =
+        rw (steps-empty steps h, ← e) (sym (failing-spots name item kids [] ∙ (λ i. level_from (t i) (first_failing test (along-root_below (name item) 0 kids i)))))
 
-    along-root_under : (name : List ℕ) (j : ℕ) (ss rest : List (Spot T)) → along [] (map (under name j) ss ++ rest) ≡ along [] rest
-    along-root_under name j [] rest = refl
-    along-root_under name j (s ∷ ss) rest = along-root_under name j ss rest
-
-    along-root_below : (name : List ℕ) (j : ℕ) (kids : List (List (Spot T))) → along [] (below name j kids) ≡ true
-    along-root_below name j [] = refl
-    along-root_below name j (k ∷ ks) = along-root_under name j k (below name (suc j) ks) ∙ along-root_below name (suc j) ks
-
-    pub along-at_root : (name : T → List ℕ) (item : T) (kids : List (List (Spot T))) (value : List (Spot T)) (steps : List ℕ) → spots name item kids ≡ value → length steps < 1 → test item ≡ true →
-        true ≡ all_along test steps value
-    along-at_root name item kids value steps e h t = rw (steps-empty steps h, ← e, t) (sym (along-root_below (name item) 0 kids))
-
-    along-spots : (name : T → List ℕ) (item : T) (kids : List (List (Spot T))) (steps : List ℕ) → 1 ≤ length steps → get_or steps 0 0 < length kids → (d : List (Spot T)) → test item ≡ true →
-        all_along test (take (length steps - 1) (drop 1 steps)) (get_or kids (get_or steps 0 0) d) ≡ all_along test steps (spots name item kids)
-    along-spots name item kids [] h w d t = absurd (omega arith)
-    along-spots name item kids (i ∷ p) h w d t =
-        let e = get_or_default kids i [] d w in
-        rw (rest-is i p, ← e, t) (sym (along-below (name item) i 0 i p kids (omega arith)))
-
-    pub along-in_child : (name : T → List ℕ) (item : T) (kids : List (List (Spot T))) (value : List (Spot T)) (steps : List ℕ) (child : List (Spot T)) → spots name item kids ≡ value → 1 ≤ length steps →
-        get_or steps 0 0 < length kids → child ≡ get_or kids (get_or steps 0 0) child → test item ≡ true → all_along test (take (length steps - 1) (drop 1 steps)) child ≡ all_along test steps value
-    along-in_child name item kids value steps child e h w c t =
-        subst (λ v. all_along test (take (length steps - 1) (drop 1 steps)) child ≡ all_along test steps v) e
-        (ap (all_along test (take (length steps - 1) (drop 1 steps))) c ∙ along-spots name item kids steps h w child t)
-
-    pub along-fails : (name : T → List ℕ) (item : T) (kids : List (List (Spot T))) (value : List (Spot T)) (steps : List ℕ) → spots name item kids ≡ value → test item ≡ false →
-        false ≡ all_along test steps value
-    along-fails name item kids value steps e t = rw (← e, t) refl
+    pub failing-in_child : (name : T → List ℕ) (item : T) (kids : List (List (Spot T))) (value : List (Spot T)) (steps : List ℕ) (child : List (Spot T)) → spots name item kids ≡ value → 1 ≤ length steps →
+        get_or steps 0 0 < length kids → child ≡ get_or kids (get_or steps 0 0) child → test item ≡ true →
+        level_from true (first_failing test (along (take (length steps - 1) (drop 1 steps)) child)) ≡ first_failing test (along steps value)
+    failing-in_child name item kids value steps child e h w c t =
+        let i = get_or steps 0 0 in
+        let p = take (length steps - 1) (drop 1 steps) in
+        let kid : get_or kids i [] ≡ child = get_or_default kids i [] child w ∙ sym c in
+        let way : along (i ∷ p) (below (name item) 0 kids) ≡ map (under (name item) i) (along p child) = along-below (name item) i 0 i p kids (omega arith) ∙ ap (λ k. map (under (name item) i) (along p k)) kid in
+        let whole : first_failing test (along (i ∷ p) (spots name item kids)) ≡ level_from true (first_failing test (along p child)) =
+        failing-spots name item kids (i ∷ p) ∙ (λ j. level_from (t j) (first_failing test (way j))) ∙ ap (level_from true) (failing-map (name item) i (along p child)) in
+        sym (ap (λ q. first_failing test (along q value)) (steps-is steps h) ∙ ap (λ v. first_failing test (along (i ∷ p) v)) (sym e) ∙ whole)
 
   -- what is below
 
@@ -165,6 +187,10 @@ module _ {T : Type 0} where
 
   pub parent_has_below : (name : T → List ℕ) (item : T) (kids : List (List (Spot T))) (value : List (Spot T)) → spots name item kids ≡ value → All (λ kid. 1 ≤ length kid) kids → 1 ≤ length kids → true ≡ has_below [] value
   parent_has_below name item kids value e f h = parent-below name item kids f h ∙ ap (has_below []) e
+
+  pub leaf_has_none_below : (name : T → List ℕ) (item : T) (kids : List (List (Spot T))) (value : List (Spot T)) → spots name item kids ≡ value → length kids < 1 → false ≡ has_below [] value
+  leaf_has_none_below name item [] value e h = ap (has_below []) e
+  leaf_has_none_below name item (k ∷ ks) value e h = absurd (omega arith)
 
   -- the place of a path
 

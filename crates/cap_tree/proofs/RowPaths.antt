@@ -1,6 +1,6 @@
 -- The rows of a tree by place and by path.
 use Rattle.std.proofs.Common.{◌≡◌, ℕ, ◌≤◌, Bool, true, false, cond, ◌&&◌, List, [], ◌∷◌, ◌++◌, length, map, Some, refl, sym, ◌∙◌, ap, subst, arith, inl, inr}
-use Rattle.std.specs.Prelude.{bytes_eq, ◌==◌, filter}
+use Rattle.std.specs.Prelude.{bytes_eq, ◌==◌, Option, None, filter, not, is_some}
 use Rattle.std.specs.List.{All, list_all}
 use Rattle.std.proofs.lemmas.Bool.Decides.{nat_tests}
 use Rattle.std.proofs.lemmas.List.{length-append}
@@ -10,9 +10,10 @@ use Rattle.cap_model.specs.Flat.{is_under}
 use Rattle.cap_model.proofs.Choosing.{IsIn}
 use Rattle.cap_model.proofs.Members.{each_of, of_each, of_map}
 use Rattle.cap_model.proofs.Paths.{IsUnder, under_is, is_under_it}
-use Rattle.cap_tree.specs.Spot.{leads_to, item_at, path_at, change_along, all_along, HoldsOfItem, IsPlace}
+use Rattle.cap_tree.specs.Spot.{leads_to, item_at, path_at, change_along, along, first_failing, HoldsOfItem, IsPlace}
 use Rattle.cap_tree.specs.Queue.{Queue}
-use Rattle.cap_tree.specs.Rows.{Row, PlacesArePaths, settings_of_row, queues_of, changed_at, is_running}
+use Rattle.cap_tree.proofs.Looking.{level_from, failing-cons}
+use Rattle.cap_tree.specs.Rows.{Row, PlacesArePaths, settings_of_row, queues_of, changed_at, rows_to, is_running}
 
 -- two are the same where each leads to the other
 
@@ -116,24 +117,43 @@ changed_rows above at place rows a h =
     let leads : leads_to r.place place ≡ is_under r.path (path_at place rows) = ap (leads_to r.place) (sym t.place_is) ∙ agree rows a r t.row m t.member ∙ ap (is_under r.path) (sym t.path_is) in
     λ i. cond (same i) (record r { item = at r.item }) (cond (leads i) (record r { item = above r.item }) r))
 
--- what runs on the way
+-- the rows on the way to a place are those on the way to its path
 
-running_same : (place path : List ℕ) (ss : List Row) → ((r : Row) → IsIn r ss → leads_to r.place place ≡ is_under r.path path) → all_along (λ (q : Queue). q.running) place ss ≡ is_running ss path
-running_same place path [] h = refl
-running_same place path (s ∷ ss) h = by (leads_to s.place place) (is_under s.path path) (h s (inl refl)) (running_same place path ss (λ r m. h r (inr m)))
-  where
-    by : (b c : Bool) → b ≡ c → all_along (λ (q : Queue). q.running) place ss ≡ is_running ss path →
-        list_all (λ (t : Row). t.item.running) (cond b (s ∷ filter (λ t. leads_to t.place place) ss) (filter (λ t. leads_to t.place place) ss))
-        ≡ list_all (λ (q : QueueRow). q.running) (cond c (settings_of_row s ∷ filter (λ q. is_under q.path path) (queues_of ss)) (filter (λ q. is_under q.path path) (queues_of ss)))
-    by true true e r = ap (λ x. s.item.running && x) r
-    by false false e r = r
-    by true false e r = absurd (cc e)
-    by false true e r = absurd (cc e)
+filter_same : {A : Type 0} (f g : A → Bool) (xs : List A) → ((x : A) → IsIn x xs → f x ≡ g x) → filter f xs ≡ filter g xs
+filter_same f g [] h = refl
+filter_same f g (x ∷ xs) h = λ i. cond (h x (inl refl) i) (x ∷ filter_same f g xs (λ y m. h y (inr m)) i) (filter_same f g xs (λ y m. h y (inr m)) i)
 
-pub running_rows : (place : List ℕ) (rows : List Row) → PlacesArePaths rows → IsPlace rows place → all_along (λ (q : Queue). q.running) place rows ≡ is_running rows (path_at place rows)
-running_rows place rows a h =
+pub along_rows : (place : List ℕ) (rows : List Row) → PlacesArePaths rows → IsPlace rows place → along place rows ≡ rows_to (path_at place rows) rows
+along_rows place rows a h =
     let t = at_place place rows h in
-    running_same place (path_at place rows) rows (λ r m. ap (leads_to r.place) (sym t.place_is) ∙ agree rows a r t.row m t.member ∙ ap (is_under r.path) (sym t.path_is))
+    filter_same (λ r. leads_to r.place place) (λ r. is_under r.path (path_at place rows)) rows
+    (λ r m. ap (leads_to r.place) (sym t.place_is) ∙ agree rows a r t.row m t.member ∙ ap (is_under r.path) (sym t.path_is))
+
+-- all run on the way where none fails to
+
+running_first : (ss : List Row) → not (is_some (first_failing (λ (q : Queue). q.running) ss)) ≡ list_all (λ (r : Row). r.item.running) ss
+running_first [] = refl
+running_first (s ∷ ss) = ap (λ o. not (is_some o)) (failing-cons (λ (q : Queue). q.running) s ss) ∙ by s.item.running (first_failing (λ (q : Queue). q.running) ss) (running_first ss)
+  where
+    by : (b : Bool) (o : Option ℕ) → not (is_some o) ≡ list_all (λ (r : Row). r.item.running) ss → not (is_some (level_from (λ (q : Queue). q.running) b o)) ≡ b && list_all (λ (r : Row). r.item.running) ss
+    by true None e = e
+    by true (Some n) e = e
+    by false o e = refl
+
+running_settings : (path : List ℕ) (ss : List Row) → list_all (λ (r : Row). r.item.running) (rows_to path ss) ≡ is_running ss path
+running_settings path [] = refl
+running_settings path (s ∷ ss) = by (is_under s.path path) (running_settings path ss)
+  where
+    by : (b : Bool) → list_all (λ (r : Row). r.item.running) (rows_to path ss) ≡ is_running ss path →
+        list_all (λ (r : Row). r.item.running) (cond b (s ∷ rows_to path ss) (rows_to path ss))
+        ≡ list_all (λ (q : QueueRow). q.running) (cond b (settings_of_row s ∷ filter (λ q. is_under q.path path) (queues_of ss)) (filter (λ q. is_under q.path path) (queues_of ss)))
+    by true e = ap (λ x. s.item.running && x) e
+    by false e = e
+
+pub running_rows : (place : List ℕ) (rows : List Row) → PlacesArePaths rows → IsPlace rows place → not (is_some (first_failing (λ (q : Queue). q.running) (along place rows))) ≡ is_running rows (path_at place rows)
+running_rows place rows a h =
+    ap (λ ss. not (is_some (first_failing (λ (q : Queue). q.running) ss))) (along_rows place rows a h)
+    ∙ running_first (rows_to (path_at place rows) rows) ∙ running_settings (path_at place rows) rows
 
 -- a change keeps places and paths
 

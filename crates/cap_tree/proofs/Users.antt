@@ -1,19 +1,18 @@
 -- Users' rows, and the entries of the map that holds them.
-use Rattle.std.proofs.Common.{◌≡◌, ℕ, zero, suc, ◌+◌, ◌-◌, ◌≤◌, Bool, true, false, cond, ◌&&◌, List, [], ◌∷◌, ◌++◌, length, get_or, set, take, map, Option, Some, None, refl, sym, ◌∙◌, ap, arith}
-use Rattle.std.specs.Prelude.{bytes_eq, not, nat_lt, nat_le, position, swap_remove, ◌==◌, replicate, option_map, if◌then◌else◌}
-use Rattle.std.specs.List.{list_all, position_or_len, take-map}
+use Rattle.std.proofs.Common.{◌≡◌, ℕ, ◌+◌, ◌-◌, Bool, true, false, cond, ◌&&◌, List, [], ◌∷◌, ◌++◌, length, get_or, set, take, map, Option, Some, None, refl, sym, ◌∙◌, ap, arith}
+use Rattle.std.specs.Prelude.{bytes_eq, not, nat_lt, swap_remove, ◌==◌, replicate, option_map, if◌then◌else◌}
+use Rattle.std.specs.List.{position_or_len, take-map}
 use Rattle.std.specs.Option.{option_map_or}
 use Rattle.std.specs.Map.{lookup, keys_of}
 use Rattle.std.proofs.Math.ListN.{get_or-map}
 use Rattle.std.proofs.lemmas.Bool.{eq-eqb}
 use Rattle.std.proofs.lemmas.Bool.Decides.{nat_tests}
 use Rattle.std.proofs.lemmas.List.{map-set, length-map}
-use Rattle.std.proofs.lemmas.List.Sums.{AllPass-from_list_all, list_all-from_AllPass}
-use Rattle.std.proofs.lemmas.List.Elements.{All-take, All-set}
 use Rattle.std.proofs.lemmas.Slice.Eq.{bytes_eq-Decides}
 use Rattle.indexmap.specs.IndexMap.{insert_entry, swap_remove_entry, swap_remove_by}
 use Rattle.cap_model.specs.Texts.{padded}
-use Rattle.cap_tree.specs.Queue.{UserRow, user_row, with_row}
+use Rattle.cap_tree.specs.Count.{Count, is_nothing}
+use Rattle.cap_tree.specs.Queue.{UserRow, user_row, with_count, with_row}
 
 -- texts of at most 64 bytes are equal where their arrays and lengths are
 
@@ -67,119 +66,65 @@ same_text-is a b = text_cases (length a == length b) a b refl
 
 -- the entries as rows
 
-module _ {V : Type 0} (used : V → List ℕ) (active : V → ℕ) where
-  abbrev pub row_of : List ℕ → V → UserRow
-  row_of user v = record { user = user; used = used v; active = active v }
+abbrev pub row_of : List ℕ → Count → UserRow
+row_of user c = record { user = user; used = c.used; active = c.active }
 
-  abbrev pub rows_of : List (List ℕ × V) → List UserRow
-  rows_of es = map (λ e. row_of e.0 e.1) es
+abbrev pub rows_of : List (List ℕ × Count) → List UserRow
+rows_of es = map (λ e. row_of e.0 e.1) es
 
-  key_cases : (c : Bool) (user : List ℕ) (e : List ℕ × V) (o : Option V) → (c ≡ true → e.0 ≡ user) → cond c (Some (row_of e.0 e.1)) (option_map (row_of user) o) ≡ option_map (row_of user) (cond c (Some e.1) o)
-  key_cases true user e o f = ap (λ k. Some (row_of k e.1)) (f refl)
-  key_cases false user e o f = refl
+is_key : (user key : List ℕ) → same_text user key ≡ true → key ≡ user
+is_key user key h = sym ((bytes_eq-Decides user key).0 (sym (same_text-is user key) ∙ h))
 
-  is_key : (user key : List ℕ) → same_text user key ≡ true → key ≡ user
-  is_key user key h = sym ((bytes_eq-Decides user key).0 (sym (same_text-is user key) ∙ h))
+key_cases : (c : Bool) (user : List ℕ) (e : List ℕ × Count) (o : Option Count) → (c ≡ true → e.0 ≡ user) → cond c (Some (row_of e.0 e.1)) (option_map (row_of user) o) ≡ option_map (row_of user) (cond c (Some e.1) o)
+key_cases true user e o f = ap (λ k. Some (row_of k e.1)) (f refl)
+key_cases false user e o f = refl
 
-  pub user_row-entries : (user : List ℕ) (es : List (List ℕ × V)) → user_row user (rows_of es) ≡ option_map (row_of user) (lookup (same_text user) es)
-  user_row-entries user [] = refl
-  user_row-entries user (e ∷ es) =
-      ap (λ c. cond c (Some (row_of e.0 e.1)) (user_row user (rows_of es))) (bytes_turned e.0 user ∙ sym (same_text-is user e.0))
-      ∙ ap (λ o. cond (same_text user e.0) (Some (row_of e.0 e.1)) o) (user_row-entries user es)
-      ∙ key_cases (same_text user e.0) user e (lookup (same_text user) es) (is_key user e.0)
+pub user_row-entries : (user : List ℕ) (es : List (List ℕ × Count)) → user_row user (rows_of es) ≡ option_map (row_of user) (lookup (same_text user) es)
+user_row-entries user [] = refl
+user_row-entries user (e ∷ es) =
+    ap (λ c. cond c (Some (row_of e.0 e.1)) (user_row user (rows_of es))) (bytes_turned e.0 user ∙ sym (same_text-is user e.0))
+    ∙ ap (λ o. cond (same_text user e.0) (Some (row_of e.0 e.1)) o) (user_row-entries user es)
+    ∙ key_cases (same_text user e.0) user e (lookup (same_text user) es) (is_key user e.0)
 
-  put_cases : (c : Bool) (user : List ℕ) (v : V) (e : List ℕ × V) (es rest : List (List ℕ × V)) (rows : List UserRow) → (c ≡ true → e.0 ≡ user) → rows_of rest ≡ rows →
-      rows_of (if c then (e.0, v) ∷ es else e ∷ rest) ≡ (if c then row_of user v ∷ rows_of es else row_of e.0 e.1 ∷ rows)
-  put_cases true user v e es rest rows f r = ap (λ k. row_of k v ∷ rows_of es) (f refl)
-  put_cases false user v e es rest rows f r = ap (λ t. row_of e.0 e.1 ∷ t) r
+put_cases : (c : Bool) (user : List ℕ) (v : Count) (e : List ℕ × Count) (es rest : List (List ℕ × Count)) (rows : List UserRow) → (c ≡ true → e.0 ≡ user) → rows_of rest ≡ rows →
+    rows_of (if c then (e.0, v) ∷ es else e ∷ rest) ≡ (if c then row_of user v ∷ rows_of es else row_of e.0 e.1 ∷ rows)
+put_cases true user v e es rest rows f r = ap (λ k. row_of k v ∷ rows_of es) (f refl)
+put_cases false user v e es rest rows f r = ap (λ t. row_of e.0 e.1 ∷ t) r
 
-  pub with_row-entries : (user : List ℕ) (v : V) (es : List (List ℕ × V)) → rows_of (insert_entry same_text es user v) ≡ with_row (row_of user v) (rows_of es)
-  with_row-entries user v [] = refl
-  with_row-entries user v (e ∷ es) =
-      put_cases (same_text user e.0) user v e es (insert_entry same_text es user v) (with_row (row_of user v) (rows_of es)) (is_key user e.0) (with_row-entries user v es)
-      ∙ ap (λ c. if c then row_of user v ∷ rows_of es else row_of e.0 e.1 ∷ with_row (row_of user v) (rows_of es)) (same_text-is user e.0 ∙ bytes_turned user e.0)
+with_row-entries : (user : List ℕ) (v : Count) (es : List (List ℕ × Count)) → rows_of (insert_entry same_text es user v) ≡ with_row (row_of user v) (rows_of es)
+with_row-entries user v [] = refl
+with_row-entries user v (e ∷ es) =
+    put_cases (same_text user e.0) user v e es (insert_entry same_text es user v) (with_row (row_of user v) (rows_of es)) (is_key user e.0) (with_row-entries user v es)
+    ∙ ap (λ c. if c then row_of user v ∷ rows_of es else row_of e.0 e.1 ∷ with_row (row_of user v) (rows_of es)) (same_text-is user e.0 ∙ bytes_turned user e.0)
 
-  place_same : (user : List ℕ) (es : List (List ℕ × V)) → position_or_len (same_text user) (keys_of es) ≡ position_or_len (λ u. bytes_eq u.user user) (rows_of es)
-  place_same user [] = refl
-  place_same user (e ∷ es) =
-      ap (λ c. cond (not c) (1 + position_or_len (same_text user) (keys_of es)) 0) (same_text-is user e.0 ∙ bytes_turned user e.0) ∙ ap (λ n. cond (not (bytes_eq e.0 user)) (1 + n) 0) (place_same user es)
+place_same : (user : List ℕ) (es : List (List ℕ × Count)) → position_or_len (same_text user) (keys_of es) ≡ position_or_len (λ u. bytes_eq u.user user) (rows_of es)
+place_same user [] = refl
+place_same user (e ∷ es) =
+    ap (λ c. cond (not c) (1 + position_or_len (same_text user) (keys_of es)) 0) (same_text-is user e.0 ∙ bytes_turned user e.0) ∙ ap (λ n. cond (not (bytes_eq e.0 user)) (1 + n) 0) (place_same user es)
 
-  swapped : (es : List (List ℕ × V)) (i : ℕ) (e : List ℕ × V) → rows_of (swap_remove es i e) ≡ swap_remove (rows_of es) i (row_of e.0 e.1)
-  swapped es i e =
-      let n = length-map es (λ x. row_of x.0 x.1) in
-      sym (take-map (λ x. row_of x.0 x.1) (length es - 1) (set es i (get_or es (length es - 1) e)))
-      ∙ ap (take (length es - 1)) (map-set (λ x. row_of x.0 x.1) es i (get_or es (length es - 1) e) ∙ ap (set (rows_of es) i) (sym (get_or-map (λ x. row_of x.0 x.1) es (length es - 1) e)))
-      ∙ ap (λ k. take (k - 1) (set (rows_of es) i (get_or (rows_of es) (k - 1) (row_of e.0 e.1)))) (sym n)
+swapped : (es : List (List ℕ × Count)) (i : ℕ) (e : List ℕ × Count) → rows_of (swap_remove es i e) ≡ swap_remove (rows_of es) i (row_of e.0 e.1)
+swapped es i e =
+    let n = length-map es (λ x. row_of x.0 x.1) in
+    sym (take-map (λ x. row_of x.0 x.1) (length es - 1) (set es i (get_or es (length es - 1) e)))
+    ∙ ap (take (length es - 1)) (map-set (λ x. row_of x.0 x.1) es i (get_or es (length es - 1) e) ∙ ap (set (rows_of es) i) (sym (get_or-map (λ x. row_of x.0 x.1) es (length es - 1) e)))
+    ∙ ap (λ k. take (k - 1) (set (rows_of es) i (get_or (rows_of es) (k - 1) (row_of e.0 e.1)))) (sym n)
 
-  removed_cases : (c : Bool) (es : List (List ℕ × V)) (i : ℕ) (e : List ℕ × V) → rows_of (option_map_or (λ k. swap_remove es k e) (cond c (Some i) None) es) ≡ option_map_or (λ k. swap_remove (rows_of es) k (row_of e.0 e.1)) (cond c (Some i) None) (rows_of es)
-  removed_cases true es i e = swapped es i e
-  removed_cases false es i e = refl
+removed_cases : (c : Bool) (es : List (List ℕ × Count)) (i : ℕ) (e : List ℕ × Count) → rows_of (option_map_or (λ k. swap_remove es k e) (cond c (Some i) None) es) ≡ option_map_or (λ k. swap_remove (rows_of es) k (row_of e.0 e.1)) (cond c (Some i) None) (rows_of es)
+removed_cases true es i e = swapped es i e
+removed_cases false es i e = refl
 
-  pub removed-entries : (user : List ℕ) (es : List (List ℕ × V)) → rows_of (swap_remove_entry (same_text user) es) ≡ swap_remove_by (λ u. bytes_eq u.user user) (rows_of es)
-  removed-entries user [] = refl
-  removed-entries user (e ∷ es) =
-      let n : length (keys_of (e ∷ es)) ≡ length (rows_of (e ∷ es)) = length-map (e ∷ es) (λ x. x.0) ∙ sym (length-map (e ∷ es) (λ x. row_of x.0 x.1)) in
-      removed_cases (nat_lt (position_or_len (same_text user) (keys_of (e ∷ es))) (length (keys_of (e ∷ es)))) (e ∷ es) (position_or_len (same_text user) (keys_of (e ∷ es))) e
-      ∙ ap (λ l. option_map_or (λ k. swap_remove (rows_of (e ∷ es)) k (row_of e.0 e.1)) (cond (nat_lt (position_or_len (same_text user) (keys_of (e ∷ es))) l) (Some (position_or_len (same_text user) (keys_of (e ∷ es)))) None) (rows_of (e ∷ es))) n
-      ∙ ap (λ i. option_map_or (λ k. swap_remove (rows_of (e ∷ es)) k (row_of e.0 e.1)) (cond (nat_lt i (length (rows_of (e ∷ es)))) (Some i) None) (rows_of (e ∷ es))) (place_same user (e ∷ es))
+removed-entries : (user : List ℕ) (es : List (List ℕ × Count)) → rows_of (swap_remove_entry (same_text user) es) ≡ swap_remove_by (λ u. bytes_eq u.user user) (rows_of es)
+removed-entries user [] = refl
+removed-entries user (e ∷ es) =
+    let n : length (keys_of (e ∷ es)) ≡ length (rows_of (e ∷ es)) = length-map (e ∷ es) (λ x. x.0) ∙ sym (length-map (e ∷ es) (λ x. row_of x.0 x.1)) in
+    removed_cases (nat_lt (position_or_len (same_text user) (keys_of (e ∷ es))) (length (keys_of (e ∷ es)))) (e ∷ es) (position_or_len (same_text user) (keys_of (e ∷ es))) e
+    ∙ ap (λ l. option_map_or (λ k. swap_remove (rows_of (e ∷ es)) k (row_of e.0 e.1)) (cond (nat_lt (position_or_len (same_text user) (keys_of (e ∷ es))) l) (Some (position_or_len (same_text user) (keys_of (e ∷ es)))) None) (rows_of (e ∷ es))) n
+    ∙ ap (λ i. option_map_or (λ k. swap_remove (rows_of (e ∷ es)) k (row_of e.0 e.1)) (cond (nat_lt i (length (rows_of (e ∷ es)))) (Some i) None) (rows_of (e ∷ es))) (place_same user (e ∷ es))
 
-  -- each is active
+-- the entries with a user's count, or without the user, as rows
 
-  abbrev pub all_active : List (List ℕ × V) → Bool
-  all_active es = list_all (λ e. nat_le 1 (active e.1)) es
+pub counted-entries : (user : List ℕ) (c : Count) (es es' : List (List ℕ × Count)) → is_nothing c ≡ false → es' ≡ insert_entry same_text es user c → rows_of es' ≡ with_count user c (rows_of es)
+counted-entries user c es es' n e = ap rows_of e ∙ with_row-entries user c es ∙ ap (λ b. if b then swap_remove_by (λ (u : UserRow). bytes_eq u.user user) (rows_of es) else with_row (row_of user c) (rows_of es)) (sym n)
 
-  active_cases : (c : Bool) (v : V) (e : List ℕ × V) (es rest : List (List ℕ × V)) → nat_le 1 (active v) ≡ true → nat_le 1 (active e.1) && all_active es ≡ true → (all_active es ≡ true → all_active rest ≡ true) →
-      all_active (if c then (e.0, v) ∷ es else e ∷ rest) ≡ true
-  active_cases true v e es rest h a f = grind (arith, nat_tests, h, a)
-  active_cases false v e es rest h a f = both (nat_le 1 (active e.1)) (all_active es) (all_active rest) a f
-    where
-      both : (x y z : Bool) → x && y ≡ true → (y ≡ true → z ≡ true) → x && z ≡ true
-      both true y z h g = g h
-      both false y z h g = absurd (cc h)
-
-  pub active_put : (user : List ℕ) (v : V) (es : List (List ℕ × V)) → nat_le 1 (active v) ≡ true → all_active es ≡ true → all_active (insert_entry same_text es user v) ≡ true
-  active_put user v [] h a = ap (λ c. c && true) h
-  active_put user v (e ∷ es) h a = active_cases (same_text user e.0) v e es (insert_entry same_text es user v) h a (active_put user v es h)
-
-  found_active : (c : Bool) (e : List ℕ × V) (v : V) (o : Option V) (all : Bool) → cond c (Some e.1) o ≡ Some v → nat_le 1 (active e.1) && all ≡ true → (all ≡ true → o ≡ Some v → 1 ≤ active v) → 1 ≤ active v
-  found_active true e v o all h a f = let k : e.1 ≡ v = cc in let l = ap active k in grind (arith, nat_tests, a, l)
-  found_active false e v o all h a f = f (rest (nat_le 1 (active e.1)) all a) h
-    where
-      rest : (x y : Bool) → x && y ≡ true → y ≡ true
-      rest true y g = g
-      rest false y g = absurd (cc g)
-
-  pub lookup_active : (test : List ℕ → Bool) (es : List (List ℕ × V)) (v : V) → all_active es ≡ true → lookup test es ≡ Some v → 1 ≤ active v
-  lookup_active test [] v a h = absurd (cc)
-  lookup_active test (e ∷ es) v a h = found_active (test e.0) e v (lookup test es) (all_active es) h a (λ b g. lookup_active test es v b g)
-
-  swapped_active : (es : List (List ℕ × V)) (i : ℕ) (e : List ℕ × V) → nat_le 1 (active e.1) ≡ true → all_active es ≡ true → all_active (swap_remove es i e) ≡ true
-  swapped_active es i e h a =
-      let p : List ℕ × V → Bool = λ x. nat_le 1 (active x.1) in
-      let all = AllPass-from_list_all p es a in
-      list_all-from_AllPass p (swap_remove es i e) (All-take (λ x. p x ≡ true) (length es - 1) (set es i (get_or es (length es - 1) e)) (All-set (λ x. p x ≡ true) es i (get_or es (length es - 1) e) (last_active es (length es - 1) e h a) all))
-    where
-      last_active : (xs : List (List ℕ × V)) (n : ℕ) (d : List ℕ × V) → nat_le 1 (active d.1) ≡ true → all_active xs ≡ true → nat_le 1 (active (get_or xs n d).1) ≡ true
-      last_active [] n d g b = g
-      last_active (x ∷ xs) zero d g b = one (nat_le 1 (active x.1)) (all_active xs) b
-        where
-          one : (y z : Bool) → y && z ≡ true → y ≡ true
-          one true z k = refl
-          one false z k = k
-      last_active (x ∷ xs) (suc n) d g b = last_active xs n d g (rest (nat_le 1 (active x.1)) (all_active xs) b)
-        where
-          rest : (y z : Bool) → y && z ≡ true → z ≡ true
-          rest true z k = k
-          rest false z k = absurd (cc k)
-
-  removed_active : (o : Option ℕ) (es : List (List ℕ × V)) (e : List ℕ × V) → nat_le 1 (active e.1) ≡ true → all_active es ≡ true → all_active (option_map_or (λ i. swap_remove es i e) o es) ≡ true
-  removed_active None es e h a = a
-  removed_active (Some i) es e h a = swapped_active es i e h a
-
-  pub active_removed : (test : List ℕ → Bool) (es : List (List ℕ × V)) → all_active es ≡ true → all_active (swap_remove_entry test es) ≡ true
-  active_removed test [] a = a
-  active_removed test (e ∷ es) a = removed_active (position test (keys_of (e ∷ es))) (e ∷ es) e (first (nat_le 1 (active e.1)) (all_active es) a) a
-    where
-      first : (y z : Bool) → y && z ≡ true → y ≡ true
-      first true z k = refl
-      first false z k = k
+pub uncounted-entries : (user : List ℕ) (c : Count) (es es' : List (List ℕ × Count)) → is_nothing c ≡ true → es' ≡ swap_remove_entry (same_text user) es → rows_of es' ≡ with_count user c (rows_of es)
+uncounted-entries user c es es' n e = ap rows_of e ∙ removed-entries user es ∙ ap (λ b. if b then swap_remove_by (λ (u : UserRow). bytes_eq u.user user) (rows_of es) else with_row (row_of user c) (rows_of es)) (sym n)

@@ -1,6 +1,8 @@
 pub mod Branch
+pub mod Count
 pub mod Finding
 pub mod Growth
+pub mod Limits
 pub mod Measure
 pub mod Paths
 pub mod Queue

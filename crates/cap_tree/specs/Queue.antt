@@ -1,11 +1,13 @@
 -- What a queue holds, and its changes.
-use Rattle.std.specs.Prelude.{◌≡◌, ℕ, ◌+◌, ◌-◌, ◌≤◌, Bool, ◌==◌, if◌then◌else◌, bytes_eq, find, List, [], ◌∷◌, Option, Some, None, unwrap_or, sum_by}
+use Rattle.std.specs.Prelude.{◌≡◌, ℕ, ◌≤◌, Bool, if◌then◌else◌, bytes_eq, find, List, [], ◌∷◌, Option, Some, None, sum_by}
 use Rattle.std.specs.Option.{option_map_or}
 use Rattle.indexmap.specs.IndexMap.{swap_remove_by}
-use Rattle.cap_vector.specs.Vector.{amount, less, zeros, Fits}
+use Rattle.cap_vector.specs.Vector.{amount, exchanged, zeros, Fits}
+use Rattle.cap_model.specs.Admission.{fits_maximum, fits_user_limit}
 use Rattle.cap_model.specs.Settings.{QueueRow}
 use Rattle.cap_model.specs.Flat.{name_of}
 use Rattle.cap_tree.specs.Measure.{Measure}
+use Rattle.cap_tree.specs.Count.{Count, of_count, nothing, is_nothing, count_moved}
 
 -- a user of a leaf: name, use, number of active applications
 pub record UserRow : Type 0 where
@@ -25,13 +27,17 @@ pub record Queue : Type 0 where
   pub users : List UserRow
 
 -- what is counted of a queue, and of one of its users
+abbrev pub queue_count : Queue → Count
+queue_count q = record { used = q.used; active = q.active }
+
 abbrev pub of_queue : Queue → Measure → ℕ
-of_queue q (Measure.uses k) = amount q.used k
-of_queue q Measure.active = q.active
+of_queue q = of_count (queue_count q)
+
+abbrev pub user_count : UserRow → Count
+user_count u = record { used = u.used; active = u.active }
 
 abbrev pub of_user : Measure → UserRow → ℕ
-of_user (Measure.uses k) u = amount u.used k
-of_user Measure.active u = u.active
+of_user m u = of_count (user_count u) m
 
 -- of all its users together
 abbrev pub of_users : Queue → Measure → ℕ
@@ -50,43 +56,22 @@ abbrev pub with_row : UserRow → List UserRow → List UserRow
 with_row row [] = row ∷ []
 with_row row (u ∷ us) = if bytes_eq u.user row.user then row ∷ us else u ∷ with_row row us
 
--- a user with nothing
-abbrev pub no_row : ℕ → List ℕ → UserRow
-no_row K user = record { user = user; used = zeros K; active = 0 }
+-- the count in a user's row, nothing where there is none
+abbrev pub count_in : ℕ → Option UserRow → Count
+count_in K row = option_map_or user_count row (nothing K)
 
--- the users after one more application of a user has entered
-abbrev pub users_entered : ℕ → List ℕ → List UserRow → List UserRow
-users_entered K user us =
-    let row = unwrap_or (user_row user us) (no_row K user) in
-    with_row (record row { active = row.active + 1 }) us
+-- the users with that count for one of them, who has no row where it is nothing
+abbrev pub with_count : List ℕ → Count → List UserRow → List UserRow
+with_count user c us =
+    if is_nothing c then swap_remove_by (λ u. bytes_eq u.user user) us else with_row (record { user = user; used = c.used; active = c.active }) us
 
--- after one application of a user has left: the row goes with the last
-abbrev pub users_left : List ℕ → List UserRow → List UserRow
-users_left user us =
-    option_map_or (λ row. if row.active == 1 then swap_remove_by (λ u. bytes_eq u.user user) us else with_row (record row { active = row.active - 1 }) us) (user_row user us) us
+-- a queue after the move of a part of what is below it, or of a user in it
+abbrev pub moved_above : Count → Count → Queue → Queue
+moved_above old new q = let c = count_moved old new (queue_count q) in record q { used = c.used; active = c.active }
 
--- after a user has given some of its use back
-abbrev pub users_lowered : List ℕ → List ℕ → List UserRow → List UserRow
-users_lowered user r us = option_map_or (λ row. with_row (record row { used = less row.used r }) us) (user_row user us) us
-
--- a queue after these, above the leaf and as the leaf
-abbrev pub entered_above : Queue → Queue
-entered_above q = record q { active = q.active + 1 }
-
-abbrev pub entered_at : ℕ → List ℕ → Queue → Queue
-entered_at K user q = record q { active = q.active + 1; users = users_entered K user q.users }
-
-abbrev pub left_above : Queue → Queue
-left_above q = record q { active = q.active - 1 }
-
-abbrev pub left_at : List ℕ → Queue → Queue
-left_at user q = record q { active = q.active - 1; users = users_left user q.users }
-
-abbrev pub lowered_above : List ℕ → Queue → Queue
-lowered_above r q = record q { used = less q.used r }
-
-abbrev pub lowered_at : List ℕ → List ℕ → Queue → Queue
-lowered_at user r q = record q { used = less q.used r; users = users_lowered user r q.users }
+abbrev pub moved_at : ℕ → List ℕ → Count → Count → Queue → Queue
+moved_at K user old new q =
+    record (moved_above old new q) { users = with_count user (count_moved old new (count_in K (user_row user q.users))) q.users }
 
 abbrev pub with_running : Bool → Queue → Queue
 with_running running q = record q { running = running }
@@ -103,7 +88,14 @@ MayGive r (Some row) = Fits r row.used
 
 -- the use in a user's row, 0 of each where there is none
 abbrev pub use_of : ℕ → Option UserRow → List ℕ
-use_of K row = option_map_or (λ u. u.used) row (zeros K)
+use_of K row = (count_in K row).used
+
+-- whether a queue stays within its maximum, and a user within the user limit of a leaf, with old taken away and new added
+abbrev pub stays_in_maximum : List ℕ → List ℕ → Queue → Bool
+stays_in_maximum old new q = fits_maximum q.maximum (exchanged old new q.used)
+
+abbrev pub stays_in_user_limit : ℕ → List ℕ → List ℕ → List ℕ → Queue → Bool
+stays_in_user_limit K user old new q = fits_user_limit q.factor q.guaranteed (exchanged old new (use_of K (user_row user q.users)))
 
 -- nothing is in a queue
 pub record IsUnused (K : ℕ) (q : Queue) : Type 0 where

@@ -9,8 +9,10 @@ use Rattle.cap_model.specs.Listing.{IsListing}
 use Rattle.cap_tree.specs.Finding.{IsStart}
 use Rattle.cap_tree.specs.declared.found.Found.{Found}
 use Rattle.cap_tree.specs.declared.found.Found.TheVariants.{Leaf, Parent, Missing}
-use Rattle.cap_tree.specs.Spot.{Spot, first_of, leads_to, item_at, path_at, IsPlace}
-use Rattle.cap_tree.specs.Queue.{Queue, UserRow, user_row, entered_above, entered_at, left_above, left_at, lowered_above, lowered_at, with_running}
+use Rattle.cap_tree.specs.Spot.{Spot, first, first_of, leads_to, item_at, path_at, IsPlace}
+use Rattle.cap_tree.specs.Measure.{Measure, HasRoom, most}
+use Rattle.cap_tree.specs.Count.{Count, of_count, nothing, one_application, use_alone}
+use Rattle.cap_tree.specs.Queue.{Queue, UserRow, of_queue, user_row, moved_above, moved_at, with_running}
 
 -- a row: the queue's place, its dotted path, and what it holds
 abbrev pub Row : Type 0
@@ -38,17 +40,23 @@ abbrev pub changed_at : (Queue → Queue) → (Queue → Queue) → List ℕ →
 changed_at above at path r =
     if bytes_eq r.path path then record r { item = at r.item } else (if is_under r.path path then record r { item = above r.item } else r)
 
--- after one more application of a user has entered the leaf of that path
+-- after a part of a user's count in the leaf of that path has moved
+abbrev pub moved : ℕ → List ℕ → List ℕ → Count → Count → Row → Row
+moved K path user old new = changed_at (moved_above old new) (moved_at K user old new) path
+
+-- after one more application of the user has entered there, after one has left, and after some of the user's use is given back
 abbrev pub entered : ℕ → List ℕ → List ℕ → Row → Row
-entered K path user = changed_at entered_above (entered_at K user) path
+entered K path user = moved K path user (nothing K) (one_application K)
 
--- after an application of a user has left it
-abbrev pub left : List ℕ → List ℕ → Row → Row
-left path user = changed_at left_above (left_at user) path
+abbrev pub left : ℕ → List ℕ → List ℕ → Row → Row
+left K path user = moved K path user (one_application K) (nothing K)
 
--- after a user has given some of its use there back
-abbrev pub lowered : List ℕ → List ℕ → List ℕ → Row → Row
-lowered path user r = changed_at (lowered_above r) (lowered_at user r) path
+abbrev pub lowered : ℕ → List ℕ → List ℕ → List ℕ → Row → Row
+lowered K path user r = moved K path user (use_alone r) (nothing K)
+
+-- after the use of a user there has changed from old to new
+abbrev pub applied : ℕ → List ℕ → List ℕ → List ℕ → List ℕ → Row → Row
+applied K path user old new = moved K path user (use_alone old) (use_alone new)
 
 -- with the queue's own state
 abbrev pub with_state : List ℕ → Bool → Row → Row
@@ -62,9 +70,21 @@ user_row_at place user rows = option_map_or (λ q. user_row user q.users) (item_
 abbrev pub active_in : List Row → ℕ
 active_in rows = first_of (λ q. q.active) rows
 
+-- where a part of what is counted at the root moves, it grows no more, or stays within the most
+abbrev pub HasRoomAtRoot : Count → Count → List Row → Type 0
+HasRoomAtRoot old new rows = (m : Measure) → HasRoom (first_of (λ q. of_queue q m) rows) (of_count old m) (of_count new m) (most m)
+
 -- what is used at the queue of a place
 abbrev pub used_at : List ℕ → List Row → List ℕ
 used_at place rows = option_map_or (λ q. q.used) (item_at place rows) []
+
+-- what is used in all
+abbrev pub root_use : List Row → List ℕ
+root_use rows = option_map_or (λ q. q.used) (first rows) []
+
+-- the rows on the way from the root to a path
+abbrev pub rows_to : List ℕ → List Row → List Row
+rows_to path rows = filter (λ r. is_under r.path path) rows
 
 -- whether the queue of that path, and each above it, runs
 abbrev pub is_running : List Row → List ℕ → Bool

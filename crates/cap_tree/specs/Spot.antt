@@ -1,6 +1,7 @@
 -- A tree as a list: each item before those under it, with its place, the child indexes that lead to it, and its dotted path.
-use Rattle.std.specs.Prelude.{◌≡◌, ℕ, suc, ◌+◌, ◌≤◌, Bool, true, false, cond, ◌&&◌, ◌==◌, bytes_eq, Option, Some, None, List, [], ◌∷◌, ◌++◌, map, filter, length, refl, take}
-use Rattle.std.specs.List.{list_all, list_any}
+use Rattle.std.specs.Prelude.{◌≡◌, ℕ, suc, ◌+◌, ◌≤◌, Bool, true, false, cond, ◌&&◌, ◌==◌, bytes_eq, Option, Some, None, List, [], ◌∷◌, ◌++◌, map, filter, not, position, length, refl, take}
+use Rattle.std.specs.Option.{option_map_or}
+use Rattle.std.specs.List.{list_any}
 use Rattle.std.specs.Coded.{Coded, code_by, coded×, coded_ℕ, coded_list}
 use Rattle.std.proofs.Common.{arith, length-append}
 use Rattle.std.proofs.lemmas.List.{length-map}
@@ -54,9 +55,13 @@ module _ {T : Type 0} where
   abbrev pub has_below : List ℕ → List (Spot T) → Bool
   has_below place ss = list_any (λ s. leads_below place s.place) ss
 
-  -- whether all items on the way to the place pass the test
-  abbrev pub all_along : (T → Bool) → List ℕ → List (Spot T) → Bool
-  all_along test place ss = list_all (λ s. test s.item) (filter (λ s. leads_to s.place place) ss)
+  -- the spots on the way to the place, from level 0 on
+  abbrev pub along : List ℕ → List (Spot T) → List (Spot T)
+  along place ss = filter (λ s. leads_to s.place place) ss
+
+  -- the first of the spots, counted from 0, whose item does not pass the test
+  abbrev pub first_failing : (T → Bool) → List (Spot T) → Option ℕ
+  first_failing test ss = position (λ s. not (test s.item)) ss
 
   -- the spot as it is seen one level up, where it is under child i
   abbrev pub under : List ℕ → ℕ → Spot T → Spot T
@@ -71,10 +76,13 @@ module _ {T : Type 0} where
   abbrev pub spots : (T → List ℕ) → T → List (List (Spot T)) → List (Spot T)
   spots name item kids = record { place = []; path = name item; item = item } ∷ below (name item) 0 kids
 
-  -- of the first spot
+  -- the first item, and a number of it
+  abbrev pub first : List (Spot T) → Option T
+  first [] = None
+  first (s ∷ ss) = Some s.item
+
   abbrev pub first_of : (T → ℕ) → List (Spot T) → ℕ
-  first_of f [] = 0
-  first_of f (s ∷ ss) = f s.item
+  first_of f ss = option_map_or f (first ss) 0
 
   -- what is at the queue of that place: at its item, and along at those above it
   abbrev pub change_along : (T → T) → (T → T) → List ℕ → Spot T → Spot T

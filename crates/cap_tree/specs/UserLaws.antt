@@ -7,7 +7,8 @@ use Rattle.std.proofs.lemmas.Bool.Decides.{nat_tests}
 use Rattle.std.proofs.lemmas.List.Sums.{sum_by-cons, sum_by-swap_remove}
 use Rattle.std.proofs.lemmas.Slice.Eq.{bytes_eq-Decides}
 use Rattle.indexmap.specs.IndexMap.{swap_remove_by}
-use Rattle.cap_tree.specs.Queue.{UserRow, user_row, with_row}
+use Rattle.cap_tree.specs.Count.{Count, nothing, is_nothing}
+use Rattle.cap_tree.specs.Queue.{UserRow, user_row, user_count, count_in, with_count, with_row}
 
 -- where a row is
 pub record IsPlacedAt (i : ℕ) (us : List UserRow) (u : UserRow) : Type 0 where
@@ -56,6 +57,22 @@ pub sum-new : (f : UserRow → ℕ) (row : UserRow) (us : List UserRow) → user
 sum-new f row [] h = omega (arith, sum_by-cons f row [])
 sum-new f row (x ∷ us) h = sum_new_cases (bytes_eq x.user row.user) f row x us (with_row row us) h (sum-new f row us)
 
+-- where no row passes, none goes
+first_is_none : (t : UserRow → Bool) (us : List UserRow) → find t us ≡ None → position_or_len t us ≡ length us
+first_is_none t [] h = refl
+first_is_none t (x ∷ us) h = by (t x) h (first_is_none t us)
+  where
+    by : (c : Bool) → cond c (Some x) (find t us) ≡ None → (find t us ≡ None → position_or_len t us ≡ length us) → cond (not c) (1 + position_or_len t us) 0 ≡ suc (length us)
+    by true h r = absurd (cc)
+    by false h r = let l = r h in omega (arith, l)
+
+pub removed_none : (t : UserRow → Bool) (us : List UserRow) → find t us ≡ None → swap_remove_by t us ≡ us
+removed_none t [] h = refl
+removed_none t (x ∷ us) h =
+    let n = first_is_none t (x ∷ us) h in
+    let past : nat_lt (position_or_len t (x ∷ us)) (length (x ∷ us)) ≡ false = grind (arith, nat_tests, n) in
+    ap (λ c. option_map_or (λ i. swap_remove (x ∷ us) i x) (cond c (Some (position_or_len t (x ∷ us))) None) (x ∷ us)) past
+
 -- a row is the user's, and counts among all
 row_cases : (c : Bool) (user : List ℕ) (x u : UserRow) (o : Option UserRow) → cond c (Some x) o ≡ Some u → (c ≡ true → x.user ≡ user) → (o ≡ Some u → u.user ≡ user) → u.user ≡ user
 row_cases true user x u o h f g = let e : x ≡ u = cc in sym (ap (λ r. r.user) e) ∙ f refl
@@ -72,3 +89,22 @@ counted_cases false f x u us o h g = omega (arith, g h, sum_by-cons f x us)
 pub row_counts : (f : UserRow → ℕ) (user : List ℕ) (us : List UserRow) (u : UserRow) → user_row user us ≡ Some u → f u ≤ sum_by f us
 row_counts f user [] u h = absurd (cc)
 row_counts f user (x ∷ us) u h = counted_cases (bytes_eq x.user user) f x u us (user_row user us) h (row_counts f user us u)
+
+-- a count takes the place of a user's own in what counts nothing where nothing is
+abbrev pub row_for : List ℕ → Count → UserRow
+row_for user c = record { user = user; used = c.used; active = c.active }
+
+sum_with_cases : (f : UserRow → ℕ) (K : ℕ) (user : List ℕ) (c : Count) (us : List UserRow) (o : Option UserRow) (b : Bool) → user_row user us ≡ o → f (row_for user (nothing K)) ≡ 0 → (b ≡ true → f (row_for user c) ≡ 0) →
+    sum_by f (if b then swap_remove_by (λ (u : UserRow). bytes_eq u.user user) us else with_row (row_for user c) us) + f (row_for user (count_in K o)) ≡ sum_by f us + f (row_for user c)
+sum_with_cases f K user c us None true e z h = let s = ap (sum_by f) (removed_none (λ (u : UserRow). bytes_eq u.user user) us e) in omega (arith, s, z, h refl)
+sum_with_cases f K user c us None false e z h = omega (arith, sum-new f (row_for user c) us e, z)
+sum_with_cases f K user c us (Some u) true e z h =
+    let own = ap (λ x. f (row_for x (user_count u))) (row_is_users user us u e) in
+    omega (arith, sum-removed f (λ (u : UserRow). bytes_eq u.user user) u us e, own, h refl)
+sum_with_cases f K user c us (Some u) false e z h =
+    let own = ap (λ x. f (row_for x (user_count u))) (row_is_users user us u e) in
+    omega (arith, sum-put f (row_for user c) u us e, own)
+
+pub sum-with_count : (f : UserRow → ℕ) (K : ℕ) (user : List ℕ) (c : Count) (us : List UserRow) → f (row_for user (nothing K)) ≡ 0 → (is_nothing c ≡ true → f (row_for user c) ≡ 0) →
+    sum_by f (with_count user c us) + f (row_for user (count_in K (user_row user us))) ≡ sum_by f us + f (row_for user c)
+sum-with_count f K user c us z h = sum_with_cases f K user c us (user_row user us) (is_nothing c) refl z h

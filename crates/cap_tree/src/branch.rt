@@ -1,8 +1,8 @@
 //! A tree of items, seen as a list of its spots.
-ghost use Rattle.std.specs.Prelude.{◌≡◌, ◌+◌, ◌-◌, ◌≤◌, ◌∷◌, [], ℕ, List, Some, Bool, true, IfOk, OnOk, OnErr, map, length};
+ghost use Rattle.std.specs.Prelude.{◌≡◌, ◌+◌, ◌-◌, ◌≤◌, ◌∷◌, [], ℕ, List, Some, Bool, IfSome, IfOk, OnOk, OnErr, map, length};
 ghost use Rattle.std.specs.List.{All};
 ghost use Rattle.cap_tree.specs.Measure.{Measure, HasRoom, most};
-ghost use Rattle.cap_tree.specs.Spot.{HoldsOfItem, IsAdded, IsPlace, all_along, change_along, first_of, has_below, item_at, spots};
+ghost use Rattle.cap_tree.specs.Spot.{HoldsOfItem, IsAdded, IsPlace, along, change_along, first, first_failing, first_of, has_below, item_at, spots};
 ghost use Rattle.cap_tree.specs.Finding.{IsFound, IsStart, is_parent};
 ghost use Rattle.cap_tree.specs.Branch.{IsBranch};
 
@@ -178,7 +178,7 @@ impl<T: Held + Drop, A: Allocator + Copy> Branch<T, A> {
 
     /// The item of the root.
     pub fn item(&self) -> &T
-        ensures { (m : Measure) → first_of (λ x. T.stored x m) self.now ≡ T.stored result.now m }
+        ensures { first self.now ≡ Some result.now }
     {
         &self.item
     }
@@ -197,19 +197,23 @@ impl<T: Held + Drop, A: Allocator + Copy> Branch<T, A> {
         }
     }
 
-    /// Whether the items on the way that the steps lead all pass the test.
-    pub fn all_along<C: Test<T>>(&self, steps: &[u32], test: &C) -> bool
+    /// The least level on the way that the steps lead, from the root as level 0, whose item does not pass the test.
+    pub fn first_failing<C: Test<T>>(&self, steps: &[u32], test: &C) -> Option<usize>
         requires { IsPlace self.now steps.now }
-        ensures { result ≡ all_along (C.passes test.now) steps.now self.now }
+        ensures level { result ≡ first_failing (C.passes test.now) (along steps.now self.now) }
+        ensures within { IfSome result (λ level. level ≤ length steps.now) }
     {
         if !test.passes(&self.item) {
-            return false;
+            return Some(0);
         }
         match steps {
-            [] => true,
+            [] => None,
             [i, rest @ ..] => {
                 let child = &self.children[*i as usize];
-                child.all_along(rest, test)
+                match child.first_failing(rest, test) {
+                    None => None,
+                    Some(level) => Some(level + 1),
+                }
             }
         }
     }

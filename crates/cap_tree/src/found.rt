@@ -13,7 +13,7 @@ pub enum Kind {
     Parent,
 }
 
-/// What stands at a dotted path.
+/// What is found at a dotted path.
 #[derive(Drop)]
 pub enum Found<A: Allocator> {
     /// A queue without children.

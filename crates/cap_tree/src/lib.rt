@@ -3,10 +3,13 @@
 
 mod branch;
 mod change;
+mod count;
 mod found;
+mod limits;
 mod queue;
 mod tree;
 
 pub use found::{Found, Path};
+pub use limits::OverLimit;
 pub use queue::Queue;
 pub use tree::QueueTree;

@@ -1,22 +1,27 @@
 //! The tree of queues, seen as the list of its rows.
-ghost use Rattle.std.specs.Prelude.{◌≡◌, ◌<◌, ◌++◌, ◌∷◌, [], map, None, Some, IfOk, OnOk, OnErr};
+ghost use Rattle.std.specs.Prelude.{◌≡◌, ◌<◌, ◌++◌, ◌∷◌, [], map, None, Some, IfErr, IfOk, OnOk, OnErr};
 ghost use Rattle.std.specs.List.{All};
+ghost use Rattle.cap_vector.specs.Vector.{IsWithin, exchanged, sum_max};
 ghost use Rattle.cap_model.specs.Limits.{number_end};
 ghost use Rattle.cap_model.specs.Bounds.{depth};
 ghost use Rattle.cap_tree.specs.Finding.{IsStart};
 ghost use Rattle.cap_tree.specs.Growth.{IsGrowing};
+ghost use Rattle.cap_tree.specs.Limits.{over_limit};
 ghost use Rattle.cap_tree.specs.Paths.{TreeFitsInMemory};
-ghost use Rattle.cap_tree.specs.Queue.{IsUnused, MayGive, MayLeave, use_of};
-ghost use Rattle.cap_tree.specs.Rows.{AreRows, FindsQueue, active_in, entered, is_running, left, lowered, queues_of, used_at, user_row_at, with_state};
+ghost use Rattle.cap_tree.specs.Count.{IsPart};
+ghost use Rattle.cap_tree.specs.Queue.{IsUnused, MayGive, MayLeave, count_in, use_of};
+ghost use Rattle.cap_tree.specs.Rows.{AreRows, FindsQueue, HasRoomAtRoot, active_in, applied, entered, is_running, left, lowered, moved, queues_of, root_use, used_at, user_row_at, with_state};
 ghost use Rattle.cap_tree.specs.Spot.{HoldsOfItem, IsPlace, item_at, path_at};
 
 use crate::branch::Branch;
-use crate::change::{Enter, GiveBack, Leave, Running, SetState};
+use crate::change::{Move, Running, SetState};
+use crate::count::Part;
 use crate::found::{Found, Kind, Path};
+use crate::limits::{InMaximum, OverLimit};
 use crate::queue::Queue;
 use cap_config::{Config, QueueRow};
 use cap_model::{NoMemory, ShortText};
-use cap_vector::{Resource, Sum};
+use cap_vector::{Resource, Sum, fits_exchanged};
 use smallvec::SmallVec;
 use std::alloc::Allocator;
 use std::marker::Model;
@@ -41,7 +46,7 @@ impl<const K: usize, A: Allocator> Model for QueueTree<K, A> {
 }
 
 impl<const K: usize, A: Allocator + Copy> QueueTree<K, A> {
-    /// The tree of the settings' queues, with nothing in it. Only want of memory is an error.
+    /// The tree of the settings' queues, with nothing in it. An error means that an allocation failed.
     pub fn from_config(alloc: A, config: &Config<K>) -> Result<QueueTree<K, A>, NoMemory>
         requires { TreeFitsInMemory K.row A.row A.Allocator }
         ensures queues { IfOk result (λ tree. queues_of tree ≡ config.now.queues) }
@@ -65,18 +70,12 @@ impl<const K: usize, A: Allocator + Copy> QueueTree<K, A> {
         })
     }
 
-    /// What holds of the rows of every tree: each path stands once and each queue before those under it, at most 15 levels
-    /// under the root, and a place leads to another exactly where the path is the other's or begins it before a dot. It does
-    /// nothing.
-    pub fn rows_are_a_tree(&self)
-        ensures { AreRows self.now }
-    {
-        let _ = &self.root;
-    }
-
-    /// What stands at a dotted path. It takes no memory, and looks only at the queues on the way and at their siblings.
+    /// What is found at a dotted path. It takes no memory, and looks only at the queues on the way and at their siblings. And what
+    /// is true of every tree: each path is there once and each queue before those under it, at most 15 levels under the root, and a
+    /// place leads to another exactly where the path is the other's or begins it before a dot.
     pub fn find(&self, path: &[u8]) -> Found<A>
-        ensures { FindsQueue path.now self.now result }
+        ensures found { FindsQueue path.now self.now result }
+        ensures rows { AreRows self.now }
     {
         let mut place = SmallVec::new(*self.start.allocator());
         match self.root.find(path, &mut place) {
@@ -91,7 +90,7 @@ impl<const K: usize, A: Allocator + Copy> QueueTree<K, A> {
         requires { IsPlace self.now path.now.items }
         ensures { result ≡ is_running self.now (path_at path.now.items self.now) }
     {
-        self.root.all_along(path.as_slice(), &Running)
+        self.root.first_failing(path.as_slice(), &Running).is_none()
     }
 
     /// Sets the queue's own state, and nothing else.
@@ -105,6 +104,23 @@ impl<const K: usize, A: Allocator + Copy> QueueTree<K, A> {
         };
     }
 
+    /// Takes an old part away from what is counted of a user in the leaf, of the leaf and of each queue above it, and adds a new
+    /// one. `NoMemory` changes nothing, and comes only where the user has no row.
+    fn change(&mut self, path: &Path<A>, change: &Move<'_, K>) -> Result<(), NoMemory>
+        requires place { IsPlace self.old path.now.items }
+        requires fits { IsPart change.now.old (count_in K (user_row_at path.now.items change.now.user.now self.old)) }
+        requires within { HasRoomAtRoot change.now.old change.now.new self.old }
+        ensures ok { OnOk result (self.new ≡ map (moved K (path_at path.now.items self.old) change.now.user.now change.now.old change.now.new) self.old) }
+        ensures err { OnErr result (self.new ≡ self.old) }
+        ensures absent { OnErr result (user_row_at path.now.items change.now.user.now self.old ≡ None) }
+    {
+        match self.root.change(path.as_slice(), change) {
+            Ok(()) => {}
+            Err(NoMemory) => return Err(NoMemory),
+        }
+        Ok(())
+    }
+
     /// One more application of the user becomes active in the leaf: it counts there, at each queue above, and for the user.
     /// `NoMemory` changes nothing, and comes only where the user has no application there yet.
     pub fn enter(&mut self, path: &Path<A>, user: &ShortText) -> Result<(), NoMemory>
@@ -114,20 +130,26 @@ impl<const K: usize, A: Allocator + Copy> QueueTree<K, A> {
         ensures err { OnErr result (self.new ≡ self.old) }
         ensures absent { OnErr result (user_row_at path.now.items user.now self.old ≡ None) }
     {
-        match self.root.change(path.as_slice(), &Enter { user }) {
-            Ok(()) => {}
-            Err(NoMemory) => return Err(NoMemory),
-        }
-        Ok(())
+        let change = Move {
+            user,
+            old: Part::nothing(),
+            new: Part::application(),
+        };
+        self.change(path, &change)
     }
 
-    /// One application of the user in the leaf is active no more: it goes from the leaf, from each queue above and from the
-    /// user, whose row goes with the last.
+    /// One application of the user in the leaf is active no more: it counts neither there nor at the queues above nor for the user,
+    /// who has no row any more after the last.
     pub fn leave(&mut self, path: &Path<A>, user: &ShortText)
         requires { MayLeave (user_row_at path.now.items user.now self.old) }
-        ensures { self.new ≡ map (left (path_at path.now.items self.old) user.now) self.old }
+        ensures { self.new ≡ map (left K (path_at path.now.items self.old) user.now) self.old }
     {
-        let Ok(()) = self.root.change(path.as_slice(), &Leave { user }) else {
+        let change = Move {
+            user,
+            old: Part::application(),
+            new: Part::nothing(),
+        };
+        let Ok(()) = self.change(path, &change) else {
             unreachable!()
         };
     }
@@ -136,12 +158,60 @@ impl<const K: usize, A: Allocator + Copy> QueueTree<K, A> {
     /// the user falls by it.
     pub fn give_back(&mut self, path: &Path<A>, user: &ShortText, r: &Resource<K>)
         requires { MayGive r.now (user_row_at path.now.items user.now self.old) }
-        ensures { self.new ≡ map (lowered (path_at path.now.items self.old) user.now r.now) self.old }
+        ensures { self.new ≡ map (lowered K (path_at path.now.items self.old) user.now r.now) self.old }
     {
-        let change = GiveBack { user, r };
-        let Ok(()) = self.root.change(path.as_slice(), &change) else {
+        let change = Move {
+            user,
+            old: Part::use_alone(r),
+            new: Part::nothing(),
+        };
+        let Ok(()) = self.change(path, &change) else {
             unreachable!()
         };
+    }
+
+    /// The user's use in the leaf changes from `old` to `new`, in MiB and vcores: `old` is taken away and `new` added, at the leaf,
+    /// at each queue above and for the user. It takes no memory.
+    pub fn apply(&mut self, path: &Path<A>, user: &ShortText, old: &Resource<K>, new: &Resource<K>)
+        requires may { MayGive old.now (user_row_at path.now.items user.now self.old) }
+        requires within { IsWithin sum_max (exchanged old.now new.now (root_use self.old)) }
+        ensures { self.new ≡ map (applied K (path_at path.now.items self.old) user.now old.now new.now) self.old }
+    {
+        let change = Move {
+            user,
+            old: Part::use_alone(old),
+            new: Part::use_alone(new),
+        };
+        let Ok(()) = self.change(path, &change) else {
+            unreachable!()
+        };
+    }
+
+    /// Whether the user's use in the leaf may change from `old` to `new`, in MiB and vcores: with `old` taken away and `new` added,
+    /// the use of each queue from `root` down to the leaf is within its maximum, and the user's within the user limit of the leaf.
+    /// The error is the first of these limits that would be passed.
+    pub fn accept(
+        &self,
+        path: &Path<A>,
+        user: &ShortText,
+        old: &Resource<K>,
+        new: &Resource<K>,
+    ) -> Result<(), OverLimit>
+        requires { IsPlace self.now path.now.items }
+        ensures ok { OnOk result (over_limit K path.now.items user.now old.now new.now self.now ≡ None) }
+        ensures err { IfErr result (λ e. over_limit K path.now.items user.now old.now new.now self.now ≡ Some e) }
+    {
+        let test = InMaximum { old, new };
+        let steps = path.as_slice();
+        if let Some(level) = self.root.first_failing(steps, &test) {
+            return Err(OverLimit::Maximum { level });
+        }
+        let leaf = self.root.get(steps);
+        let (used, capacity) = (leaf.user_use(user), leaf.guaranteed());
+        if !fits_exchanged(&used, old, new, leaf.factor(), &capacity) {
+            return Err(OverLimit::User);
+        }
+        Ok(())
     }
 
     /// How many applications are active in all.
@@ -149,6 +219,13 @@ impl<const K: usize, A: Allocator + Copy> QueueTree<K, A> {
         ensures { result ≡ active_in self.now }
     {
         self.root.item().active()
+    }
+
+    /// What is used in all, in MiB and vcores.
+    pub fn used(&self) -> Sum<K>
+        ensures { result ≡ root_use self.now }
+    {
+        self.root.item().used()
     }
 
     /// The queue.

@@ -1,10 +1,10 @@
 -- The amounts of a sum and of a difference, for lists of any lengths.
-use Rattle.std.proofs.Common.{inl, inr, ◌≡◌, ℕ, zero, suc, ◌+◌, ◌-◌, ◌≤◌, ◌<◌, List, [], ◌∷◌, length, get_or, refl, sym, ◌∙◌, arith, true}
-use Rattle.std.specs.Prelude.{nat_le, min}
+use Rattle.std.proofs.Common.{inl, inr, ◌≡◌, ℕ, zero, suc, ◌+◌, ◌-◌, ◌*◌, ◌≤◌, ◌<◌, List, [], ◌∷◌, length, get_or, refl, sym, ◌∙◌, arith, true}
+use Rattle.std.specs.Prelude.{nat_le, min, ◌==◌}
 use Rattle.std.proofs.lemmas.List.{ext_get_or, get_or_past}
 use Rattle.std.proofs.lemmas.List.FromFn.{length-map-range_with_len, get_or-map-range_with_len}
-use Rattle.std.proofs.lemmas.Bool.{cases_lt, and_parts, leb-true, le-leb}
-use Rattle.cap_vector.specs.Vector.{plus, less, amount, IsWithin, is_within}
+use Rattle.std.proofs.lemmas.Bool.{cases_lt, and_parts, eqb-true, leb-true, le-leb}
+use Rattle.cap_vector.specs.Vector.{plus, less, exchanged, amount, zeros, is_zero, FitsTimes, IsWithin, is_within}
 use Rattle.cap_vector.specs.Rounding.{raised, round_up}
 
 pub amount-plus : (a b : List ℕ) (k : ℕ) → get_or (plus a b) k 0 ≡ get_or a k 0 + get_or b k 0
@@ -33,6 +33,19 @@ length-less [] b = refl
 length-less (x ∷ a) [] = refl
 length-less (x ∷ a) (y ∷ b) = let r : length (less a b) ≡ length a = length-less a b in omega arith
 
+pub amount-exchanged : (old new v : List ℕ) (k : ℕ) → amount (exchanged old new v) k ≡ (amount v k - amount old k) + amount new k
+amount-exchanged old new v k = omega (arith, amount-plus (less v old) new k, amount-less v old k)
+
+pub amount-zeros : (n k : ℕ) → amount (zeros n) k ≡ 0
+amount-zeros zero k = refl
+amount-zeros (suc n) zero = refl
+amount-zeros (suc n) (suc k) = amount-zeros n k
+
+pub amount-is_zero : (v : List ℕ) (k : ℕ) → is_zero v ≡ true → amount v k ≡ 0
+amount-is_zero [] k h = refl
+amount-is_zero (x ∷ v) zero h = eqb-true x 0 ((and_parts (x == 0) (is_zero v) h).0)
+amount-is_zero (x ∷ v) (suc k) h = amount-is_zero v k ((and_parts (x == 0) (is_zero v) h).1)
+
 -- a list of the amounts of the sum is the sum
 pub is_plus : (a b r : List ℕ) (n : ℕ) → length a ≡ n → length b ≡ n → length r ≡ n →
     ((k : ℕ) → k < n → get_or r k 0 ≡ get_or a k 0 + get_or b k 0) → r ≡ plus a b
@@ -47,12 +60,28 @@ is_less a b r n ha hr each =
     let hl = length-less a b in
     ext_get_or 0 r (less a b) (omega arith) (λ k h. each k (omega arith) ∙ sym (amount-less a b k))
 
+-- a list of the amounts after an exchange is the vector after it
+pub is_exchanged : (old new a r : List ℕ) (n : ℕ) → length a ≡ n → length new ≡ n → length r ≡ n →
+    ((k : ℕ) → k < n → get_or r k 0 ≡ (get_or a k 0 - get_or old k 0) + get_or new k 0) → r ≡ exchanged old new a
+is_exchanged old new a r n ha hn hr each =
+    is_plus (less a old) new r n (length-less a old ∙ ha) hn hr (λ k h. omega (arith, each k h, amount-less a old k))
+
 -- only the amounts that a list has count for its bound
 pub within_below : (bound : ℕ) (v : List ℕ) → ((k : ℕ) → k < length v → get_or v k 0 ≤ bound) → IsWithin bound v
 within_below bound v each k =
     elim (cases_lt k (length v)) [
       | inl h ↦ each k h
       | inr h ↦ omega (arith, get_or_past v k 0 h)
+    ]
+
+-- and what is exchanged for so many times another vector
+pub exchanged_fits : (old new a most : List ℕ) (factor n : ℕ) → length a ≡ n → length new ≡ n →
+    ((k : ℕ) → k < n → (amount a k - amount old k) + amount new k ≤ factor * amount most k) → FitsTimes (exchanged old new a) factor most
+exchanged_fits old new a most factor n ha hn each k =
+    let long = length-plus (less a old) new (length-less a old ∙ ha ∙ sym hn) in
+    elim (cases_lt k n) [
+      | inl h ↦ omega (arith, each k h, amount-exchanged old new a k)
+      | inr h ↦ omega (arith, get_or_past (exchanged old new a) k 0 (omega (arith, h, long, length-less a old)))
     ]
 
 -- the test of a bound, and what it says

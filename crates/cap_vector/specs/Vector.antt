@@ -1,5 +1,5 @@
 -- Vectors of amounts, as lists of numbers. A component that a list lacks counts as 0, so no definition here has a condition on lengths.
-use Rattle.std.specs.Prelude.{◌≡◌, ℕ, ◌+◌, ◌-◌, ◌≤◌, List, [], ◌∷◌, length, slice_index, replicate, map, Bool, ◌==◌, nat_le}
+use Rattle.std.specs.Prelude.{◌≡◌, ℕ, ◌+◌, ◌-◌, ◌*◌, ◌≤◌, List, [], ◌∷◌, length, slice_index, replicate, map, Bool, ◌==◌, nat_le}
 use Rattle.std.specs.List.{list_all, range_with_len}
 
 -- the greatest amount of a resource vector, and of a sum of use
@@ -33,6 +33,10 @@ IsSum k v = IsVector k sum_max v
 abbrev pub Fits : List ℕ → List ℕ → Type 0
 Fits a b = (k : ℕ) → amount a k ≤ amount b k
 
+-- each amount of a is at most so many times that of b
+abbrev pub FitsTimes : List ℕ → ℕ → List ℕ → Type 0
+FitsTimes a factor b = (k : ℕ) → amount a k ≤ factor * amount b k
+
 -- whether each amount is at most the bound
 abbrev pub is_within : ℕ → List ℕ → Bool
 is_within bound v = list_all (λ x. nat_le x bound) v
@@ -60,3 +64,7 @@ unfoldable pub less : List ℕ → List ℕ → List ℕ
 less [] b = []
 less (x ∷ a) [] = x ∷ a
 less (x ∷ a) (y ∷ b) = (x - y) ∷ less a b
+
+-- with old taken away and new added
+abbrev pub exchanged : List ℕ → List ℕ → List ℕ → List ℕ
+exchanged old new v = plus (less v old) new

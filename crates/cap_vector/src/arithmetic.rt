@@ -1,5 +1,5 @@
-ghost use Rattle.std.specs.Prelude.{◌≡◌, ℕ, ◌+◌, ◌-◌, ◌↔◌, ◌≤◌, IfSome, IsSome, IsTrue, length};
-ghost use Rattle.cap_vector.specs.Vector.{Fits, IsVector, plus, less, amount_max};
+ghost use Rattle.std.specs.Prelude.{◌≡◌, ℕ, ◌+◌, ◌-◌, ◌⊎◌, ◌↔◌, ◌≤◌, IfSome, IsSome, IsTrue, length};
+ghost use Rattle.cap_vector.specs.Vector.{Fits, FitsTimes, IsVector, amount, exchanged, plus, less, amount_max};
 ghost use Rattle.cap_vector.specs.Rounding.{raised, round_up};
 
 use crate::vector::{Amounts, Resource};
@@ -54,6 +54,44 @@ pub fn minus<const K: usize, const A: u64, const B: u64>(
         amounts[k] = a.amounts[k].saturating_sub(b.amounts[k]);
     }
     Amounts { amounts }
+}
+
+/// `a` with `old` taken away and `new` added, amount by amount. An amount either falls or stays within the bound of `a`.
+pub fn exchanged<const K: usize, const A: u64, const B: u64>(
+    a: &Amounts<K, A>,
+    old: &Amounts<K, B>,
+    new: &Amounts<K, B>,
+) -> Amounts<K, A>
+    requires fits { Fits old.now a.now }
+    requires within { (k : ℕ) → (amount new.now k ≤ amount old.now k) ⊎ ((amount a.now k - amount old.now k) + amount new.now k ≤ A) }
+    ensures { result ≡ exchanged old.now new.now a.now }
+{
+    let mut amounts = [0; K];
+    for k in 0..K {
+        amounts[k] = a.amounts[k].saturating_sub(old.amounts[k]) + new.amounts[k];
+    }
+    Amounts { amounts }
+}
+
+/// Whether each amount of `used`, with `old` taken away and `new` added, is at most so many times that of `most`. No number is
+/// rounded or cut.
+pub fn fits_exchanged<const K: usize, const A: u64, const B: u64>(
+    used: &Amounts<K, A>,
+    old: &Amounts<K, B>,
+    new: &Amounts<K, B>,
+    factor: u64,
+    most: &Amounts<K, B>,
+) -> bool
+    ensures { IsTrue result ↔ FitsTimes (exchanged old.now new.now used.now) factor most.now }
+{
+    for k in 0..K {
+        let left = used.amounts[k].saturating_sub(old.amounts[k]);
+        let after = left as u128 + new.amounts[k] as u128;
+        if after > factor as u128 * most.amounts[k] as u128 {
+            return false;
+        }
+    }
+    true
 }
 
 /// Each amount raised to the least multiple of `step` that is at least it and at least `step`, and then cut to `most`. A

@@ -4,5 +4,5 @@
 mod arithmetic;
 mod vector;
 
-pub use arithmetic::{checked_add, fits, minus, round_up};
+pub use arithmetic::{checked_add, exchanged, fits, fits_exchanged, minus, round_up};
 pub use vector::{AMOUNT_MAX, Amounts, Resource, SUM_MAX, Sum};

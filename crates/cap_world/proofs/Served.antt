@@ -5,8 +5,8 @@ use Rattle.cap_model.specs.declared.request.Request.{Request}
 use Rattle.cap_model.specs.declared.reply.Reply.{Reply}
 use Rattle.cap_model.specs.declared.event.Event.{Event}
 use Rattle.cap_model.specs.Flat.{Flat}
-use Rattle.cap_model.specs.Runs.{Replies}
-use Rattle.cap_model.specs.Runs.{Run}
+use Rattle.cap_model.specs.Replies.{Replies}
+use Rattle.cap_model.specs.Events.{Run}
 use Rattle.cap_frames.specs.Stream.{frame_of, fault, IsStream}
 use Rattle.cap_frames.specs.History.{History, after_gift, IsAtFault, IsReading}
 use Rattle.cap_messages.specs.Spelling.{IsRequest, IsNoRequest, kind_of, reply_bytes, fault_reply}

@@ -4,7 +4,6 @@ use Rattle.std.specs.List.{filter_map}
 use Rattle.cap_model.specs.declared.request.Request.{Request}
 use Rattle.cap_model.specs.declared.reply.Reply.{Reply}
 use Rattle.cap_model.specs.declared.event.Event.{Event}
-use Rattle.cap_model.specs.declared.event.Event.TheVariants as events
 use Rattle.cap_frames.specs.Stream.{frame_of, Tail, rest, fault}
 use Rattle.cap_messages.specs.Spelling.{IsRequest, IsNoRequest, kind_of, reply_bytes, fault_reply}
 
@@ -30,7 +29,7 @@ abbrev pub IsAnswered : List (List ℕ) → Tail → List Call → List ℕ → 
 IsAnswered payloads tail calls output = (frames : List ℕ) × Answers payloads calls frames × (output ≡ frames ++ tail_answer tail)
 
 abbrev pub call_event : ℕ → Request 2 → Reply 2 → Event 2
-call_event by request reply = events.Call by request reply
+call_event by request reply = Event.Call by request reply
 
 -- the calls as events of the connection
 abbrev pub as_events : ℕ → List Call → List (Event 2)
@@ -38,7 +37,9 @@ as_events by calls = map (λ call. call_event by call.request call.reply) calls
 
 -- the call of an event, where it is the connection's
 abbrev pub call_by : ℕ → Event 2 → Option Call
-call_by c (events.Call by request reply) = if by == c then Some (record { request = request; reply = reply }) else None
+call_by c (Event.Call by request reply) = if by == c then Some (record { request = request; reply = reply }) else None
+call_by c (Event.Grant container) = None
+call_by c (Event.Reserve reservation) = None
 
 -- the connection's calls among the events, in order
 abbrev pub calls_by : ℕ → List (Event 2) → List Call

@@ -2,7 +2,7 @@
 use Rattle.std.specs.Prelude.{◌≡◌, ◌⊎◌, ℕ, List, [], ◌∷◌, ◌++◌, Option, Some, None, Bool, true, false, ◌==◌, if◌then◌else◌, take, slice_get, MatchBool}
 use Rattle.cap_model.specs.declared.event.Event.{Event}
 use Rattle.cap_model.specs.Flat.{Flat}
-use Rattle.cap_model.specs.Runs.{Run}
+use Rattle.cap_model.specs.Events.{Run}
 use Rattle.cap_frames.specs.Stream.{Tail, rest, fault, IsStream}
 use Rattle.cap_world.specs.declared.step.Step.{Step}
 use Rattle.cap_world.specs.declared.step.Step.TheVariants as steps

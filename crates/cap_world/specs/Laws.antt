@@ -1,13 +1,11 @@
 -- Laws of worlds: what else holds of every run of them.
-use Rattle.std.specs.Prelude.{◌≡◌, ℕ, ◌≤◌, ◌==◌, List, Some, ◌++◌, map, count_by}
+use Rattle.std.specs.Prelude.{◌≡◌, ℕ, ◌≤◌, ◌==◌, List, Some, ◌++◌, count_by}
 use Rattle.cap_model.specs.declared.event.Event.{Event}
 use Rattle.cap_model.specs.Settings.{Settings}
 use Rattle.cap_model.specs.Flat.{Flat, opened}
 use Rattle.cap_model.specs.Bounds.{IsBounded, IsRising}
-use Rattle.cap_model.specs.Events.{ever_granted, ever_ended}
+use Rattle.cap_model.specs.Events.{ever_granted, ever_ended, Run}
 use Rattle.cap_model.specs.EngineLaws.{numbers_of}
-use Rattle.cap_model.specs.Messages.{as_event}
-use Rattle.cap_model.specs.Runs.{Run}
 use Rattle.cap_config.specs.First.{settings_in}
 use Rattle.cap_world.specs.declared.step.Step.{Step}
 use Rattle.cap_world.specs.World.{Sight}
@@ -23,8 +21,8 @@ WorldsStayBounded =
 abbrev pub ContainersAreUsedOnce : Type 0
 ContainersAreUsedOnce =
     (opening : Flat 2) (steps : List Step) (done : ℕ) (events : List (Event 2)) (sight : Sight) → IsBounded opening → IsHeadline opening steps done events sight →
-    IsRising opening.nodes.next_container (numbers_of (ever_granted (map as_event events))) sight.cluster.nodes.next_container
-    × ((n : ℕ) → count_by (λ c. c.number == n) (ever_ended opening (map as_event events)) ≤ 1)
+    IsRising opening.nodes.next_container (numbers_of (ever_granted events)) sight.cluster.nodes.next_container
+    × ((n : ℕ) → count_by (λ c. c.number == n) (ever_ended opening events) ≤ 1)
 
 -- The cluster that the settings of a text open is bounded.
 abbrev pub OpeningsAreBounded : Type 0

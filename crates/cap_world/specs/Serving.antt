@@ -2,7 +2,7 @@
 use Rattle.std.specs.Prelude.{◌≡◌, ◌⊎◌, ℕ, List, [], ◌++◌, false}
 use Rattle.cap_model.specs.declared.event.Event.{Event}
 use Rattle.cap_model.specs.Flat.{Flat}
-use Rattle.cap_model.specs.Runs.{Run}
+use Rattle.cap_model.specs.Events.{Run}
 use Rattle.cap_frames.specs.Stream.{Tail, rest, fault, IsStream}
 use Rattle.cap_frames.specs.History.{History}
 use Rattle.cap_world.specs.declared.session.Standing.{Standing}

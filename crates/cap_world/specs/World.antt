@@ -5,8 +5,9 @@ use Rattle.std.specs.Map.{lookup}
 use Rattle.std.specs.Global.{Vec}
 use Rattle.cap_model.specs.declared.event.Event.{Event}
 use Rattle.cap_model.specs.Settings.{Settings}
+use Rattle.cap_commit.specs.Held.{Held}
 use Rattle.cap_model.specs.Flat.{Flat, opened}
-use Rattle.cap_model.specs.Runs.{Run}
+use Rattle.cap_model.specs.Events.{Run}
 use Rattle.cap_world.specs.Answers.{Call, calls_by}
 use Rattle.cap_world.specs.Connection.{Connection, HasAnswers, is_open_standing}
 
@@ -77,6 +78,6 @@ abbrev pub nothing : Settings
 nothing = record { queues = []; minimum_allocation = []; maximum_allocation = []; application_limit = 0 }
 
 -- the first entry is the opening
-abbrev pub opening_of : List (Flat 2 × ℕ) → Flat 2
+abbrev pub opening_of : List (Held 2 × ℕ) → Flat 2
 opening_of [] = opened nothing
-opening_of (x ∷ xs) = x.0
+opening_of (x ∷ xs) = x.0.flat

@@ -89,8 +89,8 @@ pub(crate) fn feed(
     events: &mut Vec<Event<2>>,
 ) -> Result<Did, NoMemory>
     ensures { Outcome (Step.Bytes number piece.entry) result
-        (record { cluster = cluster.old; connections = connections.old.entries })
-        (record { cluster = cluster.new; connections = connections.new.entries }) events.old.items events.new.items }
+        (record { cluster = cluster.old.flat; connections = connections.old.entries })
+        (record { cluster = cluster.new.flat; connections = connections.new.entries }) events.old.items events.new.items }
 {
     if !is_open(connections, number) {
         return Ok(Did::Idle);
@@ -110,7 +110,7 @@ fn feed_open(
     events: &mut Vec<Event<2>>,
 ) -> Standing
     requires { is_open_connection (connection_at number connections.old.entries) ≡ true }
-    ensures { Fed number piece.now result connections.old.entries connections.new.entries cluster.old cluster.new events.old.items events.new.items }
+    ensures { Fed number piece.now result connections.old.entries connections.new.entries cluster.old.flat cluster.new.flat events.old.items events.new.items }
 {
     match connections.get_mut(&number) {
         Some(session) => {

@@ -19,9 +19,9 @@ impl World {
     /// Makes the steps in order, up to the first that is refused memory.
     pub fn run(alloc: Global, opening: Cluster<2>, steps: &[Step]) -> Outcome
         ensures done { result.done ≤ length steps.now }
-        ensures opening { result.world.opening ≡ opening }
+        ensures opening { result.world.opening ≡ opening.flat }
         ensures events { result.world.events ≡ result.events.items }
-        ensures headline { IsHeadline opening steps.now result.done result.events.items result.world.sight }
+        ensures headline { IsHeadline opening.flat steps.now result.done result.events.items result.world.sight }
     {
         let mut world = World::open(alloc, opening);
         let mut events = Vec::new(alloc);

@@ -1,6 +1,6 @@
 ghost use Rattle.std.specs.Prelude.{◌≡◌, ◌≤◌, ◌+◌, ◌<◌, [], ◌∷◌, ◌++◌, ℕ, List, OnOk, OnErr, length, vec_len, vec_capacity, false};
 ghost use Rattle.cap_model.specs.declared.reply.Reply.{Reply};
-ghost use Rattle.cap_model.specs.Runs.{Replies};
+ghost use Rattle.cap_model.specs.Replies.{Replies};
 ghost use Rattle.cap_frames.specs.Stream.{frame_of};
 ghost use Rattle.cap_messages.specs.Spelling.{kind_of, reply_bytes, fault_reply};
 ghost use Rattle.cap_world.specs.Answers.{call_event};
@@ -30,7 +30,7 @@ pub(crate) fn serve(
     events: &mut Vec<Event<2>>,
 ) -> Standing
     requires { framer.old.is_spent ≡ false }
-    ensures { IsServed by result framer.old framer.new cluster.old cluster.new events.old.items events.new.items output.old.items output.new.items }
+    ensures { IsServed by result framer.old framer.new cluster.old.flat cluster.new.flat events.old.items events.new.items output.old.items output.new.items }
 {
     loop {
         match framer.next() {
@@ -67,8 +67,8 @@ fn answer(
     events: &mut Vec<Event<2>>,
 ) -> Result<(), AllocError>
     ensures ok { OnOk result ((frames : List ℕ) × (output.new.items ≡ output.old.items ++ frames)
-        × Serves by (payload.now ∷ []) cluster.old cluster.new events.old.items events.new.items frames) }
-    ensures err { OnErr result ((output.new.items ≡ output.old.items) × (events.new.items ≡ events.old.items) × (cluster.new ≡ cluster.old)) }
+        × Serves by (payload.now ∷ []) cluster.old.flat cluster.new.flat events.old.items events.new.items frames) }
+    ensures err { OnErr result ((output.new.items ≡ output.old.items) × (events.new.items ≡ events.old.items) × (cluster.new.flat ≡ cluster.old.flat)) }
 {
     match read_request(alloc, payload) {
         Ok((call_id, request)) => {
@@ -100,7 +100,7 @@ fn perform(
     requires room { REPLY_ROOM ≤ room.old.spare }
     requires output { REPLY_ROOM ≤ output.old.spare }
     requires events { vec_len events.old < vec_capacity events.old }
-    ensures { (reply : Reply 2) × Replies cluster.old request reply cluster.new
+    ensures { (reply : Reply 2) × Replies cluster.old.flat request reply cluster.new.flat
         × (output.new.items ≡ output.old.items ++ frame_of (reply_bytes call_id (kind_of request) reply))
         × (events.new.items ≡ events.old.items ++ call_event by request reply ∷ []) }
 {

@@ -89,7 +89,7 @@ impl Session {
         events: &mut Vec<Event<2>>,
     )
         requires { self.old.standing ≡ Standing.Open }
-        ensures { Feeds by piece.now cluster.old cluster.new events.old.items events.new.items self.old self.new }
+        ensures { Feeds by piece.now cluster.old.flat cluster.new.flat events.old.items events.new.items self.old self.new }
     {
         match self.framer.feed(piece) {
             Ok(()) => {}

@@ -27,15 +27,15 @@ impl Model for World {
 
     ghost Value = { Known };
 
-    ghost view = { λ w. record { opening = opening_of w.opening.items; events = events_of w.events.items; sight = record { cluster = w.cluster; connections = w.connections.entries } } };
+    ghost view = { λ w. record { opening = opening_of w.opening.items; events = events_of w.events.items; sight = record { cluster = w.cluster.flat; connections = w.connections.entries } } };
 
-    ghost invariant = { λ w. IsLawful (opening_of w.opening.items) (events_of w.events.items) (record { cluster = w.cluster; connections = w.connections.entries }) };
+    ghost invariant = { λ w. IsLawful (opening_of w.opening.items) (events_of w.events.items) (record { cluster = w.cluster.flat; connections = w.connections.entries }) };
 }
 
 impl World {
     /// A world with no connection over the cluster. It takes no memory.
     pub fn open(alloc: Global, cluster: Cluster<2>) -> World
-        ensures { result ≡ start cluster }
+        ensures { result ≡ start cluster.flat }
     {
         let opening = Log::new().and(&cluster, &0);
         World {
@@ -49,7 +49,7 @@ impl World {
 
     /// The cluster.
     pub fn cluster(&self) -> &Cluster<2>
-        ensures { result.now ≡ self.now.sight.cluster }
+        ensures { result.now.flat ≡ self.now.sight.cluster }
     {
         &self.cluster
     }
@@ -99,8 +99,8 @@ fn act(
     events: &mut Vec<Event<2>>,
 ) -> Result<Did, NoMemory>
     ensures { Outcome step.entry result
-        (record { cluster = cluster.old; connections = connections.old.entries })
-        (record { cluster = cluster.new; connections = connections.new.entries }) events.old.items events.new.items }
+        (record { cluster = cluster.old.flat; connections = connections.old.entries })
+        (record { cluster = cluster.new.flat; connections = connections.new.entries }) events.old.items events.new.items }
 {
     match step {
         Step::Open(c) => connections::open(alloc, connections, c),

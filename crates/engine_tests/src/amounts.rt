@@ -1,4 +1,4 @@
-use cap_vector::{Resource, Sum, checked_add, fits, minus, round_up};
+use cap_vector::{Resource, Sum, checked_add, exchanged, fits, fits_exchanged, minus, round_up};
 
 const MOST: u64 = 1_099_511_627_776;
 
@@ -85,6 +85,53 @@ fn what_fits_is_taken_away(rt: HostRuntime) {
     assert!(rt; left([8192, 8], [3072, 1]) == Some([5120, 7]));
     assert!(rt; left([MOST, 6], [3072, 1]) == Some([MOST - 3072, 5]));
     assert!(rt; left([3072, 1], [8192, 1]).is_none());
+}
+
+/// What a use is where a part of it falls to another.
+fn changed(used: [u64; 2], old: [u64; 2], new: [u64; 2]) -> Option<[u64; 2]> {
+    let (used, old, new) = (sum(used), resource(old), resource(new));
+    if fits(&old, &used) && fits(&new, &old) {
+        Some(exchanged(&used, &old, &new).amounts())
+    } else {
+        None
+    }
+}
+
+#[test]
+fn amounts_are_exchanged(rt: HostRuntime) {
+    for (used, old, new, answer) in [
+        ([8192, 8], [3072, 2], [1024, 1], Some([6144, 7])),
+        ([2 * MOST, 8], [MOST, 8], [MOST, 0], Some([2 * MOST, 0])),
+        ([3072, 1], [3072, 2], [1024, 1], None),
+    ] {
+        assert!(rt; changed(used, old, new) == answer, "{used:?}");
+    }
+}
+
+/// Whether a use fits so many times a vector of amounts, with a part of it taken away and another added.
+fn fits_times(used: [u64; 2], old: u64, new: u64, factor: u64, most: [u64; 2]) -> bool {
+    let (old, new) = (resource([old, 0]), resource([new, 0]));
+    fits_exchanged(&sum(used), &old, &new, factor, &resource(most))
+}
+
+#[test]
+fn amounts_fit_so_many_times_others(rt: HostRuntime) {
+    for (used, old, new, factor, most, answer) in [
+        ([2048, 2], 0, 1024, 1, [3072, 2], true),
+        ([2048, 2], 0, 1025, 1, [3072, 2], false),
+        ([2048, 2], 1024, 2048, 1, [3072, 2], true),
+        ([2048, 2], 0, 0, 1, [3072, 1], false),
+        ([2048, 2], 0, 1024, 2, [2048, 1], true),
+        ([2048, 2], 0, 0, 0, [2048, 2], false),
+        ([2048, 2], 4096, 1024, 1, [1024, 2], true),
+        ([2 * MOST, 0], 0, MOST, 3, [MOST, 0], true),
+        ([2 * MOST, 0], 0, MOST, 2, [MOST, 0], false),
+        ([2 * MOST, 0], 0, MOST, u64::MAX, [1, 0], true),
+        ([2 * MOST, 0], 0, MOST, u64::MAX, [MOST, 0], true),
+    ] {
+        let given = fits_times(used, old, new, factor, most);
+        assert!(rt; given == answer, "{used:?} {old} {new} {factor}");
+    }
 }
 
 #[test]

@@ -1,4 +1,4 @@
-use cap_asks::Apps;
+use cap_asks::{Apps, Position};
 use cap_model::{Ask, Cause, End, Grant, Key, NUMBER_END, PathText, ShortText};
 use cap_testing::first;
 use cap_vector::Resource;
@@ -25,20 +25,20 @@ enum Change {
     Finish(u64),
 }
 
-fn submit(apps: &mut Apps<2>, path: &str) -> Option<()> {
+fn submit(alloc: Global, apps: &mut Apps<2>, path: &str) -> Option<()> {
     let leaf = PathText::new(path.as_bytes())?;
     let user = ShortText::new(b"u1")?;
     if apps.next() >= NUMBER_END {
         return None;
     }
-    let _number = apps.submit(&leaf, &user).ok()?;
+    let _number = apps.submit(&leaf, Position::new(alloc), &user).ok()?;
     Some(())
 }
 
 fn an_ask(priority: u32, request: u64, count: u32) -> Option<Ask<2>> {
     let resource = Resource::new([1024, 1])?;
     Some(Ask::new(
-        &Key::new(priority, request),
+        &Key { priority, request },
         count,
         &resource,
         &ShortText::any(),
@@ -56,9 +56,21 @@ fn put(apps: &mut Apps<2>, priority: u32, request: u64, count: u32) -> Option<()
 fn grant(apps: &mut Apps<2>, container: u64) -> Option<()> {
     let resource = Resource::new([1024, 1])?;
     let host = ShortText::new(b"h1")?;
-    let grant = Grant::new(container, &Key::new(1, 1), 7, &host, &resource);
-    let _app = apps.app(1)?;
-    apps.room(1, 0, 1, 0).ok()?;
+    let grant = Grant::new(
+        container,
+        &Key {
+            priority: 1,
+            request: 1,
+        },
+        7,
+        &host,
+        &resource,
+    );
+    let live = apps.app(1)?.live();
+    if live >= 65_535 {
+        return None;
+    }
+    apps.room(1, 0, 1, live as usize + 1).ok()?;
     apps.add_grant(1, &grant);
     Some(())
 }
@@ -71,19 +83,26 @@ fn grant_all(apps: &mut Apps<2>, count: u64) -> Option<()> {
 }
 
 fn end(apps: &mut Apps<2>, container: u64) -> Option<()> {
-    let _app = apps.app(1)?;
-    apps.room(1, 0, 0, 1).ok()?;
-    apps.add_end(1, &End::new(container, Cause::NodeLost));
+    if apps.app(1)?.live() == 0 {
+        return None;
+    }
+    apps.add_end(
+        1,
+        &End {
+            container,
+            cause: Cause::NodeLost,
+        },
+    );
     Some(())
 }
 
-fn make(apps: &mut Apps<2>, change: Change) -> Option<()> {
+fn make(alloc: Global, apps: &mut Apps<2>, change: Change) -> Option<()> {
     match change {
         Change::Reserve => apps.reserve().ok(),
-        Change::Submit(path) => submit(apps, path),
+        Change::Submit(path) => submit(alloc, apps, path),
         Change::Register(number) => Some(apps.register(number)),
         Change::Ask(priority, request, count) => put(apps, priority, request, count),
-        Change::TakeOne(priority, request) => Some(apps.take_one(1, &Key::new(priority, request))),
+        Change::TakeOne(priority, request) => Some(apps.take_one(1, &Key { priority, request })),
         Change::Grants(count) => grant_all(apps, count),
         Change::End(container) => end(apps, container),
         Change::Tell(ignored) => Some(apps.tell(1, ignored)),
@@ -95,7 +114,7 @@ fn make(apps: &mut Apps<2>, change: Change) -> Option<()> {
 fn after(alloc: Global, changes: &[Change]) -> Option<Apps<2>> {
     let mut apps = Apps::new(alloc);
     for change in changes {
-        make(&mut apps, *change)?;
+        make(alloc, &mut apps, *change)?;
     }
     Some(apps)
 }
@@ -174,7 +193,7 @@ fn ask_at(alloc: Global, changes: &[Change], index: usize) -> Option<(u32, u64, 
     let app = apps.app(1)?;
     let ask = app.asks().get(index)?;
     let key = ask.key();
-    Some((key.priority(), key.request(), ask.count()))
+    Some((key.priority, key.request, ask.count()))
 }
 
 #[test]
@@ -195,7 +214,7 @@ fn asks_stand_in_order_of_key(rt: HostRuntime) {
 /// How many containers are wanted for a key after all changes of the asks.
 fn wanted(alloc: Global, priority: u32, request: u64) -> Option<u32> {
     let apps = after(alloc, &ASKS)?;
-    let ask = apps.app(1)?.ask(&Key::new(priority, request))?;
+    let ask = apps.app(1)?.ask(&Key { priority, request })?;
     Some(ask.count())
 }
 
@@ -245,6 +264,20 @@ fn reply(alloc: Global, changes: &[Change]) -> Option<(u32, u16, usize, usize)> 
         reply.grants.len(),
         reply.ends.len(),
     ))
+}
+
+/// How many containers of application 1 are live.
+fn live(alloc: Global, changes: &[Change]) -> Option<u32> {
+    let apps = after(alloc, changes)?;
+    Some(apps.app(1)?.live())
+}
+
+#[test]
+fn granted_containers_are_live_until_they_end(rt: HostRuntime) {
+    for (made, answer) in [(1, 0), (2, 70), (3, 69), (5, 69)] {
+        let given = live(rt.alloc(), first(&NEWS, made));
+        assert!(rt; given == Some(answer), "{made}");
+    }
 }
 
 /// The first and the last container that the last reply grants.

@@ -1,4 +1,4 @@
-use cap_commit::Cluster;
+use cap_commit::{Cluster, Found};
 use cap_testing::{NESTED_QUEUES, cluster, first};
 use std::alloc::Global;
 
@@ -35,27 +35,32 @@ fn queues_are_those_of_the_settings(rt: HostRuntime) {
 }
 
 /// How many applications, containers and nodes a new cluster has, and whether any is found under the number 1.
-fn counts(alloc: Global) -> Option<(u32, u32, usize, bool)> {
+fn counts(alloc: Global) -> Option<(usize, usize, usize, bool)> {
     let cluster = cluster(alloc, NESTED_QUEUES)?;
-    let found = cluster.app(1).is_some() || cluster.node(1).is_some();
-    let live = cluster.container(1).is_some();
+    let (apps, nodes) = (cluster.apps(), cluster.nodes());
+    let found = apps.app(1).is_some() || nodes.node(1).is_some();
     Some((
-        cluster.application_count(),
-        cluster.container_count(),
-        cluster.node_count(),
-        found || live,
+        apps.count(),
+        nodes.live_count(),
+        nodes.count(),
+        found || nodes.container(1).is_some(),
     ))
 }
 
 /// What `root` and `root.b` of a new cluster use, the least and the most that a container may have, and the application limit.
 fn amounts(alloc: Global) -> Option<([[u64; 2]; 4], u64)> {
     let cluster = cluster(alloc, NESTED_QUEUES)?;
-    let (least, most) = (cluster.minimum_allocation(), cluster.maximum_allocation());
+    let limits = cluster.settings();
     let used = cluster.report(b"root.b")?.used.amounts();
     let used = [cluster.root_use().amounts(), used];
     Some((
-        [used[0], used[1], least.amounts(), most.amounts()],
-        cluster.application_limit(),
+        [
+            used[0],
+            used[1],
+            limits.minimum_allocation.amounts(),
+            limits.maximum_allocation.amounts(),
+        ],
+        limits.application_limit,
     ))
 }
 
@@ -66,11 +71,20 @@ fn a_new_cluster_is_empty(rt: HostRuntime) {
     assert!(rt; given == Some(([[0, 0], [0, 0], [1024, 1], [8192, 4]], 2)));
 }
 
+fn set_state(cluster: &mut Cluster<2>, path: &str, running: bool) -> Option<()> {
+    match cluster.tree().find(path.as_bytes()) {
+        Found::Leaf(position) => cluster.set_state(&position, running),
+        Found::Parent(position) => cluster.set_state(&position, running),
+        Found::Missing => return None,
+    }
+    Some(())
+}
+
 /// Whether a queue runs, once another was stopped or started.
 fn runs_after(alloc: Global, changes: &[(&str, bool)], path: &str) -> Option<bool> {
     let mut cluster = cluster(alloc, NESTED_QUEUES)?;
     for (changed, running) in changes {
-        cluster.set_state(changed.as_bytes(), *running);
+        set_state(&mut cluster, changed, *running)?;
     }
     let queue = cluster.report(path.as_bytes())?;
     Some(queue.running)

@@ -1,4 +1,4 @@
-//! Tests of the engine below messages: amounts, texts, settings, queues, applications, nodes and the cluster over them.
+//! Tests of the engine below messages: amounts, texts and their pieces, settings, queues, applications, nodes and the cluster over them.
 #![tactic(auto)]
 
 #[cfg(test)]
@@ -11,6 +11,8 @@ mod cluster;
 mod masters;
 #[cfg(test)]
 mod nodes;
+#[cfg(test)]
+mod pieces;
 #[cfg(test)]
 mod settings;
 #[cfg(test)]

@@ -19,8 +19,16 @@ fn with_master(alloc: Global) -> Option<Cluster<2>> {
 fn ask_for(alloc: Global, memory: u64) -> Option<Asks<2>> {
     let resource = Resource::new([memory, 1])?;
     let mut asks = Vec::new(alloc);
-    asks.push(Ask::new(&Key::new(1, 0), 2, &resource, &ShortText::any()))
-        .ok()?;
+    asks.push(Ask::new(
+        &Key {
+            priority: 1,
+            request: 0,
+        },
+        2,
+        &resource,
+        &ShortText::any(),
+    ))
+    .ok()?;
     Some(List::of(asks))
 }
 
@@ -36,7 +44,10 @@ fn allocated(alloc: Global, cluster: &mut Cluster<2>, memory: u64) -> Option<u32
 
 /// The memory of the ask that application 1 keeps.
 fn kept(cluster: &Cluster<2>) -> Option<u64> {
-    let ask = cluster.app(1)?.ask(&Key::new(1, 0))?;
+    let ask = cluster.apps().app(1)?.ask(&Key {
+        priority: 1,
+        request: 0,
+    })?;
     let [memory, _] = ask.resource().amounts();
     Some(memory)
 }

@@ -38,13 +38,23 @@ fn place(nodes: &mut Nodes<2>, app: u64, node: u64, resource: [u64; 2]) -> Optio
     {
         return None;
     }
-    let _number = nodes.place(app, &Key::new(1, 0), node, &resource).ok()?;
+    let _number = nodes
+        .place(
+            app,
+            &Key {
+                priority: 1,
+                request: 0,
+            },
+            node,
+            &resource,
+        )
+        .ok()?;
     Some(())
 }
 
 fn lift(nodes: &mut Nodes<2>, number: u64) -> Option<()> {
-    let _container = nodes.container(number)?;
-    nodes.lift(number);
+    let container = nodes.container(number)?;
+    nodes.lift(&container);
     Some(())
 }
 
@@ -196,12 +206,46 @@ fn containers_follow_one_another(rt: HostRuntime) {
     assert!(rt; given == Some(([1, 3, 0], [2, 0, 0])));
 }
 
+/// Six containers of applications 7 and 8 in turn, on two nodes of 4,096 MiB and 4 vcores, of which the third ends at last.
+const IN_TURN: [Change; 9] = [
+    Change::Register("h1", [4096, 4]),
+    Change::Register("h2", [4096, 4]),
+    Change::Place(7, 1, [1024, 1]),
+    Change::Place(8, 2, [1024, 1]),
+    Change::Place(7, 2, [1024, 1]),
+    Change::Place(8, 1, [1024, 1]),
+    Change::Place(7, 1, [1024, 1]),
+    Change::Place(8, 2, [1024, 1]),
+    Change::Lift(3),
+];
+
+/// The first three containers of an application, and the first three on a node.
+fn first_three(alloc: Global, made: usize, app: u64, node: u64) -> Option<([u64; 3], [u64; 3])> {
+    let nodes = after(alloc, first(&IN_TURN, made))?;
+    let (a, b) = (next_of_app(&nodes, app, 0), next_on_node(&nodes, node, 0));
+    let (c, d) = (next_of_app(&nodes, app, a), next_on_node(&nodes, node, b));
+    let (e, f) = (next_of_app(&nodes, app, c), next_on_node(&nodes, node, d));
+    Some(([a, c, e], [b, d, f]))
+}
+
+#[test]
+fn containers_of_others_and_ended_ones_are_passed_over(rt: HostRuntime) {
+    for (made, app, node, answer) in [
+        (8, 7, 1, ([1, 3, 5], [1, 4, 5])),
+        (8, 8, 2, ([2, 4, 6], [2, 3, 6])),
+        (9, 7, 2, ([1, 5, 0], [2, 6, 0])),
+    ] {
+        let given = first_three(rt.alloc(), made, app, node);
+        assert!(rt; given == Some(answer), "{made} {app}");
+    }
+}
+
 /// A container's number, application and node, the priority of its key, and its resource.
 fn container(alloc: Global, number: u64) -> Option<([u64; 3], u32, [u64; 2])> {
     let nodes = after(alloc, &THREE_CONTAINERS)?;
     let found = nodes.container(number)?;
     let of = [found.number(), found.app(), found.node()];
-    Some((of, found.key().priority(), found.resource().amounts()))
+    Some((of, found.key().priority, found.resource().amounts()))
 }
 
 #[test]
@@ -235,7 +279,7 @@ fn a_node_shows_what_it_is(rt: HostRuntime) {
 fn kept(nodes: &Nodes<2>) -> Option<(u32, u16, u32)> {
     let node = nodes.node(1)?;
     let kept = node.kept()?;
-    Some((node.response(), kept.ignored(), kept.live()))
+    Some((node.response(), kept.ignored, kept.live))
 }
 
 /// Whether node 1 takes a response id as a repeat, and whether as a bad one.

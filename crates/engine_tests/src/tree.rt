@@ -3,15 +3,19 @@ ghost use Rattle.cap_tree.specs.Spot.{IsPlace};
 use cap_config::read_config;
 use cap_model::ShortText;
 use cap_testing::{NESTED_QUEUES, first};
-use cap_tree::{Found, Path, QueueTree};
-use cap_vector::Resource;
+use cap_tree::{Found, OverLimit, Path, QueueTree};
+use cap_vector::{Resource, checked_add, fits, minus};
 use std::alloc::Global;
 
 type Tree = QueueTree<2, Global>;
 
-fn tree(alloc: Global) -> Option<Tree> {
-    let config = read_config(alloc, NESTED_QUEUES).ok()?;
+fn tree_of(alloc: Global, lines: &[u8]) -> Option<Tree> {
+    let config = read_config(alloc, lines).ok()?;
     QueueTree::from_config(alloc, &config).ok()
+}
+
+fn tree(alloc: Global) -> Option<Tree> {
+    tree_of(alloc, NESTED_QUEUES)
 }
 
 /// A change of the tree, at a queue of this path where its condition holds, and nothing else where it does not.
@@ -22,8 +26,10 @@ enum Change {
     Enter(&'static str, &'static str),
     /// One less.
     Leave(&'static str, &'static str),
-    /// The user gives 0 of each resource back.
-    GiveBack(&'static str, &'static str),
+    /// The user gives so much back.
+    GiveBack(&'static str, &'static str, [u64; 2]),
+    /// The user's use changes from the first amounts to the second.
+    Apply(&'static str, &'static str, [u64; 2], [u64; 2]),
 }
 
 /// The child index on the way to a queue at each level, as the digits of a number after a 1.
@@ -130,20 +136,57 @@ fn leave(tree: &mut Tree, path: &str, user: &str) -> Option<()> {
     }
 }
 
-fn give_back_at(tree: &mut Tree, place: &Path<Global>, user: &ShortText) -> Option<()>
+fn give_back_at(
+    tree: &mut Tree,
+    place: &Path<Global>,
+    user: &ShortText,
+    r: &Resource<2>,
+) -> Option<()>
     requires { IsPlace tree.old place.now.items }
 {
-    if tree.row(place).user_active(user) == 0 {
+    let active = tree.row(place).user_active(user);
+    let used = tree.user_use(place, user);
+    if active == 0 || !fits(r, &used) {
         return None;
     }
-    tree.give_back(place, user, &Resource::zero());
+    tree.give_back(place, user, r);
     Some(())
 }
 
-fn give_back(tree: &mut Tree, path: &str, user: &str) -> Option<()> {
+fn give_back(tree: &mut Tree, path: &str, user: &str, r: [u64; 2]) -> Option<()> {
     let user = ShortText::new(user.as_bytes())?;
+    let r = Resource::new(r)?;
     match tree.find(path.as_bytes()) {
-        Found::Leaf(place) => give_back_at(tree, &place, &user),
+        Found::Leaf(place) => give_back_at(tree, &place, &user, &r),
+        _ => None,
+    }
+}
+
+fn apply_at(
+    tree: &mut Tree,
+    place: &Path<Global>,
+    user: &ShortText,
+    old: &Resource<2>,
+    new: &Resource<2>,
+) -> Option<()>
+    requires { IsPlace tree.old place.now.items }
+{
+    let active = tree.row(place).user_active(user);
+    let used = tree.user_use(place, user);
+    let all = tree.used();
+    if active == 0 || !fits(old, &used) || !fits(old, &all) {
+        return None;
+    }
+    checked_add(&minus(&all, old), new)?;
+    tree.apply(place, user, old, new);
+    Some(())
+}
+
+fn apply(tree: &mut Tree, path: &str, user: &str, old: [u64; 2], new: [u64; 2]) -> Option<()> {
+    let user = ShortText::new(user.as_bytes())?;
+    let (old, new) = (Resource::new(old)?, Resource::new(new)?);
+    match tree.find(path.as_bytes()) {
+        Found::Leaf(place) => apply_at(tree, &place, &user, &old, &new),
         _ => None,
     }
 }
@@ -153,7 +196,8 @@ fn make(tree: &mut Tree, change: Change) -> Option<()> {
         Change::State(path, running) => Some(set_state(tree, path, running)),
         Change::Enter(path, user) => enter(tree, path, user),
         Change::Leave(path, user) => leave(tree, path, user),
-        Change::GiveBack(path, user) => give_back(tree, path, user),
+        Change::GiveBack(path, user, r) => give_back(tree, path, user, r),
+        Change::Apply(path, user, old, new) => apply(tree, path, user, old, new),
     }
 }
 
@@ -288,10 +332,141 @@ fn only_a_user_with_applications_leaves_and_gives_back(rt: HostRuntime) {
         (3, Change::Leave("root.a.x", "bob"), false),
         (3, Change::Leave("root.a.x", "ann"), true),
         (5, Change::Leave("root.a.x", "ann"), false),
-        (3, Change::GiveBack("root.a.x", "ann"), true),
-        (3, Change::GiveBack("root.a.x", "bob"), false),
+        (3, Change::GiveBack("root.a.x", "ann", [0, 0]), true),
+        (3, Change::GiveBack("root.a.x", "ann", [1, 0]), false),
+        (3, Change::GiveBack("root.a.x", "bob", [0, 0]), false),
     ] {
         assert!(rt; can(rt.alloc(), made, change) == Some(answer), "{made}");
+    }
+}
+
+/// `root.g` may grow to (3072, 3), and its leaf `r` to (512, 1). Nothing bounds `root`, `root.b` and the leaf `q` of `root.g`.
+const LIMITED_QUEUES: &[u8] = b"yarn.scheduler.capacity.root.queues=b,g
+yarn.scheduler.capacity.root.b.capacity=[memory=2048,vcores=8]
+yarn.scheduler.capacity.root.g.queues=q,r
+yarn.scheduler.capacity.root.g.capacity=[memory=3072,vcores=3]
+yarn.scheduler.capacity.root.g.maximum-capacity=[memory=3072,vcores=3]
+yarn.scheduler.capacity.root.g.q.capacity=[memory=1024,vcores=1]
+yarn.scheduler.capacity.root.g.q.user-limit-factor=4
+yarn.scheduler.capacity.root.g.r.capacity=[memory=512,vcores=1]
+yarn.scheduler.capacity.root.g.r.maximum-capacity=[memory=512,vcores=1]
+yarn.scheduler.capacity.root.g.r.user-limit-factor=9
+";
+
+/// Containers of `ann`: two in `root.g.q` and two in `root.b`; one in `root.g.q` grows and is given back.
+const CONTAINERS: [Change; 8] = [
+    Change::Enter("root.g.q", "ann"),
+    Change::Enter("root.b", "ann"),
+    Change::Apply("root.g.q", "ann", [0, 0], [1024, 1]),
+    Change::Apply("root.g.q", "ann", [0, 0], [1024, 1]),
+    Change::Apply("root.b", "ann", [0, 0], [1024, 1]),
+    Change::Apply("root.b", "ann", [0, 0], [1024, 1]),
+    Change::Apply("root.g.q", "ann", [1024, 1], [2048, 1]),
+    Change::GiveBack("root.g.q", "ann", [2048, 1]),
+];
+
+/// The tree of the limited queues after the first so many changes of containers.
+fn with_containers(alloc: Global, made: usize) -> Option<Tree> {
+    let mut tree = tree_of(alloc, LIMITED_QUEUES)?;
+    for change in first(&CONTAINERS, made) {
+        make(&mut tree, *change)?;
+    }
+    Some(tree)
+}
+
+fn use_after(alloc: Global, made: usize, path: &str) -> Option<[u64; 2]> {
+    let (_, used) = queue_counts(&with_containers(alloc, made)?, path)?;
+    Some(used)
+}
+
+fn user_use_after(alloc: Global, made: usize, path: &str) -> Option<[u64; 2]> {
+    let (_, used) = user_counts(&with_containers(alloc, made)?, path, "ann")?;
+    Some(used)
+}
+
+#[test]
+fn containers_count_along_the_way(rt: HostRuntime) {
+    for (made, path, used) in [
+        (2, "root", [0, 0]),
+        (6, "root", [4096, 4]),
+        (6, "root.g", [2048, 2]),
+        (6, "root.g.q", [2048, 2]),
+        (6, "root.g.r", [0, 0]),
+        (6, "root.b", [2048, 2]),
+        (7, "root", [5120, 4]),
+        (7, "root.g", [3072, 2]),
+        (8, "root", [3072, 3]),
+        (8, "root.g", [1024, 1]),
+        (8, "root.g.q", [1024, 1]),
+        (8, "root.b", [2048, 2]),
+    ] {
+        assert!(rt;
+            use_after(rt.alloc(), made, path) == Some(used),
+            "{made} {path}"
+        );
+    }
+}
+
+#[test]
+fn containers_count_for_their_user(rt: HostRuntime) {
+    for (made, path, used) in [
+        (6, "root.g.q", [2048, 2]),
+        (7, "root.g.q", [3072, 2]),
+        (8, "root.g.q", [1024, 1]),
+        (8, "root.b", [2048, 2]),
+    ] {
+        assert!(rt;
+            user_use_after(rt.alloc(), made, path) == Some(used),
+            "{made} {path}"
+        );
+    }
+}
+
+/// Whether `ann` may change a use in a leaf, and the limit that it would pass.
+fn accepts(tree: &Tree, path: &str, old: [u64; 2], new: [u64; 2]) -> Option<Result<(), OverLimit>> {
+    let user = ShortText::new(b"ann")?;
+    let (old, new) = (Resource::new(old)?, Resource::new(new)?);
+    match tree.find(path.as_bytes()) {
+        Found::Leaf(place) => Some(tree.accept(&place, &user, &old, &new)),
+        _ => None,
+    }
+}
+
+fn accepted(
+    alloc: Global,
+    path: &str,
+    old: [u64; 2],
+    new: [u64; 2],
+) -> Option<Result<(), OverLimit>> {
+    accepts(&with_containers(alloc, 6)?, path, old, new)
+}
+
+/// The most that a resource may have.
+const MOST: u64 = 1_099_511_627_776;
+
+#[test]
+fn the_first_limit_that_is_passed_is_named(rt: HostRuntime) {
+    let over = |level| Err(OverLimit::Maximum { level });
+    for (path, old, new, answer) in [
+        // A third container of (1024, 1) fills `root.g`, and a larger one does not fit.
+        ("root.g.q", [0, 0], [1024, 1], Ok(())),
+        ("root.g.q", [0, 0], [1025, 1], over(1)),
+        ("root.g.q", [0, 0], [1024, 2], over(1)),
+        ("root.g.q", [1024, 1], [2048, 2], Ok(())),
+        ("root.g.q", [1024, 1], [2049, 1], over(1)),
+        // The maximum of the leaf `r` is at level 2. The one above it is named first.
+        ("root.g.r", [0, 0], [512, 1], Ok(())),
+        ("root.g.r", [0, 0], [513, 1], over(2)),
+        ("root.g.r", [0, 0], [513, 2], over(1)),
+        // In `root.b` the user limit alone bounds a user.
+        ("root.b", [0, 0], [0, 1], Ok(())),
+        ("root.b", [0, 0], [1024, 1], Err(OverLimit::User)),
+        ("root.b", [1024, 1], [1024, 7], Ok(())),
+        ("root.b", [1024, 1], [1024, 8], Err(OverLimit::User)),
+        ("root.b", [0, 0], [MOST, MOST], Err(OverLimit::User)),
+    ] {
+        let given = accepted(rt.alloc(), path, old, new);
+        assert!(rt; given == Some(answer), "{path} {new:?}");
     }
 }
 
@@ -300,7 +475,7 @@ fn nothing_given_back_is_no_change(rt: HostRuntime) {
     let changes = [
         Change::Enter("root.a.x", "ann"),
         Change::Enter("root.a.x", "ann"),
-        Change::GiveBack("root.a.x", "ann"),
+        Change::GiveBack("root.a.x", "ann", [0, 0]),
     ];
     for path in ["root", "root.a", "root.a.x"] {
         let given = counts_after(rt.alloc(), &changes, path);

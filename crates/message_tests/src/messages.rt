@@ -5,7 +5,10 @@ use cap_messages::{
     MessageFault, Out, REPLY_ROOM, kind, read_request, replies_have_one_spelling,
     requests_have_one_spelling, write_fault, write_reply,
 };
-use cap_model::{AllocateReply, Grant, HeartbeatReply, Key, Refusal, Reply, Request, ShortText};
+use cap_model::{
+    AllocateReply, ClusterReport, Grant, HeartbeatReply, Key, QueueReport, Refusal, Reply, Request,
+    ShortText,
+};
 use cap_testing::{Call, frame};
 use cap_vector::{Resource, Sum};
 use std::alloc::Global;
@@ -200,7 +203,7 @@ fn ask_of(alloc: Global, payload: &[u8]) -> Option<(u32, u32, [u64; 2], bool)> {
             let ask = asks.as_slice().first()?;
             let anywhere = ask.place().as_bytes() == b"*".as_slice();
             Some((
-                ask.key().priority(),
+                ask.key().priority,
                 ask.count(),
                 ask.resource().amounts(),
                 anywhere,
@@ -382,7 +385,11 @@ fn replies_of_a_number_are_written(rt: HostRuntime) {
         (
             1,
             Reply::Heartbeat {
-                reply: HeartbeatReply::new(1, 2, 5),
+                reply: HeartbeatReply {
+                    response: 1,
+                    ignored: 2,
+                    live: 5,
+                },
             },
             &[1, 6, 0, 0, 0, 1, 0, 0, 0, 0, 1, 0, 2, 0, 0, 0, 5],
         ),
@@ -422,35 +429,41 @@ fn refusals_are_written(rt: HostRuntime) {
 /// The reply to a ClusterInfo of a cluster with one node.
 fn cluster_info() -> Option<Reply<2>> {
     Some(Reply::ClusterInfo {
-        nodes: 1,
-        applications: 0,
-        containers: 0,
-        totals: Resource::new([8192, 8])?,
-        used: Sum::zero(),
+        report: ClusterReport {
+            nodes: 1,
+            applications: 0,
+            containers: 0,
+            totals: Resource::new([8192, 8])?,
+            used: Sum::zero(),
+        },
     })
 }
 
 /// The reply to a QueueInfo of a running leaf of (4096, 4) up to (16384, 16).
 fn leaf_info() -> Option<Reply<2>> {
     Some(Reply::QueueInfo {
-        running: true,
-        leaf: true,
-        guaranteed: Resource::new([4096, 4])?,
-        maximum: Resource::new([16384, 16]),
-        used: Sum::zero(),
-        applications: 0,
+        report: QueueReport {
+            running: true,
+            leaf: true,
+            guaranteed: Resource::new([4096, 4])?,
+            maximum: Resource::new([16384, 16]),
+            used: Sum::zero(),
+            applications: 0,
+        },
     })
 }
 
 /// The reply to a QueueInfo of a stopped parent with this maximum, which uses (3072, 2) and has 5 applications.
 fn parent_info(maximum: Option<Resource<2>>) -> Option<Reply<2>> {
     Some(Reply::QueueInfo {
-        running: false,
-        leaf: false,
-        guaranteed: Resource::zero(),
-        maximum,
-        used: Sum::new([3072, 2])?,
-        applications: 5,
+        report: QueueReport {
+            running: false,
+            leaf: false,
+            guaranteed: Resource::zero(),
+            maximum,
+            used: Sum::new([3072, 2])?,
+            applications: 5,
+        },
     })
 }
 
@@ -468,7 +481,16 @@ fn granted() -> Option<Reply<2>> {
     let resource = Resource::new([1024, 1])?;
     let mut grants = ArrayVec::new();
     grants
-        .try_push(Grant::new(1, &Key::new(1, 0), 1, &host, &resource))
+        .try_push(Grant::new(
+            1,
+            &Key {
+                priority: 1,
+                request: 0,
+            },
+            1,
+            &host,
+            &resource,
+        ))
         .ok()?;
     Some(Reply::Allocate {
         reply: AllocateReply {

@@ -1,8 +1,8 @@
-ghost use Rattle.std.specs.Prelude.{◌≡◌, option_map};
+ghost use Rattle.std.specs.Prelude.{◌≡◌, ◌≤◌};
 ghost use Rattle.cap_model.specs.declared.request.Request.TheVariants.{FinishMaster};
-ghost use Rattle.cap_model.specs.Messages.{as_refusal};
+ghost use Rattle.cap_model.specs.Limits.{resources_max};
 ghost use Rattle.cap_model.specs.FinishMaster.{finish_master_refusal};
-ghost use Rattle.cap_model.specs.Runs.{RepliesAlways};
+ghost use Rattle.cap_model.specs.Replies.{RepliesAlways};
 
 use cap_commit::Cluster;
 use cap_model::{Refusal, Reply};
@@ -11,24 +11,22 @@ use cap_model::{Refusal, Reply};
 /// unknown from then on. The reply gives how many containers ended. Refused with `UnknownApplication` or `NotRegistered`, which
 /// changes nothing. It takes no memory.
 pub fn finish_master<const K: usize>(cluster: &mut Cluster<K>, application: u64) -> Reply<K>
-    ensures { RepliesAlways cluster.old (FinishMaster application) result cluster.new }
+    ensures { RepliesAlways cluster.old.flat (FinishMaster application) result cluster.new.flat }
 {
     match refusal(cluster, application) {
         Some(refusal) => Reply::Refused(refusal),
-        None => {
-            cluster.containers_are_numbered();
-            Reply::FinishMaster {
-                ended: cluster.finish(application),
-            }
-        }
+        None => Reply::FinishMaster {
+            ended: cluster.finish(application),
+        },
     }
 }
 
 /// The first refusal that holds for such an application.
 fn refusal<const K: usize>(cluster: &Cluster<K>, application: u64) -> Option<Refusal>
-    ensures { option_map as_refusal result ≡ finish_master_refusal cluster.now application }
+    ensures refusal { result ≡ finish_master_refusal cluster.now.flat application }
+    ensures resources { K ≤ resources_max }
 {
-    match cluster.app(application) {
+    match cluster.apps().app(application) {
         None => Some(Refusal::UnknownApplication),
         Some(app) if !app.is_registered() => Some(Refusal::NotRegistered),
         Some(_) => None,

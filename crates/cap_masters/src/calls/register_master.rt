@@ -1,8 +1,7 @@
-ghost use Rattle.std.specs.Prelude.{◌≡◌, option_map};
+ghost use Rattle.std.specs.Prelude.{◌≡◌};
 ghost use Rattle.cap_model.specs.declared.request.Request.TheVariants.{RegisterMaster};
-ghost use Rattle.cap_model.specs.Messages.{as_refusal};
 ghost use Rattle.cap_model.specs.RegisterMaster.{register_master_refusal};
-ghost use Rattle.cap_model.specs.Runs.{RepliesAlways};
+ghost use Rattle.cap_model.specs.Replies.{RepliesAlways};
 
 use cap_commit::Cluster;
 use cap_model::{Refusal, Reply};
@@ -11,15 +10,15 @@ use cap_model::{Refusal, Reply};
 /// container may have, in MiB and vcores. Refused with `UnknownApplication` or `AlreadyRegistered`, which changes nothing. It
 /// takes no memory.
 pub fn register_master<const K: usize>(cluster: &mut Cluster<K>, application: u64) -> Reply<K>
-    ensures { RepliesAlways cluster.old (RegisterMaster application) result cluster.new }
+    ensures { RepliesAlways cluster.old.flat (RegisterMaster application) result cluster.new.flat }
 {
     match refusal(cluster, application) {
         Some(refusal) => Reply::Refused(refusal),
         None => {
             cluster.register(application);
             Reply::RegisterMaster {
-                minimum: cluster.minimum_allocation(),
-                maximum: cluster.maximum_allocation(),
+                minimum: cluster.settings().minimum_allocation,
+                maximum: cluster.settings().maximum_allocation,
             }
         }
     }
@@ -27,9 +26,9 @@ pub fn register_master<const K: usize>(cluster: &mut Cluster<K>, application: u6
 
 /// The first refusal that holds for the master of such an application.
 fn refusal<const K: usize>(cluster: &Cluster<K>, application: u64) -> Option<Refusal>
-    ensures { option_map as_refusal result ≡ register_master_refusal cluster.now application }
+    ensures { result ≡ register_master_refusal cluster.now.flat application }
 {
-    match cluster.app(application) {
+    match cluster.apps().app(application) {
         None => Some(Refusal::UnknownApplication),
         Some(app) if app.is_registered() => Some(Refusal::AlreadyRegistered),
         Some(_) => None,

@@ -1,11 +1,11 @@
-ghost use Rattle.std.specs.Prelude.{◌≡◌, option_map};
+ghost use Rattle.std.specs.Prelude.{◌≡◌, None, Some, IfOk, IfErr};
 ghost use Rattle.cap_model.specs.declared.request.Request.TheVariants.{Submit};
-ghost use Rattle.cap_model.specs.Messages.{as_refusal};
 ghost use Rattle.cap_model.specs.Submit.{submit_refusal};
-ghost use Rattle.cap_model.specs.Runs.{Replies};
+ghost use Rattle.cap_model.specs.Replies.{Replies};
+ghost use Rattle.cap_tree.specs.Rows.{IsAt};
 
-use cap_commit::Cluster;
-use cap_model::{NUMBER_END, NoMemory, PathText, Refusal, Reply, ShortText, first_refusal};
+use cap_commit::{Cluster, Found, Position};
+use cap_model::{NUMBER_END, NoMemory, PathText, Refusal, Reply, ShortText};
 
 /// An application enters the leaf queue of this path for a user. It is active from then on, its master is yet to report, and the
 /// reply gives its number, which no other application has or had. Refused with `UnknownQueue`, `NotLeaf`, `QueueStopped`,
@@ -15,31 +15,37 @@ pub fn submit<const K: usize>(
     path: &PathText,
     user: &ShortText,
 ) -> Reply<K>
-    ensures { Replies cluster.old (Submit path.now user.now) result cluster.new }
+    ensures { Replies cluster.old.flat (Submit path.now user.now) result cluster.new.flat }
 {
-    match refusal(cluster, path) {
-        Some(refusal) => Reply::Refused(refusal),
-        None => match cluster.add_app(path, user) {
+    match admit(cluster, path) {
+        Err(refusal) => Reply::Refused(refusal),
+        Ok(position) => match cluster.add_app(path, position, user) {
             Ok(application) => Reply::Submit { application },
             Err(NoMemory) => Reply::Refused(Refusal::NoMemory),
         },
     }
 }
 
-/// The first refusal that holds for such an application, memory aside.
-fn refusal<const K: usize>(cluster: &Cluster<K>, path: &PathText) -> Option<Refusal>
-    ensures { option_map as_refusal result ≡ submit_refusal cluster.now path.now }
+/// Where the leaf queue of this path is; else the first refusal that holds, memory aside.
+fn admit<const K: usize>(cluster: &Cluster<K>, path: &PathText) -> Result<Position, Refusal>
+    ensures place { IfOk result (λ position. IsAt cluster.now.rows path.now position.items) }
+    ensures ok { IfOk result (λ position. submit_refusal cluster.now.flat path.now ≡ None) }
+    ensures err { IfErr result (λ refusal. submit_refusal cluster.now.flat path.now ≡ Some refusal) }
 {
-    let Some(queue) = cluster.report(path.as_bytes()) else {
-        return Some(Refusal::UnknownQueue);
+    let tree = cluster.tree();
+    let position = match tree.find(path.as_bytes()) {
+        Found::Leaf(position) => position,
+        Found::Parent(_) => return Err(Refusal::NotLeaf),
+        Found::Missing => return Err(Refusal::UnknownQueue),
     };
-    first_refusal(&[
-        (!queue.leaf, Refusal::NotLeaf),
-        (!queue.running, Refusal::QueueStopped),
-        (
-            cluster.application_limit() <= cluster.application_count() as u64,
-            Refusal::TooManyApplications,
-        ),
-        (cluster.next_app() >= NUMBER_END, Refusal::NumbersSpent),
-    ])
+    if !tree.running(&position) {
+        return Err(Refusal::QueueStopped);
+    }
+    if cluster.settings().application_limit <= cluster.apps().count() as u64 {
+        return Err(Refusal::TooManyApplications);
+    }
+    if cluster.apps().next() >= NUMBER_END {
+        return Err(Refusal::NumbersSpent);
+    }
+    Ok(position)
 }

@@ -1,5 +1,5 @@
 ghost use Rattle.cap_model.specs.declared.request.Request.TheVariants.{NodeGone};
-ghost use Rattle.cap_model.specs.Runs.{RepliesAlways};
+ghost use Rattle.cap_model.specs.Replies.{RepliesAlways};
 
 use cap_commit::{Cluster, Owner};
 use cap_model::{Cause, Refusal, Reply};
@@ -8,13 +8,12 @@ use cap_model::{Cause, Refusal, Reply};
 /// number is unknown from then on, and its host is free again. The reply gives how many containers ended. Refused with
 /// `UnknownNode`, which changes nothing. It takes no memory.
 pub fn node_gone<const K: usize>(cluster: &mut Cluster<K>, node: u64) -> Reply<K>
-    ensures { RepliesAlways cluster.old (NodeGone node) result cluster.new }
+    ensures { RepliesAlways cluster.old.flat (NodeGone node) result cluster.new.flat }
 {
-    cluster.containers_are_numbered();
-    if cluster.node(node).is_none() {
+    if cluster.nodes().node(node).is_none() {
         return Reply::Refused(Refusal::UnknownNode);
     }
-    let ended = cluster.end_all(Owner::Node(node), Some(Cause::NodeLost));
+    let ended = cluster.end_all(Owner::Node(node), Cause::NodeLost);
     cluster.drop_node(node);
     Reply::NodeGone { ended }
 }

@@ -1,8 +1,7 @@
-ghost use Rattle.std.specs.Prelude.{◌≡◌, option_map};
+ghost use Rattle.std.specs.Prelude.{◌≡◌};
 ghost use Rattle.cap_model.specs.declared.request.Request.TheVariants.{RegisterNode};
-ghost use Rattle.cap_model.specs.Messages.{as_refusal};
 ghost use Rattle.cap_model.specs.RegisterNode.{register_node_refusal};
-ghost use Rattle.cap_model.specs.Runs.{Replies};
+ghost use Rattle.cap_model.specs.Replies.{Replies};
 
 use cap_commit::Cluster;
 use cap_model::{NODES_MAX, NUMBER_END, NoMemory, Refusal, Reply, ShortText, first_refusal};
@@ -17,7 +16,7 @@ pub fn register_node<const K: usize>(
     rack: &ShortText,
     total: &Resource<K>,
 ) -> Reply<K>
-    ensures { Replies cluster.old (RegisterNode host.now rack.now total.now) result cluster.new }
+    ensures { Replies cluster.old.flat (RegisterNode host.now rack.now total.now) result cluster.new.flat }
 {
     match refusal(cluster, host, total) {
         Some(refusal) => Reply::Refused(refusal),
@@ -34,16 +33,17 @@ fn refusal<const K: usize>(
     host: &ShortText,
     total: &Resource<K>,
 ) -> Option<Refusal>
-    ensures { option_map as_refusal result ≡ register_node_refusal cluster.now host.now total.now }
+    ensures { result ≡ register_node_refusal cluster.now.flat host.now total.now }
 {
+    let nodes = cluster.nodes();
     first_refusal(&[
-        (cluster.is_host_taken(host.as_bytes()), Refusal::HostTaken),
+        (nodes.is_host_taken(host.as_bytes()), Refusal::HostTaken),
         (
-            checked_add(&cluster.node_total(), total).is_none(),
+            checked_add(&nodes.total(), total).is_none(),
             Refusal::TotalTooLarge,
         ),
-        (cluster.node_count() >= NODES_MAX, Refusal::TooManyNodes),
+        (nodes.count() >= NODES_MAX, Refusal::TooManyNodes),
         (total.is_zero(), Refusal::ZeroResource),
-        (cluster.next_node() >= NUMBER_END, Refusal::NumbersSpent),
+        (nodes.next_node() >= NUMBER_END, Refusal::NumbersSpent),
     ])
 }

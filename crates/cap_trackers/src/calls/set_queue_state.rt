@@ -1,7 +1,7 @@
 ghost use Rattle.cap_model.specs.declared.request.Request.TheVariants.{SetQueueState};
-ghost use Rattle.cap_model.specs.Runs.{RepliesAlways};
+ghost use Rattle.cap_model.specs.Replies.{RepliesAlways};
 
-use cap_commit::Cluster;
+use cap_commit::{Cluster, Found};
 use cap_model::{PathText, Refusal, Reply};
 
 /// Starts or stops the queue of this path, as `yarn.scheduler.capacity.<queue-path>.state` does: its own state, and nothing
@@ -12,13 +12,13 @@ pub fn set_queue_state<const K: usize>(
     path: &PathText,
     running: bool,
 ) -> Reply<K>
-    ensures { RepliesAlways cluster.old (SetQueueState path.now running) result cluster.new }
+    ensures { RepliesAlways cluster.old.flat (SetQueueState path.now running) result cluster.new.flat }
 {
-    match cluster.report(path.as_bytes()) {
-        None => Reply::Refused(Refusal::UnknownQueue),
-        Some(_) => {
-            cluster.set_state(path.as_bytes(), running);
-            Reply::SetQueueState
-        }
-    }
+    let position = match cluster.tree().find(path.as_bytes()) {
+        Found::Leaf(position) => position,
+        Found::Parent(position) => position,
+        Found::Missing => return Reply::Refused(Refusal::UnknownQueue),
+    };
+    cluster.set_state(&position, running);
+    Reply::SetQueueState
 }

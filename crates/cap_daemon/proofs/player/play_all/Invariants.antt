@@ -1,8 +1,8 @@
 use Rattle.std.proofs.Common.{◌≡◌, ◌-◌, List, ℕ, true}
 use Rattle.std.specs.Prelude.{is_some}
 use Rattle.std.specs.Io.KnownBytes.{Consumes}
-use Rattle.std.specs.List.{list_all}
-use Rattle.cap_daemon.specs.Progress.{is_no_feed, IsPlayed}
+use Rattle.cap_text.specs.Pieces.{lacks}
+use Rattle.cap_daemon.specs.Progress.{IsPlayed}
 use Rattle.cap_daemon.specs.Streams.{reads_max}
 use Rattle.cap_daemon.proofs.player.play_all.Given as goal
 
@@ -10,7 +10,7 @@ use Rattle.cap_daemon.proofs.player.play_all.Given as goal
 abbrev pub invariant-loop-stop : goal.invariant-loop-stop
 invariant-loop-stop g l = record {
   text : (text : List ℕ) × Consumes (g.R.Read.remaining l.fn.reader.inner) (g.R.Read.remaining l.reader.inner) text × IsPlayed text l.begun.items l.script.settings (is_some l.script.world);
-  clean : list_all is_no_feed l.begun.items ≡ true;
+  clean : lacks 10 l.begun.items ≡ true;
   reads : l.reader.failures ≡ l.fn.reader.failures;
   writes : l.writer.failures ≡ l.fn.writer.failures;
 }

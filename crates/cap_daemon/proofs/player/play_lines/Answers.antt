@@ -7,13 +7,13 @@ pub returns-in-Err-clause-bad : goal.returns-in-Err-clause-bad
 returns-in-Err-clause-bad c = λ n e text p.
     let before = c.loop-front.invariant.played text p in
     stops_at_line (text ++ c.args.bytes.now) c.loop-front.begun.items c.loop-front.rest.now c.in-Some.front.now c.in-Some.after.now c.loop-front.script.settings (is_some c.loop-front.script.world)
-    before c.in-Some.ensures.found c.loop-front.invariant.clean c.in-Some.ensures.first (c.in-Err.ensures.bad n e before.done before.stands)
+    before c.in-Some.ensures.found c.loop-front.invariant.clean (c.in-Err.ensures.bad n e before.done before.stands)
 
 pub returns-in-Err-clause-fault : goal.returns-in-Err-clause-fault
 returns-in-Err-clause-fault c = λ fault e text p.
     let before = c.loop-front.invariant.played text p in
     fails_at_line (text ++ c.args.bytes.now) c.loop-front.begun.items c.loop-front.rest.now c.in-Some.front.now c.in-Some.after.now c.loop-front.script.settings (is_some c.loop-front.script.world)
-    fault ⊥ before c.in-Some.ensures.found c.loop-front.invariant.clean c.in-Some.ensures.first (c.in-Err.ensures.fault fault e before.done before.stands)
+    fault ⊥ before c.in-Some.ensures.found c.loop-front.invariant.clean (c.in-Err.ensures.fault fault e before.done before.stands)
 
 pub loop-front-preserved : goal.loop-front-preserved
 loop-front-preserved c = record {
@@ -21,5 +21,5 @@ loop-front-preserved c = record {
   played = λ text p.
       let before = c.loop-front.invariant.played text p in
       plays_line (text ++ c.args.bytes.now) c.loop-front.begun.items c.loop-front.rest.now c.in-Some.front.now c.in-Some.after.now c.play_line.new.begun.items c.loop-front.script.settings c.play_line.new.script.settings
-      (is_some c.loop-front.script.world) (is_some c.play_line.new.script.world) before c.in-Some.ensures.found c.loop-front.invariant.clean c.in-Some.ensures.first c.in-Ok.ensures.cleared (c.in-Ok.ensures.good before.done before.stands);
+      (is_some c.loop-front.script.world) (is_some c.play_line.new.script.world) before c.in-Some.ensures.found c.loop-front.invariant.clean c.in-Ok.ensures.cleared (c.in-Ok.ensures.good before.done before.stands);
 }

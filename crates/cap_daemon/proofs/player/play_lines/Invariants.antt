@@ -1,13 +1,13 @@
 use Rattle.std.proofs.Common.{◌≡◌, ◌++◌, List, ℕ, length, true}
 use Rattle.std.specs.Prelude.{is_some}
-use Rattle.std.specs.List.{list_all}
-use Rattle.cap_daemon.specs.Progress.{is_no_feed, IsPlayed}
+use Rattle.cap_text.specs.Pieces.{lacks}
+use Rattle.cap_daemon.specs.Progress.{IsPlayed}
 use Rattle.cap_daemon.proofs.player.play_lines.Given as goal
 
 -- what is begun and what is left stand after the lines that were played
 abbrev pub invariant-loop-front : goal.invariant-loop-front
 invariant-loop-front l = record {
-  clean : list_all is_no_feed l.begun.items ≡ true;
+  clean : lacks 10 l.begun.items ≡ true;
   played : (text : List ℕ) → IsPlayed text l.fn.begun.items l.fn.script.settings (is_some l.fn.script.world) → IsPlayed (text ++ l.bytes) (l.begun.items ++ l.rest) l.script.settings (is_some l.script.world);
 }
 

@@ -1,6 +1,6 @@
 use Rattle.std.proofs.Common.{length, length-append, ap, ◌∙◌, arith}
 use Rattle.cap_messages.specs.MasterCalls.{ask_at}
-use Rattle.cap_messages.specs.Spelling.{asks_max}
+use Rattle.cap_model.specs.Limits.{asks_max}
 use Rattle.cap_messages.proofs.ListLaws.{counted_start, counted_fails, more_step, more_fails, more_ends}
 use Rattle.cap_messages.proofs.lists.asks_of.Goals as goal
 

@@ -1,7 +1,7 @@
 use Rattle.std.proofs.Common.{◌≡◌, ◌-◌, length}
 use Rattle.cap_messages.specs.Fields.{counted_at}
 use Rattle.cap_messages.specs.MasterCalls.{ask_at}
-use Rattle.cap_messages.specs.Spelling.{asks_max}
+use Rattle.cap_model.specs.Limits.{asks_max}
 use Rattle.cap_messages.proofs.ListLaws.{more_at}
 use Rattle.cap_messages.proofs.lists.asks_of.Given as goal
 

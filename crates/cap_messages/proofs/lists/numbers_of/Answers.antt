@@ -1,7 +1,7 @@
 use Rattle.std.proofs.Common.{length, length-append, ap, ◌∙◌, arith}
 use Rattle.std.specs.Int.{w64}
 use Rattle.cap_messages.specs.Fields.{number_at}
-use Rattle.cap_messages.specs.Spelling.{numbers_max}
+use Rattle.cap_model.specs.Limits.{numbers_max}
 use Rattle.cap_messages.proofs.ListLaws.{counted_start, counted_fails, more_step, more_fails, more_ends}
 use Rattle.cap_messages.proofs.lists.numbers_of.Goals as goal
 

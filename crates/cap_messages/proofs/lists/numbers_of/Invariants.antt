@@ -1,7 +1,7 @@
 use Rattle.std.proofs.Common.{◌≡◌, ◌-◌, length}
 use Rattle.std.specs.Int.{w64}
 use Rattle.cap_messages.specs.Fields.{counted_at, number_at}
-use Rattle.cap_messages.specs.Spelling.{numbers_max}
+use Rattle.cap_model.specs.Limits.{numbers_max}
 use Rattle.cap_messages.proofs.ListLaws.{more_at}
 use Rattle.cap_messages.proofs.lists.numbers_of.Given as goal
 

@@ -1,6 +1,6 @@
 use Rattle.std.proofs.Common.{◌≡◌, List, ℕ, [], ◌∷◌, length, ap, ◌∙◌}
 use Rattle.std.specs.Int.{w32, w64, to_be_bytes}
-use Rattle.cap_model.specs.Calls.{Key}
+use Rattle.cap_model.specs.declared.ask.Key.{Key}
 use Rattle.cap_messages.specs.Spelling.{grant, resource}
 use Rattle.cap_messages.proofs.Appends.{seven}
 use Rattle.cap_messages.proofs.news.put_grant.Goals as goal
@@ -12,8 +12,8 @@ returns-clause-appends c =
     let host : c.as_bytes-host.result.now ≡ told.host = c.as_bytes-host.ensures.value ∙ c.host-host.ensures in
     seven _ _ _ _ _ _ _ _ _ _ _ _ _ _ _ (to_be_bytes w64 told.container) (to_be_bytes w32 told.key.priority) (to_be_bytes w64 told.key.request) (to_be_bytes w64 told.node) (length told.host ∷ []) told.host (resource told.resource)
     (c.to_be_bytes.ensures ∙ ap (to_be_bytes w64) c.container.ensures)
-    (c.to_be_bytes-2.ensures ∙ ap (to_be_bytes w32) c.priority.ensures ∙ ap (λ (k : Key). to_be_bytes w32 k.priority) c.key-key.ensures)
-    (c.to_be_bytes-3.ensures ∙ ap (to_be_bytes w64) c.request.ensures ∙ ap (λ (k : Key). to_be_bytes w64 k.request) c.key-key.ensures)
+    (c.to_be_bytes-2.ensures ∙ ap (λ (k : Key). to_be_bytes w32 k.priority) c.key-key.ensures)
+    (c.to_be_bytes-3.ensures ∙ ap (λ (k : Key). to_be_bytes w64 k.request) c.key-key.ensures)
     (c.to_be_bytes-4.ensures ∙ ap (to_be_bytes w64) c.node.ensures)
     (ap (λ (h : List ℕ). length h ∷ []) host)
     host

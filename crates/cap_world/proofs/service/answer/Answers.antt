@@ -14,10 +14,10 @@ returns-in_ok-reserve-in-Ok-2-clause-ok c =
     let added = frame_of (reply_bytes c.in-Ok.call_id (kind_of c.in-Ok.request) p.0) in (
       added,
       p.2 ∙ ap (λ (x : List ℕ). x ++ added) c.in_ok-reserve-in-Ok.ensures.items,
-      serves_call c.args.by c.in-Ok.call_id c.args.payload.now c.in-Ok.request p.0 c.args.cluster.now c.perform.new.cluster c.args.events.now.items c.perform.new.events.items found p.1
+      serves_call c.args.by c.in-Ok.call_id c.args.payload.now c.in-Ok.request p.0 c.args.cluster.now.flat c.perform.new.cluster.flat c.args.events.now.items c.perform.new.events.items found p.1
           (p.3 ∙ ap (λ (x : List (Event 2)). x ++ call_event c.args.by c.in-Ok.request p.0 ∷ []) c.in_ok-reserve-in-Ok-2.ensures.items),
     )
 
 pub returns-in-Err-Bad-clause-ok : goal.returns-in-Err-Bad-clause-ok
 returns-in-Err-Bad-clause-ok c =
-    fault_served c.put_fault.result c.args.by c.args.payload.now c.args.cluster.now c.args.events.now.items c.args.output.now.items c.put_fault.new.output.items (c.read_request.ensures.bad (c.in-Err-Bad.is ∙ ap (λ (e : MessageFault). Err e) c.in-Err-Bad.field-0-is)) c.put_fault.ensures.ok
+    fault_served c.put_fault.result c.args.by c.args.payload.now c.args.cluster.now.flat c.args.events.now.items c.args.output.now.items c.put_fault.new.output.items (c.read_request.ensures.bad (c.in-Err-Bad.is ∙ ap (λ (e : MessageFault). Err e) c.in-Err-Bad.field-0-is)) c.put_fault.ensures.ok

@@ -4,7 +4,7 @@ use Rattle.cap_world.proofs.Served.{served_none, served_more, served_starved, se
 use Rattle.cap_world.proofs.service.serve.Goals as goal
 
 pub loop-payload-init : goal.loop-payload-init
-loop-payload-init c = served_none c.args.by c.args.framer.now c.args.cluster.now c.args.events.now.items c.args.output.now.items c.requires
+loop-payload-init c = served_none c.args.by c.args.framer.now c.args.cluster.now.flat c.args.events.now.items c.args.output.now.items c.requires
 
 pub loop-payload-preserved : goal.loop-payload-preserved
 loop-payload-preserved c =

@@ -1,7 +1,7 @@
 use Rattle.std.proofs.Common.{[], ◌∷◌, ◌++◌, ap, sym, ◌∙◌, arith}
 use Rattle.cap_model.specs.Flat.{App}
-use Rattle.cap_asks.specs.Held.{Room}
-use Rattle.cap_asks.proofs.Entries.{apps_of, none_changed, one_changed, still_numbered, one_uses, there_is_room}
+use Rattle.cap_asks.specs.Held.{Account}
+use Rattle.cap_asks.proofs.Entries.{apps_of, none_changed, one_changed, still_numbered, one_uses, it_has, it_has_none}
 use Rattle.cap_asks.proofs.apps.Apps.add_end.Goals as goal
 
 pub returns-in_default-clause-table : goal.returns-in_default-clause-table
@@ -13,7 +13,7 @@ pub invariant_of-self-2 : goal.invariant_of-self-2
 invariant_of-self-2 g c =
     let found = sym c.in-Some.ensures.value in
     let entries = (c.get_mut.follows.holds c.add_end.new.self).0 in
-    rw entries (still_numbered 1 c.args.n c.self.inside.next c.self.inside.active.entries c.in-Some.app.now c.add_end.new.self c.self.invariant found (ap (λ (a : App). a.number) c.add_end.ensures.app) c.add_end.ensures.room.number)
+    rw entries (still_numbered 1 c.args.n c.self.inside.next c.self.inside.active.entries c.in-Some.app.now c.add_end.new.self c.self.invariant found (ap (λ (a : App). a.number) c.add_end.ensures.app))
 
 pub returns-clause-table : goal.returns-clause-table
 returns-clause-table g c =
@@ -22,14 +22,20 @@ returns-clause-table g c =
     let same = ap apps_of entries ∙ one_changed 1 c.args.n c.self.inside.next c.self.inside.active.entries c.in-Some.app.now c.add_end.new.self (λ app. record app { ends = app.ends ++ c.args.end.now ∷ [] }) c.self.invariant found c.add_end.ensures.app in
     rw (← c.self.view_is) (ap (λ xs. record { active = xs; next = c.self.inside.next }) same)
 
-pub returns-clause-room : goal.returns-clause-room
-returns-clause-room g c =
+pub returns-clause-accounts : goal.returns-clause-accounts
+returns-clause-accounts g c =
     let found = sym c.in-Some.ensures.value in
     let entries = (c.get_mut.follows.holds c.add_end.new.self).0 in
-    rw (← c.self.view_is, entries) (one_uses 1 c.args.n c.self.inside.next 0 0 1 c.self.inside.active.entries c.in-Some.app.now c.add_end.new.self c.self.invariant found c.add_end.ensures.room)
+    rw (← c.self.view_is, entries) (one_uses c.args.n 0 0 1 c.self.inside.active.entries c.in-Some.app.now c.add_end.new.self found c.add_end.ensures.account)
 
 pub add_end-requires : goal.add_end-requires
 add_end-requires g c =
-    let found = sym c.in-Some.ensures.value in
-    let room = there_is_room (λ (r : Room). r.ends) 1 c.args.n c.self.inside.next c.self.inside.active.entries c.in-Some.app.now c.self.invariant found (rw (← c.self.view_is) at c.requires) in
-    (omega arith, room)
+    let live = it_has (λ (a : Account). a.live) c.args.n c.self.inside.active.entries c.in-Some.app.now (sym c.in-Some.ensures.value) in
+    let some = rw (← c.self.view_is) at c.requires in
+    omega (arith, live, some)
+
+pub returns-in_default-clause-accounts : goal.returns-in_default-clause-accounts
+returns-in_default-clause-accounts g c =
+    let none = it_has_none (λ (a : Account). a.live) c.args.n c.self.inside.active.entries (sym c.in_default.ensures.value) in
+    let some = rw (← c.self.view_is) at c.requires in
+    absurd (omega (arith, none, some))

@@ -12,7 +12,7 @@ pub invariant_of-self-2 : goal.invariant_of-self-2
 invariant_of-self-2 g c =
     let found = sym c.in-Some.ensures.value in
     let entries = (c.get_mut.follows.holds c.register.new.self).0 in
-    rw entries (still_numbered 1 c.args.n c.self.inside.next c.self.inside.active.entries c.in-Some.app.now c.register.new.self c.self.invariant found (ap (λ (a : App). a.number) c.register.ensures.app) c.register.ensures.room.number)
+    rw entries (still_numbered 1 c.args.n c.self.inside.next c.self.inside.active.entries c.in-Some.app.now c.register.new.self c.self.invariant found (ap (λ (a : App). a.number) c.register.ensures.app))
 
 pub returns-clause-table : goal.returns-clause-table
 returns-clause-table g c =
@@ -21,8 +21,8 @@ returns-clause-table g c =
     let same = ap apps_of entries ∙ one_changed 1 c.args.n c.self.inside.next c.self.inside.active.entries c.in-Some.app.now c.register.new.self (λ app. record app { registered = true }) c.self.invariant found c.register.ensures.app in
     rw (← c.self.view_is) (ap (λ xs. record { active = xs; next = c.self.inside.next }) same)
 
-pub returns-clause-room : goal.returns-clause-room
-returns-clause-room g c =
+pub returns-clause-accounts : goal.returns-clause-accounts
+returns-clause-accounts g c =
     let found = sym c.in-Some.ensures.value in
     let entries = (c.get_mut.follows.holds c.register.new.self).0 in
-    rw (← c.self.view_is, entries) (one_uses 1 c.args.n c.self.inside.next 0 0 0 c.self.inside.active.entries c.in-Some.app.now c.register.new.self c.self.invariant found c.register.ensures.room)
+    rw (← c.self.view_is, entries) (one_uses c.args.n 0 0 0 c.self.inside.active.entries c.in-Some.app.now c.register.new.self found c.register.ensures.account)

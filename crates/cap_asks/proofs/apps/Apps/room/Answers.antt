@@ -2,7 +2,7 @@ use Rattle.std.proofs.Common.{◌≡◌, true, ap, sym, ◌∙◌}
 use Rattle.std.specs.Prelude.{Result, Ok, Err, OnOk, is_some, find, ◌==◌}
 use Rattle.cap_model.specs.declared.no_memory.NoMemory.{NoMemory}
 use Rattle.cap_model.specs.Flat.{App}
-use Rattle.cap_asks.proofs.Entries.{apps_of, same_apps, still_numbered, one_uses, has_rooms, had_room, none_there}
+use Rattle.cap_asks.proofs.Entries.{apps_of, same_apps, still_numbered, one_uses, found_after, has_rooms, had_room, none_there}
 use Rattle.cap_asks.proofs.apps.Apps.room.Goals as goal
 
 on_ok : {P Q : Type 0} (r : Result (Unit {0}) NoMemory) → (P → Q) → OnOk r P → OnOk r Q
@@ -19,7 +19,7 @@ pub invariant_of-self : goal.invariant_of-self
 invariant_of-self g c =
     let found = sym c.in-Some.ensures.value in
     let entries = (c.get_mut.follows.holds c.reserve.new.self).0 in
-    rw entries (still_numbered 1 c.args.n c.self.inside.next c.self.inside.active.entries c.in-Some.app.now c.reserve.new.self c.self.invariant found (ap (λ (a : App). a.number) c.reserve.ensures.app) c.reserve.ensures.stays.number)
+    rw entries (still_numbered 1 c.args.n c.self.inside.next c.self.inside.active.entries c.in-Some.app.now c.reserve.new.self c.self.invariant found (ap (λ (a : App). a.number) c.reserve.ensures.app))
 
 pub returns-clause-table : goal.returns-clause-table
 returns-clause-table g c =
@@ -32,17 +32,16 @@ pub returns-clause-stays : goal.returns-clause-stays
 returns-clause-stays g c =
     let found = sym c.in-Some.ensures.value in
     let entries = (c.get_mut.follows.holds c.reserve.new.self).0 in
-    rw (← c.self.view_is, entries) (one_uses 1 c.args.n c.self.inside.next 0 0 0 c.self.inside.active.entries c.in-Some.app.now c.reserve.new.self c.self.invariant found c.reserve.ensures.stays)
+    rw (← c.self.view_is, entries) (one_uses c.args.n 0 0 0 c.self.inside.active.entries c.in-Some.app.now c.reserve.new.self found c.reserve.ensures.stays)
 
 pub returns-clause-ok : goal.returns-clause-ok
 returns-clause-ok g c =
     let found = sym c.in-Some.ensures.value in
     let entries = (c.get_mut.follows.holds c.reserve.new.self).0 in
-    let numbered = still_numbered 1 c.args.n c.self.inside.next c.self.inside.active.entries c.in-Some.app.now c.reserve.new.self c.self.invariant found (ap (λ (a : App). a.number) c.reserve.ensures.app) c.reserve.ensures.stays.number in
-    on_ok c.reserve.result (λ has. rw entries (has_rooms 1 c.args.n c.self.inside.next c.args.asks c.args.grants c.args.ends c.self.inside.active.entries c.in-Some.app.now c.reserve.new.self numbered found has)) c.reserve.ensures.ok
+    on_ok c.reserve.result (λ has. rw entries (has_rooms c.args.n c.args.asks c.args.grants c.args.ends _ c.reserve.new.self (found_after c.args.n c.self.inside.active.entries c.in-Some.app.now c.reserve.new.self found) has)) c.reserve.ensures.ok
 
 pub returns-clause-succeeds : goal.returns-clause-succeeds
 returns-clause-succeeds g c = λ has.
     let found = sym c.in-Some.ensures.value in
     let there = rw (← c.self.view_is) at has in
-    c.reserve.ensures.succeeds (had_room 1 c.args.n c.self.inside.next c.args.asks c.args.grants c.args.ends c.self.inside.active.entries c.in-Some.app.now c.self.invariant found there)
+    c.reserve.ensures.succeeds (had_room c.args.n c.args.asks c.args.grants c.args.ends c.self.inside.active.entries c.in-Some.app.now found there)

@@ -1,7 +1,7 @@
 use Rattle.std.proofs.Common.{ap, sym, ◌∙◌}
 use Rattle.cap_model.specs.Flat.{App}
 use Rattle.cap_model.specs.Allocate.{after_telling}
-use Rattle.cap_asks.proofs.Entries.{apps_of, none_changed, one_changed, still_numbered, one_uses}
+use Rattle.cap_asks.proofs.Entries.{apps_of, numbers_rise, none_changed, one_changed, still_numbered, one_uses}
 use Rattle.cap_asks.proofs.apps.Apps.tell.Goals as goal
 
 pub returns-in_default-clause-table : goal.returns-in_default-clause-table
@@ -13,7 +13,7 @@ pub invariant_of-self-2 : goal.invariant_of-self-2
 invariant_of-self-2 g c =
     let found = sym c.in-Some.ensures.value in
     let entries = (c.get_mut.follows.holds c.tell.new.self).0 in
-    rw entries (still_numbered 1 c.args.n c.self.inside.next c.self.inside.active.entries c.in-Some.app.now c.tell.new.self c.self.invariant found (ap (λ (a : App). a.number) c.tell.ensures.app) c.tell.ensures.room.number)
+    rw entries (still_numbered 1 c.args.n c.self.inside.next c.self.inside.active.entries c.in-Some.app.now c.tell.new.self c.self.invariant found (ap (λ (a : App). a.number) c.tell.ensures.app))
 
 pub returns-clause-table : goal.returns-clause-table
 returns-clause-table g c =
@@ -22,8 +22,14 @@ returns-clause-table g c =
     let same = ap apps_of entries ∙ one_changed 1 c.args.n c.self.inside.next c.self.inside.active.entries c.in-Some.app.now c.tell.new.self (λ app. after_telling app.response c.args.ignored app) c.self.invariant found c.tell.ensures.app in
     rw (← c.self.view_is) (ap (λ xs. record { active = xs; next = c.self.inside.next }) same)
 
-pub returns-clause-room : goal.returns-clause-room
-returns-clause-room g c =
+pub returns-clause-accounts : goal.returns-clause-accounts
+returns-clause-accounts g c =
     let found = sym c.in-Some.ensures.value in
     let entries = (c.get_mut.follows.holds c.tell.new.self).0 in
-    rw (← c.self.view_is, entries) (one_uses 1 c.args.n c.self.inside.next 0 0 0 c.self.inside.active.entries c.in-Some.app.now c.tell.new.self c.self.invariant found c.tell.ensures.room)
+    rw (← c.self.view_is, entries) (one_uses c.args.n 0 0 0 c.self.inside.active.entries c.in-Some.app.now c.tell.new.self found c.tell.ensures.account)
+
+pub returns-in_default-clause-rising : goal.returns-in_default-clause-rising
+returns-in_default-clause-rising g c = rw (← c.self.view_is) (numbers_rise 1 c.self.inside.next c.self.inside.active.entries c.self.invariant)
+
+pub returns-clause-rising : goal.returns-clause-rising
+returns-clause-rising g c = rw (← c.self.view_is) (numbers_rise 1 c.self.inside.next c.self.inside.active.entries c.self.invariant)

@@ -9,6 +9,4 @@ beat-requires g c = (nodes_fit _ c.self.invariant.resources, rw (← c.self.view
 
 pub invariant_of-self : goal.invariant_of-self
 invariant_of-self g c =
-    let x = c.self.inside in
-    held_nodes x.minimum_allocation x.maximum_allocation x.application_limit x.tree.value x.apps x.nodes c.self.invariant c.beat.new.self (ap (λ (t : NodeTable). t.live) c.beat.ensures)
-    (ap (λ (t : NodeTable). t.reserved) c.beat.ensures)
+    held_nodes _ c.self.invariant c.beat.new.self (ap (λ (t : NodeTable). t.live) c.beat.ensures) (ap (λ (t : NodeTable). t.reserved) c.beat.ensures) (ap (λ (t : NodeTable). t.next_container) c.beat.ensures)

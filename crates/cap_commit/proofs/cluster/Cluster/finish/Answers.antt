@@ -1,49 +1,53 @@
-use Rattle.std.proofs.Common.{ap, sym, ◌∙◌, map, subst, arith}
-use Rattle.std.specs.Prelude.{IsSome, find, bytes_eq}
-use Rattle.cap_model.specs.Settings.{QueueRow}
-use Rattle.cap_model.specs.EngineLaws.{HasDistinctNumbers}
+use Rattle.std.proofs.Common.{ap, sym, ◌∙◌, map, arith, subst}
+use Rattle.std.specs.Prelude.{IsSome, is_some}
+use Rattle.cap_model.specs.declared.news.Cause.TheVariants.{Released}
+use Rattle.cap_model.specs.Flat.{Flat, app_at}
+use Rattle.cap_model.specs.FinishMaster.{containers_of}
 use Rattle.cap_tree.specs.Rows.{queues_of, left}
-use Rattle.cap_commit.proofs.Holding.{leaf_of, finished_is, may_go, held_left, left_settings}
-use Rattle.cap_commit.proofs.Owning.{none_left}
-use Rattle.cap_commit.proofs.RowsAt.{row_at}
+use Rattle.cap_tree.specs.Spot.{path_at}
+use Rattle.cap_commit.specs.Held.{Held, Parts, flat_of}
+use Rattle.cap_commit.proofs.Holding.{finished_is, held_left, may_go, placed_at, position_is, with_table}
+use Rattle.cap_commit.proofs.Moving.{moved_settings}
+use Rattle.cap_tree.specs.Count.{nothing, one_application}
+use Rattle.cap_commit.proofs.Owning.{still_active}
 use Rattle.cap_commit.proofs.Sizes.{tree_fits}
 use Rattle.cap_commit.proofs.cluster.Cluster.finish.Goals as goal
 
-pub place_of-place-requires : goal.place_of-place-requires
-place_of-place-requires g c =
-    let x = c.self-2.inside in
-    let leaf = leaf_of x.minimum_allocation x.maximum_allocation x.application_limit x.tree.value x.apps x.nodes c.self-2.invariant c.args.number c.in-Some.app.now.app (sym c.in-Some.ensures) in
-    (tree_fits _ c.self.invariant.resources, rw (c.deref_mut-tree.ensures.value) (subst (λ p. IsSome (find (λ (q : QueueRow). bytes_eq q.path p) (queues_of x.tree.value))) (sym (c.as_bytes.ensures.value ∙ c.leaf.ensures)) leaf.present))
+pub unreachable-requires : goal.unreachable-requires
+unreachable-requires g c =
+    let start = c.args.self.now.flat in
+    let there = subst (λ (x : Flat g.row.K). IsSome (app_at x c.args.number)) (sym c.end_all-ended.ensures.ended) (still_active Released (containers_of start c.args.number) start c.args.number c.requires) in
+    let some = rw (← c.self.view_is) at there in
+    let none = ap is_some c.in_default.ensures.found in
+    cc (some, none)
 
 pub leave-requires : goal.leave-requires
 leave-requires g c =
-    let x = c.self-2.inside in
-    let tree = c.deref_mut-tree.ensures.value in
-    let none = none_left c.args.self.now _ c.args.number (subst HasDistinctNumbers c.self.view_is c.law.ensures.containers) (c.self-2.view_is ∙ c.end_all-ended.ensures.ended) in
-    let at = row_at x.tree.value c.as_bytes.result.now c.place_of-place.result.items (rw tree at c.place_of-place.ensures) in (
+    let none = rw (← c.self.view_is) at c.end_all-ended.ensures.none in
+    let position = c.position.ensures ∙ position_is _ c.self.invariant c.args.number c.in-Some.app.now c.in-Some.ensures.found c.in-Some.ensures.account in (
       tree_fits _ c.self.invariant.resources,
       (
         omega arith,
-        rw (tree, c.user.ensures)
-            (may_go x.minimum_allocation x.maximum_allocation x.application_limit x.tree.value x.apps x.nodes c.self-2.invariant c.args.number c.in-Some.app.now.app c.next.ensures.rising (sym c.in-Some.ensures) none c.place_of-place.result.items at.row at.member
-            (◌∙◌ {a = at.row.path} at.path_is (c.as_bytes.ensures.value ∙ c.leaf.ensures)) at.item_is),
+        rw (c.deref_mut-tree.ensures.value, c.user.ensures, position)
+            (may_go _ c.self.invariant c.args.number c.in-Some.app.now.app c.in-Some.ensures.rising (sym c.in-Some.ensures.found) none),
       ),
     )
 
 pub invariant_of-self : goal.invariant_of-self
 invariant_of-self g c =
-    let x = c.self-2.inside in
-    let tree = c.deref_mut-tree.ensures.value in
-    let none = none_left c.args.self.now _ c.args.number (subst HasDistinctNumbers c.self.view_is c.law.ensures.containers) (c.self-2.view_is ∙ c.end_all-ended.ensures.ended) in
-    let path = (rw tree at c.place_of-place.ensures.path_is) ∙ c.as_bytes.ensures.value ∙ c.leaf.ensures in
-    let rows = (rw tree at c.leave.ensures) ∙ (λ i. map (left (path i) (c.user.ensures i)) x.tree.value) in
-    rw rows
-    (held_left x.minimum_allocation x.maximum_allocation x.application_limit x.tree.value x.apps x.nodes c.self-2.invariant c.args.number c.in-Some.app.now.app c.next.ensures.rising (sym c.in-Some.ensures) none c.finish.new.self c.finish.ensures.table c.finish.ensures.rooms)
+    let x = c.self.inside in
+    let none = rw (← c.self.view_is) at c.end_all-ended.ensures.none in
+    let app = c.in-Some.app.now.app in
+    let position = c.position.ensures ∙ position_is _ c.self.invariant c.args.number c.in-Some.app.now c.in-Some.ensures.found c.in-Some.ensures.account in
+    let path = ap (λ q. path_at q x.tree.value) position ∙ (placed_at _ c.self.invariant c.args.number app (sym c.in-Some.ensures.found)).position.path_is in
+    let rows = (rw c.deref_mut-tree.ensures.value at c.leave.ensures) ∙ (λ i. map (left g.row.K (path i) (c.user.ensures i)) x.tree.value) in
+    rw rows (held_left _ c.self.invariant c.args.number app c.in-Some.ensures.rising (sym c.in-Some.ensures.found) none c.finish.new.self c.finish.ensures.table c.finish.ensures.accounts)
 
 pub returns-clause-finished : goal.returns-clause-finished
 returns-clause-finished g c =
-    let x = c.self-2.inside in
-    let tree = c.deref_mut-tree.ensures.value in
-    let rows = rw tree at c.leave.ensures in
-    let settings = ap queues_of rows ∙ left_settings _ c.user.result.now x.tree.value in
-    finished_is x.minimum_allocation x.maximum_allocation x.application_limit x.tree.value x.apps x.nodes c.self-2.invariant c.args.self.now c.args.number c.leave.new.self c.finish.new.self.table (c.self-2.view_is ∙ c.end_all-ended.ensures.ended) settings c.finish.ensures.table
+    let x = c.self.inside in
+    let p : Parts g.row.K = (record { rows = x.tree.value; limits = x.limits; apps = x.apps; nodes = x.nodes }) in
+    let rows = rw c.deref_mut-tree.ensures.value at c.leave.ensures in
+    let settings = ap queues_of rows ∙ moved_settings g.row.K _ c.user.result.now (one_application g.row.K) (nothing g.row.K) x.tree.value in
+    finished_is Released c.args.self.now.flat (flat_of p) _ c.args.number c.self.invariant.unreserved (ap (λ (h : Held g.row.K). h.flat) c.self.view_is ∙ c.end_all-ended.ensures.ended)
+    (with_table p c.leave.new.self c.finish.new.self _ settings c.finish.ensures.table)

@@ -15,6 +15,7 @@ maximum_allocation-requires g c = let k = c.application_limit-application_limit.
 
 pub invariant_of-result : goal.invariant_of-result
 invariant_of-result g c =
+    let first = ap (λ (t : NodeTable). t.next_container) c.new-3.ensures in
     rw (c.in-Ok-new.ensures.ok)
-    (held_opened _ _ _ c.in-Ok.tree c.new-2.result c.new-3.result (ap (λ (t : AppTable). t.active) c.new-2.ensures.table) (ap (λ (t : NodeTable). t.live) c.new-3.ensures) (ap (λ (t : NodeTable). t.reserved) c.new-3.ensures)
+    (held_opened _ (ap (λ (t : AppTable). t.active) c.new-2.ensures.table) c.new-2.ensures.accounts (ap (λ (t : NodeTable). t.live) c.new-3.ensures) (ap (λ (t : NodeTable). t.reserved) c.new-3.ensures) (omega (arith, first))
     c.in-Ok.ensures.unused c.application_limit-application_limit.ensures.few c.application_limit-application_limit.ensures.resources)

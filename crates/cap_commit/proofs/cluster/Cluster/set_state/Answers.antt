@@ -1,30 +1,17 @@
-use Rattle.std.proofs.Common.{ap, sym, ◌∙◌, map, List}
-use Rattle.cap_model.specs.Settings.{QueueRow}
-use Rattle.cap_tree.specs.Rows.{queues_of, with_state}
-use Rattle.cap_commit.specs.Held.{flat_of}
+use Rattle.std.proofs.Common.{ap, ◌∙◌}
+use Rattle.cap_tree.specs.Rows.{queues_of}
+use Rattle.cap_tree.specs.Spot.{path_at}
 use Rattle.cap_tree.proofs.Listings.{state_in_settings}
-use Rattle.cap_commit.proofs.Holding.{held_state, none_set}
+use Rattle.cap_commit.proofs.Holding.{held_state, with_queues}
 use Rattle.cap_commit.proofs.cluster.Cluster.set_state.Goals as goal
 
-pub returns-in_default : goal.returns-in_default
-returns-in_default g c =
-    let x = c.self.inside in
-    let tree = c.deref_mut-tree.ensures.value in
-    let none = rw tree at (c.in_default.ensures) in
-    rw (← c.self.view_is, tree)
-    (sym (ap (λ (qs : List QueueRow). flat_of {K = g.row.K} x.minimum_allocation x.maximum_allocation x.application_limit qs x.apps.table x.nodes) (none_set c.args.path.now c.args.running (queues_of x.tree.value) none)))
-
-pub invariant_of-self-2 : goal.invariant_of-self-2
-invariant_of-self-2 g c =
-    let x = c.self.inside in
-    let tree = c.deref_mut-tree.ensures.value in
-    let now = (rw tree at c.set_state.ensures) ∙ ap (λ p. map (with_state p c.args.running) x.tree.value) (rw tree at c.in-Some.ensures.path_is) in
-    rw now (held_state x.minimum_allocation x.maximum_allocation x.application_limit x.tree.value x.apps x.nodes c.self.invariant c.args.path.now c.args.running)
+pub invariant_of-self : goal.invariant_of-self
+invariant_of-self g c =
+    let now = rw c.deref_mut-tree.ensures.value at c.set_state.ensures in
+    rw now (held_state _ c.self.invariant (path_at c.args.position.now.items c.self.inside.tree.value) c.args.running)
 
 pub returns : goal.returns
 returns g c =
     let x = c.self.inside in
-    let tree = c.deref_mut-tree.ensures.value in
-    let now = (rw tree at c.set_state.ensures) ∙ ap (λ p. map (with_state p c.args.running) x.tree.value) (rw tree at c.in-Some.ensures.path_is) in
-    rw (← c.self.view_is)
-    (ap (λ (qs : List QueueRow). flat_of {K = g.row.K} x.minimum_allocation x.maximum_allocation x.application_limit qs x.apps.table x.nodes) (ap queues_of now ∙ state_in_settings c.args.path.now c.args.running x.tree.value))
+    let now = rw c.deref_mut-tree.ensures.value at c.set_state.ensures in
+    rw (← c.self.view_is) (with_queues (record { rows = x.tree.value; limits = x.limits; apps = x.apps; nodes = x.nodes }) _ _ (ap queues_of now ∙ state_in_settings (path_at c.args.position.now.items x.tree.value) c.args.running x.tree.value))

@@ -3,17 +3,14 @@ use Rattle.cap_model.specs.Flat.{App}
 use Rattle.cap_model.specs.Allocate.{after_telling}
 use Rattle.cap_commit.proofs.Parts.{told_is, unknown_is}
 use Rattle.cap_commit.proofs.Holding.{held_app}
-use Rattle.cap_commit.proofs.Owning.{ends_kept}
 use Rattle.cap_commit.proofs.cluster.Cluster.tell.Goals as goal
 
 pub invariant_of-self : goal.invariant_of-self
 invariant_of-self g c =
-    let x = c.self.inside in
-    held_app x.minimum_allocation x.maximum_allocation x.application_limit x.tree.value x.apps x.nodes c.self.invariant c.args.number c.tell.new.self (λ (app : App). after_telling app.response c.args.ignored app)
-    (record { number = λ a. refl; leaf = λ a. refl; user = λ a. refl }) c.tell.ensures.table (ends_kept c.args.number 0 0 _ _ c.tell.ensures.room)
+    held_app _ c.self.invariant c.args.number 0 c.tell.new.self (λ (app : App). after_telling app.response c.args.ignored app) (record { number = λ a. refl; leaf = λ a. refl; user = λ a. refl }) c.tell.ensures.table c.tell.ensures.accounts
 
 pub returns-clause-told : goal.returns-clause-told
-returns-clause-told g c = rw (← c.self.view_is) (told_is _ _ c.args.number c.args.ignored c.next.ensures.rising c.tell.ensures.table)
+returns-clause-told g c = rw (← c.self.view_is) (told_is _ _ c.args.number c.args.ignored c.tell.ensures.rising c.tell.ensures.table)
 
 pub returns-clause-unknown : goal.returns-clause-unknown
 returns-clause-unknown g c = rw (← c.self.view_is) (λ none. unknown_is _ _ c.args.number c.args.ignored c.tell.ensures.table none)

@@ -2,7 +2,7 @@ use Rattle.std.proofs.Common.{subst}
 use Rattle.cap_daemon.specs.Script.{IsCommand}
 use Rattle.cap_daemon.specs.declared.command.Command.TheVariants.{Open, Bytes, End}
 use Rattle.std.specs.Prelude.{is_some}
-use Rattle.cap_daemon.proofs.Blanks.{no_opening, no_later, no_later_conf}
+use Rattle.cap_daemon.proofs.Commands.{no_opening, no_later, no_later_conf}
 use Rattle.cap_daemon.proofs.Results.{on_ok, on_ok_twice}
 use Rattle.cap_daemon.proofs.Scripts.{no_script, no_script_conf, after_comment, after_property, after_step}
 use Rattle.cap_daemon.proofs.script.Script.play.Goals as goal

@@ -4,13 +4,13 @@ use Rattle.cap_masters.proofs.calls.allocate.has_too_large.Goals.{else-count-gt0
 
 pub returns-then-not-fits : goal.returns-then-not-fits
 returns-then-not-fits g c =
-    here c.args.cluster.now c.args.asks.now c.loop-ask.ask-index c.ask-item.result c.loop-ask-test.true c.ask-item.is c.loop-ask.invariant
-    (large c.args.cluster.now c.ask-item.result c.fits.result c.count.result c.resource.result c.maximum_allocation-maximum.result c.count.ensures c.resource.ensures c.maximum_allocation-maximum.ensures c.if-count-gt0.true c.fits.ensures c.if-not-fits.true)
+    here c.args.cluster.now.flat c.args.asks.now c.loop-ask.ask-index c.ask-item.result c.loop-ask-test.true c.ask-item.is c.loop-ask.invariant
+    (large c.args.cluster.now.flat c.ask-item.result c.fits.result c.count.result c.resource.result c.settings.result.now.maximum_allocation c.count.ensures c.resource.ensures c.settings.ensures.maximum c.if-count-gt0.true c.fits.ensures c.if-not-fits.true)
 
 pub loop-ask-preserved : goal.loop-ask-preserved
 loop-ask-preserved g c =
-    not_here c.args.cluster.now c.args.asks.now c.loop-ask.ask-index c.ask-item.result c.loop-ask-test.true c.ask-item.is c.loop-ask.invariant
+    not_here c.args.cluster.now.flat c.args.asks.now c.loop-ask.ask-index c.ask-item.result c.loop-ask-test.true c.ask-item.is c.loop-ask.invariant
     (elim c.else-count-gt0.branch [
-      | else-count-gt0-via-then-count-gt0+else-not-fits w ↦ fitting c.args.cluster.now c.ask-item.result w.fits.result w.resource.result c.maximum_allocation-maximum.result w.resource.ensures c.maximum_allocation-maximum.ensures w.fits.ensures w.if-not-fits.false
-      | else-count-gt0-via-else-count-gt0 w ↦ none_wanted c.args.cluster.now c.ask-item.result c.count.result c.count.ensures w.if-count-gt0.false
+      | else-count-gt0-via-then-count-gt0+else-not-fits w ↦ fitting c.args.cluster.now.flat c.ask-item.result w.fits.result w.resource.result c.settings.result.now.maximum_allocation w.resource.ensures c.settings.ensures.maximum w.fits.ensures w.if-not-fits.false
+      | else-count-gt0-via-else-count-gt0 w ↦ none_wanted c.args.cluster.now.flat c.ask-item.result c.count.result c.count.ensures w.if-count-gt0.false
     ])

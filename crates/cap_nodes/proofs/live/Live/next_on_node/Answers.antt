@@ -1,28 +1,19 @@
-use Rattle.std.proofs.Common.{◌≡◌, ◌∙◌, true, false, sym, arith}
-use Rattle.std.specs.Prelude.{◌==◌}
-use Rattle.std.proofs.lemmas.Bool.Decides.{nat_tests}
+use Rattle.std.proofs.Common.{◌∙◌}
+use Rattle.std.specs.Map.{values_of}
 use Rattle.cap_model.specs.Flat.{Container}
-use Rattle.cap_nodes.proofs.Lives.{from_after, passes_here, passes_later, passes_none}
+use Rattle.cap_nodes.proofs.Lives.{found}
+use Rattle.cap_nodes.proofs.Owned.{first_of, none_of}
 use Rattle.cap_nodes.proofs.live.Live.next_on_node.Goals as goal
 
-pub loop-container-init : goal.loop-container-init
-loop-container-init g c = (
-  tt,
-  tt,
-  rw (← c.self.view_is)
-      (from_after (λ (x : Container). x.node == c.args.node) c.args.after c.self.inside.next c.self.inside.containers.entries c.into_iter-container-iterator.result c.self.invariant
-      (c.into_iter-container-iterator.ensures.into_iter_gives ∙ c.range-container-items.ensures.between tt)),
-)
-
-pub loop-container-preserved : goal.loop-container-preserved
-loop-container-preserved g c =
-    let other : (c.in-Some.container.now.node == c.args.node) ≡ false = grind (arith, nat_tests, c.node.ensures, c.if-node.false) in
-    (tt, tt, c.loop-container.invariant.2 ∙ passes_later (λ (x : Container). x.node == c.args.node) c.loop-container.container-iterator c.next.new.self _ c.in-Some.container.now c.in-Some.ensures.steps other)
-
-pub returns-then-node : goal.returns-then-node
-returns-then-node g c =
-    let this : (c.in-Some.container.now.node == c.args.node) ≡ true = grind (arith, nat_tests, c.node.ensures, c.if-node.true) in
-    sym (c.loop-container.invariant.2 ∙ passes_here (λ (x : Container). x.node == c.args.node) c.loop-container.container-iterator c.next.new.self _ c.in-Some.container.now c.in-Some.ensures.steps this)
+pub returns-in_default : goal.returns-in_default
+returns-in_default g c =
+    rw (← c.self.view_is)
+    (none_of (λ (x : Container). x.node) c.args.node c.args.after (values_of c.self.inside.containers.entries) c.self.inside.on_nodes c.self.inside.next c.self.invariant.2 c.self.invariant.0.1 c.in_default.ensures.none)
 
 pub returns : goal.returns
-returns g c = sym (c.loop-container.invariant.2 ∙ passes_none (λ (x : Container). x.node == c.args.node) c.loop-container.container-iterator c.in-None.ensures.steps.0)
+returns g c =
+    let first =
+    first_of (λ (x : Container). x.node) c.args.node c.args.after (values_of c.self.inside.containers.entries) c.self.inside.on_nodes c.self.inside.next c.self.invariant.2 c.self.invariant.0.1
+    c.in-Some.number c.in-Some.ensures.has c.in-Some.ensures.above c.in-Some.ensures.least
+    in
+    rw (← c.self.view_is) (c.copied.ensures ∙ c.get.ensures.value ∙ found c.self.inside.containers.entries c.self.inside.next c.in-Some.number c.self.invariant.0 ∙ first)

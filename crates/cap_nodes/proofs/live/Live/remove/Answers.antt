@@ -1,14 +1,32 @@
-use Rattle.std.proofs.Common.{ap, List}
+use Rattle.std.proofs.Common.{◌≡◌, ◌∙◌, ap, sym, subst, List, Some}
+use Rattle.std.specs.Prelude.{find, ◌==◌}
+use Rattle.std.specs.Map.{values_of}
 use Rattle.cap_model.specs.Flat.{Container}
-use Rattle.cap_nodes.specs.Places.{LiveTable}
-use Rattle.cap_nodes.proofs.Lives.{removed}
+use Rattle.cap_nodes.specs.Places.{LiveTable, IsIndex}
+use Rattle.cap_nodes.proofs.Lives.{removed, found}
+use Rattle.cap_nodes.proofs.Owned.{index_left}
 use Rattle.cap_nodes.proofs.live.Live.remove.Goals as goal
 
 pub invariant_of-self : goal.invariant_of-self
-invariant_of-self g c = (removed c.self.inside.containers.entries c.remove.new.self.entries c.self.inside.next c.args.number c.self.invariant c.remove.ensures.entries).live
+invariant_of-self g c =
+    let now = removed c.self.inside.containers.entries c.remove.new.self.entries c.self.inside.next c.args.number c.self.invariant.0 c.in-Some.ensures.entries in
+    let at = sym (found c.self.inside.containers.entries c.self.inside.next c.args.number c.self.invariant.0) ∙ sym c.in-Some.ensures.value in
+    let there = subst (λ (x : Container). find (λ y. y.number == c.args.number) (values_of c.self.inside.containers.entries) ≡ Some x) (sym c.container.view_is) at in (
+      now.live,
+      subst (λ (cs : List Container). IsIndex (λ x. x.app) cs c.remove-in-Some.new.self) (sym now.values)
+          (index_left (λ (x : Container). x.app) (values_of c.self.inside.containers.entries) c.self.inside.of_apps c.self.invariant.1 c.remove-in-Some.new.self c.args.number _ there c.remove-in-Some.ensures),
+      subst (λ (cs : List Container). IsIndex (λ x. x.node) cs c.remove-in-Some-2.new.self) (sym now.values)
+          (index_left (λ (x : Container). x.node) (values_of c.self.inside.containers.entries) c.self.inside.on_nodes c.self.invariant.2 c.remove-in-Some-2.new.self c.args.number _ there c.remove-in-Some-2.ensures),
+    )
 
-pub returns : goal.returns
-returns g c =
+pub returns-in-Some-clause-left : goal.returns-in-Some-clause-left
+returns-in-Some-clause-left g c =
     rw (← c.self.view_is)
     (ap (λ (xs : List Container). let t : LiveTable = record { live = xs; next = c.self.inside.next } in t)
-    (removed c.self.inside.containers.entries c.remove.new.self.entries c.self.inside.next c.args.number c.self.invariant c.remove.ensures.entries).values)
+    (removed c.self.inside.containers.entries c.remove.new.self.entries c.self.inside.next c.args.number c.self.invariant.0 c.in-Some.ensures.entries).values)
+
+pub returns-in-None-clause-left : goal.returns-in-None-clause-left
+returns-in-None-clause-left g c =
+    rw (← c.self.view_is)
+    (ap (λ (xs : List Container). let t : LiveTable = record { live = xs; next = c.self.inside.next } in t)
+    (removed c.self.inside.containers.entries c.remove.new.self.entries c.self.inside.next c.args.number c.self.invariant.0 c.in-None.ensures.entries).values)

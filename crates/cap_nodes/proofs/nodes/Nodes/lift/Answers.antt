@@ -9,29 +9,29 @@ use Rattle.cap_nodes.proofs.nodes.Nodes.lift.Goals as goal
 
 pub lift-requires : goal.lift-requires
 lift-requires g c =
-    let there = sym c.in-Some.ensures.found in
-    let home = home_of g.row.K c.self.inside.present.places c.self.inside.live.live c.self.invariant.0 c.args.number c.in-Some.container there in
-    let at = at_of c.self.inside.present.places c.in-Some.container.node home in
-    let short : length c.in-Some.container.resource ≤ g.row.K = omega (arith, c.resource.ensures.vector.count) in (
+    let there = (rw (← c.self.view_is) at c.requires) in
+    let home = home_of g.row.K c.self.inside.present.places c.self.inside.live.live c.self.invariant.0 c.args.container.now.number c.args.container.now there in
+    let at = at_of c.self.inside.present.places c.args.container.now.node home in
+    let short : length c.args.container.now.resource ≤ g.row.K = omega (arith, c.resource.ensures.vector.count) in (
       omega arith,
       (
         omega arith,
         rw (c.node.ensures, c.resource.ensures.value)
-            (home, if_found (HasOne c.in-Some.container.resource) _ at.place at.at (has_it g.row.K c.self.inside.present.places c.self.inside.live.live c.self.invariant.0 c.self.inside.live.next c.args.number c.in-Some.container at.place c.in-Some.ensures.rising there at.at short)),
+            (home, if_found (HasOne c.args.container.now.resource) _ at.place at.at (has_it g.row.K c.self.inside.present.places c.self.inside.live.live c.self.invariant.0 c.self.inside.live.next c.args.container.now.number c.args.container.now at.place c.remove.ensures.rising there at.at short)),
       ),
     )
 
 pub invariant_of-self : goal.invariant_of-self
 invariant_of-self g c =
-    let there = sym c.in-Some.ensures.found in
-    let at = at_of c.self.inside.present.places c.in-Some.container.node (home_of g.row.K c.self.inside.present.places c.self.inside.live.live c.self.invariant.0 c.args.number c.in-Some.container there) in
-    rw (c.lift.ensures.less, c.remove.ensures, c.node.ensures, c.resource.ensures.value) (
-      without_one g.row.K c.self.inside.present.places c.self.inside.live.live c.self.invariant.0 c.self.inside.present.next c.self.inside.live.next c.args.number c.in-Some.container at.place c.lift.ensures.rising c.in-Some.ensures.rising there at.at,
-      c.self.invariant.1 ∙ ap (sum_of_totals g.row.K) (sym (same_nodes c.in-Some.container.node (held_less c.in-Some.container.resource) c.self.inside.present.places (λ p. refl))),
+    let there = (rw (← c.self.view_is) at c.requires) in
+    let at = at_of c.self.inside.present.places c.args.container.now.node (home_of g.row.K c.self.inside.present.places c.self.inside.live.live c.self.invariant.0 c.args.container.now.number c.args.container.now there) in
+    rw (c.lift.ensures.less, c.remove.ensures.left, c.number.ensures, c.node.ensures, c.resource.ensures.value) (
+      without_one g.row.K c.self.inside.present.places c.self.inside.live.live c.self.invariant.0 c.self.inside.present.next c.self.inside.live.next c.args.container.now.number c.args.container.now at.place c.lift.ensures.rising c.remove.ensures.rising there at.at,
+      c.self.invariant.1 ∙ ap (sum_of_totals g.row.K) (sym (same_nodes c.args.container.now.node (held_less c.args.container.now.resource) c.self.inside.present.places (λ p. refl))),
     )
 
 pub returns : goal.returns
 returns g c =
-    rw (← c.self.view_is, c.lift.ensures.less, c.remove.ensures, c.node.ensures, c.resource.ensures.value)
-    (ap (λ (ns : List ClusterNode). let t : NodeTable = record { present = ns; live = filter (λ x. not (x.number == c.args.number)) c.self.inside.live.live; reserved = []; next_node = c.self.inside.present.next; next_container = c.self.inside.live.next } in t)
-    (same_nodes c.in-Some.container.node (held_less c.in-Some.container.resource) c.self.inside.present.places (λ p. refl)))
+    rw (← c.self.view_is, c.lift.ensures.less, c.remove.ensures.left, c.number.ensures, c.node.ensures, c.resource.ensures.value)
+    (ap (λ (ns : List ClusterNode). let t : NodeTable = record { present = ns; live = filter (λ x. not (x.number == c.args.container.now.number)) c.self.inside.live.live; reserved = []; next_node = c.self.inside.present.next; next_container = c.self.inside.live.next } in t)
+    (same_nodes c.args.container.now.node (held_less c.args.container.now.resource) c.self.inside.present.places (λ p. refl)))

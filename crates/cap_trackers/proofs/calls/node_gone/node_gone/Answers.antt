@@ -1,17 +1,17 @@
 use Rattle.std.proofs.Common.{arith}
-use Rattle.cap_trackers.proofs.Answering.{none_seen, some_seen, gone_refused, none_left, gone_is}
+use Rattle.cap_trackers.proofs.Answering.{none_seen, some_seen, gone_refused, gone_is}
 use Rattle.cap_trackers.proofs.calls.node_gone.node_gone.Goals as goal
 
 pub returns-then-is_none : goal.returns-then-is_none
-returns-then-is_none g c = gone_refused c.args.cluster.now c.args.node (none_seen c.args.cluster.now c.args.node c.node.result c.node.ensures c.if-is_none.ensures)
+returns-then-is_none g c = gone_refused c.args.cluster.now.flat c.args.node (none_seen c.args.cluster.now.flat c.nodes.result.now c.args.node c.node.result c.nodes.ensures.value c.node.ensures.found c.if-is_none.ensures)
 
 pub drop_node-requires : goal.drop_node-requires
 drop_node-requires g c =
-    let kinds = c.containers_are_numbered.ensures.resources in
-    let there = some_seen c.args.cluster.now c.args.node c.node.result c.node.ensures c.if-is_none.ensures in
-    (omega (arith, kinds), rw c.end_all-ended.ensures.ended (there, none_left c.args.cluster.now c.args.node c.containers_are_numbered.ensures.numbers))
+    let kinds = c.nodes.ensures.resources in
+    let there = some_seen c.args.cluster.now.flat c.nodes.result.now c.args.node c.node.result c.nodes.ensures.value c.node.ensures.found c.if-is_none.ensures in
+    (omega (arith, kinds), (rw c.end_all-ended.ensures.ended there, c.end_all-ended.ensures.none))
 
 pub returns : goal.returns
 returns g c =
-    let there = some_seen c.args.cluster.now c.args.node c.node.result c.node.ensures c.if-is_none.ensures in
-    gone_is c.args.cluster.now c.args.node c.end_all-ended.new.self c.drop_node.new.self c.end_all-ended.result there c.end_all-ended.ensures.count c.end_all-ended.ensures.ended c.drop_node.ensures
+    let there = some_seen c.args.cluster.now.flat c.nodes.result.now c.args.node c.node.result c.nodes.ensures.value c.node.ensures.found c.if-is_none.ensures in
+    gone_is c.args.cluster.now.flat c.args.node c.end_all-ended.new.self.flat c.drop_node.new.self.flat c.end_all-ended.result there c.end_all-ended.ensures.count c.end_all-ended.ensures.ended c.drop_node.ensures

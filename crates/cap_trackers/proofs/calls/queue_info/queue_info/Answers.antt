@@ -4,4 +4,4 @@ use Rattle.cap_trackers.proofs.calls.queue_info.queue_info.Goals as goal
 pub returns-in-Some : goal.returns-in-Some
 returns-in-Some g c =
     let bytes = c.as_bytes.ensures.value in
-    report_is c.args.cluster.now c.args.path.now _ (rw bytes at c.in-Some.ensures.found) (rw bytes at c.in-Some.ensures.report)
+    report_is c.args.cluster.now.flat c.args.path.now _ (rw bytes at c.in-Some.ensures.found) (rw bytes at c.in-Some.ensures.report)

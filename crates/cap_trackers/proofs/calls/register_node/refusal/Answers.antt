@@ -1,17 +1,22 @@
-use Rattle.std.proofs.Common.{ap}
-use Rattle.std.specs.Prelude.{nat_le}
+use Rattle.std.proofs.Common.{ap, length, ◌∙◌}
+use Rattle.std.specs.Prelude.{bytes_eq, nat_le}
+use Rattle.std.specs.List.{list_any}
 use Rattle.cap_vector.specs.Vector.{amount_max, plus}
 use Rattle.cap_model.specs.Limits.{nodes_max}
+use Rattle.cap_model.specs.Flat.{NodeTable}
+use Rattle.cap_model.specs.RegisterNode.{sum_of_totals}
 use Rattle.cap_model.proofs.Registering.{none_is_large}
 use Rattle.cap_trackers.proofs.Refusing.{refusal_is}
 use Rattle.cap_trackers.proofs.calls.register_node.refusal.Goals as goal
 
 pub returns : goal.returns
 returns g c =
-    let large = none_is_large g.row.K amount_max c.checked_add.result (plus c.node_total.result c.args.total.now) c.is_none.result c.checked_add.ensures.count c.checked_add.ensures.variant c.is_none.ensures in
-    refusal_is c.args.cluster.now c.args.host.now c.args.total.now c.first_refusal.result _ _ _ _ _ c.first_refusal.ensures
-    (rw c.as_bytes.ensures.value at c.is_host_taken.ensures)
-    (rw c.node_total.ensures at large)
-    (ap (λ n. nat_le nodes_max n) c.node_count.ensures.value)
+    let is = c.nodes-nodes.ensures.value in
+    let large = none_is_large g.row.K amount_max c.checked_add.result (plus c.total.result c.args.total.now) c.is_none.result c.checked_add.ensures.count c.checked_add.ensures.variant c.is_none.ensures in
+    let total = c.total.ensures.value ∙ ap (λ (t : NodeTable). sum_of_totals g.row.K t.present) is in
+    refusal_is c.args.cluster.now.flat c.args.host.now c.args.total.now c.first_refusal.result _ _ _ _ _ c.first_refusal.ensures
+    (rw c.as_bytes.ensures.value at (c.is_host_taken.ensures ∙ ap (λ (t : NodeTable). list_any (λ node. bytes_eq node.host c.as_bytes.result.now) t.present) is))
+    (rw total at large)
+    (ap (λ n. nat_le nodes_max n) (c.count.ensures.value ∙ ap (λ (t : NodeTable). length t.present) is))
     c.is_zero.ensures
-    (ap (λ n. nat_le _ n) c.next_node.ensures)
+    (ap (λ n. nat_le _ n) (c.next_node.ensures ∙ ap (λ (t : NodeTable). t.next_node) is))

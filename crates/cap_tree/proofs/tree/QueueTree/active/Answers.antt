@@ -1,6 +1,7 @@
-use Rattle.std.proofs.Common.{◌∙◌, sym}
-use Rattle.cap_tree.specs.Measure.{Measure}
+use Rattle.std.proofs.Common.{◌∙◌, ap, sym}
+use Rattle.std.specs.Option.{option_map_or}
+use Rattle.cap_tree.specs.Queue.{Queue}
 use Rattle.cap_tree.proofs.tree.QueueTree.active.Goals as goal
 
 pub returns : goal.returns
-returns g c = rw (← c.self.view_is) (c.active.ensures ∙ sym (c.item.ensures Measure.active))
+returns g c = rw (← c.self.view_is) (c.active.ensures ∙ sym (ap (λ o. option_map_or (λ (q : Queue). q.active) o 0) c.item.ensures))

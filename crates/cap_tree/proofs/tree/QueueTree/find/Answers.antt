@@ -6,17 +6,17 @@ use Rattle.cap_tree.proofs.tree.QueueTree.find.Goals as goal
 pub find-requires : goal.find-requires
 find-requires g c = (search rules, (c.self.invariant.rows_are.short, record { empty = c.new-place.ensures.items; room = c.new-place.ensures.capacity }))
 
-pub returns-in-None : goal.returns-in-None
-returns-in-None g c = rw (← c.self.view_is) (missing c.self.inside.root c.args.path.now c.in-None.ensures.is)
+pub returns-in-None-clause-found : goal.returns-in-None-clause-found
+returns-in-None-clause-found g c = rw (← c.self.view_is) (missing c.self.inside.root c.args.path.now c.in-None.ensures.is)
 
-pub returns-in-Some-Leaf : goal.returns-in-Some-Leaf
-returns-in-Some-Leaf g c =
+pub returns-in-Some-Leaf-clause-found : goal.returns-in-Some-Leaf-clause-found
+returns-in-Some-Leaf-clause-found g c =
     let a = c.self.invariant.rows_are.paths in
     let f = c.in-Some-Leaf.ensures in
     rw (← c.self.view_is) (found_at c.self.inside.root c.args.path.now _ a f.is, children_at c.self.inside.root c.args.path.now _ a f.is ∙ sym f.below ∙ ap is_parent c.in-Some-Leaf.field-0-is)
 
-pub returns-in-Some-Parent : goal.returns-in-Some-Parent
-returns-in-Some-Parent g c =
+pub returns-in-Some-Parent-clause-found : goal.returns-in-Some-Parent-clause-found
+returns-in-Some-Parent-clause-found g c =
     let a = c.self.invariant.rows_are.paths in
     let f = c.in-Some-Parent.ensures in
     rw (← c.self.view_is) (found_at c.self.inside.root c.args.path.now _ a f.is, children_at c.self.inside.root c.args.path.now _ a f.is ∙ sym f.below ∙ ap is_parent c.in-Some-Parent.field-0-is)

@@ -1,25 +1,18 @@
-use Rattle.std.proofs.Common.{◌∙◌, sym, refl, subst}
-use Rattle.cap_tree.specs.Queue.{lowered_above, lowered_at}
-use Rattle.cap_tree.specs.Rows.{AreRows}
-use Rattle.cap_tree.proofs.Callers.{giving, there_giving, never_grows}
-use Rattle.cap_tree.proofs.Listings.{rows_kept}
-use Rattle.cap_tree.proofs.RowPaths.{changed_rows}
+use Rattle.std.proofs.Common.{rules, sym, subst}
+use Rattle.cap_tree.specs.Count.{Count, IsPart}
+use Rattle.cap_tree.specs.Queue.{MayGive, count_in}
+use Rattle.cap_tree.specs.Rows.{HasRoomAtRoot, user_row_at}
+use Rattle.cap_tree.proofs.Callers.{giving_part, room_falling, there_holds}
 use Rattle.cap_tree.proofs.tree.QueueTree.give_back.Goals as goal
 
-pub change-requires-clause-can : goal.change-requires-clause-can
-change-requires-clause-can g c = rw c.as_slice.ensures (giving c.args.user.now c.args.r.now c.args.path.now.items c.self.inside.root (rw (← c.self.view_is) at c.requires))
-
-pub invariant_of-self : goal.invariant_of-self
-invariant_of-self g c = record {
-  rows_are = subst AreRows (sym c.in-Ok.ensures.changed) (rows_kept (lowered_above c.args.r.now) (lowered_at c.args.user.now c.args.r.now) (λ r. refl) (λ r. refl) c.as_slice.result.now c.self.inside.root c.self.invariant.rows_are);
-  start_is = c.self.invariant.start_is;
-}
-
-pub returns : goal.returns
-returns g c =
-    rw (← c.self.view_is, ← c.as_slice.ensures)
-    (c.in-Ok.ensures.changed ∙ changed_rows (lowered_above c.args.r.now) (lowered_at c.args.user.now c.args.r.now) c.as_slice.result.now c.self.inside.root c.self.invariant.rows_are.paths
-    (rw c.as_slice.ensures (there_giving c.args.user.now c.args.r.now c.args.path.now.items c.self.inside.root (rw (← c.self.view_is) at c.requires))))
+pub change-requires : goal.change-requires
+change-requires g c =
+    let rows = c.args.self.now in
+    let row = user_row_at c.args.path.now.items c.args.user.now rows in
+    let place = there_holds c.args.user.now c.args.path.now.items rows (MayGive c.args.r.now) (λ h. h) c.requires in
+    let fits = subst (λ (part : Count). IsPart part (count_in g.row.K row)) (sym c.use_alone.ensures) (giving_part g.row.K c.args.r.now row c.requires) in
+    let within = subst (λ (part : Count). HasRoomAtRoot c.use_alone.result part rows) (sym c.nothing.ensures) (room_falling g.row.K c.use_alone.result rows) in
+    (search rules, (search rules, (search rules, (place, (fits, within)))))
 
 pub unreachable-requires : goal.unreachable-requires
-unreachable-requires g c = never_grows c.as_slice.result.now c.self.inside.root c.in_default.ensures.grows
+unreachable-requires g c = subst (MayGive c.args.r.now) c.in_default.ensures.absent c.requires

@@ -1,5 +1,14 @@
+use Rattle.std.proofs.Common.{◌≡◌, ◌∙◌, Bool, true, false, ap, sym}
+use Rattle.std.specs.Prelude.{is_some, not}
 use Rattle.cap_tree.proofs.RowPaths.{running_rows}
 use Rattle.cap_tree.proofs.tree.QueueTree.running.Goals as goal
 
+turned : (b c : Bool) → b ≡ not c → c ≡ not b
+turned b true e = ap not (sym e)
+turned b false e = ap not (sym e)
+
 pub returns : goal.returns
-returns g c = rw (← c.self.view_is, c.all_along.ensures, c.as_slice.ensures) (running_rows c.args.path.now.items c.self.inside.root c.self.invariant.rows_are.paths (rw (← c.self.view_is) at c.requires))
+returns g c =
+    rw (← c.self.view_is, ← c.as_slice.ensures)
+    (turned (is_some c.first_failing.result) c.is_none.result c.is_none.ensures ∙ ap (λ o. not (is_some o)) c.first_failing.ensures.level
+    ∙ running_rows c.as_slice.result.now c.self.inside.root c.self.invariant.rows_are.paths (rw (← c.self.view_is, ← c.as_slice.ensures) at c.requires))

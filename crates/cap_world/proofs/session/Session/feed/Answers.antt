@@ -10,7 +10,7 @@ returns c =
     let waits = subst (λ (s : Standing). WaitsIfOpen s c.self.inside.framer) (ap (λ (x : Connection). x.standing) c.self.view_is ∙ c.requires) c.self.invariant in
     let old = c.args.self.now in
     rw (← c.self.view_is)
-    (feeds_served c.args.by c.args.piece.now c.args.cluster.now c.serve-self-inside.new.cluster c.args.events.now.items c.serve-self-inside.new.events.items
+    (feeds_served c.args.by c.args.piece.now c.args.cluster.now.flat c.serve-self-inside.new.cluster.flat c.args.events.now.items c.serve-self-inside.new.events.items
     (record { standing = c.self.inside.standing; taken = c.self.inside.framer.fed; output = c.self.inside.output.items }) _
     c.self.inside.framer c.feed.new.self c.serve-self-inside.new.framer c.serve-self-inside.result c.serve-self-inside.new.output.items refl waits c.in-Ok.ensures.ok c.serve-self-inside.ensures refl)
 
@@ -19,6 +19,6 @@ returns-in-Err c =
     let waits = subst (λ (s : Standing). WaitsIfOpen s c.self.inside.framer) (ap (λ (x : Connection). x.standing) c.self.view_is ∙ c.requires) c.self.invariant in
     let fits = All-from_get_or (λ b. b < 256) c.args.piece.now 0 (λ k _. omega (arith, c.type_inv.piece k)) in
     rw (← c.self.view_is, c.in-Err.ensures.err)
-    (feeds_starved c.args.by c.args.piece.now c.args.cluster.now c.args.events.now.items
+    (feeds_starved c.args.by c.args.piece.now c.args.cluster.now.flat c.args.events.now.items
     (record { standing = c.self.inside.standing; taken = c.self.inside.framer.fed; output = c.self.inside.output.items }) _
     c.self.inside.framer fits refl waits refl)

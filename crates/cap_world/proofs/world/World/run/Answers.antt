@@ -17,8 +17,8 @@ loop-i-preserved c =
 pub returns-clause-headline : goal.returns-clause-headline
 returns-clause-headline c =
     let end : c.loop-i.i ≡ length c.args.steps.now = omega arith in
-    headline_all c.args.opening c.args.steps.now c.loop-i.i c.loop-i.events.items c.loop-i.world end c.loop-i.invariant.opening c.loop-i.invariant.events c.loop-i.invariant.lawful c.loop-i.invariant.heard
+    headline_all c.args.opening.flat c.args.steps.now c.loop-i.i c.loop-i.events.items c.loop-i.world end c.loop-i.invariant.opening c.loop-i.invariant.events c.loop-i.invariant.lawful c.loop-i.invariant.heard
 
 pub returns-in-Err-clause-headline : goal.returns-in-Err-clause-headline
 returns-in-Err-clause-headline c =
-    headline_cut c.args.opening c.args.steps.now c.loop-i.i _ c.step.result c.in-Err.field-0 c.loop-i.world c.step.new.self c.loop-i.events.items c.step.new.events.items c.loop-i-test.true c.loop-i.invariant.opening c.loop-i.invariant.events c.loop-i.invariant.heard c.in-Err.is c.step.ensures.outcome c.step.ensures.adds c.step.ensures.headline
+    headline_cut c.args.opening.flat c.args.steps.now c.loop-i.i _ c.step.result c.in-Err.field-0 c.loop-i.world c.step.new.self c.loop-i.events.items c.step.new.events.items c.loop-i-test.true c.loop-i.invariant.opening c.loop-i.invariant.events c.loop-i.invariant.heard c.in-Err.is c.step.ensures.outcome c.step.ensures.adds c.step.ensures.headline

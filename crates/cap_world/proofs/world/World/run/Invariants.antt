@@ -6,7 +6,7 @@ use Rattle.cap_world.proofs.world.World.run.Given as goal
 -- the steps so far were made and heard
 abbrev pub invariant-loop-i : goal.invariant-loop-i
 invariant-loop-i l = record {
-  opening : l.world.opening ≡ l.fn.opening;
+  opening : l.world.opening ≡ l.fn.opening.flat;
   events : l.world.events ≡ l.events.items;
   lawful : IsWorld l.world;
   heard : HeardSoFar (take l.i l.steps) l.world.sight;

@@ -1,0 +1,3 @@
+pub mod Cuts
+pub mod Trims
+pub mod Digits

@@ -1,0 +1,63 @@
+-- The tests of limits, as code and as the model makes them.
+use Rattle.std.proofs.Common.{◌≡◌, ℕ, zero, suc, ◌*◌, ◌≤◌, Bool, true, false, List, [], ◌∷◌, Some, None, refl, sym, ◌∙◌, ap, subst, arith, inl, inr}
+use Rattle.std.specs.Prelude.{◌↔◌, IsTrue, if◌then◌else◌}
+use Rattle.cap_vector.specs.Vector.{amount, exchanged, FitsTimes, IsWithin, sum_max}
+use Rattle.cap_vector.proofs.AmountLemmas.{amount-exchanged}
+use Rattle.std.specs.Option.{option_map_or}
+use Rattle.cap_model.specs.Cascade.{holds_of}
+use Rattle.cap_model.specs.Amounts.{fits, times}
+use Rattle.cap_model.proofs.Measures.{fits_amounts, amounts_fit}
+use Rattle.cap_tree.specs.Measure.{Measure}
+use Rattle.cap_tree.specs.Count.{use_alone}
+use Rattle.cap_tree.specs.Spot.{along, first_failing, item_at, path_at, IsPlace}
+use Rattle.cap_tree.specs.Queue.{Queue, stays_in_maximum, stays_in_user_limit, use_of, user_row}
+use Rattle.cap_tree.specs.Rows.{Row, HasRoomAtRoot, PlacesArePaths, root_use}
+use Rattle.cap_tree.specs.Limits.{broken_level, over_limit}
+use Rattle.cap_tree.specs.declared.limits.OverLimit.TheVariants.{Maximum, User}
+use Rattle.cap_tree.proofs.RowPaths.{along_rows}
+
+same_test : (b c : Bool) (P : Type 0) → IsTrue b ↔ P → (c ≡ true → P) → (P → c ≡ true) → b ≡ c
+same_test true c P d f g = sym (g (d.0 refl))
+same_test false true P d f g = d.1 (f refl)
+same_test false false P d f g = refl
+
+amount-times : (factor : ℕ) (v : List ℕ) (k : ℕ) → amount (times factor v) k ≡ factor * amount v k
+amount-times factor [] k = omega arith
+amount-times factor (x ∷ v) zero = refl
+amount-times factor (x ∷ v) (suc k) = amount-times factor v k
+
+pub fits_times : (b : Bool) (a : List ℕ) (factor : ℕ) (most : List ℕ) → IsTrue b ↔ FitsTimes a factor most → b ≡ fits a (times factor most)
+fits_times b a factor most d =
+    same_test b (fits a (times factor most)) (FitsTimes a factor most) d
+    (λ e k. subst (λ n. amount a k ≤ n) (amount-times factor most k) (fits_amounts a (times factor most) e k))
+    (λ h. amounts_fit a (times factor most) (λ k. subst (λ n. amount a k ≤ n) (sym (amount-times factor most k)) (h k)))
+
+times_one : (v : List ℕ) → times 1 v ≡ v
+times_one [] = refl
+times_one (x ∷ v) = let e : 1 * x ≡ x = omega arith in λ i. e i ∷ times_one v i
+
+pub fits_once : (b : Bool) (a most : List ℕ) → IsTrue b ↔ FitsTimes a 1 most → b ≡ fits a most
+fits_once b a most d = fits_times b a 1 most d ∙ ap (fits a) (times_one most)
+
+-- room for a change of use at the root
+pub room_applying : (old new : List ℕ) (rows : List Row) → IsWithin sum_max (exchanged old new (root_use rows)) → HasRoomAtRoot (use_alone old) (use_alone new) rows
+room_applying old new [] h (Measure.uses k) = inr (omega (arith, h k, amount-exchanged old new [] k))
+room_applying old new (r ∷ rows) h (Measure.uses k) = inr (omega (arith, h k, amount-exchanged old new r.item.used k))
+room_applying old new rows h Measure.active = inl (omega arith)
+
+-- what would be passed, by what is on the way to the place
+
+module _ (K : ℕ) (place user old new : List ℕ) (rows : List Row) (paths : PlacesArePaths rows) (there : IsPlace rows place) where
+  level_is : broken_level (path_at place rows) old new rows ≡ first_failing (stays_in_maximum old new) (along place rows)
+  level_is = ap (first_failing (stays_in_maximum old new)) (sym (along_rows place rows paths there))
+
+  pub over_maximum : (level : ℕ) → Some level ≡ first_failing (stays_in_maximum old new) (along place rows) → over_limit K place user old new rows ≡ Some (Maximum level)
+  over_maximum level e =
+      ap (λ o. option_map_or (λ n. Some (Maximum n)) o (if holds_of (stays_in_user_limit K user old new) (item_at place rows) then None else Some User)) (level_is ∙ sym e)
+
+  pub over_user : (q : Queue) (b : Bool) (used : List ℕ) (factor : ℕ) (capacity : List ℕ) → None ≡ first_failing (stays_in_maximum old new) (along place rows) → item_at place rows ≡ Some q →
+      used ≡ use_of K (user_row user q.users) → factor ≡ q.factor → capacity ≡ q.guaranteed → IsTrue b ↔ FitsTimes (exchanged old new used) factor capacity → over_limit K place user old new rows ≡ (if b then None else Some User)
+  over_user q b used factor capacity e i u f g d =
+      ap (λ o. option_map_or (λ n. Some (Maximum n)) o (if holds_of (stays_in_user_limit K user old new) (item_at place rows) then None else Some User)) (level_is ∙ sym e)
+      ∙ ap (λ o. if holds_of (stays_in_user_limit K user old new) o then None else Some User) i
+      ∙ ap (λ c. if c then None else Some User) (sym (fits_times b (exchanged old new used) factor capacity d ∙ (λ j. fits (exchanged old new (u j)) (times (f j) (g j)))))

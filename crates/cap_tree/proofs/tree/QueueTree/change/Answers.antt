@@ -1,0 +1,36 @@
+use Rattle.std.proofs.Common.{◌≡◌, ◌∙◌, sym, refl, subst, None}
+use Rattle.cap_tree.specs.Count.{IsPart}
+use Rattle.cap_tree.specs.Queue.{count_in, moved_above, moved_at}
+use Rattle.cap_tree.specs.Rows.{AreRows}
+use Rattle.cap_tree.proofs.Callers.{row_holds, holds_of_row}
+use Rattle.cap_tree.proofs.Listings.{rows_kept}
+use Rattle.cap_tree.proofs.RowPaths.{changed_rows}
+use Rattle.cap_tree.proofs.tree.QueueTree.change.Goals as goal
+
+pub change-requires-clause-can : goal.change-requires-clause-can
+change-requires-clause-can g c =
+    rw (← c.self.view_is, ← c.as_slice.ensures) at
+    (row_holds c.args.change.now.user.now c.args.path.now.items c.args.self.now (λ row. IsPart c.args.change.now.old (count_in g.row.K row)) c.requires.place c.requires.fits)
+
+pub change-requires-clause-within : goal.change-requires-clause-within
+change-requires-clause-within g c = rw (← c.self.view_is) at c.requires.within
+
+pub invariant_of-self-2 : goal.invariant_of-self-2
+invariant_of-self-2 g c =
+    let above = moved_above c.args.change.now.old c.args.change.now.new in
+    let at = moved_at g.row.K c.args.change.now.user.now c.args.change.now.old c.args.change.now.new in
+    record {
+      rows_are = subst AreRows (sym c.in-Ok.ensures.changed) (rows_kept above at (λ r. refl) (λ r. refl) c.as_slice.result.now c.self.inside.root c.self.invariant.rows_are);
+      start_is = c.self.invariant.start_is;
+    }
+
+pub returns-clause-ok : goal.returns-clause-ok
+returns-clause-ok g c =
+    let above = moved_above c.args.change.now.old c.args.change.now.new in
+    let at = moved_at g.row.K c.args.change.now.user.now c.args.change.now.old c.args.change.now.new in
+    rw (← c.self.view_is, ← c.as_slice.ensures)
+    (c.in-Ok.ensures.changed ∙ changed_rows above at c.as_slice.result.now c.self.inside.root c.self.invariant.rows_are.paths (rw c.as_slice.ensures (rw (← c.self.view_is) at c.requires.place)))
+
+pub returns-in-Err-clause-absent : goal.returns-in-Err-clause-absent
+returns-in-Err-clause-absent g c =
+    rw (← c.self.view_is, ← c.as_slice.ensures) (holds_of_row c.args.change.now.user.now c.as_slice.result.now c.self.inside.root (λ row. row ≡ None) c.in-Err.ensures.grows)

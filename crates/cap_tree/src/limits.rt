@@ -1,0 +1,33 @@
+//! The limits of the queues on a way, and whether a change of use stays within them.
+ghost use Rattle.std.specs.Prelude.{◌≡◌};
+
+use crate::branch::Test;
+use crate::queue::Queue;
+use cap_vector::Resource;
+use std::alloc::Allocator;
+
+/// The limit that a change of use would pass.
+#[derive(Clone, Copy, Debug, PartialEq, Eq)]
+pub enum OverLimit {
+    /// The maximum capacity of a queue on the way to the leaf: the one of least level, where `root` is level 0.
+    Maximum { level: usize },
+    /// The user limit of the leaf: its user limit factor times its capacity.
+    User,
+}
+
+/// Whether the use of a queue, with `old` taken away and `new` added, is within its maximum.
+#[derive(Drop)]
+pub(crate) struct InMaximum<'a, const K: usize> {
+    pub(crate) old: &'a Resource<K>,
+    pub(crate) new: &'a Resource<K>,
+}
+
+impl<'a, const K: usize, A: Allocator> Test<Queue<K, A>> for InMaximum<'a, K> {
+    ghost use Rattle.cap_tree.specs.Queue.{stays_in_maximum};
+
+    ghost passes = { λ t. stays_in_maximum t.old.now t.new.now };
+
+    fn passes(&self, item: &Queue<K, A>) -> bool {
+        item.stays_in_maximum(self.old, self.new)
+    }
+}
