@@ -1,21 +1,12 @@
 -- The containers that numbers name end one after the other.
 use Rattle.std.proofs.Common.{◌≡◌, ℕ, ◌+◌, ◌<◌, Bool, true, false, List, [], ◌∷◌, ◌++◌, length, get_or, take, sym, ◌∙◌, ap, arith}
 use Rattle.std.specs.Prelude.{Option, Some, None, ◌==◌, find, filter, if◌then◌else◌}
-use Rattle.std.proofs.lemmas.Bool.Decides.{nat_tests}
 use Rattle.std.proofs.lemmas.List.{take_more}
 use Rattle.cap_model.specs.declared.news.Cause.{Cause}
 use Rattle.cap_model.specs.Flat.{Flat, Container}
 use Rattle.cap_model.specs.Ending.{named_among, after_ends}
 use Rattle.cap_model.specs.EngineLaws.{HasDistinctNumbers}
-use Rattle.cap_model.proofs.Choosing.{found}
 use Rattle.cap_model.proofs.EndsInOrder.{kept_if_passes, ends_none, then_found, then_none}
-
--- what is found by a number is found by its own
-pub found_by_its_number : (live : List Container) (n : ℕ) (c : Container) → find (λ d. d.number == n) live ≡ Some c → find (λ d. d.number == c.number) live ≡ Some c
-found_by_its_number live n c e =
-    let t = (found (λ (d : Container). d.number == n) live c e).1 in
-    let is : c.number ≡ n = grind (arith, nat_tests, t) in
-    ap (λ k. find (λ (d : Container). d.number == k) live) is ∙ e
 
 module _ {K : ℕ} (cause : Cause) (t : Container → Bool) (old : Flat K) where
   abbrev named : List ℕ → List Container

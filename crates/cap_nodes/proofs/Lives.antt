@@ -1,13 +1,15 @@
 -- The live containers by number, as one more comes and one goes.
-use Rattle.std.proofs.Common.{◌≡◌, ℕ, ◌+◌, ◌≤◌, ◌<◌, List, [], ◌∷◌, ◌++◌, length, length-append, map, not, sym, ap, ◌∙◌, arith, subst, None}
-use Rattle.std.specs.Prelude.{filter, find, ◌==◌}
+use Rattle.std.proofs.Common.{◌≡◌, ℕ, ◌+◌, ◌≤◌, ◌<◌, List, [], ◌∷◌, ◌++◌, length, length-append, map, not, sym, ap, ◌∙◌, arith, subst, Option, None, Some}
+use Rattle.std.specs.Prelude.{filter, find, ◌==◌, IfSome}
 use Rattle.std.specs.Ordering.{nat_cmp}
 use Rattle.std.specs.BTreeMap.{insert_entry, is_at}
 use Rattle.std.specs.Map.{lookup, remove_entry, values_of}
 use Rattle.cap_model.specs.Limits.{live_max}
 use Rattle.cap_model.specs.Bounds.{IsRising}
 use Rattle.cap_model.specs.Flat.{Container}
+use Rattle.cap_model.proofs.Choosing.{found as passes_found}
 use Rattle.cap_model.proofs.Members.{rising_kept, rising_more}
+use Rattle.std.proofs.lemmas.Bool.Decides.{nat_tests}
 use Rattle.cap_nodes.specs.Places.{tagged, IsLive}
 use Rattle.cap_nodes.proofs.Numbered.{remove-tagged, insert-tagged, same_place, lookup-tagged, none_at_end, values-tagged, length-kept}
 
@@ -49,3 +51,11 @@ pushed old new next c h few is e =
     are new (values_of old ++ c ∷ []) (next + 1) (e ∙ ap (λ es. insert_entry nat_cmp es next c) h.0 ∙ insert-tagged num 1 (values_of old) next c is h.1)
     (rising_more num 1 (values_of old) c next is h.1)
     (omega (arith, length-append (values_of old) (c ∷ []), few))
+
+-- the container that is found by a number is found by its own
+pub found_by_its_own : (live : List Container) (n : ℕ) (o : Option Container) → o ≡ find (λ c. c.number == n) live → IfSome o (λ c. find (λ d. d.number == c.number) live ≡ Some c)
+found_by_its_own live n None e = tt
+found_by_its_own live n (Some c) e =
+    let t = (passes_found (λ (d : Container). d.number == n) live c (sym e)).1 in
+    let is : c.number ≡ n = grind (arith, nat_tests, t) in
+    ap (λ k. find (λ (d : Container). d.number == k) live) is ∙ sym e

@@ -1,4 +1,4 @@
-ghost use Rattle.std.specs.Prelude.{◌≡◌, ◌+◌, ◌<◌, ◌≤◌, ◌==◌, ◌&&◌, nat_lt, [], IsSome, Some, IfOk, OnErr, bytes_eq, length, map, find, true};
+ghost use Rattle.std.specs.Prelude.{◌≡◌, ◌+◌, ◌<◌, ◌≤◌, ◌==◌, ◌&&◌, nat_lt, [], IsSome, Some, IfOk, IfSome, OnErr, bytes_eq, length, map, find, true};
 ghost use Rattle.std.specs.List.{All, list_any};
 ghost use Rattle.std.specs.Option.{option_copied};
 ghost use Rattle.cap_vector.specs.Vector.{Fits, IsWithin, amount_max, plus};
@@ -105,6 +105,7 @@ impl<const K: usize> Nodes<K> {
     /// and are below the next.
     pub fn container(&self, number: u64) -> Option<Container<K>>
         ensures found { result ≡ container_in self.now number }
+        ensures own { IfSome result (λ c. container_in self.now c.number ≡ Some c) }
         ensures rising { IsRising 1 (map (λ c. c.number) self.now.live) self.now.next_container }
         ensures homes { All (λ c. IsSome (node_in self.now c.node)) self.now.live }
     {

@@ -1,10 +1,10 @@
-use Rattle.std.specs.Prelude.{◌==◌, find}
+use Rattle.std.specs.Prelude.{◌==◌, find, IfSome, Some, ◌≡◌}
 use Rattle.std.proofs.Common.{ap, arith, get_or, subst, sym, ◌∙◌, refl}
 use Rattle.cap_model.specs.EngineLaws.{HasDistinctNumbers}
 use Rattle.cap_commit.specs.Held.{Held}
 use Rattle.cap_commit.specs.Owners.{owns}
 use Rattle.cap_commit.proofs.Sizes.{cluster_fits}
-use Rattle.cap_commit.proofs.Naming.{found_by_its_number, none_ended, end_found, end_none, end_other}
+use Rattle.cap_commit.proofs.Naming.{none_ended, end_found, end_none, end_other}
 use Rattle.cap_commit.proofs.cluster.Cluster.end_named.Goals.{in-Some, in_default, in_default-via-in-Some+else-has, in_default-via-in_default}
 use Rattle.cap_commit.proofs.cluster.Cluster.end_named.Goals as goal
 
@@ -40,5 +40,5 @@ end-requires g c =
     let k = c.self.invariant.resources in
     let one = c.in-Some.container in
     let here = ap (λ (h : Held g.row.K). h.flat.nodes.live) c.self-in-loop-number.view_is in
-    let there = sym (c.container.ensures.found ∙ ap (find (λ d. d.number == get_or c.args.numbers.now c.loop-number.number-index 0)) here) ∙ c.in-Some.is in
-    (cluster_fits _ k, (omega (arith, k), found_by_its_number c.loop-number.self.flat.nodes.live _ one there))
+    let own = subst (λ o. IfSome o (λ d. find (λ x. x.number == d.number) c.self-in-loop-number.inside.nodes.live ≡ Some d)) c.in-Some.is c.container.ensures.own in
+    (cluster_fits _ k, (omega (arith, k), sym (ap (find (λ d. d.number == one.number)) here) ∙ own))
