@@ -5,12 +5,11 @@ use Rattle.cap_model.specs.Asks.{Ask}
 use Rattle.cap_model.specs.declared.request.Request.{Request}
 use Rattle.cap_model.specs.declared.reply.Reply.{Reply}
 use Rattle.cap_model.specs.declared.refusal.Refusal.{Refusal}
-use Rattle.cap_model.specs.Flat.{Flat, Container}
+use Rattle.cap_model.specs.Flat.{Flat, Container, containers_on, containers_of}
 use Rattle.cap_model.specs.Asking.{after_asks, after_ask, rounded}
 use Rattle.cap_model.specs.Ending.{is_among}
-use Rattle.cap_model.specs.FinishMaster.{containers_of}
 use Rattle.cap_model.specs.Allocate.{after_processed_allocate, is_repeated_allocate, released_by}
-use Rattle.cap_model.specs.Heartbeat.{after_processed_heartbeat, is_repeated_heartbeat, ended_by, containers_on}
+use Rattle.cap_model.specs.Heartbeat.{after_processed_heartbeat, is_repeated_heartbeat, ended_by}
 use Rattle.cap_model.specs.Replies.{refused_or, refusal_of, granted_cluster, Replies}
 use Rattle.cap_model.specs.declared.event.Event.{Event}
 use Rattle.cap_model.specs.Events.{Step, Run, ever_granted}
@@ -73,11 +72,11 @@ module _ {K : ℕ} where
   pub call_thins : (old : Flat K) (request : Request K) → IsThinned old (granted_cluster old request)
   call_thins old (Request.Allocate app id asks releases) =
       either (is_repeated_allocate old app id) old (after_processed_allocate old app id asks releases) (processed_allocate_thins old app id asks releases)
-  call_thins old (Request.FinishMaster app) = record { test = λ c. not (is_among (containers_of old app) c); live = refl; next = refl }
+  call_thins old (Request.FinishMaster app) = record { test = λ c. not (is_among (containers_of old.nodes app) c); live = refl; next = refl }
   call_thins old (Request.Heartbeat node id ended) =
       either (is_repeated_heartbeat old node id) old (after_processed_heartbeat old node id ended)
       (record { test = λ c. not (is_among (ended_by old node ended) c); live = refl; next = refl })
-  call_thins old (Request.NodeGone node) = record { test = λ c. not (is_among (containers_on old node) c); live = refl; next = refl }
+  call_thins old (Request.NodeGone node) = record { test = λ c. not (is_among (containers_on old.nodes node) c); live = refl; next = refl }
   call_thins old request = thinned_same old (granted_cluster old request) (record { live = refl; next = refl })
 
   unless_refused : (o : Option Refusal) (old new : Flat K) → IsThinned old new → IsThinned old (refused_or o (λ refusal. old) new)

@@ -9,11 +9,10 @@ use Rattle.cap_model.specs.declared.news.End.{End}
 use Rattle.cap_model.specs.declared.request.Request.{Request}
 use Rattle.cap_model.specs.declared.reply.Reply.{Reply}
 use Rattle.cap_model.specs.declared.refusal.Refusal.{Refusal}
-use Rattle.cap_model.specs.Flat.{Flat, Container, app_at}
+use Rattle.cap_model.specs.Flat.{Flat, Container, app_at, containers_on, containers_of}
 use Rattle.cap_model.specs.Ending.{is_among}
-use Rattle.cap_model.specs.FinishMaster.{containers_of}
 use Rattle.cap_model.specs.Allocate.{after_processed_allocate, is_repeated_allocate, released_by}
-use Rattle.cap_model.specs.Heartbeat.{after_processed_heartbeat, is_repeated_heartbeat, ended_by, containers_on}
+use Rattle.cap_model.specs.Heartbeat.{after_processed_heartbeat, is_repeated_heartbeat, ended_by}
 use Rattle.cap_model.specs.Replies.{refused_or, refusal_of, granted_reply, granted_cluster}
 use Rattle.cap_model.specs.declared.event.Event.{Event}
 use Rattle.cap_model.specs.Events.{Step, Run, after_event, ended_between, ever_ended}
@@ -74,9 +73,9 @@ module _ (n number : ℕ) where
         ∙ count_ended it (λ c. c.node == node) ended 1 old.nodes.live old.nodes.next_container b.numbers
         ∙ ap (count_by it) (sym (ended_by_thinning old new b.numbers t))
 
-    lost_ends : (node : ℕ) → told (ends_of Cause.NodeLost n (containers_on old node)) ≡ count_by it (ended_between old (granted_cluster old (Request.NodeGone node)))
+    lost_ends : (node : ℕ) → told (ends_of Cause.NodeLost n (containers_on old.nodes node)) ≡ count_by it (ended_between old (granted_cluster old (Request.NodeGone node)))
     lost_ends node =
-        let gone = containers_on old node in
+        let gone = containers_on old.nodes node in
         let new = granted_cluster old (Request.NodeGone node) in
         let t : IsThinned old new = record { test = λ c. not (is_among gone c); live = refl; next = refl } in
         count_ends Cause.NodeLost n number gone
@@ -86,7 +85,7 @@ module _ (n number : ℕ) where
     -- of an application that finishes nothing is told, and it is not there
     finish_ends : (app : ℕ) → IsSome (app_at (granted_cluster old (Request.FinishMaster app)) n) → 0 ≡ count_by it (ended_between old (granted_cluster old (Request.FinishMaster app)))
     finish_ends app h =
-        let gone = containers_of old app in
+        let gone = containers_of old.nodes app in
         let new = granted_cluster old (Request.FinishMaster app) in
         let t : IsThinned old new = record { test = λ c. not (is_among gone c); live = refl; next = refl } in
         sym (nobody (λ c. c.app == app) old.nodes.live other)

@@ -189,7 +189,7 @@ module _ {K : ℕ} where
 
   call_nodes : (old : Flat K) (request : Request K) → HasNodeNumbers old → HasNodeNumbers (granted_cluster old request)
   call_nodes old (Request.Allocate app id asks releases) r = allocate_nodes old app id asks releases (is_repeated_allocate old app id) r
-  call_nodes old (Request.RegisterNode host rack total) r = rising_more (λ (node : ClusterNode). node.number) 1 old.nodes.present (new_node old host rack total) old.nodes.next_node refl r
+  call_nodes old (Request.RegisterNode host rack total) r = rising_more (λ (node : ClusterNode). node.number) 1 old.nodes.present (new_node old.nodes.next_node host rack total) old.nodes.next_node refl r
   call_nodes old (Request.Heartbeat node id ended) r = beat_nodes old node id ended (is_repeated_heartbeat old node id) r
   call_nodes old (Request.NodeGone m) r = rising_kept (λ (node : ClusterNode). node.number) (λ node. not (node.number == m)) 1 old.nodes.present old.nodes.next_node r
   call_nodes old _ r = r

@@ -5,13 +5,13 @@ use Rattle.std.proofs.lemmas.Bool.Decides.{nat_tests}
 use Rattle.cap_model.specs.Asks.{Ask}
 use Rattle.cap_model.specs.declared.request.Request.{Request}
 use Rattle.cap_model.specs.declared.news.Cause.{Cause}
-use Rattle.cap_model.specs.Flat.{Flat, App, ClusterNode, Container, Reservation, app_at, node_at, is_for}
+use Rattle.cap_model.specs.Flat.{Flat, App, ClusterNode, Container, Reservation, app_at, node_at, is_for, containers_on}
 use Rattle.cap_model.specs.Asking.{after_asks, after_ask, rounded, keep_first}
 use Rattle.cap_model.specs.Ending.{is_among}
 use Rattle.cap_model.specs.Submit.{new_app}
 use Rattle.cap_model.specs.RegisterNode.{new_node}
 use Rattle.cap_model.specs.Allocate.{after_processed_allocate, is_repeated_allocate}
-use Rattle.cap_model.specs.Heartbeat.{after_processed_heartbeat, is_repeated_heartbeat, containers_on, ended_by, beat_of}
+use Rattle.cap_model.specs.Heartbeat.{after_processed_heartbeat, is_repeated_heartbeat, ended_by, beat_of}
 use Rattle.cap_model.specs.Replies.{granted_cluster}
 use Rattle.cap_model.proofs.Choosing.{IsIn, of_filter, in_filter, in_either}
 use Rattle.cap_model.proofs.ContainerNumbers.{IsThinned, call_thins, thinned_same, processed_allocate_thins}
@@ -171,7 +171,7 @@ module _ {K : ℕ} where
   lessened old h (Request.Submit path user) = record {
     live = call_thins old (Request.Submit path user);
     reserved = part_itself old.nodes.reserved;
-    apps = λ app node s. ap standing (find_with_more (λ (a : App). a.number) app old.apps.active (new_app old path user ∷ []) (h app node s).0);
+    apps = λ app node s. ap standing (find_with_more (λ (a : App). a.number) app old.apps.active (new_app old.apps.next path user ∷ []) (h app node s).0);
     nodes = λ app node s. refl;
     present = old_node old;
   }
@@ -190,8 +190,8 @@ module _ {K : ℕ} where
     live = call_thins old (Request.RegisterNode host rack total);
     reserved = part_itself old.nodes.reserved;
     apps = λ app node s. refl;
-    nodes = λ app node s. ap capacity (find_with_more (λ (x : ClusterNode). x.number) node old.nodes.present (new_node old host rack total ∷ []) (h app node s).1);
-    present = λ node m. elim (in_either node old.nodes.present (new_node old host rack total ∷ []) m) [
+    nodes = λ app node s. ap capacity (find_with_more (λ (x : ClusterNode). x.number) node old.nodes.present (new_node old.nodes.next_node host rack total ∷ []) (h app node s).1);
+    present = λ node m. elim (in_either node old.nodes.present (new_node old.nodes.next_node host rack total ∷ []) m) [
       | inl g ↦ old_node old node g
       | inr (inl g) ↦ inr (ap (λ (x : ClusterNode). x.number) (sym g))
       | inr (inr g) ↦ absurd g
@@ -203,7 +203,7 @@ module _ {K : ℕ} where
   lessened old h (Request.NodeGone m) = record {
     live = call_thins old (Request.NodeGone m);
     reserved = part_filter (λ (r : Reservation). not (r.node == m)) old.nodes.reserved;
-    apps = λ app node s. change_stands old (granted_cluster old (Request.NodeGone m)) (ends_change Cause.NodeLost (containers_on old m) old (granted_cluster old (Request.NodeGone m)) refl refl) app;
+    apps = λ app node s. change_stands old (granted_cluster old (Request.NodeGone m)) (ends_change Cause.NodeLost (containers_on old.nodes m) old (granted_cluster old (Request.NodeGone m)) refl refl) app;
     nodes = λ app node s. ap capacity (find_others (λ (x : ClusterNode). x.number) m node (gone_node old m app node s) old.nodes.present);
     present = λ node g. old_node old node (of_filter (λ (x : ClusterNode). not (x.number == m)) old.nodes.present node g).1;
   }

@@ -7,12 +7,12 @@ use Rattle.cap_model.specs.declared.news.Cause.{Cause}
 use Rattle.cap_model.specs.declared.request.Request.{Request}
 use Rattle.cap_model.specs.declared.reply.Reply.{Reply}
 use Rattle.cap_model.specs.declared.refusal.Refusal.{Refusal}
-use Rattle.cap_model.specs.Flat.{Flat, App, Container, with_app}
+use Rattle.cap_model.specs.Flat.{Flat, App, Container, with_app, containers_on}
 use Rattle.cap_model.specs.Asking.{after_asks, after_ask, rounded, put_ask}
 use Rattle.cap_model.specs.Ending.{with_ends}
 use Rattle.cap_model.specs.Submit.{new_app, submit_refusal}
 use Rattle.cap_model.specs.Allocate.{after_telling, after_wishes, after_processed_allocate, is_repeated_allocate, released_by}
-use Rattle.cap_model.specs.Heartbeat.{after_processed_heartbeat, is_repeated_heartbeat, ended_by, containers_on}
+use Rattle.cap_model.specs.Heartbeat.{after_processed_heartbeat, is_repeated_heartbeat, ended_by}
 use Rattle.cap_model.specs.Replies.{refused_or, refusal_of, granted_cluster, Replies}
 use Rattle.cap_model.specs.declared.event.Event.{Event}
 use Rattle.cap_model.specs.Events.{Step, after_grant, news_of, take_one}
@@ -106,7 +106,7 @@ module _ {K : ℕ} where
   either false old new t = t
 
   pub call_moves : (old : Flat K) (request : Request K) → refusal_of old request ≡ None → AppsMove old (granted_cluster old request)
-  call_moves old (Request.Submit path user) o = AppsMove.comes (record { app = new_app old path user; number = refl; unrefused = o; active = refl; next = refl })
+  call_moves old (Request.Submit path user) o = AppsMove.comes (record { app = new_app old.apps.next path user; number = refl; unrefused = o; active = refl; next = refl })
   call_moves old (Request.RegisterMaster app) o = AppsMove.change (one_change app (λ a. record a { registered = true }) (record { number = λ a. refl; leaf = λ a. refl; user = λ a. refl }) old)
   call_moves old (Request.Allocate app id asks releases) o =
       AppsMove.change (either (is_repeated_allocate old app id) old (after_processed_allocate old app id asks releases) (allocate_change old app id asks releases))
@@ -114,7 +114,7 @@ module _ {K : ℕ} where
   call_moves old (Request.Heartbeat node id ended) o =
       AppsMove.change (either (is_repeated_heartbeat old node id) old (after_processed_heartbeat old node id ended)
       (ends_change Cause.EndedOnNode (ended_by old node ended) old (after_processed_heartbeat old node id ended) refl refl))
-  call_moves old (Request.NodeGone node) o = AppsMove.change (ends_change Cause.NodeLost (containers_on old node) old (granted_cluster old (Request.NodeGone node)) refl refl)
+  call_moves old (Request.NodeGone node) o = AppsMove.change (ends_change Cause.NodeLost (containers_on old.nodes node) old (granted_cluster old (Request.NodeGone node)) refl refl)
   call_moves old request o = AppsMove.change (no_change old (granted_cluster old request) refl refl)
 
   unless_refused : (o : Option Refusal) (old : Flat K) (request : Request K) → refusal_of old request ≡ o → AppsMove old (refused_or o (λ refusal. old) (granted_cluster old request))
@@ -148,7 +148,7 @@ module _ {K : ℕ} where
   pub lost_changes : (old new : Flat K) (node : ℕ) (reply : Reply K) → Replies old (Request.NodeGone node) reply new → AppsChange old new
   lost_changes old new node reply r =
       reply_changes old new (Request.NodeGone node) reply
-      (ends_change Cause.NodeLost (containers_on old node) old (granted_cluster old (Request.NodeGone node)) refl refl) r
+      (ends_change Cause.NodeLost (containers_on old.nodes node) old (granted_cluster old (Request.NodeGone node)) refl refl) r
 
   pub grant_change : (old : Flat K) (c : Container) → AppsChange old (after_grant old c)
   grant_change old c = record {

@@ -86,7 +86,7 @@ module _ {K : ℕ} where
 
   -- what a node's registration was not refused for
   register_nodes : (old : Flat K) (host rack total : List ℕ) → register_node_refusal old host total ≡ None → AreNodesWithin K old.nodes.present old.nodes.next_node →
-      AreNodesWithin K (old.nodes.present ++ new_node old host rack total ∷ []) (old.nodes.next_node + 1)
+      AreNodesWithin K (old.nodes.present ++ new_node old.nodes.next_node host rack total ∷ []) (old.nodes.next_node + 1)
   register_nodes old host rack total e a =
       let tests = none_holds
       ((list_any (λ (node : ClusterNode). bytes_eq node.host host) old.nodes.present, Refusal.HostTaken)
@@ -100,12 +100,12 @@ module _ {K : ℕ} where
       let left = tests.1.1.1.1.0 in
       record {
         totals = λ k h.
-            let push = sum_by_push (λ (x : ClusterNode). amount x.total k) old.nodes.present (new_node old host rack total) in
+            let push = sum_by_push (λ (x : ClusterNode). amount x.total k) old.nodes.present (new_node old.nodes.next_node host rack total) in
             let t = totals_amount old k h in
             let s = amount-plus (total_of_nodes old) total k in
             let w = within k in
             omega (arith, push, t, s, w);
-        few = (let l = length-append old.nodes.present (new_node old host rack total ∷ []) in let f : length old.nodes.present < nodes_max = grind (arith, nat_tests, few) in omega (arith, l, f));
+        few = (let l = length-append old.nodes.present (new_node old.nodes.next_node host rack total ∷ []) in let f : length old.nodes.present < nodes_max = grind (arith, nat_tests, few) in omega (arith, l, f));
         numbers = (let f : old.nodes.next_node < number_end = grind (arith, nat_tests, left) in omega (arith, f));
       }
 

@@ -7,13 +7,13 @@ use Rattle.cap_model.specs.Amounts.{fits, times}
 use Rattle.cap_model.specs.Asks.{Ask}
 use Rattle.cap_model.specs.declared.news.Cause.{Cause}
 use Rattle.cap_model.specs.declared.request.Request.{Request}
-use Rattle.cap_model.specs.Flat.{Flat, App, Reservation, app_at}
+use Rattle.cap_model.specs.Flat.{Flat, App, Reservation, app_at, containers_on}
 use Rattle.cap_model.specs.Uses.{queue_use, user_use}
 use Rattle.cap_model.specs.Asking.{after_asks}
 use Rattle.cap_model.specs.Ending.{with_ends}
 use Rattle.cap_model.specs.Submit.{new_app}
 use Rattle.cap_model.specs.Allocate.{after_processed_allocate, after_telling, after_wishes, is_repeated_allocate, released_by}
-use Rattle.cap_model.specs.Heartbeat.{after_processed_heartbeat, is_repeated_heartbeat, ended_by, containers_on}
+use Rattle.cap_model.specs.Heartbeat.{after_processed_heartbeat, is_repeated_heartbeat, ended_by}
 use Rattle.cap_model.specs.Replies.{granted_cluster}
 use Rattle.cap_model.specs.declared.event.Event.{Event}
 use Rattle.cap_model.specs.Events.{Step, after_grant, after_reserve, grant_proposal, reserve_proposal}
@@ -98,7 +98,7 @@ module _ {K : ℕ} where
   call_bounds_reservations : (old : Flat K) → HasPlaces old → AreBounded old → (request : Request K) → AreBounded (granted_cluster old request)
   call_bounds_reservations old h b (Request.Submit path user) =
       asks_same old (granted_cluster old (Request.Submit path user)) (lessened old h (Request.Submit path user))
-      (λ app node s. ap asking (find_with_more (λ (a : App). a.number) app old.apps.active (new_app old path user ∷ []) (h app node s).0)) b
+      (λ app node s. ap asking (find_with_more (λ (a : App). a.number) app old.apps.active (new_app old.apps.next path user ∷ []) (h app node s).0)) b
   call_bounds_reservations old h b (Request.RegisterMaster m) =
       asks_same old (granted_cluster old (Request.RegisterMaster m)) (lessened old h (Request.RegisterMaster m))
       (λ app node s. asking_one m (λ a. record a { registered = true }) (λ a. refl) (λ a. refl) app old.apps.active) b
@@ -109,7 +109,7 @@ module _ {K : ℕ} where
   call_bounds_reservations old h b (Request.Heartbeat node id ended) = beat_keeps old node id ended (is_repeated_heartbeat old node id) (lessened old h (Request.Heartbeat node id ended)) b
   call_bounds_reservations old h b (Request.NodeGone m) =
       asks_same old (granted_cluster old (Request.NodeGone m)) (lessened old h (Request.NodeGone m))
-      (λ app node s. asking_at (with_ends Cause.NodeLost (containers_on old m)) (λ a. refl) (λ a. refl) app old.apps.active) b
+      (λ app node s. asking_at (with_ends Cause.NodeLost (containers_on old.nodes m)) (λ a. refl) (λ a. refl) app old.apps.active) b
   call_bounds_reservations old h b request =
       asks_same old (granted_cluster old request) (lessened old h request) (λ app node s. refl) b
 

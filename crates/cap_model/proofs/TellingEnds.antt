@@ -11,13 +11,13 @@ use Rattle.cap_model.specs.declared.news.End.{End}
 use Rattle.cap_model.specs.declared.request.Request.{Request}
 use Rattle.cap_model.specs.declared.reply.Reply.{Reply}
 use Rattle.cap_model.specs.declared.refusal.Refusal.{Refusal}
-use Rattle.cap_model.specs.Flat.{Flat, App, Container, app_at, with_app}
+use Rattle.cap_model.specs.Flat.{Flat, App, Container, app_at, with_app, containers_on}
 use Rattle.cap_model.specs.Asking.{after_asks, after_ask, rounded, put_ask}
 use Rattle.cap_model.specs.Ending.{with_ends}
 use Rattle.cap_model.specs.Submit.{new_app}
 use Rattle.cap_model.specs.Limits.{news_max}
 use Rattle.cap_model.specs.Allocate.{nothing_told, after_telling, after_wishes, after_processed_allocate, kept_reply, is_repeated_allocate, released_by}
-use Rattle.cap_model.specs.Heartbeat.{after_processed_heartbeat, is_repeated_heartbeat, ended_by, containers_on}
+use Rattle.cap_model.specs.Heartbeat.{after_processed_heartbeat, is_repeated_heartbeat, ended_by}
 use Rattle.cap_model.specs.Replies.{refused_or, refusal_of, granted_reply, granted_cluster, reply_to}
 use Rattle.cap_model.specs.declared.event.Event.{Event}
 use Rattle.cap_model.specs.Events.{Step, after_grant, news_of, take_one}
@@ -134,14 +134,14 @@ module _ {K : ℕ} (old : Flat K) (n : ℕ) where
 
   call_tells : (by : ℕ) (request : Request K) → IsToldAt (Event.Call by request (granted_reply old request)) (granted_cluster old request)
   call_tells by (Request.Submit path user) h =
-      as_before (ap ends_in (find-append (is_number n) old.apps.active (new_app old path user ∷ [])) ∙ one_more (find (is_number n) old.apps.active) (old.apps.next == n) (new_app old path user) refl)
+      as_before (ap ends_in (find-append (is_number n) old.apps.active (new_app old.apps.next path user ∷ [])) ∙ one_more (find (is_number n) old.apps.active) (old.apps.next == n) (new_app old.apps.next path user) refl)
   call_tells by (Request.RegisterMaster app) h =
       as_before (kept_at (λ a. if a.number == app then record a { registered = true } else a) (only_at app (λ a. record a { registered = true }) (record { number = λ a. refl; ends = λ a. refl })) n old.apps.active)
   call_tells by (Request.Allocate app id asks releases) h = allocate_tells app id asks releases (is_repeated_allocate old app id) h
   call_tells by (Request.FinishMaster app) h = as_before (finish_tells app (app == n) refl h)
   call_tells by (Request.Heartbeat node id ended) h = beat_tells node id ended (is_repeated_heartbeat old node id) h
   call_tells by (Request.NodeGone node) h =
-      ended_at Cause.NodeLost (containers_on old node) n old.apps.active (there_before (with_ends Cause.NodeLost (containers_on old node)) (λ a. refl) n old.apps.active h)
+      ended_at Cause.NodeLost (containers_on old.nodes node) n old.apps.active (there_before (with_ends Cause.NodeLost (containers_on old.nodes node)) (λ a. refl) n old.apps.active h)
   call_tells by _ h = as_before refl
 
   refusal_tells : (by : ℕ) (request : Request K) (refusal : Refusal) → IsToldAt (Event.Call by request (Reply.Refused refusal)) old

@@ -11,10 +11,10 @@ use Rattle.cap_model.specs.declared.news.End.{End}
 use Rattle.cap_model.specs.declared.request.Request.{Request}
 use Rattle.cap_model.specs.declared.reply.Reply.{Reply}
 use Rattle.cap_model.specs.declared.refusal.Refusal.{Refusal}
-use Rattle.cap_model.specs.Flat.{Flat, App, Container, app_at}
+use Rattle.cap_model.specs.Flat.{Flat, App, Container, app_at, containers_on}
 use Rattle.cap_model.specs.Ending.{named_among}
 use Rattle.cap_model.specs.Allocate.{is_repeated_allocate, released_by}
-use Rattle.cap_model.specs.Heartbeat.{is_repeated_heartbeat, ended_by, containers_on}
+use Rattle.cap_model.specs.Heartbeat.{is_repeated_heartbeat, ended_by}
 use Rattle.cap_model.specs.Replies.{reply_to}
 use Rattle.cap_model.specs.declared.event.Event.{Event}
 use Rattle.cap_model.specs.Events.{Step, Run, after_event}
@@ -103,11 +103,11 @@ module _ {K : ℕ} where
         nothing true = refl
         nothing false =
             none_of Cause.EndedOnNode n (ended_by old node ended)
-            (λ c m. not_live c (of_filter (λ (x : Container). x.node == node) old.nodes.live c (named_in ended (containers_on old node) c m)).1)
+            (λ c m. not_live c (of_filter (λ (x : Container). x.node == node) old.nodes.live c (named_in ended (containers_on old.nodes node) c m)).1)
     beat_quiet by node id ended _ = (refl, refl)
 
     lost_quiet : (by node : ℕ) (reply : Reply K) → IsQuiet (Event.Call by (Request.NodeGone node) reply)
-    lost_quiet by node (Reply.NodeGone count) = (refl, none_of Cause.NodeLost n (containers_on old node) (λ c m. not_live c (of_filter (λ (x : Container). x.node == node) old.nodes.live c m).1))
+    lost_quiet by node (Reply.NodeGone count) = (refl, none_of Cause.NodeLost n (containers_on old.nodes node) (λ c m. not_live c (of_filter (λ (x : Container). x.node == node) old.nodes.live c m).1))
     lost_quiet by node _ = (refl, refl)
 
     call_quiet : (by : ℕ) (request : Request K) (reply : Reply K) → reply ≡ reply_to old request → IsQuiet (Event.Call by request reply)

@@ -1,5 +1,5 @@
 -- Allocate: a master asks for containers, releases some, and is told the news of its application.
-use Rattle.std.specs.Prelude.{ℕ, ◌-◌, Bool, not, ◌&&◌, List, [], ◌∷◌, Option, Some, length, is_none, filter, take, drop, unwrap_or, option_and_then, if◌then◌else◌, nat_lt, nat_le, ◌==◌}
+use Rattle.std.specs.Prelude.{ℕ, ◌-◌, Bool, not, ◌&&◌, List, [], ◌∷◌, Option, Some, length, is_none, take, drop, unwrap_or, option_and_then, if◌then◌else◌, nat_lt, nat_le}
 use Rattle.std.specs.List.{fold, list_any}
 use Rattle.cap_model.specs.Cascade.{earliest, holds_of}
 use Rattle.cap_model.specs.Amounts.{fits}
@@ -9,7 +9,7 @@ use Rattle.cap_model.specs.declared.news.Cause.{Cause}
 use Rattle.cap_model.specs.News.{AllocateReply}
 use Rattle.cap_model.specs.declared.refusal.Refusal.{Refusal}
 use Rattle.cap_model.specs.declared.reply.Reply.{Reply}
-use Rattle.cap_model.specs.Flat.{Flat, App, Container, app_at, with_app}
+use Rattle.cap_model.specs.Flat.{Flat, App, Container, app_at, containers_of, with_app}
 use Rattle.cap_model.specs.ResponseIds.{next_response, is_repeated, is_bad_id}
 use Rattle.cap_model.specs.Ending.{named_among, after_ends}
 use Rattle.cap_model.specs.Asking.{put_ask, after_asks}
@@ -64,7 +64,7 @@ module _ {K : ℕ} where
 
   -- the live containers of the application that its releases name
   abbrev pub released_by : Flat K → ℕ → List ℕ → List Container
-  released_by cluster n releases = named_among releases (filter (λ c. c.app == n) cluster.nodes.live)
+  released_by cluster n releases = named_among releases (containers_of cluster.nodes n)
 
   -- the cluster after the asks and the releases
   abbrev pub after_wishes : Flat K → ℕ → List Ask → List ℕ → Flat K

@@ -2,7 +2,7 @@
 use Rattle.std.specs.Prelude.{ℕ, Bool, List, [], ◌∷◌, ◌++◌, map, find, filter, not, ◌==◌}
 use Rattle.std.specs.List.{list_any, cons_option}
 use Rattle.cap_model.specs.declared.news.Cause.{Cause}
-use Rattle.cap_model.specs.Flat.{Flat, App, Container}
+use Rattle.cap_model.specs.Flat.{Flat, App, Container, NodeTable}
 
 -- whether a container is among these
 abbrev pub is_among : List Container → Container → Bool
@@ -17,10 +17,14 @@ named_among (n ∷ ns) live = cons_option (find (λ c. c.number == n) live) (nam
 abbrev pub with_ends : Cause → List Container → App → App
 with_ends cause gone app = record app { ends = app.ends ++ map (λ c. record { container = c.number; cause = cause }) (filter (λ c. c.app == app.number) gone) }
 
+-- the table without these live containers
+abbrev pub complete : List Container → NodeTable → NodeTable
+complete gone table = record table { live = filter (λ c. not (is_among gone c)) table.live }
+
 module _ {K : ℕ} where
   -- the cluster without these live containers
   abbrev pub without : List Container → Flat K → Flat K
-  without gone cluster = record cluster { nodes = record cluster.nodes { live = filter (λ c. not (is_among gone c)) cluster.nodes.live } }
+  without gone cluster = record cluster { nodes = complete gone cluster.nodes }
 
   -- the same, where each application is to be told of the end of its own, in this order
   abbrev pub after_ends : Cause → List Container → Flat K → Flat K

@@ -5,7 +5,7 @@ use Rattle.cap_model.specs.Asks.{same_key, Ask}
 use Rattle.cap_model.specs.News.{Grant}
 use Rattle.cap_model.specs.declared.reply.Reply.{Reply}
 use Rattle.cap_model.specs.declared.refusal.Refusal.{Refusal}
-use Rattle.cap_model.specs.Flat.{Flat, Container, Reservation, node_at, with_app, with_reserved}
+use Rattle.cap_model.specs.Flat.{Flat, Container, NodeTable, Reservation, node_at, with_app, with_reserved}
 use Rattle.cap_model.specs.Ending.{is_among}
 use Rattle.cap_model.specs.Sight.{sight_of}
 use Rattle.cap_model.specs.Admission.{NodeProposal, ProposalKind, IsAdmissible}
@@ -22,6 +22,14 @@ reserve_proposal r = record { kind = ProposalKind.reserve; app = r.app; key = r.
 -- the asks with one container less to want under a key; an ask that comes to 0 goes
 abbrev pub take_one : Key → List Ask → List Ask
 take_one key asks = filter (λ ask. not (ask.count == 0)) (map (λ (ask : Ask). if same_key ask.key key then record ask { count = ask.count - 1 } else ask) asks)
+
+-- the table with one more live container, whose number is the next; the reservation that its node holds goes
+abbrev pub launch : Container → NodeTable → NodeTable
+launch c table = record table {
+  live = table.live ++ c ∷ [];
+  reserved = filter (λ r. not (r.node == c.node)) table.reserved;
+  next_container = table.next_container + 1;
+}
 
 module _ {K : ℕ} where
   -- whether a reply says that no memory was found, so that the cluster is the same
@@ -54,13 +62,7 @@ module _ {K : ℕ} where
   abbrev pub after_grant : Flat K → Container → Flat K
   after_grant cluster c =
       let told = with_app c.app (λ app. record app { asks = take_one c.key app.asks; grants = app.grants ++ news_of cluster c ∷ [] }) cluster in
-      record told {
-        nodes = record told.nodes {
-          live = told.nodes.live ++ c ∷ [];
-          reserved = filter (λ r. not (r.node == c.node)) told.nodes.reserved;
-          next_container = told.nodes.next_container + 1;
-        };
-      }
+      record told { nodes = launch c told.nodes }
 
   -- a reservation is added last
   abbrev pub after_reserve : Flat K → Reservation → Flat K

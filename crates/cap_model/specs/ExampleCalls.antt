@@ -25,7 +25,7 @@ stopped = after_calls small (Request.SetQueueState (codes "root.a") false ∷ []
 abbrev pub with_active : ℕ → Flat 2
 with_active count = record stopped {
   apps = record {
-    active = map (λ n. record (new_app stopped (codes "root.b") (codes "u1")) { number = n }) (range_with_len 1 count);
+    active = map (λ n. new_app n (codes "root.b") (codes "u1")) (range_with_len 1 count);
     next = count + 1;
   };
 }

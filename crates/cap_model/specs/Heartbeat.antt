@@ -1,11 +1,11 @@
 -- Heartbeat: a node manager reports which containers have ended on it.
-use Rattle.std.specs.Prelude.{ℕ, ◌-◌, Bool, List, [], ◌∷◌, Option, Some, length, is_none, filter, unwrap_or, option_and_then, ◌==◌, if◌then◌else◌}
+use Rattle.std.specs.Prelude.{ℕ, ◌-◌, Bool, List, [], ◌∷◌, Option, Some, length, is_none, unwrap_or, option_and_then, if◌then◌else◌}
 use Rattle.cap_model.specs.Cascade.{earliest, holds_of}
 use Rattle.cap_model.specs.declared.news.Cause.{Cause}
 use Rattle.cap_model.specs.declared.replies.HeartbeatReply.{HeartbeatReply}
 use Rattle.cap_model.specs.declared.refusal.Refusal.{Refusal}
 use Rattle.cap_model.specs.declared.reply.Reply.{Reply}
-use Rattle.cap_model.specs.Flat.{Flat, Container, node_at, with_node}
+use Rattle.cap_model.specs.Flat.{Flat, Container, node_at, containers_on, with_node}
 use Rattle.cap_model.specs.ResponseIds.{next_response, is_repeated, is_bad_id}
 use Rattle.cap_model.specs.Ending.{named_among, after_ends}
 
@@ -25,19 +25,16 @@ module _ {K : ℕ} where
   abbrev pub is_repeated_heartbeat : Flat K → ℕ → ℕ → Bool
   is_repeated_heartbeat cluster n id = holds_of (λ node. is_repeated node.response node.kept id) (node_at cluster n)
 
-  -- the live containers on a node, and those of them that the report names
-  abbrev pub containers_on : Flat K → ℕ → List Container
-  containers_on cluster n = filter (λ c. c.node == n) cluster.nodes.live
-
+  -- the live containers on a node that the report names
   abbrev pub ended_by : Flat K → ℕ → List ℕ → List Container
-  ended_by cluster n ended = named_among ended (containers_on cluster n)
+  ended_by cluster n ended = named_among ended (containers_on cluster.nodes n)
 
   -- what the node is told: how many of the named ones were not live there, and how many live there now
   abbrev pub beat_of : Flat K → ℕ → ℕ → List ℕ → HeartbeatReply
   beat_of cluster n id ended = record {
     response = next_response id;
     ignored = length ended - length (ended_by cluster n ended);
-    live = length (containers_on cluster n) - length (ended_by cluster n ended);
+    live = length (containers_on cluster.nodes n) - length (ended_by cluster n ended);
   }
 
   -- the cluster after a processed heartbeat: those containers have ended, and the reply is kept

@@ -7,8 +7,8 @@ use Rattle.cap_model.specs.declared.news.End.{End}
 use Rattle.cap_model.specs.declared.request.Request.{Request}
 use Rattle.cap_model.specs.declared.reply.Reply.{Reply}
 use Rattle.cap_model.specs.Allocate.{is_repeated_allocate, released_by}
-use Rattle.cap_model.specs.Heartbeat.{is_repeated_heartbeat, ended_by, containers_on}
-use Rattle.cap_model.specs.Flat.{Flat, Container, app_at}
+use Rattle.cap_model.specs.Heartbeat.{is_repeated_heartbeat, ended_by}
+use Rattle.cap_model.specs.Flat.{Flat, Container, app_at, containers_on}
 use Rattle.cap_model.specs.declared.event.Event.{Event}
 use Rattle.cap_model.specs.Events.{Step, Run, after_event, ever_granted, ever_ended, news_of}
 use Rattle.cap_model.specs.Bounds.{IsWellFormed, IsBounded}
@@ -78,7 +78,7 @@ new_ends old n (Event.Call by (Request.Allocate app id asks releases) (Reply.All
     if is_repeated_allocate old app id then [] else ends_of Cause.Released n (released_by old app releases)
 new_ends old n (Event.Call by (Request.Heartbeat node id ended) (Reply.Heartbeat reply)) =
     if is_repeated_heartbeat old node id then [] else ends_of Cause.EndedOnNode n (ended_by old node ended)
-new_ends old n (Event.Call by (Request.NodeGone node) (Reply.NodeGone count)) = ends_of Cause.NodeLost n (containers_on old node)
+new_ends old n (Event.Call by (Request.NodeGone node) (Reply.NodeGone count)) = ends_of Cause.NodeLost n (containers_on old.nodes node)
 new_ends old n _ = []
 
 -- the same of ends: told in order, each once, none lost

@@ -4,9 +4,15 @@ use Rattle.cap_model.specs.Cascade.{earliest}
 use Rattle.cap_model.specs.declared.news.Cause.{Cause}
 use Rattle.cap_model.specs.declared.refusal.Refusal.{Refusal}
 use Rattle.cap_model.specs.declared.reply.Reply.{Reply}
-use Rattle.cap_model.specs.Flat.{Flat, node_at, with_reserved}
+use Rattle.cap_model.specs.Flat.{Flat, NodeTable, node_at, containers_on}
 use Rattle.cap_model.specs.Ending.{after_ends}
-use Rattle.cap_model.specs.Heartbeat.{containers_on}
+
+-- the table without a node and without its reservation
+abbrev pub remove_node : ℕ → NodeTable → NodeTable
+remove_node n table = record table {
+  present = filter (λ node. not (node.number == n)) table.present;
+  reserved = filter (λ r. not (r.node == n)) table.reserved;
+}
 
 module _ {K : ℕ} where
   -- why it is refused
@@ -16,10 +22,9 @@ module _ {K : ℕ} where
   -- its containers end in order of number, its reservation is dropped, and the node goes
   abbrev pub after_node_gone : Flat K → ℕ → Flat K
   after_node_gone cluster n =
-      let left = after_ends Cause.NodeLost (containers_on cluster n) cluster in
-      let unreserved = with_reserved (filter (λ r. not (r.node == n)) left.nodes.reserved) left in
-      record unreserved { nodes = record unreserved.nodes { present = filter (λ node. not (node.number == n)) unreserved.nodes.present } }
+      let left = after_ends Cause.NodeLost (containers_on cluster.nodes n) cluster in
+      record left { nodes = remove_node n left.nodes }
 
   -- how many of its containers ended
   abbrev pub node_gone_reply : Flat K → ℕ → Reply K
-  node_gone_reply cluster n = Reply.NodeGone (length (containers_on cluster n))
+  node_gone_reply cluster n = Reply.NodeGone (length (containers_on cluster.nodes n))

@@ -7,11 +7,22 @@ use Rattle.cap_model.specs.Cascade.{earliest}
 use Rattle.cap_model.specs.Amounts.{sum_where}
 use Rattle.cap_model.specs.declared.refusal.Refusal.{Refusal}
 use Rattle.cap_model.specs.declared.reply.Reply.{Reply}
-use Rattle.cap_model.specs.Flat.{Flat, ClusterNode}
+use Rattle.cap_model.specs.Flat.{Flat, ClusterNode, NodeTable}
 
 -- what the nodes have together, of k resources
 abbrev pub sum_of_totals : ℕ → List ClusterNode → List ℕ
 sum_of_totals k nodes = sum_where k (λ node. true) (λ node. node.total) nodes
+
+-- a node that joins, of this number
+abbrev pub new_node : ℕ → List ℕ → List ℕ → List ℕ → ClusterNode
+new_node number host rack total = record { number = number; host = host; rack = rack; total = total; response = 0; kept = None }
+
+-- the table with one more node, of the next number
+abbrev pub add_node : List ℕ → List ℕ → List ℕ → NodeTable → NodeTable
+add_node host rack total table = record table {
+  present = table.present ++ new_node table.next_node host rack total ∷ [];
+  next_node = table.next_node + 1;
+}
 
 module _ {K : ℕ} where
   -- what all nodes have together
@@ -28,17 +39,8 @@ module _ {K : ℕ} where
       ∷ (nat_le number_end cluster.nodes.next_node, Refusal.NumbersSpent)
       ∷ [])
 
-  -- the new node, of the next number
-  abbrev pub new_node : Flat K → List ℕ → List ℕ → List ℕ → ClusterNode
-  new_node cluster host rack total = record { number = cluster.nodes.next_node; host = host; rack = rack; total = total; response = 0; kept = None }
-
   abbrev pub after_register_node : Flat K → List ℕ → List ℕ → List ℕ → Flat K
-  after_register_node cluster host rack total = record cluster {
-    nodes = record cluster.nodes {
-      present = cluster.nodes.present ++ new_node cluster host rack total ∷ [];
-      next_node = cluster.nodes.next_node + 1;
-    };
-  }
+  after_register_node cluster host rack total = record cluster { nodes = add_node host rack total cluster.nodes }
 
   abbrev pub register_node_reply : Flat K → Reply K
   register_node_reply cluster = Reply.RegisterNode cluster.nodes.next_node

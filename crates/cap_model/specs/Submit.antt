@@ -6,7 +6,25 @@ use Rattle.cap_model.specs.Limits.{number_end}
 use Rattle.cap_model.specs.Cascade.{earliest}
 use Rattle.cap_model.specs.declared.refusal.Refusal.{Refusal}
 use Rattle.cap_model.specs.declared.reply.Reply.{Reply}
-use Rattle.cap_model.specs.Flat.{Flat, App, is_under, queue_at}
+use Rattle.cap_model.specs.Flat.{Flat, App, AppTable, is_under, queue_at}
+
+-- an application that enters, of this number, not yet registered
+abbrev pub new_app : ℕ → List ℕ → List ℕ → App
+new_app number leaf user = record {
+  number = number;
+  leaf = leaf;
+  user = user;
+  registered = Bool.false;
+  response = 0;
+  kept = None;
+  asks = [];
+  grants = [];
+  ends = [];
+}
+
+-- the table with one more application, of the next number
+abbrev pub add_app : List ℕ → List ℕ → AppTable → AppTable
+add_app leaf user table = record { active = table.active ++ new_app table.next leaf user ∷ []; next = table.next + 1 }
 
 module _ {K : ℕ} where
   -- whether a queue has children
@@ -27,22 +45,8 @@ module _ {K : ℕ} where
       ∷ (nat_le number_end cluster.apps.next, Refusal.NumbersSpent)
       ∷ [])
 
-  -- the new application, of the next number, not yet registered
-  abbrev pub new_app : Flat K → List ℕ → List ℕ → App
-  new_app cluster path user = record {
-    number = cluster.apps.next;
-    leaf = path;
-    user = user;
-    registered = Bool.false;
-    response = 0;
-    kept = None;
-    asks = [];
-    grants = [];
-    ends = [];
-  }
-
   abbrev pub after_submit : Flat K → List ℕ → List ℕ → Flat K
-  after_submit cluster path user = record cluster { apps = record { active = cluster.apps.active ++ new_app cluster path user ∷ []; next = cluster.apps.next + 1 } }
+  after_submit cluster path user = record cluster { apps = add_app path user cluster.apps }
 
   abbrev pub submit_reply : Flat K → Reply K
   submit_reply cluster = Reply.Submit cluster.apps.next

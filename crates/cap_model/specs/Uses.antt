@@ -4,7 +4,7 @@ use Rattle.cap_vector.specs.Vector.{less}
 use Rattle.cap_model.specs.Cascade.{holds_of}
 use Rattle.cap_model.specs.Amounts.{sum_where}
 use Rattle.cap_model.specs.Asks.{Ask}
-use Rattle.cap_model.specs.Flat.{Flat, App, ClusterNode, Container, Reservation, app_at, is_under, is_for}
+use Rattle.cap_model.specs.Flat.{Flat, App, ClusterNode, Container, NodeTable, Reservation, app_at, is_under, is_for}
 
 -- what a live container or a reservation counts for: its application and its resource
 pub record Holding : Type 0 where
@@ -16,6 +16,10 @@ of_container c = record { app = c.app; resource = c.resource }
 
 abbrev pub of_reservation : Reservation → Holding
 of_reservation r = record { app = r.app; resource = r.resource }
+
+-- what the live containers on a node hold
+abbrev pub held_on : ℕ → NodeTable → ℕ → List ℕ
+held_on K table n = sum_where K (λ c. c.node == n) (λ c. c.resource) table.live
 
 module _ {K : ℕ} where
   -- all that counts as use
@@ -36,7 +40,7 @@ module _ {K : ℕ} where
 
   -- what a node's live containers hold
   abbrev pub node_held : Flat K → ℕ → List ℕ
-  node_held cluster n = sum_where K (λ c. c.node == n) (λ c. c.resource) cluster.nodes.live
+  node_held cluster n = held_on K cluster.nodes n
 
   -- what a node has left: a reservation does not lower it
   abbrev pub node_free : Flat K → ClusterNode → List ℕ
