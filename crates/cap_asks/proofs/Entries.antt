@@ -6,8 +6,9 @@ use Rattle.std.specs.Map.{lookup, set_value, remove_entry}
 use Rattle.std.proofs.lemmas.Bool.Decides.{nat_tests}
 use Rattle.cap_model.specs.Flat.{App}
 use Rattle.cap_model.specs.Bounds.{IsRising}
+use Rattle.cap_model.specs.FinishMaster.{remove_app}
 use Rattle.cap_asks.specs.Held.{Account, HeldApp, TakesRoom, HasRoom}
-use Rattle.cap_asks.specs.Apps.{AreNumbered, UsesRoom, HasRooms, IsEntered, IsLeft, account_of, new_account, without_app}
+use Rattle.cap_asks.specs.Apps.{AreNumbered, UsesRoom, HasRooms, IsEntered, IsLeft, account_of, new_account}
 
 abbrev pub apps_of : List (ℕ × HeldApp) → List App
 apps_of es = map (λ e. e.1.app) es
@@ -197,7 +198,7 @@ apps_without low n next (e ∷ es) h = by (nat_eq n e.0) refl (apps_without (e.0
         ap (λ xs. e.1.app ∷ xs) r
         ∙ sym (ap (λ c. cond (not c) (e.1.app ∷ filter (λ (app : App). not (app.number == n)) (apps_of es)) (filter (λ (app : App). not (app.number == n)) (apps_of es))) (number_is low n next e es h ∙ b))
 
-pub table_without : (n next : ℕ) (es left : List (ℕ × HeldApp)) → AreNumbered 1 es next → left ≡ remove_entry (nat_eq n) es → record { active = apps_of left; next = next } ≡ without_app n (record { active = apps_of es; next = next })
+pub table_without : (n next : ℕ) (es left : List (ℕ × HeldApp)) → AreNumbered 1 es next → left ≡ remove_entry (nat_eq n) es → record { active = apps_of left; next = next } ≡ remove_app n (record { active = apps_of es; next = next })
 table_without n next es left h is = rw (is, apps_without 1 n next es h) refl
 
 -- without its account

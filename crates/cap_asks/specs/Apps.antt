@@ -11,33 +11,9 @@ pub record HeldApps : Type 0 where
   pub accounts : List (ℕ × Account)
   pub vacant : ℕ
 
--- no application
-abbrev pub none : AppTable
-none = record { active = []; next = 1 }
-
--- an application that enters, of the next number, not yet registered
-abbrev pub entering : ℕ → List ℕ → List ℕ → App
-entering number leaf user = record { number = number; leaf = leaf; user = user; registered = false; response = 0; kept = None; asks = []; grants = []; ends = [] }
-
 -- the account of one whose leaf is there in the tree: nothing is live, and it has no room yet
 abbrev pub new_account : List ℕ → Account
 new_account position = record { position = position; live = 0; asks = 0; grants = 0; ends = 0 }
-
--- with one more
-abbrev pub with_entering : List ℕ → List ℕ → AppTable → AppTable
-with_entering leaf user table = record { active = table.active ++ entering table.next leaf user ∷ []; next = table.next + 1 }
-
--- with a change of one application
-abbrev pub with_app : ℕ → (App → App) → AppTable → AppTable
-with_app n change table = record table { active = map (λ app. if app.number == n then change app else app) table.active }
-
--- without one
-abbrev pub without_app : ℕ → AppTable → AppTable
-without_app n table = record table { active = filter (λ app. not (app.number == n)) table.active }
-
--- the application of a number
-abbrev pub app_of : ℕ → AppTable → Option App
-app_of n table = find (λ app. app.number == n) table.active
 
 -- where the leaf of an application is in the tree, how many of its containers are live, and how many more asks, grants and ends it
 -- may take with no memory; nothing where it is not active

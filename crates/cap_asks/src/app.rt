@@ -5,8 +5,9 @@ ghost use Rattle.cap_model.specs.Asking.{put_ask};
 ghost use Rattle.cap_model.specs.Allocate.{has_too_many_keys, after_telling};
 ghost use Rattle.cap_model.specs.Events.{take_one};
 ghost use Rattle.cap_model.specs.ResponseIds.{is_repeated, is_bad_id};
+ghost use Rattle.cap_model.specs.Submit.{new_app};
 ghost use Rattle.cap_asks.specs.Held.{TakesRoom, HasRoom};
-ghost use Rattle.cap_asks.specs.Apps.{entering, new_account};
+ghost use Rattle.cap_asks.specs.Apps.{new_account};
 
 use crate::asks::Asks;
 use crate::news::News;
@@ -72,7 +73,7 @@ impl<const K: usize> App<K> {
         position: Position,
         user: &ShortText,
     ) -> App<K>
-        ensures app { result.app ≡ entering number leaf.now user.now }
+        ensures app { result.app ≡ new_app number leaf.now user.now }
         ensures account { result.account ≡ new_account position.items }
     {
         App {

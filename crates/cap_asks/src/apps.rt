@@ -4,7 +4,10 @@ ghost use Rattle.cap_model.specs.Asking.{put_ask};
 ghost use Rattle.cap_model.specs.Events.{take_one};
 ghost use Rattle.cap_model.specs.Allocate.{after_telling};
 ghost use Rattle.cap_model.specs.Bounds.{IsRising};
-ghost use Rattle.cap_asks.specs.Apps.{none, with_entering, with_app, without_app, IsEntered, IsLeft, app_of, account_of, ask_room, live_of, UsesRoom, HasRooms};
+ghost use Rattle.cap_model.specs.Submit.{add_app};
+ghost use Rattle.cap_model.specs.FinishMaster.{remove_app};
+ghost use Rattle.cap_model.specs.Flat.{change_app, no_apps, app_in};
+ghost use Rattle.cap_asks.specs.Apps.{IsEntered, IsLeft, account_of, ask_room, live_of, UsesRoom, HasRooms};
 
 use crate::app::{App, Position};
 use cap_model::{Ask, End, Grant, Key, NoMemory, PathText, ShortText};
@@ -41,7 +44,7 @@ impl<const K: usize> Model for Apps<K> {
 impl<const K: usize> Apps<K> {
     /// No application; the first will be number 1. It takes no memory.
     pub fn new(alloc: Global) -> Apps<K>
-        ensures table { result.table ≡ none }
+        ensures table { result.table ≡ no_apps }
         ensures accounts { result.accounts ≡ [] }
     {
         Apps {
@@ -78,7 +81,7 @@ impl<const K: usize> Apps<K> {
         requires { self.old.table.next < number_end }
         ensures number { IfOk result (λ number. number ≡ self.old.table.next) }
         ensures rising { IsRising 1 (map (λ app. app.number) self.old.table.active) self.old.table.next }
-        ensures table { OnOk result (self.new.table ≡ with_entering leaf.now user.now self.old.table) }
+        ensures table { OnOk result (self.new.table ≡ add_app leaf.now user.now self.old.table) }
         ensures accounts { OnOk result (IsEntered self.old.table.next position.items self.old.accounts self.new.accounts) }
         ensures succeeds { 1 ≤ self.old.vacant → IsOk result }
         ensures table_stays { OnErr result (self.new.table ≡ self.old.table) }
@@ -111,7 +114,7 @@ impl<const K: usize> Apps<K> {
     /// The active application of this number, none where there is none. All that are active have numbers from 1 that rise and are
     /// below the next.
     pub fn app(&self, n: u64) -> Option<&App<K>>
-        ensures found { option_map (λ app. app.now.app) result ≡ app_of n self.now.table }
+        ensures found { option_map (λ app. app.now.app) result ≡ app_in self.now.table n }
         ensures account { option_map (λ app. app.now.account) result ≡ account_of n self.now.accounts }
         ensures rising { IsRising 1 (map (λ app. app.number) self.now.table.active) self.now.table.next }
     {
@@ -120,7 +123,7 @@ impl<const K: usize> Apps<K> {
 
     /// The master of an application has reported. Where none of this number is active, nothing changes.
     pub fn register(&mut self, n: u64)
-        ensures table { self.new.table ≡ with_app n (λ app. record app { registered = true }) self.old.table }
+        ensures table { self.new.table ≡ change_app n (λ app. record app { registered = true }) self.old.table }
         ensures accounts { UsesRoom n 0 0 0 self.old.accounts self.new.accounts }
     {
         let Some(app) = self.active.get_mut(&n) else {
@@ -132,7 +135,7 @@ impl<const K: usize> Apps<K> {
     /// Makes room for so many more asks, grants and ends of an application, so that it takes them with no memory. `NoMemory`
     /// changes no application and takes no room away, and where there is room for all there is no want of it.
     pub fn room(&mut self, n: u64, asks: usize, grants: usize, ends: usize) -> Result<(), NoMemory>
-        requires { IsSome (app_of n self.old.table) }
+        requires { IsSome (app_in self.old.table n) }
         ensures table { self.new.table ≡ self.old.table }
         ensures stays { UsesRoom n 0 0 0 self.old.accounts self.new.accounts }
         ensures ok { OnOk result (HasRooms n asks grants ends self.new.accounts) }
@@ -148,7 +151,7 @@ impl<const K: usize> Apps<K> {
     /// room that `room` made.
     pub fn put_ask(&mut self, n: u64, ask: &Ask<K>)
         requires { 1 ≤ ask_room n self.old.accounts }
-        ensures table { self.new.table ≡ with_app n (λ app. record app { asks = put_ask ask.now app.asks }) self.old.table }
+        ensures table { self.new.table ≡ change_app n (λ app. record app { asks = put_ask ask.now app.asks }) self.old.table }
         ensures accounts { UsesRoom n 1 0 0 self.old.accounts self.new.accounts }
     {
         let Some(app) = self.active.get_mut(&n) else {
@@ -160,7 +163,7 @@ impl<const K: usize> Apps<K> {
     /// One container less is wanted for this key of an application; an ask that comes to 0 goes. Where there is no such application
     /// or no ask of the key, nothing changes.
     pub fn take_one(&mut self, n: u64, key: &Key)
-        ensures table { self.new.table ≡ with_app n (λ app. record app { asks = take_one key.now app.asks }) self.old.table }
+        ensures table { self.new.table ≡ change_app n (λ app. record app { asks = take_one key.now app.asks }) self.old.table }
         ensures accounts { UsesRoom n 0 0 0 self.old.accounts self.new.accounts }
     {
         let Some(app) = self.active.get_mut(&n) else {
@@ -174,7 +177,7 @@ impl<const K: usize> Apps<K> {
     pub fn add_grant(&mut self, n: u64, grant: &Grant<K>)
         requires room { HasRooms n 0 1 (live_of n self.old.accounts + 1) self.old.accounts }
         requires few { live_of n self.old.accounts < live_max }
-        ensures table { self.new.table ≡ with_app n (λ app. record app { grants = app.grants ++ grant.now ∷ [] }) self.old.table }
+        ensures table { self.new.table ≡ change_app n (λ app. record app { grants = app.grants ++ grant.now ∷ [] }) self.old.table }
         ensures accounts { UsesRoom n 0 1 0 self.old.accounts self.new.accounts }
     {
         let Some(app) = self.active.get_mut(&n) else {
@@ -186,7 +189,7 @@ impl<const K: usize> Apps<K> {
     /// One container of an application is live no more, and its end waits to be told to its master, last.
     pub fn add_end(&mut self, n: u64, end: &End)
         requires { 1 ≤ live_of n self.old.accounts }
-        ensures table { self.new.table ≡ with_app n (λ app. record app { ends = app.ends ++ end.now ∷ [] }) self.old.table }
+        ensures table { self.new.table ≡ change_app n (λ app. record app { ends = app.ends ++ end.now ∷ [] }) self.old.table }
         ensures accounts { UsesRoom n 0 0 1 self.old.accounts self.new.accounts }
     {
         let Some(app) = self.active.get_mut(&n) else {
@@ -200,7 +203,7 @@ impl<const K: usize> Apps<K> {
     /// changes.
     pub fn tell(&mut self, n: u64, ignored: u16)
         ensures rising { IsRising 1 (map (λ app. app.number) self.old.table.active) self.old.table.next }
-        ensures table { self.new.table ≡ with_app n (λ app. after_telling app.response ignored app) self.old.table }
+        ensures table { self.new.table ≡ change_app n (λ app. after_telling app.response ignored app) self.old.table }
         ensures accounts { UsesRoom n 0 0 0 self.old.accounts self.new.accounts }
     {
         let Some(app) = self.active.get_mut(&n) else {
@@ -212,7 +215,7 @@ impl<const K: usize> Apps<K> {
     /// An application ends and is active no more; its asks and what its master was not told go with it. Where none of this number
     /// is active, nothing changes.
     pub fn finish(&mut self, n: u64)
-        ensures table { self.new.table ≡ without_app n self.old.table }
+        ensures table { self.new.table ≡ remove_app n self.old.table }
         ensures accounts { IsLeft n self.old.accounts self.new.accounts }
     {
         self.active.shift_remove(&n);

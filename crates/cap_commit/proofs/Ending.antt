@@ -11,7 +11,7 @@ use Rattle.cap_model.specs.Settings.{QueueRow}
 use Rattle.cap_model.specs.declared.news.Cause.{Cause}
 use Rattle.cap_model.specs.declared.news.End.{End}
 use Rattle.cap_model.specs.Flat.{Flat, App, AppTable, Container, NodeTable, app_at}
-use Rattle.cap_model.specs.Ending.{is_among, with_ends, after_ends}
+use Rattle.cap_model.specs.Ending.{is_among, with_ends, after_ends, complete}
 use Rattle.cap_model.proofs.ContainerNumbers.{rising_filter}
 use Rattle.cap_model.proofs.Balance.{count_cons, filter_same}
 use Rattle.cap_model.proofs.Choosing.{IsIn, found, of_filter}

@@ -14,8 +14,8 @@ use Rattle.cap_model.specs.Flat.{Flat, App, AppTable, Container, NodeTable, app_
 use Rattle.cap_model.specs.declared.news.Cause.{Cause}
 use Rattle.cap_model.specs.EngineLaws.{numbers_of}
 use Rattle.cap_model.specs.Ending.{after_ends, with_ends, without}
-use Rattle.cap_model.specs.FinishMaster.{containers_of, after_finish_master}
-use Rattle.cap_model.specs.Submit.{submit_refusal}
+use Rattle.cap_model.specs.FinishMaster.{containers_of, after_finish_master, remove_app}
+use Rattle.cap_model.specs.Submit.{submit_refusal, new_app, add_app}
 use Rattle.cap_model.specs.Bounds.{IsLeaf, IsRising}
 use Rattle.cap_model.proofs.Choosing.{IsIn, found, in_either, of_filter}
 use Rattle.cap_model.proofs.Balance.{filter_none}
@@ -33,7 +33,7 @@ use Rattle.cap_tree.specs.Count.{nothing, one_application}
 use Rattle.cap_tree.specs.Rows.{Row, IsAt, entered, left, with_state, queues_of, user_row_at}
 use Rattle.cap_tree.proofs.Listings.{any_kept, path_kept, set_running, same_path, state_in_settings}
 use Rattle.cap_asks.specs.Held.{Account, HeldApp}
-use Rattle.cap_asks.specs.Apps.{HeldApps, UsesRoom, IsEntered, IsLeft, with_app, with_entering, without_app, entering, account_of, live_of, position_of}
+use Rattle.cap_asks.specs.Apps.{HeldApps, UsesRoom, IsEntered, IsLeft, with_app, account_of, live_of, position_of}
 use Rattle.cap_commit.specs.Held.{Parts, IsHeld, IsPlaced, flat_of, of_cluster}
 use Rattle.cap_commit.proofs.Counting.{count_entered, count_without, only_one, unused}
 use Rattle.cap_commit.proofs.Owning.{IsOwned, count_for, live_kept, none_left, none_of, owned_after, owned_stands, sites_owned}
@@ -178,12 +178,12 @@ module _ {K : ℕ} where
         }
 
     -- after an application has entered
-    pub held_entered : (leaf user position : List ℕ) (apps' : HeldApps) → IsRising 1 (map (λ (x : App). x.number) p.apps.table.active) p.apps.table.next → submit_refusal old leaf ≡ None → IsAt p.rows leaf position → apps'.table ≡ with_entering leaf user p.apps.table → IsEntered p.apps.table.next position p.apps.accounts apps'.accounts →
+    pub held_entered : (leaf user position : List ℕ) (apps' : HeldApps) → IsRising 1 (map (λ (x : App). x.number) p.apps.table.active) p.apps.table.next → submit_refusal old leaf ≡ None → IsAt p.rows leaf position → apps'.table ≡ add_app leaf user p.apps.table → IsEntered p.apps.table.next position p.apps.accounts apps'.accounts →
         IsHeld (record p { rows = map (entered K leaf user) p.rows; apps = apps' })
     held_entered leaf user position apps' rising unrefused at e accounts =
         let q : Parts K = record p { rows = map (entered K leaf user) p.rows; apps = apps' } in
         let n = p.apps.table.next in
-        let a : App = entering n leaf user in
+        let a : App = new_app n leaf user in
         let active : apps'.table.active ≡ p.apps.table.active ++ a ∷ [] = ap (λ (t : AppTable). t.active) e in
         let same : (flat_of q).settings.queues ≡ old.settings.queues = moved_settings K leaf user (nothing K) (one_application K) p.rows in
         let stays : (path place : List ℕ) → IsAt p.rows path place → IsAt q.rows path place = moved_stays K leaf user (nothing K) (one_application K) p.rows in
@@ -241,7 +241,7 @@ module _ {K : ℕ} where
     -- an application that has no container goes, after all of its own have ended
     module _ (n : ℕ) (a : App) (rising : IsRising 1 (map (λ (x : App). x.number) p.apps.table.active) p.apps.table.next) (found_it : find (λ (x : App). x.number == n) p.apps.table.active ≡ Some a) (none : containers_of old n ≡ []) where
       abbrev without_it : Flat K
-      without_it = record old { apps = without_app n p.apps.table }
+      without_it = record old { apps = remove_app n p.apps.table }
 
       none_live : count_for n p.nodes.live ≡ 0
       none_live = none_left old n none
@@ -285,7 +285,7 @@ module _ {K : ℕ} where
           may_leave old without_it a.leaf a.user (one_application K) (nothing K) (leaves without_it old a.leaf a.user one_less) some_active p.rows h.tied (position_of a.number p.apps.accounts) at.row at.member at.path_is at.item_is spent
 
       -- after it has left
-      pub held_left : (apps' : HeldApps) → apps'.table ≡ without_app n p.apps.table → IsLeft n p.apps.accounts apps'.accounts → IsHeld (record p { rows = map (left K a.leaf a.user) p.rows; apps = apps' })
+      pub held_left : (apps' : HeldApps) → apps'.table ≡ remove_app n p.apps.table → IsLeft n p.apps.accounts apps'.accounts → IsHeld (record p { rows = map (left K a.leaf a.user) p.rows; apps = apps' })
       held_left apps' e accounts =
           let q : Parts K = record p { rows = map (left K a.leaf a.user) p.rows; apps = apps' } in
           let active : apps'.table.active ≡ filter (λ (x : App). not (x.number == n)) p.apps.table.active = ap (λ (t : AppTable). t.active) e in
@@ -339,9 +339,9 @@ finished_active cause n live (a ∷ apps) = by (a.number == n) refl (finished_ac
 no_member : {A : Type 0} (t : A → Bool) (xs : List A) → xs ≡ [] → xs ≡ filter t xs
 no_member t xs e = e ∙ sym (ap (filter t) e)
 
-pub finished_is : {K : ℕ} (cause : Cause) (start ended new : Flat K) (n : ℕ) → ended.nodes.reserved ≡ [] → ended ≡ after_ends cause (containers_of start n) start → new ≡ record ended { apps = without_app n ended.apps } → new ≡ after_finish_master start n
+pub finished_is : {K : ℕ} (cause : Cause) (start ended new : Flat K) (n : ℕ) → ended.nodes.reserved ≡ [] → ended ≡ after_ends cause (containers_of start n) start → new ≡ record ended { apps = remove_app n ended.apps } → new ≡ after_finish_master start n
 finished_is {K} cause start ended new n none is e =
     let untouched : start.nodes.reserved ≡ [] = sym (ap (λ (x : Flat K). x.nodes.reserved) is) ∙ none in
-    e ∙ ap (λ (x : Flat K). record x { apps = without_app n x.apps }) is
+    e ∙ ap (λ (x : Flat K). record x { apps = remove_app n x.apps }) is
     ∙ ap (λ active. record (without (containers_of start n) start) { apps = record start.apps { active = active } }) (finished_active cause n start.nodes.live start.apps.active)
     ∙ ap (λ reserved. with_reserved reserved (record (without (containers_of start n) start) { apps = record start.apps { active = filter (λ a. not (a.number == n)) start.apps.active } })) (no_member (λ r. not (r.app == n)) start.nodes.reserved untouched)

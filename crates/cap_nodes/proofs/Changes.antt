@@ -13,7 +13,7 @@ use Rattle.cap_model.specs.Amounts.{fits, sum_where}
 use Rattle.cap_model.specs.Bounds.{IsRising}
 use Rattle.cap_model.specs.Flat.{ClusterNode, Container}
 use Rattle.cap_model.specs.RegisterNode.{sum_of_totals}
-use Rattle.cap_nodes.specs.Tables.{left_of, beaten, change_node}
+use Rattle.cap_nodes.specs.Tables.{left_of, beaten}
 use Rattle.cap_nodes.specs.Places.{Place, IsTied, AreTied, place_at, change_place, held_more, held_less, beaten_place, HasOne}
 use Rattle.cap_nodes.proofs.Numbered.{none_at_end}
 use Rattle.cap_nodes.proofs.Sums.{where-none, filter-none, none-filter, zeros-fit, where-less-own, where-had, sum-without, length-where, amount-where}
@@ -210,15 +210,19 @@ numbers_of_nodes : (places : List Place) → map (λ (x : ClusterNode). x.number
 numbers_of_nodes [] = refl
 numbers_of_nodes (p ∷ places) = ap (λ ns. p.node.number ∷ ns) (numbers_of_nodes places)
 
+-- the nodes after a change of one
+abbrev changed : ℕ → (ClusterNode → ClusterNode) → List ClusterNode → List ClusterNode
+changed n change nodes = map (λ node. cond (node.number == n) (change node) node) nodes
+
 -- the nodes after a heartbeat
 pub nodes_beaten : (K n ignored : ℕ) (live : List Container) (places : List Place) → AllByRecursion (IsTied K live) places →
-    nodes_of (change_place n (beaten_place ignored) places) ≡ change_node n (beaten ignored (length (filter (λ c. c.node == n) live))) (nodes_of places)
+    nodes_of (change_place n (beaten_place ignored) places) ≡ changed n (beaten ignored (length (filter (λ c. c.node == n) live))) (nodes_of places)
 nodes_beaten K n ignored live [] all = refl
 nodes_beaten K n ignored live (p ∷ places) all = by (p.node.number == n) refl (nodes_beaten K n ignored live places all.1)
   where
-    by : (b : Bool) → (p.node.number == n) ≡ b → nodes_of (change_place n (beaten_place ignored) places) ≡ change_node n (beaten ignored (length (filter (λ c. c.node == n) live))) (nodes_of places) →
+    by : (b : Bool) → (p.node.number == n) ≡ b → nodes_of (change_place n (beaten_place ignored) places) ≡ changed n (beaten ignored (length (filter (λ c. c.node == n) live))) (nodes_of places) →
         (cond b (beaten_place ignored p) p).node ∷ nodes_of (change_place n (beaten_place ignored) places)
-        ≡ cond b (beaten ignored (length (filter (λ c. c.node == n) live)) p.node) p.node ∷ change_node n (beaten ignored (length (filter (λ c. c.node == n) live))) (nodes_of places)
+        ≡ cond b (beaten ignored (length (filter (λ c. c.node == n) live)) p.node) p.node ∷ changed n (beaten ignored (length (filter (λ c. c.node == n) live))) (nodes_of places)
     by true e more =
         let same : p.live ≡ length (filter (λ (c : Container). c.node == n) live) = all.0.count ∙ ap (λ m. count_by (λ (c : Container). c.node == m) live) (eqb-true p.node.number n e) ∙ sym (length-filter (λ (c : Container). c.node == n) live) in
         rw (same, more) refl

@@ -1,12 +1,17 @@
-ghost use Rattle.std.specs.Prelude.{◌≡◌, ◌+◌, ◌<◌, ◌≤◌, ◌==◌, ◌&&◌, nat_lt, [], IsSome, Some, IfOk, IfSome, OnErr, bytes_eq, length, map, find, true};
+ghost use Rattle.std.specs.Prelude.{◌≡◌, ◌+◌, ◌<◌, ◌≤◌, ◌==◌, ◌&&◌, nat_lt, [], ◌∷◌, IsSome, Some, IfOk, IfSome, OnErr, bytes_eq, length, map, find, true};
 ghost use Rattle.std.specs.List.{All, list_any};
 ghost use Rattle.std.specs.Option.{option_copied};
 ghost use Rattle.cap_vector.specs.Vector.{Fits, IsWithin, amount_max, plus};
 ghost use Rattle.cap_model.specs.Limits.{live_max, nodes_max, number_end};
 ghost use Rattle.cap_model.specs.Amounts.{fits};
 ghost use Rattle.cap_model.specs.Bounds.{IsRising};
-ghost use Rattle.cap_model.specs.RegisterNode.{sum_of_totals};
-ghost use Rattle.cap_nodes.specs.Tables.{none, node_in, container_in, containers_on, held_on, free_on, with_new_node, with_container, without_container, beaten, change_node, without_node};
+ghost use Rattle.cap_model.specs.RegisterNode.{sum_of_totals, add_node};
+ghost use Rattle.cap_model.specs.Flat.{no_nodes, node_in, container_in, containers_on, change_node};
+ghost use Rattle.cap_model.specs.Events.{launch};
+ghost use Rattle.cap_model.specs.Ending.{complete};
+ghost use Rattle.cap_model.specs.NodeGone.{remove_node};
+ghost use Rattle.cap_model.specs.Uses.{held_on};
+ghost use Rattle.cap_nodes.specs.Tables.{free_on, beaten};
 
 use crate::live::Live;
 use crate::node::Node;
@@ -41,7 +46,7 @@ impl<const K: usize> Model for Nodes<K> {
 impl<const K: usize> Nodes<K> {
     /// No node and no container; both will be numbered from 1 on. It takes no memory.
     pub fn new(alloc: Global) -> Nodes<K>
-        ensures { result ≡ none }
+        ensures { result ≡ no_nodes }
     {
         Nodes {
             present: Present::new(alloc),
@@ -152,7 +157,7 @@ impl<const K: usize> Nodes<K> {
         requires few { length self.old.present < nodes_max }
         requires numbered { self.old.next_node < number_end }
         requires within { IsWithin amount_max (plus (sum_of_totals K self.old.present) total.now) }
-        ensures ok { IfOk result (λ number. (number ≡ self.old.next_node) × (self.new ≡ with_new_node host.now rack.now total.now self.old)) }
+        ensures ok { IfOk result (λ number. (number ≡ self.old.next_node) × (self.new ≡ add_node host.now rack.now total.now self.old)) }
         ensures err { OnErr result (self.new ≡ self.old) }
     {
         let Some(sum) = checked_add(&self.total, total) else {
@@ -179,7 +184,7 @@ impl<const K: usize> Nodes<K> {
         requires room { Fits resource.now (free_on K self.old node) }
         requires numbered { self.old.next_container < number_end }
         requires few { length self.old.live < live_max }
-        ensures ok { IfOk result (λ number. (number ≡ self.old.next_container) × (self.new ≡ with_container app key.now node resource.now self.old)) }
+        ensures ok { IfOk result (λ number. (number ≡ self.old.next_container) × (self.new ≡ launch (record { number = self.old.next_container; app = app; key = key.now; node = node; resource = resource.now }) self.old)) }
         ensures err { OnErr result (self.new ≡ self.old) }
     {
         let number = match self.live.push(app, key, node, resource) {
@@ -193,7 +198,7 @@ impl<const K: usize> Nodes<K> {
     /// A live container ends: its node has its resource back.
     pub fn lift(&mut self, container: &Container<K>)
         requires { container_in self.old container.now.number ≡ Some container.now }
-        ensures { self.new ≡ without_container container.now.number self.old }
+        ensures { self.new ≡ complete (container.now ∷ []) self.old }
     {
         self.live.remove(container.number());
         self.present.lift(container.node(), &container.resource());
@@ -203,7 +208,7 @@ impl<const K: usize> Nodes<K> {
     /// id moves on, and the reply is kept, which tells how many are live there now.
     pub fn beat(&mut self, number: u64, ignored: u16)
         requires { IsSome (node_in self.old number) }
-        ensures { self.new ≡ record self.old { present = change_node number (beaten ignored (length (containers_on self.old number))) self.old.present } }
+        ensures { self.new ≡ change_node number (beaten ignored (length (containers_on self.old number))) self.old }
     {
         self.present.beat(number, ignored);
     }
@@ -212,7 +217,7 @@ impl<const K: usize> Nodes<K> {
     pub fn gone(&mut self, number: u64)
         requires present { IsSome (node_in self.old number) }
         requires empty { containers_on self.old number ≡ [] }
-        ensures { self.new ≡ without_node number self.old }
+        ensures { self.new ≡ remove_node number self.old }
     {
         let Some(place) = self.present.get(number) else {
             unreachable!()

@@ -8,11 +8,10 @@ use Rattle.cap_model.specs.declared.request.Request.{Request}
 use Rattle.cap_model.specs.declared.reply.Reply.{Reply}
 use Rattle.cap_model.specs.declared.refusal.Refusal.{Refusal}
 use Rattle.cap_model.specs.declared.report.QueueReport.{QueueReport}
-use Rattle.cap_model.specs.Flat.{Flat, ClusterNode, NodeTable, queue_at, node_at}
+use Rattle.cap_model.specs.Flat.{Flat, ClusterNode, NodeTable, queue_at, node_at, node_in}
 use Rattle.cap_model.specs.Ending.{after_ends}
 use Rattle.cap_model.specs.Heartbeat.{containers_on}
 use Rattle.cap_model.specs.NodeGone.{node_gone_refusal}
-use Rattle.cap_nodes.specs.Tables.{node_in}
 use Rattle.cap_commit.specs.Changes.{without_node}
 use Rattle.cap_model.specs.QueueCalls.{after_set_queue_state, queue_report, queue_refusal}
 use Rattle.cap_tree.specs.Rows.{Row, IsAt, queues_of}

@@ -8,7 +8,7 @@ use Rattle.cap_model.specs.declared.news.Cause.{Cause}
 use Rattle.cap_model.specs.declared.request.Request.{Request}
 use Rattle.cap_model.specs.declared.reply.Reply.{Reply}
 use Rattle.cap_model.specs.declared.refusal.Refusal.{Refusal}
-use Rattle.cap_model.specs.Flat.{Flat, ClusterNode, Container, NodeTable, node_at, with_node}
+use Rattle.cap_model.specs.Flat.{Flat, ClusterNode, Container, NodeTable, node_at, with_node, node_in}
 use Rattle.cap_model.specs.Bounds.{IsRising}
 use Rattle.cap_model.specs.Cascade.{earliest}
 use Rattle.cap_model.specs.Limits.{response_end}
@@ -22,7 +22,6 @@ use Rattle.cap_model.proofs.Members.{rising_kept, found_by_number, find_changed}
 use Rattle.cap_model.proofs.Balance.{filter_same, filter_twice, filter_whole, among_itself}
 use Rattle.cap_model.proofs.NamedEnds.{is_named, count_named, among_named}
 use Rattle.cap_trackers.specs.Beats.{IsKept, kept_beat}
-use Rattle.cap_nodes.specs.Tables.{node_in}
 use Rattle.cap_trackers.proofs.Answering.{granted_is, refused_is}
 
 -- a node that answered one more heartbeat

@@ -1,10 +1,11 @@
 use Rattle.std.proofs.Common.{◌∙◌, ◌≤◌, [], ap, sym, List, refl, length, arith, not}
 use Rattle.std.specs.Prelude.{filter, ◌==◌}
-use Rattle.cap_model.specs.Flat.{ClusterNode, NodeTable}
+use Rattle.cap_model.specs.Flat.{ClusterNode, Container, NodeTable}
 use Rattle.cap_model.specs.RegisterNode.{sum_of_totals}
 use Rattle.cap_nodes.specs.Places.{held_less, HasOne}
 use Rattle.cap_nodes.proofs.Presents.{if_found}
-use Rattle.cap_nodes.proofs.Changes.{home_of, has_it, without_one, same_nodes, at_of}
+use Rattle.cap_nodes.proofs.Changes.{home_of, has_it, nodes_of, without_one, same_nodes, at_of}
+use Rattle.cap_nodes.proofs.Lives.{one_completed}
 use Rattle.cap_nodes.proofs.nodes.Nodes.lift.Goals as goal
 
 pub lift-requires : goal.lift-requires
@@ -32,6 +33,8 @@ invariant_of-self g c =
 
 pub returns : goal.returns
 returns g c =
+    let here = c.self.inside.present in
+    let tables : List ClusterNode → List Container → NodeTable = λ ns cs. record { present = ns; live = cs; reserved = []; next_node = here.next; next_container = c.self.inside.live.next } in
     rw (← c.self.view_is, c.lift.ensures.less, c.remove.ensures.left, c.number.ensures, c.node.ensures, c.resource.ensures.value)
-    (ap (λ (ns : List ClusterNode). let t : NodeTable = record { present = ns; live = filter (λ x. not (x.number == c.args.container.now.number)) c.self.inside.live.live; reserved = []; next_node = c.self.inside.present.next; next_container = c.self.inside.live.next } in t)
-    (same_nodes c.args.container.now.node (held_less c.args.container.now.resource) c.self.inside.present.places (λ p. refl)))
+    (ap (λ ns. tables ns (filter (λ x. not (x.number == c.args.container.now.number)) c.self.inside.live.live)) (same_nodes c.args.container.now.node (held_less c.args.container.now.resource) here.places (λ p. refl))
+    ∙ ap (tables (nodes_of here.places)) (one_completed c.args.container.now c.self.inside.live.live))
