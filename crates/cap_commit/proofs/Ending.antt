@@ -10,7 +10,7 @@ use Rattle.cap_vector.specs.Vector.{amount}
 use Rattle.cap_model.specs.Settings.{QueueRow}
 use Rattle.cap_model.specs.declared.news.Cause.{Cause}
 use Rattle.cap_model.specs.declared.news.End.{End}
-use Rattle.cap_model.specs.Flat.{Flat, App, AppTable, Container, NodeTable, app_at}
+use Rattle.cap_model.specs.Flat.{Flat, App, AppTable, Container, NodeTable, app_at, change_app}
 use Rattle.cap_model.specs.Ending.{is_among, with_ends, after_ends, complete}
 use Rattle.cap_model.proofs.ContainerNumbers.{rising_filter}
 use Rattle.cap_model.proofs.Balance.{count_cons, filter_same}
@@ -25,8 +25,8 @@ use Rattle.cap_tree.specs.Queue.{MayGive}
 use Rattle.cap_tree.specs.Count.{nothing, use_alone}
 use Rattle.cap_tree.proofs.OneUser.{count_where}
 use Rattle.cap_tree.specs.Rows.{Row, lowered, queues_of, user_row_at}
-use Rattle.cap_asks.specs.Apps.{HeldApps, UsesRoom, live_of, position_of, with_app}
-use Rattle.cap_nodes.specs.Tables.{without_container}
+use Rattle.cap_asks.specs.Apps.{HeldApps, UsesRoom, live_of, position_of}
+use Rattle.cap_nodes.proofs.Lives.{turned}
 use Rattle.cap_commit.specs.Held.{Parts, IsHeld, IsPlaced, flat_of, of_cluster}
 use Rattle.cap_commit.proofs.Counting.{count_positive}
 use Rattle.cap_commit.proofs.Holding.{leaf_same, still_placed}
@@ -43,23 +43,6 @@ weight b = if b then 1 else 0
 count_sum : (t : Container → Bool) (cs : List Container) → count_by t cs ≡ sum_by (λ c. cond (t c) 1 0) cs
 count_sum t [] = refl
 count_sum t (c ∷ cs) = let i = count_sum t cs in omega (arith, i, count_cons t c cs, sum_by-cons (λ (x : Container). cond (t x) 1 0) c cs)
-
-turned : (a b : ℕ) → a == b ≡ b == a
-turned a b = by (a == b) (b == a) refl refl
-  where
-    by : (c d : Bool) → a == b ≡ c → b == a ≡ d → c ≡ d
-    by true true e f = refl
-    by false false e f = refl
-    by true false e f = absurd (grind (arith, nat_tests, e, f))
-    by false true e f = absurd (grind (arith, nat_tests, e, f))
-
--- of all that are live, the one of a number is gone
-pub lifted_live : (number : ℕ) (c : Container) (live : List Container) → c.number ≡ number → filter (λ d. not (d.number == number)) live ≡ filter (λ d. not (is_among (c ∷ []) d)) live
-lifted_live number c live e = filter_same (λ d. not (d.number == number)) (λ d. not (is_among (c ∷ []) d)) live (λ d m. ap not (turned d.number number ∙ ap (λ n. n == d.number) (sym e) ∙ or_none (c.number == d.number)))
-  where
-    or_none : (b : Bool) → b ≡ b || false
-    or_none true = refl
-    or_none false = refl
 
 -- its application is to be told of it
 told : (cause : Cause) (c : Container) (app : App) → (if app.number == c.app then record app { ends = app.ends ++ record { container = c.number; cause = cause } ∷ [] } else app) ≡ with_ends cause (c ∷ []) app
@@ -109,9 +92,6 @@ module _ {K : ℕ} (p : Parts K) (h : IsHeld p) (number : ℕ) (c : Container) (
       let one : cond (c.app == c.app) 1 0 ≡ (let n : ℕ = 1 in n) = ap (λ b. cond b 1 0) own in
       omega (arith, r, whole, w, one)
 
-  live_without : filter (λ d. not (d.number == number)) p.nodes.live ≡ filter (λ d. not (is_among (c ∷ []) d)) p.nodes.live
-  live_without = lifted_live number c p.nodes.live number_is
-
   module _ (a : App) (owner : find (λ (x : App). x.number == c.app) p.apps.table.active ≡ Some a) (short : length c.resource ≤ K) where
     -- its user has an application in the leaf
     some_active : 1 ≤ of_cluster old a.leaf a.user Measure.active
@@ -147,14 +127,14 @@ module _ {K : ℕ} (p : Parts K) (h : IsHeld p) (number : ℕ) (c : Container) (
         may_give old ended a.leaf a.user (use_alone c.resource) (nothing K) (less_used ended (ends_change Cause.Released (c ∷ []) old ended refl refl) refl refl) some_active p.rows h.tied (position_of a.number p.apps.accounts) at.row at.member at.path_is at.item_is
 
     -- after it has ended, and its application is to be told of it
-    pub held_ended : (apps' : HeldApps) (nodes' : NodeTable) (n : ℕ) (end : End) → nodes' ≡ without_container number p.nodes → n ≡ c.app → apps'.table ≡ with_app n (λ app. record app { ends = app.ends ++ end ∷ [] }) p.apps.table →
+    pub held_ended : (apps' : HeldApps) (nodes' : NodeTable) (n : ℕ) (end : End) → nodes' ≡ complete (c ∷ []) p.nodes → n ≡ c.app → apps'.table ≡ change_app n (λ app. record app { ends = app.ends ++ end ∷ [] }) p.apps.table →
         UsesRoom n 0 0 1 p.apps.accounts apps'.accounts → IsHeld (record p { rows = map (lowered K a.leaf a.user c.resource) p.rows; apps = apps'; nodes = nodes' })
     held_ended apps' nodes' n end lift same tell room =
         let q : Parts K = record p { rows = map (lowered K a.leaf a.user c.resource) p.rows; apps = apps'; nodes = nodes' } in
         let f : App → App = λ app. if app.number == n then record app { ends = app.ends ++ end ∷ [] } else app in
         let keeps : KeepsApp f = only_app n (λ app. record app { ends = app.ends ++ end ∷ [] }) (record { number = λ x. refl; leaf = λ x. refl; user = λ x. refl }) in
         let active : apps'.table.active ≡ map f p.apps.table.active = ap (λ (t : AppTable). t.active) tell in
-        let live : nodes'.live ≡ filter (λ d. not (is_among (c ∷ []) d)) p.nodes.live = ap (λ (t : NodeTable). t.live) lift ∙ live_without in
+        let live : nodes'.live ≡ filter (λ d. not (is_among (c ∷ []) d)) p.nodes.live = ap (λ (t : NodeTable). t.live) lift in
         let change : AppsChange old (flat_of q) = record { change = f; keeps = keeps; active = active; next = ap (λ (t : AppTable). t.next) tell } in
         let settings : (flat_of q).settings.queues ≡ old.settings.queues = moved_settings K a.leaf a.user (use_alone c.resource) (nothing K) p.rows in
         record {
@@ -168,7 +148,7 @@ module _ {K : ℕ} (p : Parts K) (h : IsHeld p) (number : ℕ) (c : Container) (
               x (w.0) (ap (λ (y : App). y.leaf) (sym (w.2)) ∙ keeps.leaf (w.0)) (ap (λ (y : App). y.number) (sym (w.2)) ∙ keeps.number (w.0)) (room.positions (w.0).number) (each_of (IsPlaced p) p.apps.table.active h.placed (w.0) (w.1)));
           counted = λ m. (let r = h.counted m in let e = room.live m in let w = count_left nodes' live m in let t : weight (c.app == m) ≡ weight (m == n) = ap weight (turned c.app m) ∙ ap (λ k. weight (m == k)) (sym same) in let z = none_where (m == n) in omega (arith, r, e, w, t, z));
           owned = owned_stands old (flat_of q) (change_stands old (flat_of q) change) (λ d i. (of_filter (λ x. not (is_among (c ∷ []) x)) p.nodes.live d (subst (IsIn d) live i)).1) h.owned;
-          numbers = rw (lift) (rising_filter (λ d. not (d.number == number)) 1 p.nodes.live p.nodes.next_container h.numbers);
+          numbers = rw (lift) (rising_filter (λ d. not (is_among (c ∷ []) d)) 1 p.nodes.live p.nodes.next_container h.numbers);
           limit = h.limit;
           few = (let w = h.few in let k = ap length active in let l = length-map p.apps.table.active f in omega (arith, w, k, l));
           few_live = (let w = h.few_live in let k = ap length live in let l = length-filter (λ d. not (is_among (c ∷ []) d)) p.nodes.live in let m = count_by-le-length (λ d. not (is_among (c ∷ []) d)) p.nodes.live in omega (arith, w, k, l, m));
@@ -187,15 +167,14 @@ module _ {K : ℕ} (p : Parts K) (h : IsHeld p) (number : ℕ) (c : Container) (
             omega (arith, w, left, count_sum (λ (d : Container). d.app == m) p.nodes.live, count_sum (λ (d : Container). d.app == m) (filter (λ d. not (is_among (c ∷ []) d)) p.nodes.live))
 
   -- the cluster after it
-  pub ended_is : (cause : Cause) (rows' : List Row) (table' : AppTable) (nodes' : NodeTable) (n : ℕ) → queues_of rows' ≡ queues_of p.rows → nodes' ≡ without_container number p.nodes → n ≡ c.app →
-      table' ≡ with_app n (λ app. record app { ends = app.ends ++ record { container = number; cause = cause } ∷ [] }) p.apps.table →
+  pub ended_is : (cause : Cause) (rows' : List Row) (table' : AppTable) (nodes' : NodeTable) (n : ℕ) → queues_of rows' ≡ queues_of p.rows → nodes' ≡ complete (c ∷ []) p.nodes → n ≡ c.app →
+      table' ≡ change_app n (λ app. record app { ends = app.ends ++ record { container = number; cause = cause } ∷ [] }) p.apps.table →
       record { settings = record old.settings { queues = queues_of rows' }; apps = table'; nodes = nodes' } ≡ after_ends cause (c ∷ []) old
   ended_is cause rows' table' nodes' n same lift own tell =
-      ap (λ t. made (queues_of rows') t nodes') (tell ∙ (λ i. with_app (own i) (λ app. record app { ends = app.ends ++ record { container = sym number_is i; cause = cause } ∷ [] }) p.apps.table))
-      ∙ ap (λ qs. made qs (with_app c.app (λ app. record app { ends = app.ends ++ record { container = c.number; cause = cause } ∷ [] }) p.apps.table) nodes') same
+      ap (λ t. made (queues_of rows') t nodes') (tell ∙ (λ i. change_app (own i) (λ app. record app { ends = app.ends ++ record { container = sym number_is i; cause = cause } ∷ [] }) p.apps.table))
+      ∙ ap (λ qs. made qs (change_app c.app (λ app. record app { ends = app.ends ++ record { container = c.number; cause = cause } ∷ [] }) p.apps.table) nodes') same
       ∙ ap (λ active. made (queues_of p.rows) (record p.apps.table { active = active }) nodes') (told_all cause c p.apps.table.active)
       ∙ ap (λ t. made (queues_of p.rows) (record p.apps.table { active = map (with_ends cause (c ∷ [])) p.apps.table.active }) t) lift
-      ∙ ap (λ cs. made (queues_of p.rows) (record p.apps.table { active = map (with_ends cause (c ∷ [])) p.apps.table.active }) (record p.nodes { live = cs })) live_without
     where
       made : List QueueRow → AppTable → NodeTable → Flat K
       made qs t n = record { settings = record old.settings { queues = qs }; apps = t; nodes = n }

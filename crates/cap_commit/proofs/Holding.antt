@@ -10,11 +10,11 @@ use Rattle.std.proofs.lemmas.Slice.Eq.{bytes_eq-Decides}
 use Rattle.cap_vector.specs.Vector.{amount}
 use Rattle.cap_model.specs.Limits.{applications_max, resources_max}
 use Rattle.cap_model.specs.Settings.{QueueRow}
-use Rattle.cap_model.specs.Flat.{Flat, App, AppTable, Container, NodeTable, app_at, with_reserved}
+use Rattle.cap_model.specs.Flat.{Flat, App, AppTable, Container, NodeTable, app_at, with_reserved, containers_of, change_app}
 use Rattle.cap_model.specs.declared.news.Cause.{Cause}
 use Rattle.cap_model.specs.EngineLaws.{numbers_of}
 use Rattle.cap_model.specs.Ending.{after_ends, with_ends, without}
-use Rattle.cap_model.specs.FinishMaster.{containers_of, after_finish_master, remove_app}
+use Rattle.cap_model.specs.FinishMaster.{after_finish_master, remove_app}
 use Rattle.cap_model.specs.Submit.{submit_refusal, new_app, add_app}
 use Rattle.cap_model.specs.Bounds.{IsLeaf, IsRising}
 use Rattle.cap_model.proofs.Choosing.{IsIn, found, in_either, of_filter}
@@ -33,7 +33,7 @@ use Rattle.cap_tree.specs.Count.{nothing, one_application}
 use Rattle.cap_tree.specs.Rows.{Row, IsAt, entered, left, with_state, queues_of, user_row_at}
 use Rattle.cap_tree.proofs.Listings.{any_kept, path_kept, set_running, same_path, state_in_settings}
 use Rattle.cap_asks.specs.Held.{Account, HeldApp}
-use Rattle.cap_asks.specs.Apps.{HeldApps, UsesRoom, IsEntered, IsLeft, with_app, account_of, live_of, position_of}
+use Rattle.cap_asks.specs.Apps.{HeldApps, UsesRoom, IsEntered, IsLeft, account_of, live_of, position_of}
 use Rattle.cap_commit.specs.Held.{Parts, IsHeld, IsPlaced, flat_of, of_cluster}
 use Rattle.cap_commit.proofs.Counting.{count_entered, count_without, only_one, unused}
 use Rattle.cap_commit.proofs.Owning.{IsOwned, count_for, live_kept, none_left, none_of, owned_after, owned_stands, sites_owned}
@@ -139,7 +139,7 @@ module _ {K : ℕ} where
         }
 
     -- after a change of one
-    pub held_app : (n asks : ℕ) (apps' : HeldApps) (f : App → App) → KeepsApp f → apps'.table ≡ with_app n f p.apps.table → UsesRoom n asks 0 0 p.apps.accounts apps'.accounts → IsHeld (record p { apps = apps' })
+    pub held_app : (n asks : ℕ) (apps' : HeldApps) (f : App → App) → KeepsApp f → apps'.table ≡ change_app n f p.apps.table → UsesRoom n asks 0 0 p.apps.accounts apps'.accounts → IsHeld (record p { apps = apps' })
     held_app n asks apps' f k e room =
         held_apps apps' (λ app. if app.number == n then f app else app) (only_app n f k) (ap (λ (t : AppTable). t.active) e) (ap (λ (t : AppTable). t.next) e) room.positions (live_kept n asks p.apps.accounts apps'.accounts room)
 
@@ -239,7 +239,7 @@ module _ {K : ℕ} where
         ap (λ o. option_map_or (λ (a : Account). a.position) o []) f ∙ ap (λ k. position_of k p.apps.accounts) (sym number)
 
     -- an application that has no container goes, after all of its own have ended
-    module _ (n : ℕ) (a : App) (rising : IsRising 1 (map (λ (x : App). x.number) p.apps.table.active) p.apps.table.next) (found_it : find (λ (x : App). x.number == n) p.apps.table.active ≡ Some a) (none : containers_of old n ≡ []) where
+    module _ (n : ℕ) (a : App) (rising : IsRising 1 (map (λ (x : App). x.number) p.apps.table.active) p.apps.table.next) (found_it : find (λ (x : App). x.number == n) p.apps.table.active ≡ Some a) (none : containers_of old.nodes n ≡ []) where
       abbrev without_it : Flat K
       without_it = record old { apps = remove_app n p.apps.table }
 
@@ -336,12 +336,12 @@ finished_active cause n live (a ∷ apps) = by (a.number == n) refl (finished_ac
     by true e r = r
     by false e r = λ i. others_untold cause n live a e i ∷ r i
 
-no_member : {A : Type 0} (t : A → Bool) (xs : List A) → xs ≡ [] → xs ≡ filter t xs
+pub no_member : {A : Type 0} (t : A → Bool) (xs : List A) → xs ≡ [] → xs ≡ filter t xs
 no_member t xs e = e ∙ sym (ap (filter t) e)
 
-pub finished_is : {K : ℕ} (cause : Cause) (start ended new : Flat K) (n : ℕ) → ended.nodes.reserved ≡ [] → ended ≡ after_ends cause (containers_of start n) start → new ≡ record ended { apps = remove_app n ended.apps } → new ≡ after_finish_master start n
+pub finished_is : {K : ℕ} (cause : Cause) (start ended new : Flat K) (n : ℕ) → ended.nodes.reserved ≡ [] → ended ≡ after_ends cause (containers_of start.nodes n) start → new ≡ record ended { apps = remove_app n ended.apps } → new ≡ after_finish_master start n
 finished_is {K} cause start ended new n none is e =
     let untouched : start.nodes.reserved ≡ [] = sym (ap (λ (x : Flat K). x.nodes.reserved) is) ∙ none in
     e ∙ ap (λ (x : Flat K). record x { apps = remove_app n x.apps }) is
-    ∙ ap (λ active. record (without (containers_of start n) start) { apps = record start.apps { active = active } }) (finished_active cause n start.nodes.live start.apps.active)
-    ∙ ap (λ reserved. with_reserved reserved (record (without (containers_of start n) start) { apps = record start.apps { active = filter (λ a. not (a.number == n)) start.apps.active } })) (no_member (λ r. not (r.app == n)) start.nodes.reserved untouched)
+    ∙ ap (λ active. record (without (containers_of start.nodes n) start) { apps = record start.apps { active = active } }) (finished_active cause n start.nodes.live start.apps.active)
+    ∙ ap (λ reserved. with_reserved reserved (record (without (containers_of start.nodes n) start) { apps = record start.apps { active = filter (λ a. not (a.number == n)) start.apps.active } })) (no_member (λ r. not (r.app == n)) start.nodes.reserved untouched)

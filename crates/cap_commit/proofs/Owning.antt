@@ -3,10 +3,9 @@ use Rattle.std.proofs.Common.{◌≡◌, ℕ, Bool, true, false, cond, List, [],
 use Rattle.std.specs.Prelude.{IsSome, ◌==◌, filter, count_by}
 use Rattle.std.specs.List.{All}
 use Rattle.std.proofs.lemmas.List.Sums.{length-filter}
-use Rattle.cap_model.specs.Flat.{Flat, App, Container, app_at}
+use Rattle.cap_model.specs.Flat.{Flat, App, Container, app_at, containers_of}
 use Rattle.cap_model.specs.declared.news.Cause.{Cause}
 use Rattle.cap_model.specs.Ending.{after_ends}
-use Rattle.cap_model.specs.FinishMaster.{containers_of}
 use Rattle.cap_model.proofs.Choosing.{IsIn, in_filter}
 use Rattle.cap_model.proofs.Lessening.{IsSite, change_stands, standing}
 use Rattle.cap_model.proofs.Moves.{ends_change}
@@ -71,5 +70,5 @@ none_of n live z c m = by (c.app == n) refl
         some_in (x ∷ cs) i e = omega (arith, e)
 
 -- one whose containers have all ended has none
-pub none_left : {K : ℕ} (cluster : Flat K) (n : ℕ) → containers_of cluster n ≡ [] → count_for n cluster.nodes.live ≡ 0
+pub none_left : {K : ℕ} (cluster : Flat K) (n : ℕ) → containers_of cluster.nodes n ≡ [] → count_for n cluster.nodes.live ≡ 0
 none_left cluster n none = sym (length-filter (λ (c : Container). c.app == n) cluster.nodes.live) ∙ ap length none

@@ -4,7 +4,7 @@ use Rattle.std.specs.Prelude.{Option, Some, None, IfSome, find, not, ◌==◌, c
 use Rattle.std.proofs.lemmas.Bool.Decides.{nat_tests}
 use Rattle.cap_model.specs.Settings.{QueueRow}
 use Rattle.cap_model.specs.Asks.{Ask}
-use Rattle.cap_model.specs.Flat.{Flat, App, AppTable, Reservation, queue_at, is_under, is_for, with_reserved, app_at, with_app as flat_with_app}
+use Rattle.cap_model.specs.Flat.{Flat, App, AppTable, Reservation, queue_at, is_under, is_for, with_reserved, app_at, with_app, change_app}
 use Rattle.cap_model.specs.Uses.{queue_use}
 use Rattle.cap_model.specs.Submit.{has_children, is_running}
 use Rattle.cap_model.specs.QueueCalls.{queue_report}
@@ -13,7 +13,6 @@ use Rattle.cap_model.specs.Allocate.{after_telling}
 use Rattle.cap_model.specs.Bounds.{IsRising}
 use Rattle.cap_model.proofs.Choosing.{IsIn}
 use Rattle.cap_model.proofs.Members.{found_by_number}
-use Rattle.cap_asks.specs.Apps.{with_app}
 use Rattle.cap_commit.specs.Held.{Parts, flat_of}
 
 -- what is reported of a queue
@@ -28,11 +27,11 @@ no_drops : (t : Reservation → Bool) (n : ℕ) (rs : List Reservation) → rs �
 no_drops t n rs e = ap (keep_first t n) e ∙ sym e
 
 -- an ask is put where nothing is reserved
-pub ask_put : {K : ℕ} (p : Parts K) (table' : AppTable) (n : ℕ) (ask kept : Ask) → p.nodes.reserved ≡ [] → kept ≡ rounded K (flat_of p).settings ask → table' ≡ with_app n (λ app. record app { asks = put_ask kept app.asks }) p.apps.table →
+pub ask_put : {K : ℕ} (p : Parts K) (table' : AppTable) (n : ℕ) (ask kept : Ask) → p.nodes.reserved ≡ [] → kept ≡ rounded K (flat_of p).settings ask → table' ≡ change_app n (λ app. record app { asks = put_ask kept app.asks }) p.apps.table →
     record (flat_of p) { apps = table' } ≡ after_ask n (flat_of p) (rounded K (flat_of p).settings ask)
 ask_put {K} p table' n ask kept none is put =
-    ap (λ t. record (flat_of p) { apps = t }) (put ∙ ap (λ k. with_app n (λ app. record app { asks = put_ask k app.asks }) p.apps.table) is)
-    ∙ ap (λ rs. with_reserved rs (record (flat_of p) { apps = with_app n (λ app. record app { asks = put_ask (rounded K (flat_of p).settings ask) app.asks }) p.apps.table })) (sym (no_drops (is_for n ask.key) _ p.nodes.reserved none))
+    ap (λ t. record (flat_of p) { apps = t }) (put ∙ ap (λ k. change_app n (λ app. record app { asks = put_ask k app.asks }) p.apps.table) is)
+    ∙ ap (λ rs. with_reserved rs (record (flat_of p) { apps = change_app n (λ app. record app { asks = put_ask (rounded K (flat_of p).settings ask) app.asks }) p.apps.table })) (sym (no_drops (is_for n ask.key) _ p.nodes.reserved none))
 
 -- no more applications where one goes
 pub fewer : (n : ℕ) (apps : List App) → length (filter (λ app. not (app.number == n)) apps) ≤ length apps
@@ -63,11 +62,11 @@ only_found n apps next f a r e = same apps (λ x m. m)
         here false t = refl
 
 -- an application that is told, as it is found
-pub told_is : {K : ℕ} (old : Flat K) (table' : AppTable) (n ignored : ℕ) → IsRising 1 (map (λ app. app.number) old.apps.active) old.apps.next → table' ≡ with_app n (λ app. after_telling app.response ignored app) old.apps →
-    IfSome (app_at old n) (λ app. record old { apps = table' } ≡ flat_with_app n (after_telling app.response ignored) old)
+pub told_is : {K : ℕ} (old : Flat K) (table' : AppTable) (n ignored : ℕ) → IsRising 1 (map (λ app. app.number) old.apps.active) old.apps.next → table' ≡ change_app n (λ app. after_telling app.response ignored app) old.apps →
+    IfSome (app_at old n) (λ app. record old { apps = table' } ≡ with_app n (after_telling app.response ignored) old)
 told_is old table' n ignored r e = by (app_at old n) refl
   where
-    by : (o : Option App) → app_at old n ≡ o → IfSome o (λ app. record old { apps = table' } ≡ flat_with_app n (after_telling app.response ignored) old)
+    by : (o : Option App) → app_at old n ≡ o → IfSome o (λ app. record old { apps = table' } ≡ with_app n (after_telling app.response ignored) old)
     by None f = tt
     by (Some a) f =
         ap (λ t. record old { apps = t }) e
@@ -83,5 +82,5 @@ none_changed n f (a ∷ apps) e = by (a.number == n) refl e (none_changed n f ap
     by true h g r = absurd (cc g)
     by false h g r = λ i. ap (λ b. if b then f a else a) h i ∷ r g i
 
-pub unknown_is : {K : ℕ} (old : Flat K) (table' : AppTable) (n ignored : ℕ) → table' ≡ with_app n (λ app. after_telling app.response ignored app) old.apps → app_at old n ≡ None → record old { apps = table' } ≡ old
+pub unknown_is : {K : ℕ} (old : Flat K) (table' : AppTable) (n ignored : ℕ) → table' ≡ change_app n (λ app. after_telling app.response ignored app) old.apps → app_at old n ≡ None → record old { apps = table' } ≡ old
 unknown_is old table' n ignored e none = ap (λ t. record old { apps = t }) (e ∙ ap (λ active. record old.apps { active = active }) (none_changed n (λ app. after_telling app.response ignored app) old.apps.active none))

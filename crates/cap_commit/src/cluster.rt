@@ -1,7 +1,7 @@
 ghost use Rattle.std.specs.Prelude.{◌≡◌, ◌≤◌, ◌+◌, ◌==◌, ◌&&◌, ◌∷◌, [], Some, None, IfOk, OnOk, OnErr, IsOk, IfSome, IsSome, is_some, length, find, nat_lt};
 ghost use Rattle.std.specs.List.{All};
 ghost use Rattle.cap_model.specs.Limits.{applications_max, resources_max};
-ghost use Rattle.cap_model.specs.Flat.{opened, queue_at, app_at, node_at, with_app, with_node};
+ghost use Rattle.cap_model.specs.Flat.{opened, queue_at, app_at, node_at, with_app, with_node, containers_on, containers_of};
 ghost use Rattle.cap_model.specs.Uses.{queue_use};
 ghost use Rattle.cap_model.specs.Submit.{submit_refusal, after_submit};
 ghost use Rattle.cap_model.specs.RegisterNode.{register_node_refusal, after_register_node};
@@ -10,16 +10,15 @@ ghost use Rattle.cap_model.specs.QueueCalls.{after_set_queue_state, queue_report
 ghost use Rattle.cap_model.specs.Asking.{after_ask, rounded};
 ghost use Rattle.cap_model.specs.Allocate.{after_telling};
 ghost use Rattle.cap_model.specs.Ending.{after_ends};
-ghost use Rattle.cap_model.specs.FinishMaster.{containers_of, after_finish_master};
-ghost use Rattle.cap_model.specs.Heartbeat.{containers_on};
+ghost use Rattle.cap_model.specs.FinishMaster.{after_finish_master};
 ghost use Rattle.cap_model.specs.EngineLaws.{HasDistinctNumbers};
+ghost use Rattle.cap_model.specs.NodeGone.{remove_node};
 ghost use Rattle.cap_tree.specs.Rows.{IsAt, queues_of};
 ghost use Rattle.cap_tree.specs.Spot.{IsPlace, path_at};
 ghost use Rattle.cap_asks.specs.Apps.{ask_room, HasRooms, UsesRoom};
 ghost use Rattle.cap_nodes.specs.Tables.{beaten};
 ghost use Rattle.cap_commit.specs.Held.{IsRowOf};
 ghost use Rattle.cap_commit.specs.Owners.{owns, owned, named};
-ghost use Rattle.cap_commit.specs.Changes.{without_node};
 
 use crate::limits::Limits;
 use crate::owner::Owner;
@@ -240,7 +239,7 @@ impl<const K: usize> Cluster<K> {
     /// containers ended.
     pub fn finish(&mut self, number: u64) -> u32
         requires { IsSome (app_at self.old.flat number) }
-        ensures ended { result ≡ length (containers_of self.old.flat number) }
+        ensures ended { result ≡ length (containers_of self.old.flat.nodes number) }
         ensures finished { self.new.flat ≡ after_finish_master self.old.flat number }
     {
         let ended = self.end_all(Owner::Application(number), Cause::Released);
@@ -336,7 +335,7 @@ impl<const K: usize> Cluster<K> {
     /// A present node has answered a heartbeat, in which so many named containers were not live there, and keeps the reply.
     pub fn beat(&mut self, number: u64, ignored: u16)
         requires { IsSome (node_at self.old.flat number) }
-        ensures { self.new.flat ≡ with_node number (beaten ignored (length (containers_on self.old.flat number))) self.old.flat }
+        ensures { self.new.flat ≡ with_node number (beaten ignored (length (containers_on self.old.flat.nodes number))) self.old.flat }
     {
         self.nodes.beat(number, ignored);
     }
@@ -344,8 +343,8 @@ impl<const K: usize> Cluster<K> {
     /// A present node on which no container is live goes.
     pub fn drop_node(&mut self, number: u64)
         requires present { IsSome (node_at self.old.flat number) }
-        requires empty { containers_on self.old.flat number ≡ [] }
-        ensures { self.new.flat ≡ without_node number self.old.flat }
+        requires empty { containers_on self.old.flat.nodes number ≡ [] }
+        ensures { self.new.flat ≡ record self.old.flat { nodes = remove_node number self.old.flat.nodes } }
     {
         self.nodes.gone(number);
     }

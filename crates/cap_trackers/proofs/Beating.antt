@@ -8,13 +8,13 @@ use Rattle.cap_model.specs.declared.news.Cause.{Cause}
 use Rattle.cap_model.specs.declared.request.Request.{Request}
 use Rattle.cap_model.specs.declared.reply.Reply.{Reply}
 use Rattle.cap_model.specs.declared.refusal.Refusal.{Refusal}
-use Rattle.cap_model.specs.Flat.{Flat, ClusterNode, Container, NodeTable, node_at, with_node, node_in}
+use Rattle.cap_model.specs.Flat.{Flat, ClusterNode, Container, NodeTable, node_at, with_node, node_in, containers_on}
 use Rattle.cap_model.specs.Bounds.{IsRising}
 use Rattle.cap_model.specs.Cascade.{earliest}
 use Rattle.cap_model.specs.Limits.{response_end}
 use Rattle.cap_model.specs.ResponseIds.{next_response, is_current, is_repeated, is_bad_id}
 use Rattle.cap_model.specs.Ending.{is_among, after_ends}
-use Rattle.cap_model.specs.Heartbeat.{heartbeat_refusal, is_repeated_heartbeat, containers_on, ended_by, beat_of, after_processed_heartbeat, after_heartbeat}
+use Rattle.cap_model.specs.Heartbeat.{heartbeat_refusal, is_repeated_heartbeat, ended_by, beat_of, after_processed_heartbeat, after_heartbeat}
 use Rattle.cap_model.specs.EngineLaws.{HasDistinctNumbers}
 use Rattle.cap_model.specs.Replies.{reply_to, after_request}
 use Rattle.cap_model.proofs.Choosing.{IsIn, found}
@@ -127,11 +127,11 @@ module _ {K : ℕ} (cluster : Flat K) (n id : ℕ) where
     heard = after_ends Cause.EndedOnNode (ended_by cluster n ended) cluster
 
     -- those that are left on the node
-    pub left_there : HasDistinctNumbers cluster → length (containers_on heard n) + length (ended_by cluster n ended) ≡ length (containers_on cluster n)
+    pub left_there : HasDistinctNumbers cluster → length (containers_on heard.nodes n) + length (ended_by cluster n ended) ≡ length (containers_on cluster.nodes n)
     left_there rising =
-        let there = containers_on cluster n in
+        let there = containers_on cluster.nodes n in
         let gone = ended_by cluster n ended in
-        let left : containers_on heard n ≡ filter (λ c. not (is_among gone c)) there =
+        let left : containers_on heard.nodes n ≡ filter (λ c. not (is_among gone c)) there =
         filter_twice (λ c. c.node == n) (λ c. not (is_among gone c)) (λ c. cond (not (is_among gone c)) (c.node == n) false) cluster.nodes.live (λ c. refl)
         ∙ filter_same (λ c. cond (not (is_among gone c)) (c.node == n) false) (λ c. cond (c.node == n) (not (is_among gone c)) false) cluster.nodes.live (λ c m. turn (is_among gone c) (c.node == n))
         ∙ sym (filter_twice (λ c. not (is_among gone c)) (λ c. c.node == n) (λ c. cond (c.node == n) (not (is_among gone c)) false) cluster.nodes.live (λ c. refl)) in
@@ -147,11 +147,11 @@ module _ {K : ℕ} (cluster : Flat K) (n id : ℕ) where
     -- where nodes have distinct numbers, a heartbeat that is processed is answered by the next id
     pub processed : IsRising 1 (map (λ node. node.number) cluster.nodes.present) cluster.nodes.next_node → HasDistinctNumbers cluster → heartbeat_refusal cluster n id ≡ None → is_repeated_heartbeat cluster n id ≡ false →
         (left new : Flat K) (ignored : ℕ) → left ≡ heard → ignored + length (ended_by cluster n ended) ≡ length ended →
-        new ≡ with_node n (beaten ignored (length (containers_on left n))) left → new ≡ after_processed_heartbeat cluster n id ended
+        new ≡ with_node n (beaten ignored (length (containers_on left.nodes n))) left → new ≡ after_processed_heartbeat cluster n id ended
     processed nodes rising none fresh left new ignored left_is count is =
         is
-        ∙ ap (λ x. with_node n (beaten ignored (length (containers_on x n))) x) left_is
-        ∙ ap (λ ps. record heard { nodes = record heard.nodes { present = ps } }) (map_same (change (beaten ignored (length (containers_on heard n)))) (change (λ node. record node { response = next_response id; kept = Some (beat_of cluster n id ended) })) cluster.nodes.present (λ x m. by x m (x.number == n) refl))
+        ∙ ap (λ x. with_node n (beaten ignored (length (containers_on x.nodes n))) x) left_is
+        ∙ ap (λ ps. record heard { nodes = record heard.nodes { present = ps } }) (map_same (change (beaten ignored (length (containers_on heard.nodes n)))) (change (λ node. record node { response = next_response id; kept = Some (beat_of cluster n id ended) })) cluster.nodes.present (λ x m. by x m (x.number == n) refl))
       where
         change : (ClusterNode → ClusterNode) → ClusterNode → ClusterNode
         change f node = if node.number == n then f node else node
@@ -159,11 +159,11 @@ module _ {K : ℕ} (cluster : Flat K) (n id : ℕ) where
         ignored_is : ignored ≡ length ended - length (ended_by cluster n ended)
         ignored_is = omega (arith, count)
 
-        live_is : length (containers_on heard n) ≡ length (containers_on cluster n) - length (ended_by cluster n ended)
+        live_is : length (containers_on heard.nodes n) ≡ length (containers_on cluster.nodes n) - length (ended_by cluster n ended)
         live_is = let l = left_there rising in omega (arith, l)
 
         by : (x : ClusterNode) → IsIn x cluster.nodes.present → (b : Bool) → x.number == n ≡ b →
-            (if b then beaten ignored (length (containers_on heard n)) x else x) ≡ (if b then record x { response = next_response id; kept = Some (beat_of cluster n id ended) } else x)
+            (if b then beaten ignored (length (containers_on heard.nodes n)) x else x) ≡ (if b then record x { response = next_response id; kept = Some (beat_of cluster n id ended) } else x)
         by x m true e =
             let same : x.number ≡ n = grind (arith, nat_tests, e) in
             let there : node_at cluster n ≡ Some x = subst (λ k. find (λ (y : ClusterNode). y.number == k) cluster.nodes.present ≡ Some x) same (found_by_number (λ (y : ClusterNode). y.number) 1 cluster.nodes.present cluster.nodes.next_node x nodes m) in

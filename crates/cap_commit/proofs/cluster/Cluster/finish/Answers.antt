@@ -1,8 +1,7 @@
 use Rattle.std.proofs.Common.{ap, sym, ◌∙◌, map, arith, subst}
 use Rattle.std.specs.Prelude.{IsSome, is_some}
 use Rattle.cap_model.specs.declared.news.Cause.TheVariants.{Released}
-use Rattle.cap_model.specs.Flat.{Flat, app_at}
-use Rattle.cap_model.specs.FinishMaster.{containers_of}
+use Rattle.cap_model.specs.Flat.{Flat, app_at, containers_of}
 use Rattle.cap_tree.specs.Rows.{queues_of, left}
 use Rattle.cap_tree.specs.Spot.{path_at}
 use Rattle.cap_commit.specs.Held.{Held, Parts, flat_of}
@@ -16,7 +15,7 @@ use Rattle.cap_commit.proofs.cluster.Cluster.finish.Goals as goal
 pub unreachable-requires : goal.unreachable-requires
 unreachable-requires g c =
     let start = c.args.self.now.flat in
-    let there = subst (λ (x : Flat g.row.K). IsSome (app_at x c.args.number)) (sym c.end_all-ended.ensures.ended) (still_active Released (containers_of start c.args.number) start c.args.number c.requires) in
+    let there = subst (λ (x : Flat g.row.K). IsSome (app_at x c.args.number)) (sym c.end_all-ended.ensures.ended) (still_active Released (containers_of start.nodes c.args.number) start c.args.number c.requires) in
     let some = rw (← c.self.view_is) at there in
     let none = ap is_some c.in_default.ensures.found in
     cc (some, none)
