@@ -23,13 +23,9 @@ reserve_proposal r = record { kind = ProposalKind.reserve; app = r.app; key = r.
 abbrev pub take_one : Key → List Ask → List Ask
 take_one key asks = filter (λ ask. not (ask.count == 0)) (map (λ (ask : Ask). if same_key ask.key key then record ask { count = ask.count - 1 } else ask) asks)
 
--- the table with one more live container, whose number is the next; the reservation that its node holds goes
+-- the table with one more live container, whose number is the next
 abbrev pub launch : Container → NodeTable → NodeTable
-launch c table = record table {
-  live = table.live ++ c ∷ [];
-  reserved = filter (λ r. not (r.node == c.node)) table.reserved;
-  next_container = table.next_container + 1;
-}
+launch c table = record table { live = table.live ++ c ∷ []; next_container = table.next_container + 1 }
 
 module _ {K : ℕ} where
   -- whether a reply says that no memory was found, so that the cluster is the same
@@ -62,7 +58,8 @@ module _ {K : ℕ} where
   abbrev pub after_grant : Flat K → Container → Flat K
   after_grant cluster c =
       let told = with_app c.app (λ app. record app { asks = take_one c.key app.asks; grants = app.grants ++ news_of cluster c ∷ [] }) cluster in
-      record told { nodes = launch c told.nodes }
+      let unreserved = with_reserved (filter (λ r. not (r.node == c.node)) told.nodes.reserved) told in
+      record unreserved { nodes = launch c unreserved.nodes }
 
   -- a reservation is added last
   abbrev pub after_reserve : Flat K → Reservation → Flat K

@@ -4,15 +4,12 @@ use Rattle.cap_model.specs.Cascade.{earliest}
 use Rattle.cap_model.specs.declared.news.Cause.{Cause}
 use Rattle.cap_model.specs.declared.refusal.Refusal.{Refusal}
 use Rattle.cap_model.specs.declared.reply.Reply.{Reply}
-use Rattle.cap_model.specs.Flat.{Flat, NodeTable, node_at, containers_on}
+use Rattle.cap_model.specs.Flat.{Flat, NodeTable, node_at, containers_on, with_reserved}
 use Rattle.cap_model.specs.Ending.{after_ends}
 
--- the table without a node and without its reservation
+-- the table without a node
 abbrev pub remove_node : ℕ → NodeTable → NodeTable
-remove_node n table = record table {
-  present = filter (λ node. not (node.number == n)) table.present;
-  reserved = filter (λ r. not (r.node == n)) table.reserved;
-}
+remove_node n table = record table { present = filter (λ node. not (node.number == n)) table.present }
 
 module _ {K : ℕ} where
   -- why it is refused
@@ -23,7 +20,8 @@ module _ {K : ℕ} where
   abbrev pub after_node_gone : Flat K → ℕ → Flat K
   after_node_gone cluster n =
       let left = after_ends Cause.NodeLost (containers_on cluster.nodes n) cluster in
-      record left { nodes = remove_node n left.nodes }
+      let unreserved = with_reserved (filter (λ r. not (r.node == n)) left.nodes.reserved) left in
+      record unreserved { nodes = remove_node n unreserved.nodes }
 
   -- how many of its containers ended
   abbrev pub node_gone_reply : Flat K → ℕ → Reply K

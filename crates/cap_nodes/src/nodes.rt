@@ -1,5 +1,5 @@
 ghost use Rattle.std.specs.Prelude.{◌≡◌, ◌+◌, ◌<◌, ◌≤◌, ◌==◌, ◌&&◌, nat_lt, [], ◌∷◌, IsSome, Some, IfOk, IfSome, OnErr, bytes_eq, length, map, find, true};
-ghost use Rattle.std.specs.List.{All, list_any};
+ghost use Rattle.std.specs.List.{All, list_any, remove};
 ghost use Rattle.std.specs.Option.{option_copied};
 ghost use Rattle.cap_vector.specs.Vector.{Fits, IsWithin, amount_max, plus};
 ghost use Rattle.cap_model.specs.Limits.{live_max, nodes_max, number_end};
@@ -16,17 +16,18 @@ ghost use Rattle.cap_nodes.specs.Tables.{free_on, beaten};
 use crate::live::Live;
 use crate::node::Node;
 use crate::present::Present;
-use cap_model::{Container, Key, NoMemory, ShortText};
+use cap_model::{Container, Key, NoMemory, Reservation, ShortText};
 use cap_vector::{Resource, checked_add, minus};
 use std::alloc::Global;
 use std::marker::Model;
 
-/// The nodes that are present and the containers that are live on them, each in order of number. Contracts see them as the
-/// table of the flat cluster, with no reservation.
+/// The nodes that are present and the containers that are live on them, each in order of number, and the reservations in order of making. Contracts see them as the
+/// table of the flat cluster.
 #[derive(Drop)]
 pub struct Nodes<const K: usize> {
     present: Present<K>,
     live: Live<K>,
+    reserved: Vec<Reservation<K>>,
     total: Resource<K>,
 }
 
@@ -38,7 +39,7 @@ impl<const K: usize> Model for Nodes<K> {
 
     ghost Value = { NodeTable };
 
-    ghost view = { λ n. record { present = map (λ p. p.node) n.present.places; live = n.live.live; reserved = []; next_node = n.present.next; next_container = n.live.next } };
+    ghost view = { λ n. record { present = map (λ p. p.node) n.present.places; live = n.live.live; reserved = n.reserved.items; next_node = n.present.next; next_container = n.live.next } };
 
     ghost invariant = { λ n. (AreTied K n.present.places n.live.live) × (n.total ≡ sum_of_totals K (map (λ p. p.node) n.present.places)) };
 }
@@ -51,6 +52,7 @@ impl<const K: usize> Nodes<K> {
         Nodes {
             present: Present::new(alloc),
             live: Live::new(alloc),
+            reserved: Vec::new(alloc),
             total: Resource::zero(),
         }
     }
@@ -115,6 +117,13 @@ impl<const K: usize> Nodes<K> {
         ensures homes { All (λ c. IsSome (node_in self.now c.node)) self.now.live }
     {
         self.live.get(number)
+    }
+
+    /// The reservations, in order of making.
+    pub fn reservations(&self) -> &[Reservation<K>]
+        ensures { result.now ≡ self.now.reserved }
+    {
+        &self.reserved
     }
 
     /// How many containers are live.
@@ -202,6 +211,14 @@ impl<const K: usize> Nodes<K> {
     {
         self.live.remove(container.number());
         self.present.lift(container.node(), &container.resource());
+    }
+
+    /// Drops the reservation at this index, in order of making.
+    pub fn unreserve(&mut self, index: usize)
+        requires { index < length self.old.reserved }
+        ensures { self.new ≡ record self.old { reserved = remove self.old.reserved index } }
+    {
+        self.reserved.remove(index);
     }
 
     /// One more heartbeat of a present node is answered, of which so many ends named no container that was live there: the response

@@ -18,5 +18,5 @@ invariant_of-self g c =
 pub returns : goal.returns
 returns g c =
     rw (← c.self.view_is, c.beat.ensures)
-    (ap (λ (ns : List ClusterNode). let t : NodeTable = record { present = ns; live = c.self.inside.live.live; reserved = []; next_node = c.self.inside.present.next; next_container = c.self.inside.live.next } in t)
+    (ap (λ (ns : List ClusterNode). let t : NodeTable = record { present = ns; live = c.self.inside.live.live; reserved = c.self.inside.reserved.items; next_node = c.self.inside.present.next; next_container = c.self.inside.live.next } in t)
     (nodes_beaten g.row.K c.args.number c.args.ignored c.self.inside.live.live c.self.inside.present.places c.self.invariant.0.ties))

@@ -34,7 +34,7 @@ invariant_of-self g c =
 pub returns : goal.returns
 returns g c =
     let here = c.self.inside.present in
-    let tables : List ClusterNode → List Container → NodeTable = λ ns cs. record { present = ns; live = cs; reserved = []; next_node = here.next; next_container = c.self.inside.live.next } in
+    let tables : List ClusterNode → List Container → NodeTable = λ ns cs. record { present = ns; live = cs; reserved = c.self.inside.reserved.items; next_node = here.next; next_container = c.self.inside.live.next } in
     rw (← c.self.view_is, c.lift.ensures.less, c.remove.ensures.left, c.number.ensures, c.node.ensures, c.resource.ensures.value)
     (ap (λ ns. tables ns (filter (λ x. not (x.number == c.args.container.now.number)) c.self.inside.live.live)) (same_nodes c.args.container.now.node (held_less c.args.container.now.resource) here.places (λ p. refl))
     ∙ ap (tables (nodes_of here.places)) (one_completed c.args.container.now c.self.inside.live.live))

@@ -39,6 +39,6 @@ returns-clause-ok g c =
     let container : Container = record { number = c.self.inside.live.next; app = c.args.app; key = c.args.key.now; node = c.args.node; resource = c.args.resource.now } in
     rw (← c.self.view_is, c.hold.ensures.more, c.in-Ok.ensures.ok.1) (
       c.in-Ok.ensures.ok.0,
-      ap (λ (ns : List ClusterNode). let t : NodeTable = record { present = ns; live = c.self.inside.live.live ++ container ∷ []; reserved = []; next_node = c.self.inside.present.next; next_container = c.self.inside.live.next + 1 } in t)
+      ap (λ (ns : List ClusterNode). let t : NodeTable = record { present = ns; live = c.self.inside.live.live ++ container ∷ []; reserved = c.self.inside.reserved.items; next_node = c.self.inside.present.next; next_container = c.self.inside.live.next + 1 } in t)
           (same_nodes c.args.node (held_more c.args.resource.now) c.self.inside.present.places (λ p. refl)),
     )
