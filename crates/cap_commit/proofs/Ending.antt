@@ -10,7 +10,7 @@ use Rattle.cap_vector.specs.Vector.{amount}
 use Rattle.cap_model.specs.Settings.{QueueRow}
 use Rattle.cap_model.specs.declared.news.Cause.{Cause}
 use Rattle.cap_model.specs.declared.news.End.{End}
-use Rattle.cap_model.specs.Flat.{Flat, App, AppTable, Container, NodeTable, app_at, change_app}
+use Rattle.cap_model.specs.Flat.{Flat, App, AppTable, Container, NodeTable, app_at, change_app, Reservation}
 use Rattle.cap_model.specs.Ending.{is_among, with_ends, after_ends, complete}
 use Rattle.cap_model.proofs.ContainerNumbers.{rising_filter}
 use Rattle.cap_model.proofs.Balance.{count_cons, filter_same}
@@ -147,12 +147,12 @@ module _ {K : ℕ} (p : Parts K) (h : IsHeld p) (number : ℕ) (c : Container) (
               (moved_stays K a.leaf a.user (use_alone c.resource) (nothing K) p.rows)
               x (w.0) (ap (λ (y : App). y.leaf) (sym (w.2)) ∙ keeps.leaf (w.0)) (ap (λ (y : App). y.number) (sym (w.2)) ∙ keeps.number (w.0)) (room.positions (w.0).number) (each_of (IsPlaced p) p.apps.table.active h.placed (w.0) (w.1)));
           counted = λ m. (let r = h.counted m in let e = room.live m in let w = count_left nodes' live m in let t : weight (c.app == m) ≡ weight (m == n) = ap weight (turned c.app m) ∙ ap (λ k. weight (m == k)) (sym same) in let z = none_where (m == n) in omega (arith, r, e, w, t, z));
-          owned = owned_stands old (flat_of q) (change_stands old (flat_of q) change) (λ d i. (of_filter (λ x. not (is_among (c ∷ []) x)) p.nodes.live d (subst (IsIn d) live i)).1) h.owned;
+          owned = owned_stands (λ (c : Container). c.app) p.nodes.live nodes'.live old (flat_of q) (change_stands old (flat_of q) change) (λ d i. (of_filter (λ x. not (is_among (c ∷ []) x)) p.nodes.live d (subst (IsIn d) live i)).1) h.owned;
+          reserved = owned_stands (λ (r : Reservation). r.app) p.nodes.reserved nodes'.reserved old (flat_of q) (change_stands old (flat_of q) change) (λ r i. subst (IsIn r) (ap (λ (t : NodeTable). t.reserved) lift) i) h.reserved;
           numbers = rw (lift) (rising_filter (λ d. not (is_among (c ∷ []) d)) 1 p.nodes.live p.nodes.next_container h.numbers);
           limit = h.limit;
           few = (let w = h.few in let k = ap length active in let l = length-map p.apps.table.active f in omega (arith, w, k, l));
           few_live = (let w = h.few_live in let k = ap length live in let l = length-filter (λ d. not (is_among (c ∷ []) d)) p.nodes.live in let m = count_by-le-length (λ d. not (is_among (c ∷ []) d)) p.nodes.live in omega (arith, w, k, l, m));
-          unreserved = ap (λ (t : NodeTable). t.reserved) lift ∙ h.unreserved;
           resources = h.resources;
         }
       where

@@ -10,7 +10,7 @@ use Rattle.std.proofs.lemmas.Slice.Eq.{bytes_eq-Decides}
 use Rattle.cap_vector.specs.Vector.{amount}
 use Rattle.cap_model.specs.Limits.{applications_max, resources_max}
 use Rattle.cap_model.specs.Settings.{QueueRow}
-use Rattle.cap_model.specs.Flat.{Flat, App, AppTable, Container, NodeTable, app_at, with_reserved, containers_of, change_app}
+use Rattle.cap_model.specs.Flat.{Flat, App, AppTable, Container, NodeTable, app_at, with_reserved, containers_of, change_app, Reservation}
 use Rattle.cap_model.specs.declared.news.Cause.{Cause}
 use Rattle.cap_model.specs.EngineLaws.{numbers_of}
 use Rattle.cap_model.specs.Ending.{after_ends, with_ends, without}
@@ -36,7 +36,7 @@ use Rattle.cap_asks.specs.Held.{Account, HeldApp}
 use Rattle.cap_asks.specs.Apps.{HeldApps, UsesRoom, IsEntered, IsLeft, account_of, live_of, position_of}
 use Rattle.cap_commit.specs.Held.{Parts, IsHeld, IsPlaced, flat_of, of_cluster}
 use Rattle.cap_commit.proofs.Counting.{count_entered, count_without, only_one, unused}
-use Rattle.cap_commit.proofs.Owning.{IsOwned, count_for, live_kept, none_left, none_of, owned_after, owned_stands, sites_owned}
+use Rattle.cap_commit.proofs.Owning.{IsOwned, IsReservedFor, count_for, live_kept, none_left, none_of, none_reserved, owned_after, owned_stands, sites_owned}
 use Rattle.cap_commit.proofs.RowsAt.{row_at, still_at}
 use Rattle.cap_commit.proofs.Parts.{fewer}
 use Rattle.cap_commit.proofs.Moving.{HasOneMore, enters, leaves, may_leave, moved_settings, moved_stays, tied_moved}
@@ -86,7 +86,7 @@ module _ {K : ℕ} where
         limit = l;
         few = (let n = ap length none in omega (arith, n));
         few_live = (let n = ap length live in omega (arith, n));
-        unreserved = reserved;
+        reserved = of_each (IsReservedFor (flat_of p)) p.nodes.reserved (λ r m. absurd (subst (λ xs. IsIn r xs) reserved m));
         resources = k;
       }
 
@@ -95,7 +95,7 @@ module _ {K : ℕ} where
     old = flat_of p
 
     owners : (app node : ℕ) → IsSite old app node → IsSome (app_at old app)
-    owners = sites_owned old h.owned h.unreserved
+    owners = sites_owned old h.owned h.reserved
 
     -- after a change of the nodes that keeps what is live
     pub held_nodes : (nodes' : NodeTable) → nodes'.live ≡ p.nodes.live → nodes'.reserved ≡ p.nodes.reserved → nodes'.next_container ≡ p.nodes.next_container → IsHeld (record p { nodes = nodes' })
@@ -105,12 +105,12 @@ module _ {K : ℕ} where
           tied = tied_stays old (flat_of q) (record { counts = λ t. refl; uses = same_use old (flat_of q) (record { live = live; reserved = reserved; apps = λ app node s. refl }) }) p.rows h.tied;
           placed = of_each (IsPlaced q) p.apps.table.active (λ a m. still_placed p q (λ path l. leaf_same old (flat_of q) path refl l) (λ path at i. i) a a refl refl refl (each_of (IsPlaced p) p.apps.table.active h.placed a m));
           counted = λ n. h.counted n ∙ sym (ap (count_for n) live);
-          owned = owned_stands old (flat_of q) (λ n. refl) (λ c i. subst (IsIn c) live i) h.owned;
+          owned = owned_stands (λ (c : Container). c.app) p.nodes.live nodes'.live old (flat_of q) (λ n. refl) (λ c i. subst (IsIn c) live i) h.owned;
+          reserved = owned_stands (λ (r : Reservation). r.app) p.nodes.reserved nodes'.reserved old (flat_of q) (λ n. refl) (λ r i. subst (IsIn r) reserved i) h.reserved;
           numbers = rw (live, next) h.numbers;
           limit = h.limit;
           few = h.few;
           few_live = (let f = h.few_live in let n = ap length live in omega (arith, f, n));
-          unreserved = reserved ∙ h.unreserved;
           resources = h.resources;
         }
 
@@ -129,12 +129,12 @@ module _ {K : ℕ} where
               still_placed p q (λ path l. leaf_same old (flat_of q) path refl l) (λ path at i. i) a (w.0) (ap (λ (x : App). x.leaf) (sym (w.2)) ∙ k.leaf (w.0)) (ap (λ (x : App). x.number) (sym (w.2)) ∙ k.number (w.0)) (positions (w.0).number)
               (each_of (IsPlaced p) p.apps.table.active h.placed (w.0) (w.1)));
           counted = λ n. live n ∙ h.counted n;
-          owned = owned_stands old (flat_of q) (change_stands old (flat_of q) change) (λ c i. i) h.owned;
+          owned = owned_stands (λ (c : Container). c.app) p.nodes.live p.nodes.live old (flat_of q) (change_stands old (flat_of q) change) (λ c i. i) h.owned;
+          reserved = owned_stands (λ (r : Reservation). r.app) p.nodes.reserved p.nodes.reserved old (flat_of q) (change_stands old (flat_of q) change) (λ r i. i) h.reserved;
           numbers = h.numbers;
           limit = h.limit;
           few = (let w = h.few in let n = ap length e in let l = length-map p.apps.table.active f in omega (arith, w, n, l));
           few_live = h.few_live;
-          unreserved = h.unreserved;
           resources = h.resources;
         }
 
@@ -168,12 +168,12 @@ module _ {K : ℕ} where
               (λ x position at. still_at (with_state path running) (λ r. state_place path running r) (λ r. state_path path running r) p.rows x position at) a a refl refl refl
               (each_of (IsPlaced p) p.apps.table.active h.placed a m));
           counted = h.counted;
-          owned = owned_stands old (flat_of q) (λ n. refl) (λ c i. i) h.owned;
+          owned = owned_stands (λ (c : Container). c.app) p.nodes.live p.nodes.live old (flat_of q) (λ n. refl) (λ c i. i) h.owned;
+          reserved = owned_stands (λ (r : Reservation). r.app) p.nodes.reserved p.nodes.reserved old (flat_of q) (λ n. refl) (λ r i. i) h.reserved;
           numbers = h.numbers;
           limit = h.limit;
           few = h.few;
           few_live = h.few_live;
-          unreserved = h.unreserved;
           resources = h.resources;
         }
 
@@ -188,6 +188,7 @@ module _ {K : ℕ} where
         let same : (flat_of q).settings.queues ≡ old.settings.queues = moved_settings K leaf user (nothing K) (one_application K) p.rows in
         let stays : (path place : List ℕ) → IsAt p.rows path place → IsAt q.rows path place = moved_stays K leaf user (nothing K) (one_application K) p.rows in
         let may = may_enter old leaf unrefused in
+        let still : (m : ℕ) → IsSome (app_at old m) → IsSome (app_at (flat_of q) m) = λ m there. subst IsSome (sym (ap (find (λ (x : App). x.number == m)) active ∙ find_with_more (λ (x : App). x.number) m p.apps.table.active (a ∷ []) there)) there in
         let own : position_of n apps'.accounts ≡ position = ap (λ o. option_map_or (λ (x : Account). x.position) o []) accounts.own in
         record {
           tied = tied_moved old (flat_of q) leaf user (nothing K) (one_application K) (enters old (flat_of q) leaf user (record { counts = λ t. ap (count_of t) active ∙ count_entered t p.apps.table.active a; uses = same_use old (flat_of q) (coming_holds old (flat_of q) a active owners refl refl) })) p.rows h.tied;
@@ -201,12 +202,12 @@ module _ {K : ℕ} where
                 | inr (inr none) ↦ absurd none
               ]);
           counted = λ m. live_entered (m == n) m refl;
-          owned = owned_after old (flat_of q) (λ m there. subst IsSome (sym (ap (find (λ (x : App). x.number == m)) active ∙ find_with_more (λ (x : App). x.number) m p.apps.table.active (a ∷ []) there)) there) (λ c i. i) h.owned;
+          owned = owned_after (λ (c : Container). c.app) p.nodes.live p.nodes.live old (flat_of q) still (λ c i. i) h.owned;
+          reserved = owned_after (λ (r : Reservation). r.app) p.nodes.reserved p.nodes.reserved old (flat_of q) still (λ r i. i) h.reserved;
           numbers = h.numbers;
           limit = h.limit;
           few = (let f = may.few in let w = h.limit in let k = ap length active in let l = length-append p.apps.table.active (a ∷ []) in omega (arith, f, w, k, l));
           few_live = h.few_live;
-          unreserved = h.unreserved;
           resources = h.resources;
         }
       where
@@ -239,7 +240,7 @@ module _ {K : ℕ} where
         ap (λ o. option_map_or (λ (a : Account). a.position) o []) f ∙ ap (λ k. position_of k p.apps.accounts) (sym number)
 
     -- an application that has no container goes, after all of its own have ended
-    module _ (n : ℕ) (a : App) (rising : IsRising 1 (map (λ (x : App). x.number) p.apps.table.active) p.apps.table.next) (found_it : find (λ (x : App). x.number == n) p.apps.table.active ≡ Some a) (none : containers_of old.nodes n ≡ []) where
+    module _ (n : ℕ) (a : App) (rising : IsRising 1 (map (λ (x : App). x.number) p.apps.table.active) p.apps.table.next) (found_it : find (λ (x : App). x.number == n) p.apps.table.active ≡ Some a) (none : containers_of old.nodes n ≡ []) (bare : filter (λ r. r.app == n) p.nodes.reserved ≡ []) where
       abbrev without_it : Flat K
       without_it = record old { apps = remove_app n p.apps.table }
 
@@ -249,7 +250,7 @@ module _ {K : ℕ} where
       -- it holds nothing
       elsewhere : (app node : ℕ) → IsSite old app node → app == n ≡ false
       elsewhere app node (inl (c, m, e, f)) = ap (λ x. x == n) (sym e) ∙ none_of n p.nodes.live none_live c m
-      elsewhere app node (inr (r, m, e, f)) = absurd (subst (IsIn r) h.unreserved m)
+      elsewhere app node (inr (r, m, e, f)) = ap (λ x. x == n) (sym e) ∙ none_reserved n p.nodes.reserved bare r m
 
       turned : (x y : ℕ) → x == y ≡ false → y == x ≡ false
       turned x y e = grind (arith, nat_tests, e)
@@ -290,6 +291,7 @@ module _ {K : ℕ} where
           let q : Parts K = record p { rows = map (left K a.leaf a.user) p.rows; apps = apps' } in
           let active : apps'.table.active ≡ filter (λ (x : App). not (x.number == n)) p.apps.table.active = ap (λ (t : AppTable). t.active) e in
           let same : (flat_of q).settings.queues ≡ old.settings.queues = moved_settings K a.leaf a.user (one_application K) (nothing K) p.rows in
+          let remains : (k : ℕ) → k == n ≡ false → IsSome (app_at old k) → IsSome (app_at (flat_of q) k) = λ k other there. subst IsSome (sym (ap (find (λ (x : App). x.number == k)) active ∙ find_others (λ (x : App). x.number) n k (turned k n other) p.apps.table.active)) there in
           let stays : HoldsSame without_it (flat_of q) = record { live = refl; reserved = refl; apps = λ app node s. ap (λ (t : AppTable). Rattle.cap_model.proofs.Lessening.standing (find (λ (x : App). x.number == app) t.active)) e } in
           record {
             tied = tied_stays without_it (flat_of q) (record { counts = λ t. ap (count_of t) active; uses = same_use without_it (flat_of q) stays }) q.rows (tied_moved old without_it a.leaf a.user (one_application K) (nothing K) (leaves without_it old a.leaf a.user one_less) p.rows h.tied);
@@ -302,14 +304,12 @@ module _ {K : ℕ} where
                 (ap (λ r. option_map_or (λ (c : Account). c.position) r []) (accounts.others x.number (not-true (x.number == n) there.0)))
                 (each_of (IsPlaced p) p.apps.table.active h.placed x there.1));
             counted = λ m. live_left (m == n) m refl;
-            owned =
-                of_each (IsOwned (flat_of q)) p.nodes.live
-                (λ c m. subst IsSome (sym (ap (find (λ (x : App). x.number == c.app)) active ∙ find_others (λ (x : App). x.number) n c.app (turned c.app n (none_of n p.nodes.live none_live c m)) p.apps.table.active)) (each_of (IsOwned old) p.nodes.live h.owned c m));
+            owned = of_each (IsOwned (flat_of q)) p.nodes.live (λ c m. remains c.app (none_of n p.nodes.live none_live c m) (each_of (IsOwned old) p.nodes.live h.owned c m));
+            reserved = of_each (IsReservedFor (flat_of q)) p.nodes.reserved (λ r m. remains r.app (none_reserved n p.nodes.reserved bare r m) (each_of (IsReservedFor old) p.nodes.reserved h.reserved r m));
             numbers = h.numbers;
             limit = h.limit;
             few = (let f = h.few in let l = ap length active in let g = fewer n p.apps.table.active in omega (arith, f, l, g));
             few_live = h.few_live;
-            unreserved = h.unreserved;
             resources = h.resources;
           }
         where
@@ -336,12 +336,8 @@ finished_active cause n live (a ∷ apps) = by (a.number == n) refl (finished_ac
     by true e r = r
     by false e r = λ i. others_untold cause n live a e i ∷ r i
 
-pub no_member : {A : Type 0} (t : A → Bool) (xs : List A) → xs ≡ [] → xs ≡ filter t xs
-no_member t xs e = e ∙ sym (ap (filter t) e)
-
-pub finished_is : {K : ℕ} (cause : Cause) (start ended new : Flat K) (n : ℕ) → ended.nodes.reserved ≡ [] → ended ≡ after_ends cause (containers_of start.nodes n) start → new ≡ record ended { apps = remove_app n ended.apps } → new ≡ after_finish_master start n
-finished_is {K} cause start ended new n none is e =
-    let untouched : start.nodes.reserved ≡ [] = sym (ap (λ (x : Flat K). x.nodes.reserved) is) ∙ none in
-    e ∙ ap (λ (x : Flat K). record x { apps = remove_app n x.apps }) is
-    ∙ ap (λ active. record (without (containers_of start.nodes n) start) { apps = record start.apps { active = active } }) (finished_active cause n start.nodes.live start.apps.active)
-    ∙ ap (λ reserved. with_reserved reserved (record (without (containers_of start.nodes n) start) { apps = record start.apps { active = filter (λ a. not (a.number == n)) start.apps.active } })) (no_member (λ r. not (r.app == n)) start.nodes.reserved untouched)
+pub finished_is : {K : ℕ} (cause : Cause) (start ended new : Flat K) (n : ℕ) → ended ≡ after_ends cause (containers_of start.nodes n) start →
+    new ≡ record (with_reserved (filter (λ r. not (r.app == n)) ended.nodes.reserved) ended) { apps = remove_app n ended.apps } → new ≡ after_finish_master start n
+finished_is {K} cause start ended new n is e =
+    e ∙ ap (λ (x : Flat K). record (with_reserved (filter (λ r. not (r.app == n)) x.nodes.reserved) x) { apps = remove_app n x.apps }) is
+    ∙ ap (λ active. record (with_reserved (filter (λ r. not (r.app == n)) start.nodes.reserved) (without (containers_of start.nodes n) start)) { apps = record start.apps { active = active } }) (finished_active cause n start.nodes.live start.apps.active)

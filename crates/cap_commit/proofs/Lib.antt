@@ -8,5 +8,6 @@ pub mod Moving
 pub mod Sizes
 pub mod Holding
 pub mod Ending
+pub mod Unreserving
 pub mod Reporting
 pub mod Naming

@@ -3,7 +3,7 @@ use Rattle.std.proofs.Common.{◌≡◌, ℕ, Bool, true, false, cond, List, [],
 use Rattle.std.specs.Prelude.{IsSome, ◌==◌, filter, count_by}
 use Rattle.std.specs.List.{All}
 use Rattle.std.proofs.lemmas.List.Sums.{length-filter}
-use Rattle.cap_model.specs.Flat.{Flat, App, Container, app_at, containers_of}
+use Rattle.cap_model.specs.Flat.{Flat, App, Container, Reservation, app_at, containers_of}
 use Rattle.cap_model.specs.declared.news.Cause.{Cause}
 use Rattle.cap_model.specs.Ending.{after_ends}
 use Rattle.cap_model.proofs.Choosing.{IsIn, in_filter}
@@ -17,9 +17,12 @@ use Rattle.cap_asks.specs.Apps.{UsesRoom, live_of}
 abbrev pub count_for : ℕ → List Container → ℕ
 count_for n live = count_by (λ c. c.app == n) live
 
--- a live container is an active application's
+-- a live container, and a reservation, is an active application's
 abbrev pub IsOwned : {K : ℕ} → Flat K → Container → Type 0
 IsOwned cluster c = IsSome (app_at cluster c.app)
+
+abbrev pub IsReservedFor : {K : ℕ} → Flat K → Reservation → Type 0
+IsReservedFor cluster r = IsSome (app_at cluster r.app)
 
 -- no more containers are live where none is granted and none ends
 zero_where : (b : Bool) → cond b 0 0 ≡ (let n : ℕ = 0 in n)
@@ -35,17 +38,19 @@ some_stands None (Some y) e h = absurd (cc e)
 some_stands None None e h = h
 
 module _ {K : ℕ} where
-  -- where nothing is reserved, all that is held is held by an active application
-  pub sites_owned : (cluster : Flat K) → All (IsOwned cluster) cluster.nodes.live → cluster.nodes.reserved ≡ [] → (app node : ℕ) → IsSite cluster app node → IsSome (app_at cluster app)
-  sites_owned cluster a none app node (inl (c, m, e, f)) = subst (λ n. IsSome (app_at cluster n)) e (each_of (IsOwned cluster) cluster.nodes.live a c m)
-  sites_owned cluster a none app node (inr (r, m, e, f)) = absurd (subst (IsIn r) none m)
+  -- all that is held is held by an active application
+  pub sites_owned : (cluster : Flat K) → All (IsOwned cluster) cluster.nodes.live → All (IsReservedFor cluster) cluster.nodes.reserved → (app node : ℕ) → IsSite cluster app node → IsSome (app_at cluster app)
+  sites_owned cluster a b app node (inl (c, m, e, f)) = subst (λ n. IsSome (app_at cluster n)) e (each_of (IsOwned cluster) cluster.nodes.live a c m)
+  sites_owned cluster a b app node (inr (r, m, e, f)) = subst (λ n. IsSome (app_at cluster n)) e (each_of (IsReservedFor cluster) cluster.nodes.reserved b r m)
 
-  -- containers that stay are still owned where applications stay
-  pub owned_after : (old new : Flat K) → ((n : ℕ) → IsSome (app_at old n) → IsSome (app_at new n)) → ((c : Container) → IsIn c new.nodes.live → IsIn c old.nodes.live) → All (IsOwned old) old.nodes.live → All (IsOwned new) new.nodes.live
-  owned_after old new f m a = of_each (IsOwned new) new.nodes.live (λ c i. f c.app (each_of (IsOwned old) old.nodes.live a c (m c i)))
+  -- what stays is still an active application's where applications stay
+  pub owned_after : {X : Type 0} (of : X → ℕ) (xs ys : List X) (old new : Flat K) → ((n : ℕ) → IsSome (app_at old n) → IsSome (app_at new n)) → ((x : X) → IsIn x ys → IsIn x xs) →
+      All (λ x. IsSome (app_at old (of x))) xs → All (λ x. IsSome (app_at new (of x))) ys
+  owned_after of xs ys old new f m a = of_each (λ x. IsSome (app_at new (of x))) ys (λ x i. f (of x) (each_of (λ y. IsSome (app_at old (of y))) xs a x (m x i)))
 
-  pub owned_stands : (old new : Flat K) → ((n : ℕ) → standing (app_at new n) ≡ standing (app_at old n)) → ((c : Container) → IsIn c new.nodes.live → IsIn c old.nodes.live) → All (IsOwned old) old.nodes.live → All (IsOwned new) new.nodes.live
-  owned_stands old new s m a = owned_after old new (λ n h. some_stands (app_at new n) (app_at old n) (s n) h) m a
+  pub owned_stands : {X : Type 0} (of : X → ℕ) (xs ys : List X) (old new : Flat K) → ((n : ℕ) → standing (app_at new n) ≡ standing (app_at old n)) → ((x : X) → IsIn x ys → IsIn x xs) →
+      All (λ x. IsSome (app_at old (of x))) xs → All (λ x. IsSome (app_at new (of x))) ys
+  owned_stands of xs ys old new s m a = owned_after of xs ys old new (λ n h. some_stands (app_at new n) (app_at old n) (s n) h) m a
 
 -- an application stays active where containers end
 pub still_active : {K : ℕ} (cause : Cause) (gone : List Container) (old : Flat K) (n : ℕ) → IsSome (app_at old n) → IsSome (app_at (after_ends cause gone old) n)
@@ -72,3 +77,11 @@ none_of n live z c m = by (c.app == n) refl
 -- one whose containers have all ended has none
 pub none_left : {K : ℕ} (cluster : Flat K) (n : ℕ) → containers_of cluster.nodes n ≡ [] → count_for n cluster.nodes.live ≡ 0
 none_left cluster n none = sym (length-filter (λ (c : Container). c.app == n) cluster.nodes.live) ∙ ap length none
+
+-- one for which nothing is reserved
+pub none_reserved : (n : ℕ) (rs : List Reservation) → filter (λ r. r.app == n) rs ≡ [] → (r : Reservation) → IsIn r rs → r.app == n ≡ false
+none_reserved n rs none r m = by (r.app == n) refl
+  where
+    by : (b : Bool) → r.app == n ≡ b → b ≡ false
+    by false e = refl
+    by true e = absurd (subst (IsIn r) none (in_filter (λ (x : Reservation). x.app == n) rs r m e))

@@ -85,7 +85,7 @@ module _ (u v w : ℕ → ℕ) (r : Rounds u v w) (n : ℕ) (few : n ≤ resourc
   one_node = u (w (last_reply + amounts) + 4)
 
   abbrev nodes : ℕ
-  nodes = u (u (u (0 + u (120 + one_node)) + 80) + amounts)
+  nodes = u (u (u (u (0 + u (120 + one_node)) + 80) + 24) + amounts)
 
   nodes_few : nodes ≤ 30000
   nodes_few =
@@ -99,8 +99,9 @@ module _ (u v w : ℕ → ℕ) (r : Rounds u v w) (n : ℕ) (few : n ≤ resourc
       let j = r.eights (120 + one_node) in
       let k = r.eights (0 + u (120 + one_node)) in
       let l = r.eights (u (0 + u (120 + one_node)) + 80) in
-      let m = r.eights (u (u (0 + u (120 + one_node)) + 80) + amounts) in
-      omega (arith, a, b, c, d, e, f, i, j, k, l, m)
+      let m = r.eights (u (u (0 + u (120 + one_node)) + 80) + 24) in
+      let n = r.eights (u (u (u (0 + u (120 + one_node)) + 80) + 24) + amounts) in
+      omega (arith, a, b, c, d, e, f, i, j, k, l, m, n)
 
   nodes_are_small : nodes < 9223372036854775808
   nodes_are_small = let a = nodes_few in omega (arith, a)

@@ -67,16 +67,16 @@ module _ {K : ℕ} where
     pub position : IsAt p.rows app.leaf (position_of app.number p.apps.accounts)
 
   -- each row keeps what the flat cluster counts; each application is in a leaf, whose position it knows, and knows how many of its
-  -- containers are live; each live container is an active application's; the numbers of containers are distinct; no more than allowed
-  -- of each, and no reservation yet
+  -- containers are live; each live container and each reservation is an active application's; the numbers of containers are
+  -- distinct; no more than allowed of each
   pub record IsHeld (p : Parts K) : Type 0 where
     pub tied : All (IsRowOf (flat_of p)) p.rows
     pub placed : All (IsPlaced p) p.apps.table.active
     pub counted : (n : ℕ) → live_of n p.apps.accounts ≡ live_for n (flat_of p)
     pub owned : All (λ c. IsSome (app_at (flat_of p) c.app)) p.nodes.live
+    pub reserved : All (λ r. IsSome (app_at (flat_of p) r.app)) p.nodes.reserved
     pub numbers : HasDistinctNumbers (flat_of p)
     pub limit : p.limits.application_limit ≤ applications_max
     pub few : length p.apps.table.active ≤ applications_max
     pub few_live : length p.nodes.live ≤ live_max
-    pub unreserved : p.nodes.reserved ≡ []
     pub resources : K ≤ resources_max

@@ -1,3 +1,4 @@
 pub mod Changes
 pub mod Held
 pub mod Owners
+pub mod Reservations

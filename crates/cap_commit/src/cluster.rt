@@ -1,7 +1,7 @@
-ghost use Rattle.std.specs.Prelude.{◌≡◌, ◌≤◌, ◌+◌, ◌==◌, ◌&&◌, ◌∷◌, [], Some, None, IfOk, OnOk, OnErr, IsOk, IfSome, IsSome, is_some, length, find, nat_lt};
-ghost use Rattle.std.specs.List.{All};
+ghost use Rattle.std.specs.Prelude.{◌≡◌, ◌≤◌, ◌+◌, ◌==◌, ◌&&◌, ◌∷◌, [], Some, None, IfOk, OnOk, OnErr, IsOk, IfSome, IsSome, is_some, length, find, nat_lt, ◌<◌};
+ghost use Rattle.std.specs.List.{All, remove};
 ghost use Rattle.cap_model.specs.Limits.{applications_max, resources_max};
-ghost use Rattle.cap_model.specs.Flat.{opened, queue_at, app_at, node_at, with_app, with_node, containers_on, containers_of};
+ghost use Rattle.cap_model.specs.Flat.{opened, queue_at, app_at, node_at, with_app, with_node, with_reserved, containers_on, containers_of};
 ghost use Rattle.cap_model.specs.Uses.{queue_use};
 ghost use Rattle.cap_model.specs.Submit.{submit_refusal, after_submit};
 ghost use Rattle.cap_model.specs.RegisterNode.{register_node_refusal, after_register_node};
@@ -315,6 +315,21 @@ impl<const K: usize> Cluster<K> {
             cause,
         };
         self.apps.add_end(container.app(), &end);
+    }
+
+    /// Drops the reservation at this index, in order of making: what it kept is given back at every level of its queue.
+    pub(crate) fn unreserve(&mut self, index: usize)
+        requires { index < length self.old.flat.nodes.reserved }
+        ensures flat { self.new.flat ≡ with_reserved (remove self.old.flat.nodes.reserved index) self.old.flat }
+        ensures accounts { self.new.accounts ≡ self.old.accounts }
+    {
+        let reservation = self.nodes.reservations()[index];
+        let Some(app) = self.apps.app(reservation.app()) else {
+            unreachable!()
+        };
+        let tree = &mut *self.tree;
+        tree.give_back(app.position(), app.user(), &reservation.resource());
+        self.nodes.unreserve(index);
     }
 
     /// Takes a node in under the next number, of a total in MiB and vcores. `NoMemory` changes nothing.

@@ -5,6 +5,7 @@ mod cluster;
 mod limits;
 mod owner;
 mod report;
+mod reservations;
 
 pub use cap_asks::{App, Apps, Position};
 pub use cap_model::{AllocateReply, Event, HeartbeatReply, QueueReport, Reply, Request};

@@ -91,3 +91,35 @@ impl<const K: usize> Model for Reservation<K> {
 
     ghost inverse = { λ r. record { app = r.app; key = r.key; node = r.node; resource = r.resource } };
 }
+
+impl<const K: usize> Reservation<K> {
+    /// The number of its application.
+    pub fn app(&self) -> u64
+        ensures { result ≡ self.now.app }
+    {
+        self.app
+    }
+
+    /// The key of the ask that it is for.
+    pub fn key(&self) -> Key
+        ensures { result ≡ self.now.key }
+    {
+        self.key
+    }
+
+    /// The number of its node.
+    pub fn node(&self) -> u64
+        ensures { result ≡ self.now.node }
+    {
+        self.node
+    }
+
+    /// What is kept, in MiB and vcores.
+    pub fn resource(&self) -> Resource<K>
+        ensures value { result ≡ self.now.resource }
+        ensures vector { IsResource K self.now.resource }
+    {
+        let _amounts = self.resource.amounts();
+        self.resource
+    }
+}

@@ -1,0 +1,58 @@
+use Rattle.std.proofs.Common.{ap, sym, ◌∙◌, get_or, map, arith}
+use Rattle.cap_tree.specs.Rows.{queues_of, lowered}
+use Rattle.cap_tree.specs.Spot.{path_at}
+use Rattle.cap_commit.proofs.Unreserving.{has_holder, may_give_reserved, held_dropped, dropped_is}
+use Rattle.cap_commit.proofs.Holding.{placed_at, position_is}
+use Rattle.cap_commit.proofs.Moving.{moved_settings}
+use Rattle.cap_tree.specs.Count.{nothing, use_alone}
+use Rattle.cap_commit.proofs.Sizes.{tree_fits}
+use Rattle.cap_commit.proofs.cluster.Cluster.unreserve.Goals as goal
+
+pub unreachable-requires : goal.unreachable-requires
+unreachable-requires g c =
+    let one = c.index-reservations-index.result in
+    let at = c.index-reservations-index.is ∙ ap (λ rs. get_or rs c.args.index one) c.reservations.ensures in
+    has_holder _ c.self.invariant c.args.index one (rw (← c.self.view_is) at c.requires) at c.app.result c.app.ensures c.in_default.ensures.found
+
+pub give_back-requires : goal.give_back-requires
+give_back-requires g c =
+    let one = c.index-reservations-index.result in
+    let at = c.index-reservations-index.is ∙ ap (λ rs. get_or rs c.args.index one) c.reservations.ensures in
+    let kinds = c.self.invariant.resources in
+    let count = c.resource.ensures.vector.count in
+    let position = c.position.ensures ∙ position_is _ c.self.invariant c.app.result c.in-Some.app.now c.in-Some.ensures.found c.in-Some.ensures.account in
+    let owner = sym (rw c.app.ensures at c.in-Some.ensures.found) in (
+      tree_fits _ c.self.invariant.resources,
+      (
+        omega arith,
+        (
+          omega (arith, kinds),
+          rw (c.deref_mut-tree.ensures.value, c.user.ensures, c.resource.ensures.value, position)
+              (may_give_reserved _ c.self.invariant c.args.index one (rw (← c.self.view_is) at c.requires) at c.in-Some.app.now.app owner (omega (arith, count))),
+        ),
+      ),
+    )
+
+pub invariant_of-self : goal.invariant_of-self
+invariant_of-self g c =
+    let x = c.self.inside in
+    let one = c.index-reservations-index.result in
+    let at = c.index-reservations-index.is ∙ ap (λ rs. get_or rs c.args.index one) c.reservations.ensures in
+    let app = c.in-Some.app.now.app in
+    let count = c.resource.ensures.vector.count in
+    let position = c.position.ensures ∙ position_is _ c.self.invariant c.app.result c.in-Some.app.now c.in-Some.ensures.found c.in-Some.ensures.account in
+    let path = ap (λ q. path_at q x.tree.value) position ∙ (placed_at _ c.self.invariant c.app.result app (sym c.in-Some.ensures.found)).position.path_is in
+    let rows = (rw c.deref_mut-tree.ensures.value at c.give_back.ensures) ∙ (λ i. map (lowered g.row.K (path i) (c.user.ensures i) (c.resource.ensures.value i)) x.tree.value) in
+    let owner = sym (rw c.app.ensures at c.in-Some.ensures.found) in
+    rw rows
+    (held_dropped _ c.self.invariant c.args.index one (rw (← c.self.view_is) at c.requires) at app owner (omega (arith, count)) c.unreserve.new.self c.unreserve.ensures)
+
+pub returns-clause-flat : goal.returns-clause-flat
+returns-clause-flat g c =
+    let x = c.self.inside in
+    let one = c.index-reservations-index.result in
+    let at = c.index-reservations-index.is ∙ ap (λ rs. get_or rs c.args.index one) c.reservations.ensures in
+    let rows = rw c.deref_mut-tree.ensures.value at c.give_back.ensures in
+    let settings = ap queues_of rows ∙ moved_settings g.row.K _ c.user.result.now (use_alone c.resource.result) (nothing g.row.K) x.tree.value in
+    rw (← c.self.view_is)
+    (dropped_is _ c.self.invariant c.args.index one (rw (← c.self.view_is) at c.requires) at c.give_back.new.self c.unreserve.new.self settings c.unreserve.ensures)
