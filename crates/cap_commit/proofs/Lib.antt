@@ -9,5 +9,6 @@ pub mod Sizes
 pub mod Holding
 pub mod Ending
 pub mod Unreserving
+pub mod Dropping
 pub mod Reporting
 pub mod Naming
