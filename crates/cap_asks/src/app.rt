@@ -1,7 +1,7 @@
 ghost use Rattle.std.specs.Prelude.{◌≡◌, ◌+◌, ◌<◌, ◌≤◌, [], ◌∷◌, ◌++◌, true, false, is_some, option_map, OnOk, IsOk};
 ghost use Rattle.cap_model.specs.Flat.{ask_at};
 ghost use Rattle.cap_model.specs.Limits.{live_max};
-ghost use Rattle.cap_model.specs.Asking.{put_ask};
+ghost use Rattle.cap_model.specs.Asking.{put_ask, reservations_left};
 ghost use Rattle.cap_model.specs.Allocate.{has_too_many_keys, after_telling};
 ghost use Rattle.cap_model.specs.Events.{take_one};
 ghost use Rattle.cap_model.specs.ResponseIds.{is_repeated, is_bad_id};
@@ -153,6 +153,17 @@ impl<const K: usize> App<K> {
         ensures { result ≡ ask_at key.now self.now.app.asks }
     {
         self.asks.get(key)
+    }
+
+    /// How many of the reservations of its key an ask leaves, where it replaces that of the key: as many as it counts, and none where
+    /// its resource or place changes.
+    pub(crate) fn reservations_left(&self, ask: &Ask<K>) -> u32
+        ensures { result ≡ reservations_left self.now.app ask.now }
+    {
+        match self.asks.get(&ask.key()) {
+            Some(old) if ask.is_changed(&old) => 0,
+            _ => ask.count(),
+        }
     }
 
     /// Whether a reply is kept.

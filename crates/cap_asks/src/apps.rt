@@ -1,6 +1,7 @@
 ghost use Rattle.std.specs.Prelude.{◌≡◌, ◌+◌, ◌<◌, ◌≤◌, ◌++◌, ◌∷◌, [], true, length, map, option_map, IfOk, OnOk, OnErr, IsOk, IsSome};
 ghost use Rattle.cap_model.specs.Limits.{live_max, number_end};
-ghost use Rattle.cap_model.specs.Asking.{put_ask};
+ghost use Rattle.std.specs.Option.{option_map_or};
+ghost use Rattle.cap_model.specs.Asking.{put_ask, reservations_left};
 ghost use Rattle.cap_model.specs.Events.{take_one};
 ghost use Rattle.cap_model.specs.Allocate.{after_telling};
 ghost use Rattle.cap_model.specs.Bounds.{IsRising};
@@ -145,6 +146,17 @@ impl<const K: usize> Apps<K> {
             unreachable!()
         };
         app.reserve(asks, grants, ends)
+    }
+
+    /// How many of the reservations of its key an ask of an application leaves: as many as it counts, and none where its resource or
+    /// place changes.
+    pub fn reservations_left(&self, n: u64, ask: &Ask<K>) -> u32
+        ensures { result ≡ option_map_or (λ app. reservations_left app ask.now) (app_in self.now.table n) 0 }
+    {
+        match self.app(n) {
+            Some(app) => app.reservations_left(ask),
+            None => 0,
+        }
     }
 
     /// Puts an ask of an application in place of the one of its key, or in order of key; a count of 0 takes the key away. It needs

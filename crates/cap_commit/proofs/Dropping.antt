@@ -117,3 +117,12 @@ module _ {K : ℕ} (test : Reservation → Bool) (most : ℕ) (old now : Held K)
         let less = length-remove now.flat.nodes.reserved index within in
         let same : length new.flat.nodes.reserved ≡ length (remove now.flat.nodes.reserved index) = ap (λ (f : Flat K). length f.nodes.reserved) is in
         omega (arith, within, less, same)
+
+-- where none of those that pass stay, none passes
+pub none_stay : {A : Type 0} (t : A → Bool) (xs : List A) → filter t (keep_first t 0 xs) ≡ []
+none_stay t [] = refl
+none_stay t (x ∷ xs) = by (t x) refl (none_stay t xs)
+  where
+    by : (b : Bool) → t x ≡ b → filter t (keep_first t 0 xs) ≡ [] → filter t (let rest = keep_first t (if b then 0 - 1 else 0) xs in if b && 0 == 0 then rest else x ∷ rest) ≡ []
+    by true e h = h
+    by false e h = ap (λ b. cond b (x ∷ filter t (keep_first t 0 xs)) (filter t (keep_first t 0 xs))) e ∙ h

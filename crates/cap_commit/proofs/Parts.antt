@@ -8,12 +8,14 @@ use Rattle.cap_model.specs.Flat.{Flat, App, AppTable, Reservation, queue_at, is_
 use Rattle.cap_model.specs.Uses.{queue_use}
 use Rattle.cap_model.specs.Submit.{has_children, is_running}
 use Rattle.cap_model.specs.QueueCalls.{queue_report}
-use Rattle.cap_model.specs.Asking.{after_ask, rounded, keep_first, put_ask}
+use Rattle.cap_model.specs.Asking.{after_ask, rounded, keep_first, put_ask, reservations_left}
+use Rattle.std.specs.Option.{option_map_or}
 use Rattle.cap_model.specs.Allocate.{after_telling}
 use Rattle.cap_model.specs.Bounds.{IsRising}
 use Rattle.cap_model.proofs.Choosing.{IsIn}
 use Rattle.cap_model.proofs.Members.{found_by_number}
 use Rattle.cap_commit.specs.Held.{Parts, flat_of}
+use Rattle.cap_commit.specs.Reservations.{kept_by_ask}
 
 -- what is reported of a queue
 pub report_is : {K : ℕ} (cluster : Flat K) (path : List ℕ) (q : QueueRow) (running below : Bool) (guaranteed : List ℕ) (maximum : Option (List ℕ)) (used : List ℕ) (applications : ℕ)
@@ -22,16 +24,21 @@ pub report_is : {K : ℕ} (cluster : Flat K) (path : List ℕ) (q : QueueRow) (r
     → record { running = running; leaf = not below; guaranteed = guaranteed; maximum = maximum; used = used; applications = applications } ≡ queue_report cluster path
 report_is cluster path q running below guaranteed maximum used applications found a b c d e f = rw (found, a, b, c, d, e, f) refl
 
--- where no room is reserved, an ask drops none
-no_drops : (t : Reservation → Bool) (n : ℕ) (rs : List Reservation) → rs ≡ [] → keep_first t n rs ≡ rs
-no_drops t n rs e = ap (keep_first t n) e ∙ sym e
+-- an ask is put, where the reservations that it does not leave were dropped before
+pub ask_put : {K : ℕ} (old dropped : Flat K) (table' : AppTable) (n : ℕ) (ask kept : Ask) → kept ≡ rounded K old.settings ask → dropped ≡ with_reserved (kept_by_ask n kept old) old →
+    table' ≡ change_app n (λ app. record app { asks = put_ask kept app.asks }) dropped.apps → record dropped { apps = table' } ≡ after_ask n old (rounded K old.settings ask)
+ask_put {K} old dropped table' n ask kept is drops put =
+    ap (λ t. record dropped { apps = t }) put
+    ∙ ap (λ (f : Flat K). record f { apps = change_app n (λ app. record app { asks = put_ask kept app.asks }) f.apps }) drops
+    ∙ ap (λ k. with_reserved (kept_by_ask n k old) (record old { apps = change_app n (λ app. record app { asks = put_ask k app.asks }) old.apps })) is
 
--- an ask is put where nothing is reserved
-pub ask_put : {K : ℕ} (p : Parts K) (table' : AppTable) (n : ℕ) (ask kept : Ask) → p.nodes.reserved ≡ [] → kept ≡ rounded K (flat_of p).settings ask → table' ≡ change_app n (λ app. record app { asks = put_ask kept app.asks }) p.apps.table →
-    record (flat_of p) { apps = table' } ≡ after_ask n (flat_of p) (rounded K (flat_of p).settings ask)
-ask_put {K} p table' n ask kept none is put =
-    ap (λ t. record (flat_of p) { apps = t }) (put ∙ ap (λ k. change_app n (λ app. record app { asks = put_ask k app.asks }) p.apps.table) is)
-    ∙ ap (λ rs. with_reserved rs (record (flat_of p) { apps = change_app n (λ app. record app { asks = put_ask (rounded K (flat_of p).settings ask) app.asks }) p.apps.table })) (sym (no_drops (is_for n ask.key) _ p.nodes.reserved none))
+-- where nothing is reserved, nothing is dropped
+pub none_dropped : {K : ℕ} (n : ℕ) (ask : Ask) (cluster : Flat K) → length cluster.nodes.reserved ≡ 0 → cluster ≡ with_reserved (kept_by_ask n ask cluster) cluster
+none_dropped n ask cluster none = ap (λ rs. with_reserved rs cluster) (same cluster.nodes.reserved none)
+  where
+    same : (rs : List Reservation) → length rs ≡ 0 → rs ≡ keep_first (is_for n ask.key) (option_map_or (λ app. reservations_left app ask) (app_at cluster n) 0) rs
+    same [] e = refl
+    same (r ∷ rs) e = absurd (omega (arith, e))
 
 -- no more applications where one goes
 pub fewer : (n : ℕ) (apps : List App) → length (filter (λ app. not (app.number == n)) apps) ≤ length apps

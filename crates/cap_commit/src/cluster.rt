@@ -12,17 +12,19 @@ ghost use Rattle.cap_model.specs.Allocate.{after_telling};
 ghost use Rattle.cap_model.specs.Ending.{after_ends};
 ghost use Rattle.cap_model.specs.FinishMaster.{after_finish_master};
 ghost use Rattle.cap_model.specs.EngineLaws.{HasDistinctNumbers};
-ghost use Rattle.cap_model.specs.NodeGone.{remove_node};
+ghost use Rattle.cap_model.specs.NodeGone.{without_node};
 ghost use Rattle.cap_tree.specs.Rows.{IsAt, queues_of};
 ghost use Rattle.cap_tree.specs.Spot.{IsPlace, path_at};
 ghost use Rattle.cap_asks.specs.Apps.{ask_room, HasRooms, UsesRoom};
 ghost use Rattle.cap_nodes.specs.Tables.{beaten};
 ghost use Rattle.cap_commit.specs.Held.{IsRowOf};
+ghost use Rattle.cap_commit.specs.Reservations.{kept_by_ask};
 ghost use Rattle.cap_commit.specs.Owners.{owns, owned, named};
 
 use crate::limits::Limits;
 use crate::owner::Owner;
 use crate::report::report_of;
+use crate::reservations::{Reserved, keep_first};
 use cap_asks::{Apps, Position};
 use cap_config::Config;
 use cap_model::{Ask, Cause, End, NoMemory, PathText, QueueReport, ShortText};
@@ -223,7 +225,21 @@ impl<const K: usize> Cluster<K> {
             &self.limits.minimum_allocation,
             &self.limits.maximum_allocation,
         );
-        self.apps.put_ask(number, &ask.with_resource(&resource));
+        let ask = ask.with_resource(&resource);
+        self.drop_unwanted(number, &ask);
+        self.apps.put_ask(number, &ask);
+    }
+
+    /// Drops the reservations of its key that an ask of an application, already rounded, does not leave.
+    fn drop_unwanted(&mut self, number: u64, ask: &Ask<K>)
+        ensures flat { self.new.flat ≡ with_reserved (kept_by_ask number ask.now self.old.flat) self.old.flat }
+        ensures accounts { self.new.accounts ≡ self.old.accounts }
+    {
+        if self.nodes.reservations().is_empty() {
+            return;
+        }
+        let left = self.apps.reservations_left(number, ask);
+        keep_first(self, &Reserved::Ask(number, ask.key()), left);
     }
 
     /// Tells an active application the oldest grants and ends that wait, at most 64 of each: its response id moves on, and the
@@ -243,6 +259,7 @@ impl<const K: usize> Cluster<K> {
         ensures finished { self.new.flat ≡ after_finish_master self.old.flat number }
     {
         let ended = self.end_all(Owner::Application(number), Cause::Released);
+        keep_first(self, &Reserved::Application(number), 0);
         let Some(app) = self.apps.app(number) else {
             unreachable!()
         };
@@ -355,12 +372,13 @@ impl<const K: usize> Cluster<K> {
         self.nodes.beat(number, ignored);
     }
 
-    /// A present node on which no container is live goes.
+    /// A present node on which no container is live goes, and its reservation is dropped.
     pub fn drop_node(&mut self, number: u64)
         requires present { IsSome (node_at self.old.flat number) }
         requires empty { containers_on self.old.flat.nodes number ≡ [] }
-        ensures { self.new.flat ≡ record self.old.flat { nodes = remove_node number self.old.flat.nodes } }
+        ensures { self.new.flat ≡ without_node number self.old.flat }
     {
+        keep_first(self, &Reserved::Node(number), 0);
         self.nodes.gone(number);
     }
 }

@@ -16,12 +16,15 @@ module _ {K : ℕ} where
   abbrev pub node_gone_refusal : Flat K → ℕ → Option Refusal
   node_gone_refusal cluster n = earliest ((is_none (node_at cluster n), Refusal.UnknownNode) ∷ [])
 
-  -- its containers end in order of number, its reservation is dropped, and the node goes
-  abbrev pub after_node_gone : Flat K → ℕ → Flat K
-  after_node_gone cluster n =
-      let left = after_ends Cause.NodeLost (containers_on cluster.nodes n) cluster in
-      let unreserved = with_reserved (filter (λ r. not (r.node == n)) left.nodes.reserved) left in
+  -- the cluster without a node and without its reservation
+  abbrev pub without_node : ℕ → Flat K → Flat K
+  without_node n cluster =
+      let unreserved = with_reserved (filter (λ r. not (r.node == n)) cluster.nodes.reserved) cluster in
       record unreserved { nodes = remove_node n unreserved.nodes }
+
+  -- its containers end in order of number, and it goes
+  abbrev pub after_node_gone : Flat K → ℕ → Flat K
+  after_node_gone cluster n = without_node n (after_ends Cause.NodeLost (containers_on cluster.nodes n) cluster)
 
   -- how many of its containers ended
   abbrev pub node_gone_reply : Flat K → ℕ → Reply K

@@ -1,5 +1,6 @@
 ghost use Rattle.std.specs.Prelude.{◌≡◌, ◌==◌, ◌&&◌};
 ghost use Rattle.cap_model.specs.Asks.{same_key};
+ghost use Rattle.cap_model.specs.Asking.{is_changed};
 
 use crate::text::ShortText;
 use cap_vector::Resource;
@@ -82,6 +83,13 @@ impl<const K: usize> Ask<K> {
         ensures { result ≡ self.now.place }
     {
         self.place
+    }
+
+    /// Whether it is for another resource or another place than the ask that it replaces.
+    pub fn is_changed(&self, old: &Ask<K>) -> bool
+        ensures { result ≡ is_changed self.now old.now }
+    {
+        self.resource.amounts() != old.resource.amounts() || self.place.as_bytes() != old.place.as_bytes()
     }
 
     /// The same ask for another resource, in MiB and vcores.

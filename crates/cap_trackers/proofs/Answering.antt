@@ -10,7 +10,7 @@ use Rattle.cap_model.specs.declared.refusal.Refusal.{Refusal}
 use Rattle.cap_model.specs.declared.report.QueueReport.{QueueReport}
 use Rattle.cap_model.specs.Flat.{Flat, ClusterNode, NodeTable, queue_at, node_at, node_in, containers_on}
 use Rattle.cap_model.specs.Ending.{after_ends}
-use Rattle.cap_model.specs.NodeGone.{node_gone_refusal, remove_node}
+use Rattle.cap_model.specs.NodeGone.{node_gone_refusal, without_node}
 use Rattle.cap_model.specs.QueueCalls.{after_set_queue_state, queue_report, queue_refusal}
 use Rattle.cap_tree.specs.Rows.{Row, IsAt, queues_of}
 use Rattle.cap_tree.specs.Spot.{path_at}
@@ -64,11 +64,11 @@ module _ {K : ℕ} (cluster : Flat K) where
   gone_refused n none = refused_is (Request.NodeGone n) Refusal.UnknownNode (rw none refl)
 
   pub gone_is : (n : ℕ) (left new : Flat K) (ended : ℕ) → IsSome (node_at cluster n) → ended ≡ length (containers_on cluster.nodes n) →
-      left ≡ after_ends Cause.NodeLost (containers_on cluster.nodes n) cluster → new ≡ record left { nodes = remove_node n left.nodes } →
+      left ≡ after_ends Cause.NodeLost (containers_on cluster.nodes n) cluster → new ≡ without_node n left →
       (Reply.NodeGone ended ≡ reply_to cluster (Request.NodeGone n)) × (new ≡ after_request cluster (Request.NodeGone n))
   gone_is n left new ended there count left_is is =
       let granted = granted_is (Request.NodeGone n) (not_refused (node_at cluster n) refl) in
-      (ap (λ m. Reply.NodeGone m) count ∙ granted.0, is ∙ ap (λ (x : Flat K). record x { nodes = remove_node n x.nodes }) left_is ∙ granted.1)
+      (ap (λ m. Reply.NodeGone m) count ∙ granted.0, is ∙ ap (λ x. without_node n x) left_is ∙ granted.1)
     where
       not_refused : (o : Option ClusterNode) → node_at cluster n ≡ o → node_gone_refusal cluster n ≡ None
       not_refused None e = absurd (cc (there, e))

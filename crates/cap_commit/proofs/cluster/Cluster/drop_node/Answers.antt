@@ -1,14 +1,26 @@
-use Rattle.std.proofs.Common.{ap, sym, not, ◌∙◌}
-use Rattle.std.specs.Prelude.{◌==◌}
-use Rattle.cap_model.specs.Flat.{NodeTable}
-use Rattle.cap_commit.proofs.Holding.{held_nodes, no_member}
+use Rattle.std.proofs.Common.{ap, sym, subst, not, ◌∙◌}
+use Rattle.std.specs.Prelude.{IsSome, ◌==◌, ◌≡◌, []}
+use Rattle.cap_model.specs.Flat.{Flat, NodeTable, containers_on, node_at, with_reserved}
+use Rattle.cap_model.specs.NodeGone.{remove_node}
+use Rattle.cap_commit.specs.Held.{Held, Parts, flat_of}
+use Rattle.cap_commit.proofs.Dropping.{keep_none}
+use Rattle.cap_commit.proofs.Holding.{held_nodes}
 use Rattle.cap_commit.proofs.Sizes.{nodes_fit}
 use Rattle.cap_commit.proofs.cluster.Cluster.drop_node.Goals as goal
 
 pub gone-requires : goal.gone-requires
-gone-requires g c = (nodes_fit _ c.self.invariant.resources, (rw (← c.self.view_is) at c.requires.present, rw (← c.self.view_is) at c.requires.empty))
+gone-requires g c =
+    let here : IsSome (node_at c.keep_first.new.cluster.flat c.args.number) = subst (λ (x : Flat g.row.K). IsSome (node_at x c.args.number)) (sym c.keep_first.ensures.flat) c.requires.present in
+    let none : containers_on c.keep_first.new.cluster.flat.nodes c.args.number ≡ [] = subst (λ (x : Flat g.row.K). containers_on x.nodes c.args.number ≡ []) (sym c.keep_first.ensures.flat) c.requires.empty in
+    (nodes_fit _ c.self.invariant.resources, (rw (← c.self.view_is) at here, rw (← c.self.view_is) at none))
 
 pub invariant_of-self : goal.invariant_of-self
 invariant_of-self g c =
-    let reserved = ap (λ (t : NodeTable). t.reserved) c.gone.ensures ∙ sym (no_member (λ r. not (r.node == c.args.number)) _ c.self.invariant.unreserved) in
-    held_nodes _ c.self.invariant c.gone.new.self (ap (λ (t : NodeTable). t.live) c.gone.ensures) reserved (ap (λ (t : NodeTable). t.next_container) c.gone.ensures)
+    held_nodes _ c.self.invariant c.gone.new.self (ap (λ (t : NodeTable). t.live) c.gone.ensures) (ap (λ (t : NodeTable). t.reserved) c.gone.ensures) (ap (λ (t : NodeTable). t.next_container) c.gone.ensures)
+
+pub returns : goal.returns
+returns g c =
+    let start = c.args.self.now.flat in
+    let dropped = ap (λ (h : Held g.row.K). h.flat) c.self.view_is ∙ c.keep_first.ensures.flat ∙ ap (λ rs. with_reserved rs start) (keep_none (λ r. r.node == c.args.number) start.nodes.reserved) in
+    let p : Parts g.row.K = record { rows = c.self.inside.tree.value; limits = c.self.inside.limits; apps = c.self.inside.apps; nodes = c.self.inside.nodes } in
+    ap (λ (t : NodeTable). record (flat_of p) { nodes = t }) c.gone.ensures ∙ ap (λ (f : Flat g.row.K). record f { nodes = remove_node c.args.number f.nodes }) dropped

@@ -1,11 +1,13 @@
 use Rattle.std.proofs.Common.{ap, sym, ◌∙◌, map, arith, subst}
-use Rattle.std.specs.Prelude.{IsSome, is_some}
+use Rattle.std.specs.Prelude.{IsSome, is_some, filter, ◌==◌, ◌≡◌, []}
 use Rattle.cap_model.specs.declared.news.Cause.TheVariants.{Released}
-use Rattle.cap_model.specs.Flat.{Flat, app_at, containers_of}
+use Rattle.cap_model.specs.Flat.{Flat, Reservation, app_at, containers_of, with_reserved}
+use Rattle.cap_model.specs.FinishMaster.{remove_app}
 use Rattle.cap_tree.specs.Rows.{queues_of, left}
 use Rattle.cap_tree.specs.Spot.{path_at}
 use Rattle.cap_commit.specs.Held.{Held, Parts, flat_of}
 use Rattle.cap_commit.proofs.Holding.{finished_is, held_left, may_go, placed_at, position_is, with_table}
+use Rattle.cap_commit.proofs.Dropping.{keep_none, none_stay}
 use Rattle.cap_commit.proofs.Moving.{moved_settings}
 use Rattle.cap_tree.specs.Count.{nothing, one_application}
 use Rattle.cap_commit.proofs.Owning.{still_active}
@@ -15,32 +17,41 @@ use Rattle.cap_commit.proofs.cluster.Cluster.finish.Goals as goal
 pub unreachable-requires : goal.unreachable-requires
 unreachable-requires g c =
     let start = c.args.self.now.flat in
-    let there = subst (λ (x : Flat g.row.K). IsSome (app_at x c.args.number)) (sym c.end_all-ended.ensures.ended) (still_active Released (containers_of start.nodes c.args.number) start c.args.number c.requires) in
+    let ended = subst (λ (x : Flat g.row.K). IsSome (app_at x c.args.number)) (sym c.end_all-ended.ensures.ended) (still_active Released (containers_of start.nodes c.args.number) start c.args.number c.requires) in
+    let there = subst (λ (x : Flat g.row.K). IsSome (app_at x c.args.number)) (sym c.keep_first.ensures.flat) ended in
     let some = rw (← c.self.view_is) at there in
     let none = ap is_some c.in_default.ensures.found in
     cc (some, none)
 
 pub leave-requires : goal.leave-requires
 leave-requires g c =
-    let none = rw (← c.self.view_is) at c.end_all-ended.ensures.none in
+    let mine : Reservation → _ = λ r. r.app == c.args.number in
+    let still : containers_of c.keep_first.new.cluster.flat.nodes c.args.number ≡ [] = subst (λ (x : Flat g.row.K). containers_of x.nodes c.args.number ≡ []) (sym c.keep_first.ensures.flat) c.end_all-ended.ensures.none in
+    let none = rw (← c.self.view_is) at still in
+    let gone : filter mine c.keep_first.new.cluster.flat.nodes.reserved ≡ [] = subst (λ (x : Flat g.row.K). filter mine x.nodes.reserved ≡ []) (sym c.keep_first.ensures.flat) (none_stay mine c.end_all-ended.new.self.flat.nodes.reserved) in
+    let bare = rw (← c.self.view_is) at gone in
     let position = c.position.ensures ∙ position_is _ c.self.invariant c.args.number c.in-Some.app.now c.in-Some.ensures.found c.in-Some.ensures.account in (
       tree_fits _ c.self.invariant.resources,
       (
         omega arith,
         rw (c.deref_mut-tree.ensures.value, c.user.ensures, position)
-            (may_go _ c.self.invariant c.args.number c.in-Some.app.now.app c.in-Some.ensures.rising (sym c.in-Some.ensures.found) none),
+            (may_go _ c.self.invariant c.args.number c.in-Some.app.now.app c.in-Some.ensures.rising (sym c.in-Some.ensures.found) none bare),
       ),
     )
 
 pub invariant_of-self : goal.invariant_of-self
 invariant_of-self g c =
     let x = c.self.inside in
-    let none = rw (← c.self.view_is) at c.end_all-ended.ensures.none in
+    let mine : Reservation → _ = λ r. r.app == c.args.number in
+    let still : containers_of c.keep_first.new.cluster.flat.nodes c.args.number ≡ [] = subst (λ (x : Flat g.row.K). containers_of x.nodes c.args.number ≡ []) (sym c.keep_first.ensures.flat) c.end_all-ended.ensures.none in
+    let none = rw (← c.self.view_is) at still in
+    let gone : filter mine c.keep_first.new.cluster.flat.nodes.reserved ≡ [] = subst (λ (x : Flat g.row.K). filter mine x.nodes.reserved ≡ []) (sym c.keep_first.ensures.flat) (none_stay mine c.end_all-ended.new.self.flat.nodes.reserved) in
+    let bare = rw (← c.self.view_is) at gone in
     let app = c.in-Some.app.now.app in
     let position = c.position.ensures ∙ position_is _ c.self.invariant c.args.number c.in-Some.app.now c.in-Some.ensures.found c.in-Some.ensures.account in
     let path = ap (λ q. path_at q x.tree.value) position ∙ (placed_at _ c.self.invariant c.args.number app (sym c.in-Some.ensures.found)).position.path_is in
     let rows = (rw c.deref_mut-tree.ensures.value at c.leave.ensures) ∙ (λ i. map (left g.row.K (path i) (c.user.ensures i)) x.tree.value) in
-    rw rows (held_left _ c.self.invariant c.args.number app c.in-Some.ensures.rising (sym c.in-Some.ensures.found) none c.finish.new.self c.finish.ensures.table c.finish.ensures.accounts)
+    rw rows (held_left _ c.self.invariant c.args.number app c.in-Some.ensures.rising (sym c.in-Some.ensures.found) none bare c.finish.new.self c.finish.ensures.table c.finish.ensures.accounts)
 
 pub returns-clause-finished : goal.returns-clause-finished
 returns-clause-finished g c =
@@ -48,5 +59,7 @@ returns-clause-finished g c =
     let p : Parts g.row.K = (record { rows = x.tree.value; limits = x.limits; apps = x.apps; nodes = x.nodes }) in
     let rows = rw c.deref_mut-tree.ensures.value at c.leave.ensures in
     let settings = ap queues_of rows ∙ moved_settings g.row.K _ c.user.result.now (one_application g.row.K) (nothing g.row.K) x.tree.value in
-    finished_is Released c.args.self.now.flat (flat_of p) _ c.args.number c.self.invariant.unreserved (ap (λ (h : Held g.row.K). h.flat) c.self.view_is ∙ c.end_all-ended.ensures.ended)
-    (with_table p c.leave.new.self c.finish.new.self _ settings c.finish.ensures.table)
+    let ended = c.end_all-ended.new.self.flat in
+    let dropped = ap (λ (h : Held g.row.K). h.flat) c.self.view_is ∙ c.keep_first.ensures.flat ∙ ap (λ rs. with_reserved rs ended) (keep_none (λ r. r.app == c.args.number) ended.nodes.reserved) in
+    finished_is Released c.args.self.now.flat ended _ c.args.number c.end_all-ended.ensures.ended
+    (with_table p c.leave.new.self c.finish.new.self _ settings c.finish.ensures.table ∙ ap (λ (f : Flat g.row.K). record f { apps = remove_app c.args.number f.apps }) dropped)
