@@ -32,14 +32,6 @@ ask_put {K} old dropped table' n ask kept is drops put =
     ∙ ap (λ (f : Flat K). record f { apps = change_app n (λ app. record app { asks = put_ask kept app.asks }) f.apps }) drops
     ∙ ap (λ k. with_reserved (kept_by_ask n k old) (record old { apps = change_app n (λ app. record app { asks = put_ask k app.asks }) old.apps })) is
 
--- where nothing is reserved, nothing is dropped
-pub none_dropped : {K : ℕ} (n : ℕ) (ask : Ask) (cluster : Flat K) → length cluster.nodes.reserved ≡ 0 → cluster ≡ with_reserved (kept_by_ask n ask cluster) cluster
-none_dropped n ask cluster none = ap (λ rs. with_reserved rs cluster) (same cluster.nodes.reserved none)
-  where
-    same : (rs : List Reservation) → length rs ≡ 0 → rs ≡ keep_first (is_for n ask.key) (option_map_or (λ app. reservations_left app ask) (app_at cluster n) 0) rs
-    same [] e = refl
-    same (r ∷ rs) e = absurd (omega (arith, e))
-
 -- no more applications where one goes
 pub fewer : (n : ℕ) (apps : List App) → length (filter (λ app. not (app.number == n)) apps) ≤ length apps
 fewer n [] = omega arith

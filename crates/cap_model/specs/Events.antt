@@ -27,6 +27,10 @@ take_one key asks = filter (λ ask. not (ask.count == 0)) (map (λ (ask : Ask). 
 abbrev pub launch : Container → NodeTable → NodeTable
 launch c table = record table { live = table.live ++ c ∷ []; next_container = table.next_container + 1 }
 
+-- the table with one more reservation, the last
+abbrev pub add_reservation : Reservation → NodeTable → NodeTable
+add_reservation r table = record table { reserved = table.reserved ++ r ∷ [] }
+
 module _ {K : ℕ} where
   -- whether a reply says that no memory was found, so that the cluster is the same
   abbrev pub is_no_memory : Reply K → Bool
@@ -63,7 +67,7 @@ module _ {K : ℕ} where
 
   -- a reservation is added last
   abbrev pub after_reserve : Flat K → Reservation → Flat K
-  after_reserve cluster r = with_reserved (cluster.nodes.reserved ++ r ∷ []) cluster
+  after_reserve cluster r = record cluster { nodes = add_reservation r cluster.nodes }
 
   -- One step of the cluster: a call that is answered by the reply function, or an admissible grant of the next container number,
   -- or an admissible reservation.

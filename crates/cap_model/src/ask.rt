@@ -89,7 +89,8 @@ impl<const K: usize> Ask<K> {
     pub fn is_changed(&self, old: &Ask<K>) -> bool
         ensures { result ≡ is_changed self.now old.now }
     {
-        self.resource.amounts() != old.resource.amounts() || self.place.as_bytes() != old.place.as_bytes()
+        self.resource.amounts() != old.resource.amounts()
+            || self.place.as_bytes() != old.place.as_bytes()
     }
 
     /// The same ask for another resource, in MiB and vcores.

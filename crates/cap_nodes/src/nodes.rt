@@ -1,4 +1,4 @@
-ghost use Rattle.std.specs.Prelude.{◌≡◌, ◌+◌, ◌<◌, ◌≤◌, ◌==◌, ◌&&◌, nat_lt, [], ◌∷◌, IsSome, Some, IfOk, IfSome, OnErr, bytes_eq, length, map, find, true};
+ghost use Rattle.std.specs.Prelude.{◌≡◌, ◌+◌, ◌<◌, ◌≤◌, ◌==◌, ◌&&◌, nat_lt, [], ◌∷◌, IsSome, Some, IfOk, IfSome, OnOk, OnErr, bytes_eq, length, map, find, true};
 ghost use Rattle.std.specs.List.{All, list_any, remove};
 ghost use Rattle.std.specs.Option.{option_copied};
 ghost use Rattle.cap_vector.specs.Vector.{Fits, IsWithin, amount_max, plus};
@@ -7,7 +7,7 @@ ghost use Rattle.cap_model.specs.Amounts.{fits};
 ghost use Rattle.cap_model.specs.Bounds.{IsRising};
 ghost use Rattle.cap_model.specs.RegisterNode.{sum_of_totals, add_node};
 ghost use Rattle.cap_model.specs.Flat.{no_nodes, node_in, container_in, containers_on, change_node};
-ghost use Rattle.cap_model.specs.Events.{launch};
+ghost use Rattle.cap_model.specs.Events.{add_reservation, launch};
 ghost use Rattle.cap_model.specs.Ending.{complete};
 ghost use Rattle.cap_model.specs.NodeGone.{remove_node};
 ghost use Rattle.cap_model.specs.Uses.{held_on};
@@ -211,6 +211,30 @@ impl<const K: usize> Nodes<K> {
     {
         self.live.remove(container.number());
         self.present.lift(container.node(), &container.resource());
+    }
+
+    /// A node keeps these MiB and vcores for the ask of a key of an application, after all other reservations. `NoMemory` changes
+    /// nothing.
+    pub fn reserve(
+        &mut self,
+        app: u64,
+        key: &Key,
+        node: u64,
+        resource: &Resource<K>,
+    ) -> Result<(), NoMemory>
+        ensures ok { OnOk result (self.new ≡ add_reservation (record { app = app; key = key.now; node = node; resource = resource.now }) self.old) }
+        ensures err { OnErr result (self.new ≡ self.old) }
+    {
+        let reservation = Reservation {
+            app,
+            key: *key,
+            node,
+            resource: *resource,
+        };
+        match self.reserved.push(reservation) {
+            Ok(()) => Ok(()),
+            Err(_) => Err(NoMemory),
+        }
     }
 
     /// Drops the reservation at this index, in order of making.
