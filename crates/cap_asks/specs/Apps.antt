@@ -1,8 +1,9 @@
 -- The table of active applications, with the account of each.
-use Rattle.std.specs.Prelude.{◌≡◌, ℕ, ◌+◌, ◌≤◌, List, [], ◌∷◌, ◌++◌, Option, Some, None, false, not, nat_eq, find, filter, map, ◌==◌, if◌then◌else◌}
+use Rattle.std.specs.Prelude.{◌≡◌, ℕ, ◌+◌, ◌≤◌, List, [], ◌∷◌, ◌++◌, Option, Some, None, option_and_then, false, not, nat_eq, find, filter, map, ◌==◌, if◌then◌else◌}
 use Rattle.std.specs.Option.{option_map_or}
 use Rattle.std.specs.Map.{lookup}
 use Rattle.cap_model.specs.Flat.{App, AppTable}
+use Rattle.cap_model.specs.News.{AllocateReply}
 use Rattle.cap_asks.specs.Held.{Account, HeldApp}
 
 -- the active applications, the account of each by its number, and how many more there is room for
@@ -38,6 +39,10 @@ without_app n table = record table { active = filter (λ app. not (app.number ==
 -- the application of a number
 abbrev pub app_of : ℕ → AppTable → Option App
 app_of n table = find (λ app. app.number == n) table.active
+
+-- the reply that it keeps
+abbrev pub kept_of : ℕ → AppTable → Option AllocateReply
+kept_of n table = option_and_then (λ app. app.kept) (app_of n table)
 
 -- where the leaf of an application is in the tree, how many of its containers are live, and how many more asks, grants and ends it
 -- may take with no memory; nothing where it is not active

@@ -1,4 +1,4 @@
-ghost use Rattle.std.specs.Prelude.{◌≡◌, ◌+◌, ◌<◌, ◌≤◌, ◌==◌, ◌&&◌, nat_lt, [], IsSome, Some, IfOk, OnErr, bytes_eq, length, map, find, true};
+ghost use Rattle.std.specs.Prelude.{◌≡◌, ◌+◌, ◌<◌, ◌≤◌, ◌==◌, ◌&&◌, nat_lt, [], IsSome, Some, option_and_then, IfOk, OnErr, bytes_eq, length, map, find, true};
 ghost use Rattle.std.specs.List.{All, list_any};
 ghost use Rattle.std.specs.Option.{option_copied};
 ghost use Rattle.cap_vector.specs.Vector.{Fits, IsWithin, amount_max, plus};
@@ -11,7 +11,7 @@ ghost use Rattle.cap_nodes.specs.Tables.{none, node_in, container_in, containers
 use crate::live::Live;
 use crate::node::Node;
 use crate::present::Present;
-use cap_model::{Container, Key, NoMemory, ShortText};
+use cap_model::{Container, HeartbeatReply, Key, NoMemory, ShortText};
 use cap_vector::{Resource, checked_add, minus};
 use std::alloc::Global;
 use std::marker::Model;
@@ -199,12 +199,13 @@ impl<const K: usize> Nodes<K> {
     }
 
     /// One more heartbeat of a present node is answered, of which so many ends named no container that was live there: the response
-    /// id moves on, and the reply is kept, which tells how many are live there now.
-    pub fn beat(&mut self, number: u64, ignored: u16)
+    /// id moves on, and the reply, which is the result, is kept. It tells how many are live there now.
+    pub fn beat(&mut self, number: u64, ignored: u16) -> HeartbeatReply
         requires { IsSome (node_in self.old number) }
-        ensures { self.new ≡ record self.old { present = change_node number (beaten ignored (length (containers_on self.old number))) self.old.present } }
+        ensures table { self.new ≡ record self.old { present = change_node number (beaten ignored (length (containers_on self.old number))) self.old.present } }
+        ensures kept { option_and_then (λ node. node.kept) (node_in self.new number) ≡ Some result }
     {
-        self.present.beat(number, ignored);
+        self.present.beat(number, ignored)
     }
 
     /// A present node goes, on which no container is live, and its total with it.
