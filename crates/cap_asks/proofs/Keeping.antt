@@ -1,5 +1,5 @@
 -- Asks in order of key: what putting one and counting one down do.
-use Rattle.std.proofs.Common.{◌≡◌, ℕ, suc, ◌+◌, ◌-◌, ◌≤◌, ◌<◌, Bool, true, false, cond, List, [], ◌∷◌, length, take, refl, sym, ◌∙◌, ap, arith, add-one, length-set}
+use Rattle.std.proofs.Common.{◌≡◌, ℕ, zero, suc, ◌+◌, ◌-◌, ◌≤◌, ◌<◌, Bool, true, false, cond, List, [], ◌∷◌, length, take, refl, sym, ◌∙◌, ap, arith, add-one, length-set}
 use Rattle.std.specs.Prelude.{Option, Some, None, is_some, not, ◌&&◌, ◌||◌, ◌==◌, insert, remove, slice_set, slice_index_or, if◌then◌else◌, nat_lt, nat_eq}
 use Rattle.std.specs.List.{fold}
 use Rattle.std.proofs.lemmas.List.Sums.{fold_more}
@@ -11,8 +11,9 @@ use Rattle.cap_model.specs.Asks.{same_key, Ask}
 use Rattle.cap_model.specs.Flat.{ask_at}
 use Rattle.cap_model.specs.Asking.{without_key, with_ask, put_ask}
 use Rattle.cap_model.specs.Events.{take_one}
+use Rattle.cap_model.specs.Limits.{keys_max}
 use Rattle.cap_model.proofs.KeptAsks.{same_key_is, same_key_itself, put_is_found, others_are_found, one_less}
-use Rattle.cap_asks.specs.Held.{is_before, AreAfter, AreKept, place_of}
+use Rattle.cap_asks.specs.Held.{is_before, AreAfter, AreKept, IsIndex, index_of}
 
 -- the order of keys in numbers
 before_numbers : (a b : Key) → is_before a b ≡ (nat_lt a.priority b.priority || nat_eq a.priority b.priority && nat_lt a.request b.request)
@@ -58,21 +59,21 @@ after_same a b xs e h = rw (← same_key_is a b e) h
 
 -- what happens where an ask has the key
 pub record IsFound (ask : Ask) (xs : List Ask) : Type 0 where
-  pub below : place_of ask.key xs < length xs
-  pub taken : without_key ask.key xs ≡ remove xs (place_of ask.key xs)
-  pub put : with_ask ask (without_key ask.key xs) ≡ slice_set xs (place_of ask.key xs) ask
+  pub below : index_of ask.key xs < length xs
+  pub taken : without_key ask.key xs ≡ remove xs (index_of ask.key xs)
+  pub put : with_ask ask (without_key ask.key xs) ≡ slice_set xs (index_of ask.key xs) ask
 
 -- and where none has
 pub record IsMissing (ask : Ask) (xs : List Ask) : Type 0 where
-  pub within : place_of ask.key xs ≤ length xs
+  pub within : index_of ask.key xs ≤ length xs
   pub same : without_key ask.key xs ≡ xs
-  pub put : with_ask ask (without_key ask.key xs) ≡ insert xs (place_of ask.key xs) ask
+  pub put : with_ask ask (without_key ask.key xs) ≡ insert xs (index_of ask.key xs) ask
 
-place_later : (ask x : Ask) (xs : List Ask) → is_before x.key ask.key ≡ true → place_of ask.key (x ∷ xs) ≡ suc (place_of ask.key xs)
-place_later ask x xs e = ap (λ b. cond b (place_of ask.key xs + 1) 0) e ∙ add-one (place_of ask.key xs)
+later_index : (ask x : Ask) (xs : List Ask) → is_before x.key ask.key ≡ true → index_of ask.key (x ∷ xs) ≡ suc (index_of ask.key xs)
+later_index ask x xs e = ap (λ b. cond b (index_of ask.key xs + 1) 0) e ∙ add-one (index_of ask.key xs)
 
-place_here : (ask x : Ask) (xs : List Ask) → is_before x.key ask.key ≡ false → place_of ask.key (x ∷ xs) ≡ 0
-place_here ask x xs e = ap (λ b. cond b (place_of ask.key xs + 1) 0) e
+here_index : (ask x : Ask) (xs : List Ask) → is_before x.key ask.key ≡ false → index_of ask.key (x ∷ xs) ≡ 0
+here_index ask x xs e = ap (λ b. cond b (index_of ask.key xs + 1) 0) e
 
 without_later : (ask x : Ask) (xs : List Ask) → same_key x.key ask.key ≡ false → without_key ask.key (x ∷ xs) ≡ x ∷ without_key ask.key xs
 without_later ask x xs e = ap (λ b. cond (not b) (x ∷ without_key ask.key xs) (without_key ask.key xs)) e
@@ -88,22 +89,22 @@ found ask (x ∷ xs) k h = by (is_before x.key ask.key) (same_key x.key ask.key)
     by true s e f rec =
         let n = before_not_same x.key ask.key e in
         let r = rec (sym (ap (λ b. is_some (cond b (Some x) (ask_at ask.key xs))) n) ∙ h) in
-        let place = place_later ask x xs e in
+        let index = later_index ask x xs e in
         let without = without_later ask x xs n in
         let below = r.below in
         record {
-          below = omega (arith, place, below);
-          taken = without ∙ ap (λ ys. x ∷ ys) r.taken ∙ sym (ap (λ i. remove (x ∷ xs) i) place);
-          put = ap (with_ask ask) without ∙ with_later ask x (without_key ask.key xs) e ∙ ap (λ ys. x ∷ ys) r.put ∙ sym (ap (λ i. slice_set (x ∷ xs) i ask) place);
+          below = omega (arith, index, below);
+          taken = without ∙ ap (λ ys. x ∷ ys) r.taken ∙ sym (ap (λ i. remove (x ∷ xs) i) index);
+          put = ap (with_ask ask) without ∙ with_later ask x (without_key ask.key xs) e ∙ ap (λ ys. x ∷ ys) r.put ∙ sym (ap (λ i. slice_set (x ∷ xs) i ask) index);
         }
     by false true e f rec =
         let after = after_same x.key ask.key xs f k.1 in
-        let place = place_here ask x xs e in
+        let index = here_index ask x xs e in
         let without : without_key ask.key (x ∷ xs) ≡ xs = ap (λ b. cond (not b) (x ∷ without_key ask.key xs) (without_key ask.key xs)) f ∙ after_without ask.key xs after in
         record {
-          below = omega (arith, place);
-          taken = without ∙ sym (ap (λ i. remove (x ∷ xs) i) place);
-          put = ap (with_ask ask) without ∙ after_with ask xs after ∙ sym (ap (λ i. slice_set (x ∷ xs) i ask) place);
+          below = omega (arith, index);
+          taken = without ∙ sym (ap (λ i. remove (x ∷ xs) i) index);
+          put = ap (with_ask ask) without ∙ after_with ask xs after ∙ sym (ap (λ i. slice_set (x ∷ xs) i ask) index);
         }
     by false false e f rec =
         let b = one_before x.key ask.key e f in
@@ -118,24 +119,24 @@ missing ask (x ∷ xs) k h = by (is_before x.key ask.key) (same_key x.key ask.ke
     by true s e f rec =
         let n = before_not_same x.key ask.key e in
         let r = rec (sym (ap (λ b. is_some (cond b (Some x) (ask_at ask.key xs))) n) ∙ h) in
-        let place = place_later ask x xs e in
+        let index = later_index ask x xs e in
         let without = without_later ask x xs n in
         let within = r.within in
         record {
-          within = omega (arith, place, within);
+          within = omega (arith, index, within);
           same = without ∙ ap (λ ys. x ∷ ys) r.same;
-          put = ap (with_ask ask) without ∙ with_later ask x (without_key ask.key xs) e ∙ ap (λ ys. x ∷ ys) r.put ∙ sym (ap (λ i. insert (x ∷ xs) i ask) place);
+          put = ap (with_ask ask) without ∙ with_later ask x (without_key ask.key xs) e ∙ ap (λ ys. x ∷ ys) r.put ∙ sym (ap (λ i. insert (x ∷ xs) i ask) index);
         }
     by false true e f rec = absurd (cc (sym (ap (λ b. is_some (cond b (Some x) (ask_at ask.key xs))) f) ∙ h))
     by false false e f rec =
         let b = one_before x.key ask.key e f in
         let after : AreAfter ask.key (x ∷ xs) = (b, after_more ask.key x.key xs b k.1) in
-        let place = place_here ask x xs e in
+        let index = here_index ask x xs e in
         let without = after_without ask.key (x ∷ xs) after in
         record {
-          within = omega (arith, place);
+          within = omega (arith, index);
           same = without;
-          put = ap (with_ask ask) without ∙ after_with ask (x ∷ xs) after ∙ sym (ap (λ i. insert (x ∷ xs) i ask) place);
+          put = ap (with_ask ask) without ∙ after_with ask (x ∷ xs) after ∙ sym (ap (λ i. insert (x ∷ xs) i ask) index);
         }
 
 -- putting an ask keeps the order
@@ -221,7 +222,7 @@ put_there : (ask : Ask) (xs : List Ask) → ask.count == 0 ≡ false → put_ask
 put_there ask xs e = ap (λ b. cond b (without_key ask.key xs) (with_ask ask (without_key ask.key xs))) e
 
 one_gone : (ask : Ask) (xs : List Ask) → AreKept xs → is_some (ask_at ask.key xs) ≡ true → length (without_key ask.key xs) + 1 ≡ length xs
-one_gone ask xs k h = sym (length_with ask (without_key ask.key xs)) ∙ ap length (found ask xs k h).put ∙ length-set xs (place_of ask.key xs) ask
+one_gone ask xs k h = sym (length_with ask (without_key ask.key xs)) ∙ ap length (found ask xs k h).put ∙ length-set xs (index_of ask.key xs) ask
 
 pub counted : (ask : Ask) (xs : List Ask) → AreKept xs → IsCounted ask xs (is_some (ask_at ask.key xs)) (ask.count == 0)
 counted ask xs k = record {
@@ -327,72 +328,105 @@ one_taken key ask (x ∷ xs) k h = by (same_key x.key key) (is_before x.key key)
         absurd (cc (sym none ∙ h))
 
 -- where an ask is to be put, whether its key is there, and whether it takes it away
-pub record IsPlaced (ask : Ask) (xs : List Ask) (place : ℕ) (stood none : Bool) : Type 0 where
+pub record IsPlaced (ask : Ask) (xs : List Ask) (index : ℕ) (stood none : Bool) : Type 0 where
   pub stands : is_some (ask_at ask.key xs) ≡ stood
-  pub at : place ≡ place_of ask.key xs
+  pub at : index ≡ index_of ask.key xs
   pub takes : ask.count == 0 ≡ none
 
-pub placed : (ask : Ask) (xs seen : List Ask) (key : Key) (r : Option Ask) (place count : ℕ) (stood none : Bool) → xs ≡ seen → key ≡ ask.key → r ≡ ask_at key seen
-    → place ≡ place_of key seen → stood ≡ is_some r → count ≡ ask.count → count == 0 ≡ none → IsPlaced ask xs place stood none
-placed ask xs seen key r place count stood none same key_is found at stands count_is takes = record {
-  stands = ap (λ ys. is_some (ask_at ask.key ys)) same ∙ ap (λ k. is_some (ask_at k seen)) (sym key_is) ∙ sym (stands ∙ ap is_some found);
-  at = at ∙ ap (λ k. place_of k seen) key_is ∙ ap (place_of ask.key) (sym same);
+pub placed : (ask : Ask) (xs seen : List Ask) (key : Key) (index count : ℕ) (stood none : Bool) → xs ≡ seen → key ≡ ask.key → IsIndex key seen index stood
+    → count ≡ ask.count → count == 0 ≡ none → IsPlaced ask xs index stood none
+placed ask xs seen key index count stood none same key_is i count_is takes = record {
+  stands = ap (λ ys. is_some (ask_at ask.key ys)) same ∙ ap (λ k. is_some (ask_at k seen)) (sym key_is) ∙ i.found;
+  at = i.at ∙ ap (λ k. index_of k seen) key_is ∙ ap (index_of ask.key) (sym same);
   takes = ap (λ n. n == 0) (sym count_is) ∙ takes;
 }
 
-module _ (ask : Ask) (xs : List Ask) (place : ℕ) (kept : AreKept xs) where
-  pub is_within : (none : Bool) → IsPlaced ask xs place true none → place < length xs
+module _ (ask : Ask) (xs : List Ask) (index : ℕ) (kept : AreKept xs) where
+  pub is_within : (none : Bool) → IsPlaced ask xs index true none → index < length xs
   is_within none p = rw p.at ((found ask xs kept p.stands).below)
 
-  pub is_within_end : (none : Bool) → IsPlaced ask xs place false none → place ≤ length xs
+  pub is_within_end : (none : Bool) → IsPlaced ask xs index false none → index ≤ length xs
   is_within_end none p = rw p.at ((missing ask xs kept p.stands).within)
 
-  pub is_removed : IsPlaced ask xs place true true → remove xs place ≡ put_ask ask xs
+  pub is_removed : IsPlaced ask xs index true true → remove xs index ≡ put_ask ask xs
   is_removed p = ap (remove xs) p.at ∙ sym (put_gone ask xs p.takes ∙ (found ask xs kept p.stands).taken)
 
-  pub is_replaced : IsPlaced ask xs place true false → slice_set xs place ask ≡ put_ask ask xs
+  pub is_replaced : IsPlaced ask xs index true false → slice_set xs index ask ≡ put_ask ask xs
   is_replaced p = ap (λ i. slice_set xs i ask) p.at ∙ sym (put_there ask xs p.takes ∙ (found ask xs kept p.stands).put)
 
-  pub is_absent : IsPlaced ask xs place false true → xs ≡ put_ask ask xs
+  pub is_absent : IsPlaced ask xs index false true → xs ≡ put_ask ask xs
   is_absent p = sym (put_gone ask xs p.takes ∙ (missing ask xs kept p.stands).same)
 
-  pub is_added : IsPlaced ask xs place false false → insert xs place ask ≡ put_ask ask xs
+  pub is_added : IsPlaced ask xs index false false → insert xs index ask ≡ put_ask ask xs
   is_added p = ap (λ i. insert xs i ask) p.at ∙ sym (put_there ask xs p.takes ∙ (missing ask xs kept p.stands).put)
 
 pub put_as_seen : (ask : Ask) {xs seen : List Ask} → xs ≡ seen → put_ask ask xs ≡ put_ask ask seen
 put_as_seen ask e = ap (put_ask ask) e
 
+-- asks after a key, by index
+after_at : (key : Key) (xs : List Ask) (j : ℕ) (d : Ask) → AreAfter key xs → j < length xs → is_before key (slice_index_or xs j d).key ≡ true
+after_at key [] j d h l = absurd (omega (arith, l))
+after_at key (x ∷ xs) zero d h l = h.0
+after_at key (x ∷ xs) (suc j) d h l = after_at key xs j d h.1 (omega (arith, l))
+
+-- an ask before a key is before its index, and another is not
+pub is_later : (key : Key) (xs : List Ask) (i : ℕ) (d : Ask) → AreKept xs → i < length xs → is_before (slice_index_or xs i d).key key ≡ true → i < index_of key xs
+is_later key [] i d k l e = absurd (omega (arith, l))
+is_later key (x ∷ xs) zero d k l e = let n = ap (λ b. cond b (index_of key xs + 1) 0) e in omega (arith, n)
+is_later key (x ∷ xs) (suc i) d k l e =
+    let first = before_through x.key (slice_index_or xs i d).key key (after_at x.key xs i d k.1 (omega (arith, l))) e in
+    let n = ap (λ b. cond b (index_of key xs + 1) 0) first in
+    let r = is_later key xs i d k.2 (omega (arith, l)) e in
+    omega (arith, n, r)
+
+pub not_later : (key : Key) (xs : List Ask) (i : ℕ) (d : Ask) → i < length xs → is_before (slice_index_or xs i d).key key ≡ false → index_of key xs ≤ i
+not_later key [] i d l e = absurd (omega (arith, l))
+not_later key (x ∷ xs) zero d l e = let n = ap (λ b. cond b (index_of key xs + 1) 0) e in omega (arith, n)
+not_later key (x ∷ xs) (suc i) d l e = by (is_before x.key key) (not_later key xs i d (omega (arith, l)) e)
+  where
+    by : (b : Bool) → index_of key xs ≤ i → cond b (index_of key xs + 1) 0 ≤ suc i
+    by true r = omega (arith, r)
+    by false r = omega arith
+
+pub within_end : (key : Key) (xs : List Ask) → index_of key xs ≤ length xs
+within_end key [] = omega arith
+within_end key (x ∷ xs) = by (is_before x.key key) (within_end key xs)
+  where
+    by : (b : Bool) → index_of key xs ≤ length xs → cond b (index_of key xs + 1) 0 ≤ length (x ∷ xs)
+    by true r = omega (arith, r)
+    by false r = omega arith
+
 -- an ask of a key
 abbrev at_key : Key → Ask
 at_key key = record { key = key; count = 0; resource = []; place = [] }
 
-index_later : (key : Key) (x : Ask) (xs : List Ask) (d : Ask) → is_before x.key key ≡ true → slice_index_or (x ∷ xs) (place_of key (x ∷ xs)) d ≡ slice_index_or xs (place_of key xs) d
-index_later key x xs d e = ap (λ i. slice_index_or (x ∷ xs) i d) (ap (λ b. cond b (place_of key xs + 1) 0) e ∙ add-one (place_of key xs))
+index_later : (key : Key) (x : Ask) (xs : List Ask) (d : Ask) → is_before x.key key ≡ true → slice_index_or (x ∷ xs) (index_of key (x ∷ xs)) d ≡ slice_index_or xs (index_of key xs) d
+index_later key x xs d e = ap (λ i. slice_index_or (x ∷ xs) i d) (ap (λ b. cond b (index_of key xs + 1) 0) e ∙ add-one (index_of key xs))
 
-index_here : (key : Key) (x : Ask) (xs : List Ask) (d : Ask) → is_before x.key key ≡ false → slice_index_or (x ∷ xs) (place_of key (x ∷ xs)) d ≡ x
-index_here key x xs d e = ap (λ i. slice_index_or (x ∷ xs) i d) (ap (λ b. cond b (place_of key xs + 1) 0) e)
+index_here : (key : Key) (x : Ask) (xs : List Ask) (d : Ask) → is_before x.key key ≡ false → slice_index_or (x ∷ xs) (index_of key (x ∷ xs)) d ≡ x
+index_here key x xs d e = ap (λ i. slice_index_or (x ∷ xs) i d) (ap (λ b. cond b (index_of key xs + 1) 0) e)
 
-pub at_place : (key : Key) (xs : List Ask) (d : Ask) → place_of key xs < length xs → same_key (slice_index_or xs (place_of key xs) d).key key ≡ true → ask_at key xs ≡ Some (slice_index_or xs (place_of key xs) d)
-at_place key [] d h e = absurd (omega (arith, h))
-at_place key (x ∷ xs) d h e = by (is_before x.key key) refl (at_place key xs d)
+pub at_index : (key : Key) (xs : List Ask) (d : Ask) → index_of key xs < length xs → same_key (slice_index_or xs (index_of key xs) d).key key ≡ true → ask_at key xs ≡ Some (slice_index_or xs (index_of key xs) d)
+at_index key [] d h e = absurd (omega (arith, h))
+at_index key (x ∷ xs) d h e = by (is_before x.key key) refl (at_index key xs d)
   where
-    by : (b : Bool) → is_before x.key key ≡ b → (place_of key xs < length xs → same_key (slice_index_or xs (place_of key xs) d).key key ≡ true → ask_at key xs ≡ Some (slice_index_or xs (place_of key xs) d))
-        → ask_at key (x ∷ xs) ≡ Some (slice_index_or (x ∷ xs) (place_of key (x ∷ xs)) d)
+    by : (b : Bool) → is_before x.key key ≡ b → (index_of key xs < length xs → same_key (slice_index_or xs (index_of key xs) d).key key ≡ true → ask_at key xs ≡ Some (slice_index_or xs (index_of key xs) d))
+        → ask_at key (x ∷ xs) ≡ Some (slice_index_or (x ∷ xs) (index_of key (x ∷ xs)) d)
     by true f rec =
         let i = index_later key x xs d f in
-        let later : place_of key (x ∷ xs) ≡ suc (place_of key xs) = ap (λ b. cond b (place_of key xs + 1) 0) f ∙ add-one (place_of key xs) in
+        let later : index_of key (x ∷ xs) ≡ suc (index_of key xs) = ap (λ b. cond b (index_of key xs + 1) 0) f ∙ add-one (index_of key xs) in
         let r = rec (omega (arith, h, later)) (ap (λ (a : Ask). same_key a.key key) (sym i) ∙ e) in
         ap (λ b. cond b (Some x) (ask_at key xs)) (before_not_same x.key key f) ∙ r ∙ sym (ap Some i)
     by false f rec =
         let i = index_here key x xs d f in
         ap (λ b. cond b (Some x) (ask_at key xs)) (ap (λ (a : Ask). same_key a.key key) (sym i) ∙ e) ∙ sym (ap Some i)
 
-stands_at : (key : Key) (xs : List Ask) (d : Ask) → AreKept xs → is_some (ask_at key xs) ≡ true → same_key (slice_index_or xs (place_of key xs) d).key key ≡ true
+stands_at : (key : Key) (xs : List Ask) (d : Ask) → AreKept xs → is_some (ask_at key xs) ≡ true → same_key (slice_index_or xs (index_of key xs) d).key key ≡ true
 stands_at key [] d k h = absurd (cc h)
 stands_at key (x ∷ xs) d k h = by (is_before x.key key) (same_key x.key key) refl refl (stands_at key xs d k.2)
   where
-    by : (b s : Bool) → is_before x.key key ≡ b → same_key x.key key ≡ s → (is_some (ask_at key xs) ≡ true → same_key (slice_index_or xs (place_of key xs) d).key key ≡ true)
-        → same_key (slice_index_or (x ∷ xs) (place_of key (x ∷ xs)) d).key key ≡ true
+    by : (b s : Bool) → is_before x.key key ≡ b → same_key x.key key ≡ s → (is_some (ask_at key xs) ≡ true → same_key (slice_index_or xs (index_of key xs) d).key key ≡ true)
+        → same_key (slice_index_or (x ∷ xs) (index_of key (x ∷ xs)) d).key key ≡ true
     by true s f e rec = ap (λ (a : Ask). same_key a.key key) (index_later key x xs d f) ∙ rec (sym (ap (λ b. is_some (cond b (Some x) (ask_at key xs))) (before_not_same x.key key f)) ∙ h)
     by false true f e rec = ap (λ (a : Ask). same_key a.key key) (index_here key x xs d f) ∙ e
     by false false f e rec =
@@ -401,15 +435,15 @@ stands_at key (x ∷ xs) d k h = by (is_before x.key key) (same_key x.key key) r
         absurd (cc (sym (ap is_some none) ∙ h))
 
 -- none stands where another key stands there
-pub other_at_place : (key : Key) (xs : List Ask) (d : Ask) → AreKept xs → same_key (slice_index_or xs (place_of key xs) d).key key ≡ false → is_some (ask_at key xs) ≡ false
-other_at_place key xs d k e = by (is_some (ask_at key xs)) refl
+pub other_at_index : (key : Key) (xs : List Ask) (d : Ask) → AreKept xs → same_key (slice_index_or xs (index_of key xs) d).key key ≡ false → is_some (ask_at key xs) ≡ false
+other_at_index key xs d k e = by (is_some (ask_at key xs)) refl
   where
     by : (b : Bool) → is_some (ask_at key xs) ≡ b → b ≡ false
     by true h = absurd (cc (sym e ∙ stands_at key xs d k h))
     by false h = refl
 
 -- nor past the end
-pub none_past_end : (key : Key) (xs : List Ask) → AreKept xs → length xs ≤ place_of key xs → is_some (ask_at key xs) ≡ false
+pub none_past_end : (key : Key) (xs : List Ask) → AreKept xs → length xs ≤ index_of key xs → is_some (ask_at key xs) ≡ false
 none_past_end key xs k e = by (is_some (ask_at key xs)) refl
   where
     by : (b : Bool) → is_some (ask_at key xs) ≡ b → b ≡ false
@@ -435,37 +469,67 @@ stands_next key kept asks i ask below item =
     ap (λ ys. is_some (ask_at key ys)) (fold_more (λ old a. put_ask a old) kept asks i ask below ∙ ap (λ a. put_ask a (put_all kept (take i asks))) (sym item))
     ∙ put_stands key ask (put_all kept (take i asks))
 
--- what is found at a place
-pub record IsTaken (key : Key) (ask : Ask) (xs : List Ask) (place : ℕ) : Type 0 where
+-- what is found at a index
+pub record IsTaken (key : Key) (ask : Ask) (xs : List Ask) (index : ℕ) : Type 0 where
   pub found : ask_at key xs ≡ Some ask
-  pub at : place ≡ place_of key xs
+  pub at : index ≡ index_of key xs
 
-pub is_taken : (key k : Key) (ask : Ask) (xs seen : List Ask) (place : ℕ) → xs ≡ seen → place ≡ place_of key seen → ask ≡ slice_index_or xs place ask → place < length xs → k ≡ ask.key → same_key k key ≡ true
-    → IsTaken key ask xs place
-is_taken key k ask xs seen place same at item below key_is is_key =
-    let at' : place ≡ place_of key xs = at ∙ ap (place_of key) (sym same) in
-    let item' : ask ≡ slice_index_or xs (place_of key xs) ask = item ∙ ap (λ i. slice_index_or xs i ask) at' in
+pub is_taken : (key : Key) (ask : Ask) (xs seen : List Ask) (index : ℕ) → AreKept xs → xs ≡ seen → IsIndex key seen index true → ask ≡ slice_index_or xs index ask → IsTaken key ask xs index
+is_taken key ask xs seen index kept same i item =
+    let at' : index ≡ index_of key xs = i.at ∙ ap (index_of key) (sym same) in
+    let item' : ask ≡ slice_index_or xs (index_of key xs) ask = item ∙ ap (λ j. slice_index_or xs j ask) at' in
+    let there = ap (λ ys. is_some (ask_at key ys)) same ∙ i.found in
     record {
-      found = at_place key xs ask (omega (arith, below, at')) (ap (λ (a : Ask). same_key a.key key) (sym item') ∙ ap (λ j. same_key j key) (sym key_is) ∙ is_key) ∙ ap Some (sym item');
+      found = at_index key xs ask ((found (at_key key) xs kept there).below) (stands_at key xs ask kept there) ∙ ap Some (sym item');
       at = at';
     }
 
-module _ (key : Key) (ask : Ask) (xs : List Ask) (place : ℕ) (kept : AreKept xs) (t : IsTaken key ask xs place) where
-  less_placed : (none : Bool) → ask.count - 1 == 0 ≡ none → IsPlaced (one_less ask) xs place true none
+-- an index where a key stands is within the list
+pub stands_within : (key : Key) (xs seen : List Ask) (index : ℕ) → AreKept xs → xs ≡ seen → IsIndex key seen index true → index < length xs
+stands_within key xs seen index kept same i =
+    let at' : index ≡ index_of key xs = i.at ∙ ap (index_of key) (sym same) in
+    rw at' ((found (at_key key) xs kept (ap (λ ys. is_some (ask_at key ys)) same ∙ i.found)).below)
+
+-- an index that was looked for
+pub index_found : (key k : Key) (ask : Ask) (xs seen : List Ask) (index : ℕ) → xs ≡ seen → index ≡ index_of key xs → index < length xs → ask ≡ slice_index_or xs index ask → k ≡ ask.key → same_key k key ≡ true
+    → IsIndex key seen index true
+index_found key k ask xs seen index same at below item key_is is_key =
+    let item' : ask ≡ slice_index_or xs (index_of key xs) ask = item ∙ ap (λ i. slice_index_or xs i ask) at in
+    let is_key' = ap (λ (a : Ask). same_key a.key key) (sym item') ∙ ap (λ j. same_key j key) (sym key_is) ∙ is_key in
+    record {
+      at = at ∙ ap (index_of key) same;
+      found = ap (λ ys. is_some (ask_at key ys)) (sym same) ∙ ap is_some (at_index key xs ask (omega (arith, below, at)) is_key');
+    }
+
+pub index_other : (key k : Key) (ask : Ask) (xs seen : List Ask) (index : ℕ) → AreKept xs → xs ≡ seen → index ≡ index_of key xs → ask ≡ slice_index_or xs index ask → k ≡ ask.key → same_key k key ≡ false
+    → IsIndex key seen index false
+index_other key k ask xs seen index kept same at item key_is is_key =
+    let item' : ask ≡ slice_index_or xs (index_of key xs) ask = item ∙ ap (λ i. slice_index_or xs i ask) at in
+    let is_key' = ap (λ (a : Ask). same_key a.key key) (sym item') ∙ ap (λ j. same_key j key) (sym key_is) ∙ is_key in
+    record { at = at ∙ ap (index_of key) same; found = ap (λ ys. is_some (ask_at key ys)) (sym same) ∙ other_at_index key xs ask kept is_key' }
+
+pub index_past : (key : Key) (xs seen : List Ask) (index : ℕ) → AreKept xs → xs ≡ seen → index ≡ index_of key xs → length xs ≤ index → IsIndex key seen index false
+index_past key xs seen index kept same at past = record {
+  at = at ∙ ap (index_of key) same;
+  found = ap (λ ys. is_some (ask_at key ys)) (sym same) ∙ none_past_end key xs kept (omega (arith, at, past));
+}
+
+module _ (key : Key) (ask : Ask) (xs : List Ask) (index : ℕ) (kept : AreKept xs) (t : IsTaken key ask xs index) where
+  less_placed : (none : Bool) → ask.count - 1 == 0 ≡ none → IsPlaced (one_less ask) xs index true none
   less_placed none e = record {
     stands = itself_found key ask xs t.found;
-    at = t.at ∙ ap (λ k. place_of k xs) (sym (same_key_is ask.key key (found_same key ask xs t.found)));
+    at = t.at ∙ ap (λ k. index_of k xs) (sym (same_key_is ask.key key (found_same key ask xs t.found)));
     takes = e;
   }
 
-  pub last_taken : ask.count ≡ 1 → remove xs place ≡ take_one key xs
-  last_taken e = is_removed (one_less ask) xs place kept (less_placed true (ap (λ n. n - 1 == 0) e)) ∙ sym (one_taken key ask xs kept t.found)
+  pub last_taken : ask.count ≡ 1 → remove xs index ≡ take_one key xs
+  last_taken e = is_removed (one_less ask) xs index kept (less_placed true (ap (λ n. n - 1 == 0) e)) ∙ sym (one_taken key ask xs kept t.found)
 
-  pub fewer_taken : (less : Ask) → less ≡ one_less ask → (ask.count ≡ 1 → ⊥) → slice_set xs place less ≡ take_one key xs
+  pub fewer_taken : (less : Ask) → less ≡ one_less ask → (ask.count ≡ 1 → ⊥) → slice_set xs index less ≡ take_one key xs
   fewer_taken less e f =
       let wanted = one_wanted key ask xs kept t.found in
       let more : ask.count - 1 == 0 ≡ false = grind (arith, nat_tests, f, wanted) in
-      ap (slice_set xs place) e ∙ is_replaced (one_less ask) xs place kept (less_placed false more) ∙ sym (one_taken key ask xs kept t.found)
+      ap (slice_set xs index) e ∙ is_replaced (one_less ask) xs index kept (less_placed false more) ∙ sym (one_taken key ask xs kept t.found)
 
   pub kept_taken : AreKept (take_one key xs)
   kept_taken = rw (one_taken key ask xs kept t.found) (kept_put (one_less ask) xs kept)
@@ -473,17 +537,8 @@ module _ (key : Key) (ask : Ask) (xs : List Ask) (place : ℕ) (kept : AreKept x
   pub taken_wanted : 1 ≤ ask.count
   taken_wanted = one_wanted key ask xs kept t.found
 
-pub other_at : (key k : Key) (ask : Ask) (xs seen : List Ask) (place : ℕ) → AreKept xs → xs ≡ seen → place ≡ place_of key seen → ask ≡ slice_index_or xs place ask → k ≡ ask.key → same_key k key ≡ false
-    → xs ≡ take_one key xs
-other_at key k ask xs seen place kept same at item key_is is_key =
-    let at' : place ≡ place_of key xs = at ∙ ap (place_of key) (sym same) in
-    let item' : ask ≡ slice_index_or xs (place_of key xs) ask = item ∙ ap (λ i. slice_index_or xs i ask) at' in
-    sym (none_taken key xs kept (other_at_place key xs ask kept (ap (λ (a : Ask). same_key a.key key) (sym item') ∙ ap (λ j. same_key j key) (sym key_is) ∙ is_key)))
-
-pub past_end : (key : Key) (xs seen : List Ask) (place : ℕ) → AreKept xs → xs ≡ seen → place ≡ place_of key seen → length xs ≤ place → xs ≡ take_one key xs
-past_end key xs seen place kept same at past =
-    let at' : place ≡ place_of key xs = at ∙ ap (place_of key) (sym same) in
-    sym (none_taken key xs kept (none_past_end key xs kept (omega (arith, past, at'))))
+pub none_there : (key : Key) (xs seen : List Ask) (index : ℕ) → AreKept xs → xs ≡ seen → IsIndex key seen index false → xs ≡ take_one key xs
+none_there key xs seen index kept same i = sym (none_taken key xs kept (ap (λ ys. is_some (ask_at key ys)) same ∙ i.found))
 
 -- how many stand after one more of several asks
 counted_once : (ask : Ask) (xs : List Ask) → AreKept xs → length (put_ask ask xs) + bool_byte (is_some (ask_at ask.key xs)) ≡ length xs + bool_byte (not (ask.count == 0))
@@ -520,3 +575,7 @@ few_all kept (ask ∷ asks) k =
 
 pub chosen : (own k key : Key) (b : Bool) (x y : Bool) → k ≡ own → same_key k key ≡ b → (if same_key own key then x else y) ≡ (if b then x else y)
 chosen own k key b x y key_is e = ap (λ c. if c then x else y) (ap (λ j. same_key j key) (sym key_is) ∙ e)
+
+-- few asks, old and new, are not too many
+pub not_too_many : (kept asks : List Ask) → AreKept kept → length kept + length asks ≤ keys_max → false ≡ nat_lt keys_max (length (put_all kept asks))
+not_too_many kept asks k few = let all = few_all kept asks k in grind (arith, nat_tests, all, few)

@@ -1,8 +1,9 @@
 -- The table of active applications, with the account of each.
-use Rattle.std.specs.Prelude.{◌≡◌, ℕ, ◌+◌, ◌≤◌, List, [], ◌∷◌, ◌++◌, Option, Some, None, false, not, nat_eq, find, filter, map, ◌==◌, if◌then◌else◌}
+use Rattle.std.specs.Prelude.{◌≡◌, ℕ, ◌+◌, ◌≤◌, List, [], ◌∷◌, ◌++◌, Option, Some, None, option_and_then, false, not, nat_eq, find, filter, map, ◌==◌, if◌then◌else◌}
 use Rattle.std.specs.Option.{option_map_or}
 use Rattle.std.specs.Map.{lookup}
-use Rattle.cap_model.specs.Flat.{App, AppTable}
+use Rattle.cap_model.specs.Flat.{AppTable, app_in}
+use Rattle.cap_model.specs.News.{AllocateReply}
 use Rattle.cap_asks.specs.Held.{Account, HeldApp}
 
 -- the active applications, the account of each by its number, and how many more there is room for
@@ -14,6 +15,10 @@ pub record HeldApps : Type 0 where
 -- the account of one whose leaf is there in the tree: nothing is live, and it has no room yet
 abbrev pub new_account : List ℕ → Account
 new_account position = record { position = position; live = 0; asks = 0; grants = 0; ends = 0 }
+
+-- the reply that an application keeps
+abbrev pub kept_of : ℕ → AppTable → Option AllocateReply
+kept_of n table = option_and_then (λ app. app.kept) (app_in table n)
 
 -- where the leaf of an application is in the tree, how many of its containers are live, and how many more asks, grants and ends it
 -- may take with no memory; nothing where it is not active

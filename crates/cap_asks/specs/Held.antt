@@ -1,9 +1,12 @@
 -- What an application holds in memory: its row in the flat cluster, and what it keeps beside it.
-use Rattle.std.specs.Prelude.{◌≡◌, ℕ, ◌+◌, ◌≤◌, Bool, true, List, [], ◌∷◌, if◌then◌else◌}
+use Rattle.std.specs.Prelude.{◌≡◌, ℕ, ◌+◌, ◌≤◌, Bool, true, is_some, List, [], ◌∷◌, Option, None, option_map, if◌then◌else◌}
 use Rattle.std.specs.Ordering.{is_lt}
 use Rattle.cap_model.specs.declared.ask.Key.{Key}
 use Rattle.cap_model.specs.Asks.{ask_key_cmp, Ask}
-use Rattle.cap_model.specs.Flat.{App}
+use Rattle.cap_model.specs.Flat.{App, ask_at}
+use Rattle.cap_model.specs.News.{AllocateReply}
+use Rattle.cap_model.specs.ResponseIds.{is_repeated}
+use Rattle.cap_asks.specs.declared.app.Reported.{Reported}
 
 -- asks in order of key, and how many more keys fit with no memory
 pub record HeldAsks : Type 0 where
@@ -45,9 +48,14 @@ AreKept [] = Unit {0}
 AreKept (ask ∷ asks) = (1 ≤ ask.count) × AreAfter ask.key asks × AreKept asks
 
 -- where in the order of keys a key stands, or would stand
-abbrev pub place_of : Key → List Ask → ℕ
-place_of key [] = 0
-place_of key (ask ∷ asks) = if is_before ask.key key then place_of key asks + 1 else 0
+abbrev pub index_of : Key → List Ask → ℕ
+index_of key [] = 0
+index_of key (ask ∷ asks) = if is_before ask.key key then index_of key asks + 1 else 0
+
+-- an index is where a key stands, or would stand; the flag says whether an ask has the key
+pub record IsIndex (key : Key) (asks : List Ask) (index : ℕ) (stands : Bool) : Type 0 where
+  pub at : index ≡ index_of key asks
+  pub found : is_some (ask_at key asks) ≡ stands
 
 -- room falls by at most so much; with a grant one more container is live, with an end one less
 pub record TakesRoom (asks_taken grants_taken ends_taken : ℕ) (old new : Account) : Type 0 where
@@ -62,3 +70,11 @@ pub record HasRoom (more_asks more_grants more_ends : ℕ) (account : Account) :
   pub asks : more_asks ≤ account.asks
   pub grants : more_grants ≤ account.grants
   pub ends : more_ends ≤ account.ends
+
+-- the numbers of a reply
+abbrev pub numbers_of : AllocateReply → Reported
+numbers_of reply = record { response = reply.response; ignored = reply.ignored }
+
+-- those of the reply that an application keeps, where a request of a response id repeats the last processed one
+abbrev pub repeated_numbers : App → ℕ → Option Reported
+repeated_numbers app id = if is_repeated app.response app.kept id then option_map numbers_of app.kept else None

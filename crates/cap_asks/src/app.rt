@@ -1,4 +1,4 @@
-ghost use Rattle.std.specs.Prelude.{◌≡◌, ◌+◌, ◌<◌, ◌≤◌, [], ◌∷◌, ◌++◌, true, false, is_some, option_map, OnOk, IsOk};
+ghost use Rattle.std.specs.Prelude.{◌≡◌, ◌+◌, ◌<◌, ◌≤◌, [], ◌∷◌, ◌++◌, true, false, Some, is_some, option_map, IfSome, OnOk, IsOk};
 ghost use Rattle.cap_model.specs.Flat.{ask_at};
 ghost use Rattle.cap_model.specs.Limits.{live_max};
 ghost use Rattle.cap_model.specs.Asking.{put_ask, reservations_left};
@@ -6,7 +6,7 @@ ghost use Rattle.cap_model.specs.Allocate.{has_too_many_keys, after_telling};
 ghost use Rattle.cap_model.specs.Events.{take_one};
 ghost use Rattle.cap_model.specs.ResponseIds.{is_repeated, is_bad_id};
 ghost use Rattle.cap_model.specs.Submit.{new_app};
-ghost use Rattle.cap_asks.specs.Held.{TakesRoom, HasRoom};
+ghost use Rattle.cap_asks.specs.Held.{TakesRoom, HasRoom, numbers_of, repeated_numbers};
 ghost use Rattle.cap_asks.specs.Apps.{new_account};
 
 use crate::asks::Asks;
@@ -21,6 +21,15 @@ use std::marker::Model;
 
 /// Where a queue is in the tree: the child indexes that lead to it from the root. It takes no memory.
 pub type Position = SmallVec<u32, 16, Global>;
+
+/// The numbers of a reply to an allocate. Its grants and ends lie in the application.
+#[derive(Clone, Copy, Debug, PartialEq, Eq)]
+pub struct Reported {
+    /// The new response id.
+    pub response: u32,
+    /// How many releases named no live container of the application.
+    pub ignored: u16,
+}
 
 /// An active application: its number, leaf queue and user, its standing with its master, its asks and the news not yet told.
 /// The reply that was told last is kept. Contracts see its row in the flat cluster, and its account.
@@ -173,24 +182,30 @@ impl<const K: usize> App<K> {
         self.ignored.is_some()
     }
 
-    /// The reply that is kept, none before the first.
-    pub fn kept_reply(&self) -> Option<AllocateReply<K>>
-        ensures { result ≡ self.now.app.kept }
+    /// The numbers of the reply that is kept, where a request of this response id repeats the last processed one; else none.
+    pub fn repeated(&self, id: u32) -> Option<Reported>
+        ensures { result ≡ repeated_numbers self.now.app id }
     {
         let ignored = self.ignored?;
-        Some(AllocateReply {
+        if !repeats(self.response, true, id) {
+            return None;
+        }
+        Some(Reported {
             response: self.response,
             ignored,
-            grants: self.grants.told(),
-            ends: self.ends.told(),
         })
     }
 
-    /// Whether a request of this response id repeats the last processed one, whose reply is kept.
-    pub fn is_repeated(&self, id: u32) -> bool
-        ensures { result ≡ is_repeated self.now.app.response self.now.app.kept id }
+    /// The reply of these numbers, with the grants and ends that were told last.
+    pub(crate) fn reply(&self, reported: &Reported) -> AllocateReply<K>
+        ensures { IfSome self.now.app.kept (λ kept. result ≡ record kept { response = reported.now.response; ignored = reported.now.ignored }) }
     {
-        repeats(self.response, self.is_kept(), id)
+        AllocateReply {
+            response: reported.response,
+            ignored: reported.ignored,
+            grants: self.grants.told(),
+            ends: self.ends.told(),
+        }
     }
 
     /// Whether a request of this response id is neither the next one nor repeats the last.
@@ -271,14 +286,18 @@ impl<const K: usize> App<K> {
         self.live -= 1;
     }
 
-    /// Tells the oldest grants and ends that wait, at most 64 of each: the response id moves on, and the reply is kept.
-    pub(crate) fn tell(&mut self, ignored: u16)
+    /// Tells the oldest grants and ends that wait, at most 64 of each: the response id moves on, and the reply is kept. The result is
+    /// its numbers.
+    pub(crate) fn tell(&mut self, ignored: u16) -> Reported
         ensures app { self.new.app ≡ after_telling self.old.app.response ignored self.old.app }
         ensures account { TakesRoom 0 0 0 self.old.account self.new.account }
+        ensures told { option_map numbers_of self.new.app.kept ≡ Some result }
     {
-        self.response = next_response(self.response);
+        let response = next_response(self.response);
+        self.response = response;
         self.ignored = Some(ignored);
         self.grants.tell();
         self.ends.tell();
+        Reported { response, ignored }
     }
 }

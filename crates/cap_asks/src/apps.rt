@@ -1,4 +1,4 @@
-ghost use Rattle.std.specs.Prelude.{◌≡◌, ◌+◌, ◌<◌, ◌≤◌, ◌++◌, ◌∷◌, [], true, length, map, option_map, IfOk, OnOk, OnErr, IsOk, IsSome};
+ghost use Rattle.std.specs.Prelude.{◌≡◌, ◌+◌, ◌<◌, ◌≤◌, ◌++◌, ◌∷◌, [], true, Some, length, map, option_map, IfOk, OnOk, OnErr, IsOk, IsSome};
 ghost use Rattle.cap_model.specs.Limits.{live_max, number_end};
 ghost use Rattle.std.specs.Option.{option_map_or};
 ghost use Rattle.cap_model.specs.Asking.{put_ask, reservations_left};
@@ -8,10 +8,12 @@ ghost use Rattle.cap_model.specs.Bounds.{IsRising};
 ghost use Rattle.cap_model.specs.Submit.{add_app};
 ghost use Rattle.cap_model.specs.FinishMaster.{remove_app};
 ghost use Rattle.cap_model.specs.Flat.{change_app, no_apps, app_in};
-ghost use Rattle.cap_asks.specs.Apps.{IsEntered, IsLeft, account_of, ask_room, live_of, UsesRoom, HasRooms};
+ghost use Rattle.cap_asks.specs.Apps.{IsEntered, IsLeft, account_of, ask_room, live_of, UsesRoom, HasRooms, kept_of};
+ghost use Rattle.cap_asks.specs.Held.{numbers_of};
 
-use crate::app::{App, Position};
-use cap_model::{Ask, End, Grant, Key, NoMemory, PathText, ShortText};
+use crate::app::{App, Position, Reported};
+use arrayvec::ArrayVec;
+use cap_model::{AllocateReply, Ask, End, Grant, Key, NoMemory, PathText, ShortText};
 use indexmap::IndexMap;
 use std::alloc::Global;
 use std::marker::Model;
@@ -211,17 +213,37 @@ impl<const K: usize> Apps<K> {
     }
 
     /// Tells the master of an application the oldest grants and ends that wait, at most 64 of each: the response id moves on, and
-    /// the reply is kept. `ignored` is how many releases of the request named nothing. Where none of this number is active, nothing
-    /// changes.
-    pub fn tell(&mut self, n: u64, ignored: u16)
+    /// the reply, whose numbers are the result, is kept. `ignored` is how many releases of the request named nothing. Where none of
+    /// this number is active, nothing changes, and the numbers are 0.
+    pub fn tell(&mut self, n: u64, ignored: u16) -> Reported
         ensures rising { IsRising 1 (map (λ app. app.number) self.old.table.active) self.old.table.next }
         ensures table { self.new.table ≡ change_app n (λ app. after_telling app.response ignored app) self.old.table }
         ensures accounts { UsesRoom n 0 0 0 self.old.accounts self.new.accounts }
+        ensures told { IsSome (app_in self.old.table n) → option_map numbers_of (kept_of n self.new.table) ≡ Some result }
     {
         let Some(app) = self.active.get_mut(&n) else {
-            return;
+            return Reported {
+                response: 0,
+                ignored: 0,
+            };
         };
-        app.tell(ignored);
+        app.tell(ignored)
+    }
+
+    /// The reply of these numbers to the master of an application, with the grants and ends that it was told last. Where none of
+    /// this number is active, there are none.
+    pub fn reply(&self, n: u64, reported: &Reported) -> AllocateReply<K>
+        ensures { option_map numbers_of (kept_of n self.now.table) ≡ Some reported.now → kept_of n self.now.table ≡ Some result }
+    {
+        match self.active.get(&n) {
+            Some(app) => app.reply(reported),
+            None => AllocateReply {
+                response: reported.response,
+                ignored: reported.ignored,
+                grants: ArrayVec::new(),
+                ends: ArrayVec::new(),
+            },
+        }
     }
 
     /// An application ends and is active no more; its asks and what its master was not told go with it. Where none of this number

@@ -1,10 +1,10 @@
-ghost use Rattle.std.specs.Prelude.{◌≡◌, ◌+◌, ◌-◌, ◌≤◌, ◌∷◌, [], false, true, is_some, if◌then◌else◌, length, nat_lt, take, cond, not, ◌==◌, OnOk, IsOk};
+ghost use Rattle.std.specs.Prelude.{◌≡◌, ◌+◌, ◌-◌, ◌≤◌, ◌∷◌, [], false, true, is_some, if◌then◌else◌, length, nat_lt, take, cond, not, ◌==◌, OnOk, IsOk, IfOk, IfErr};
 ghost use Rattle.std.specs.List.{fold};
 ghost use Rattle.cap_model.specs.Flat.{ask_at};
 ghost use Rattle.cap_model.specs.Asking.{put_ask};
 ghost use Rattle.cap_model.specs.Limits.{keys_max};
 ghost use Rattle.cap_model.specs.Events.{take_one};
-ghost use Rattle.cap_asks.specs.Held.{is_before, place_of};
+ghost use Rattle.cap_asks.specs.Held.{is_before, IsIndex};
 
 use cap_model::{Ask, Key, NoMemory};
 use std::alloc::Global;
@@ -52,12 +52,10 @@ impl<const K: usize> Asks<K> {
     pub(crate) fn get(&self, key: &Key) -> Option<Ask<K>>
         ensures { result ≡ ask_at key.now self.now.asks }
     {
-        for ask in &self.items {
-            if ask.key().is_same(key) {
-                return Some(*ask);
-            }
+        match self.index_of(key) {
+            Ok(index) => Some(self.items[index]),
+            Err(_) => None,
         }
-        None
     }
 
     /// Makes room for so many more keys. `NoMemory` changes nothing, and where there is room there is no want of it.
@@ -73,16 +71,28 @@ impl<const K: usize> Asks<K> {
         }
     }
 
-    /// Where the ask of this key stands in the order of keys, or would stand.
-    fn place_of(&self, key: &Key) -> usize
-        ensures { result ≡ place_of key.now self.now.asks }
+    /// Where the ask of this key stands in the order of keys; an error where none has the key, which says where it would stand. It
+    /// costs one binary search.
+    fn index_of(&self, key: &Key) -> Result<usize, usize>
+        ensures ok { IfOk result (λ index. IsIndex key.now self.now.asks index true) }
+        ensures err { IfErr result (λ index. IsIndex key.now self.now.asks index false) }
     {
-        for (place, ask) in self.items.iter().enumerate() {
-            if !is_before(&ask.key(), key) {
-                return place;
+        let items = self.items.as_slice();
+        let mut low = 0;
+        let mut high = items.len();
+        while low < high {
+            let middle = low + (high - low) / 2;
+            if is_before(&items[middle].key(), key) {
+                low = middle + 1;
+            } else {
+                high = middle;
             }
         }
-        self.items.len()
+        if low < items.len() && items[low].key().is_same(key) {
+            Ok(low)
+        } else {
+            Err(low)
+        }
     }
 
     /// Puts an ask in place of the one of its key, or in order of key; a count of 0 takes the key away.
@@ -91,16 +101,14 @@ impl<const K: usize> Asks<K> {
         ensures asks { self.new.asks ≡ put_ask ask.now self.old.asks }
         ensures room { self.old.room ≤ self.new.room + (if is_some (ask_at ask.now.key self.old.asks) then 0 else 1) }
     {
-        let key = ask.key();
-        let place = self.place_of(&key);
-        match (self.get(&key).is_some(), ask.count() == 0) {
-            (true, true) => {
-                self.items.remove(place);
+        match (self.index_of(&ask.key()), ask.count() == 0) {
+            (Ok(index), true) => {
+                self.items.remove(index);
             }
-            (true, false) => self.items[place] = *ask,
-            (false, true) => {}
-            (false, false) => {
-                let Ok(()) = self.items.insert(place, *ask) else {
+            (Ok(index), false) => self.items[index] = *ask,
+            (Err(_), true) => {}
+            (Err(index), false) => {
+                let Ok(()) = self.items.insert(index, *ask) else {
                     unreachable!()
                 };
             }
@@ -112,16 +120,14 @@ impl<const K: usize> Asks<K> {
         ensures asks { self.new.asks ≡ take_one key.now self.old.asks }
         ensures room { self.old.room ≤ self.new.room }
     {
-        let place = self.place_of(key);
-        if place < self.items.len() {
-            let ask = self.items[place];
-            if ask.key().is_same(key) {
-                if ask.count() == 1 {
-                    self.items.remove(place);
-                } else {
-                    self.items[place] = ask.with_count(ask.count() - 1);
-                }
-            }
+        let Ok(index) = self.index_of(key) else {
+            return;
+        };
+        let ask = self.items[index];
+        if ask.count() == 1 {
+            self.items.remove(index);
+        } else {
+            self.items[index] = ask.with_count(ask.count() - 1);
         }
     }
 
@@ -139,11 +145,15 @@ impl<const K: usize> Asks<K> {
         stands
     }
 
-    /// Whether more keys than allowed would stand after these asks were put, one after the other.
+    /// Whether more keys than allowed would stand after these asks were put, one after the other. It looks at them only where the
+    /// asks, old and new, are more than that many.
     pub(crate) fn has_too_many_keys(&self, asks: &[Ask<K>]) -> bool
         ensures { result ≡ nat_lt keys_max (length (fold (λ kept ask. put_ask ask kept) self.now.asks asks.now)) }
     {
         let mut count = self.items.len() as u128;
+        if count + asks.len() as u128 <= KEYS_MAX {
+            return false;
+        }
         for (i, ask) in asks.iter().enumerate() {
             let stood = self.stands_after(&asks[..i], &ask.key());
             let stands = ask.count() != 0;

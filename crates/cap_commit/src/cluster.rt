@@ -1,4 +1,4 @@
-ghost use Rattle.std.specs.Prelude.{◌≡◌, ◌≤◌, ◌+◌, ◌==◌, ◌&&◌, ◌∷◌, [], Some, None, IfOk, OnOk, OnErr, IsOk, IfSome, IsSome, is_some, length, find, nat_lt, ◌<◌};
+ghost use Rattle.std.specs.Prelude.{◌≡◌, ◌≤◌, ◌+◌, ◌==◌, ◌&&◌, ◌∷◌, [], Some, None, IfOk, OnOk, OnErr, IsOk, IfSome, IsSome, is_some, length, find, nat_lt, ◌<◌, option_map, option_and_then};
 ghost use Rattle.std.specs.List.{All, remove};
 ghost use Rattle.cap_model.specs.Limits.{applications_max, resources_max};
 ghost use Rattle.cap_model.specs.Flat.{opened, queue_at, app_at, node_at, with_app, with_node, with_reserved, containers_on, containers_of};
@@ -15,7 +15,8 @@ ghost use Rattle.cap_model.specs.EngineLaws.{HasDistinctNumbers};
 ghost use Rattle.cap_model.specs.NodeGone.{without_node};
 ghost use Rattle.cap_tree.specs.Rows.{IsAt, queues_of};
 ghost use Rattle.cap_tree.specs.Spot.{IsPlace, path_at};
-ghost use Rattle.cap_asks.specs.Apps.{ask_room, HasRooms, UsesRoom};
+ghost use Rattle.cap_asks.specs.Apps.{kept_of, ask_room, HasRooms, UsesRoom};
+ghost use Rattle.cap_asks.specs.Held.{numbers_of};
 ghost use Rattle.cap_nodes.specs.Tables.{beaten};
 ghost use Rattle.cap_commit.specs.Held.{IsRowOf};
 ghost use Rattle.cap_commit.specs.Reservations.{kept_by_ask};
@@ -25,9 +26,9 @@ use crate::limits::Limits;
 use crate::owner::Owner;
 use crate::report::report_of;
 use crate::reservations::{Reserved, keep_first};
-use cap_asks::{Apps, Position};
+use cap_asks::{Apps, Position, Reported};
 use cap_config::Config;
-use cap_model::{Ask, Cause, End, NoMemory, PathText, QueueReport, ShortText};
+use cap_model::{Ask, Cause, End, HeartbeatReply, NoMemory, PathText, QueueReport, ShortText};
 use cap_nodes::{Container, Nodes};
 use cap_tree::{Found, QueueTree};
 use cap_vector::{Resource, Sum, round_up};
@@ -153,7 +154,8 @@ impl<const K: usize> Cluster<K> {
     /// Sets the own state of the queue at this position, and nothing else.
     pub fn set_state(&mut self, position: &Position, running: bool)
         requires { IsPlace self.old.rows position.now.items }
-        ensures { self.new.flat ≡ after_set_queue_state self.old.flat (path_at position.now.items self.old.rows) running }
+        ensures flat { self.new.flat ≡ after_set_queue_state self.old.flat (path_at position.now.items self.old.rows) running }
+        ensures accounts { self.new.accounts ≡ self.old.accounts }
     {
         let tree = &mut *self.tree;
         tree.set_state(position, running);
@@ -171,7 +173,7 @@ impl<const K: usize> Cluster<K> {
         requires free { submit_refusal self.old.flat path.now ≡ None }
         ensures number { IfOk result (λ number. number ≡ self.old.flat.apps.next) }
         ensures ok { OnOk result (self.new.flat ≡ after_submit self.old.flat path.now user.now) }
-        ensures err { OnErr result (self.new.flat ≡ self.old.flat) }
+        ensures err { OnErr result (self.new ≡ self.old) }
     {
         match self.apps.reserve() {
             Ok(()) => {}
@@ -190,7 +192,8 @@ impl<const K: usize> Cluster<K> {
 
     /// The master of an active application has reported.
     pub fn register(&mut self, number: u64)
-        ensures { self.new.flat ≡ after_register_master self.old.flat number }
+        ensures flat { self.new.flat ≡ after_register_master self.old.flat number }
+        ensures room { UsesRoom number 0 0 0 self.old.accounts self.new.accounts }
     {
         self.apps.register(number);
     }
@@ -206,6 +209,7 @@ impl<const K: usize> Cluster<K> {
     ) -> Result<(), NoMemory>
         requires { IsSome (app_at self.old.flat number) }
         ensures flat { self.new.flat ≡ self.old.flat }
+        ensures rows { self.new.rows ≡ self.old.rows }
         ensures stays { UsesRoom number 0 0 0 self.old.accounts self.new.accounts }
         ensures ok { OnOk result (HasRooms number asks grants ends self.new.accounts) }
         ensures succeeds { HasRooms number asks grants ends self.old.accounts → IsOk result }
@@ -243,12 +247,14 @@ impl<const K: usize> Cluster<K> {
     }
 
     /// Tells an active application the oldest grants and ends that wait, at most 64 of each: its response id moves on, and the
-    /// reply is kept. Where no application has the number, nothing changes.
-    pub fn tell(&mut self, number: u64, ignored: u16)
+    /// reply, whose numbers are the result, is kept. Where no application has the number, nothing changes.
+    pub fn tell(&mut self, number: u64, ignored: u16) -> Reported
         ensures told { IfSome (app_at self.old.flat number) (λ app. self.new.flat ≡ with_app number (after_telling app.response ignored) self.old.flat) }
         ensures unknown { app_at self.old.flat number ≡ None → self.new.flat ≡ self.old.flat }
+        ensures room { UsesRoom number 0 0 0 self.old.accounts self.new.accounts }
+        ensures reply { IsSome (app_at self.old.flat number) → option_map numbers_of (kept_of number self.new.flat.apps) ≡ Some result }
     {
-        self.apps.tell(number, ignored);
+        self.apps.tell(number, ignored)
     }
 
     /// An active application ends with all that it has: its containers, its asks and what it was not told. The result is how many
@@ -360,23 +366,29 @@ impl<const K: usize> Cluster<K> {
         ensures number { IfOk result (λ number. number ≡ self.old.flat.nodes.next_node) }
         ensures ok { OnOk result (self.new.flat ≡ after_register_node self.old.flat host.now rack.now total.now) }
         ensures err { OnErr result (self.new.flat ≡ self.old.flat) }
+        ensures rows { self.new.rows ≡ self.old.rows }
+        ensures accounts { self.new.accounts ≡ self.old.accounts }
     {
         self.nodes.register(host, rack, total)
     }
 
-    /// A present node has answered a heartbeat, in which so many named containers were not live there, and keeps the reply.
-    pub fn beat(&mut self, number: u64, ignored: u16)
+    /// A present node has answered a heartbeat, in which so many named containers were not live there, and keeps the reply, which is
+    /// the result.
+    pub fn beat(&mut self, number: u64, ignored: u16) -> HeartbeatReply
         requires { IsSome (node_at self.old.flat number) }
-        ensures { self.new.flat ≡ with_node number (beaten ignored (length (containers_on self.old.flat.nodes number))) self.old.flat }
+        ensures flat { self.new.flat ≡ with_node number (beaten ignored (length (containers_on self.old.flat.nodes number))) self.old.flat }
+        ensures accounts { self.new.accounts ≡ self.old.accounts }
+        ensures reply { option_and_then (λ node. node.kept) (node_at self.new.flat number) ≡ Some result }
     {
-        self.nodes.beat(number, ignored);
+        self.nodes.beat(number, ignored)
     }
 
     /// A present node on which no container is live goes, and its reservation is dropped.
     pub fn drop_node(&mut self, number: u64)
         requires present { IsSome (node_at self.old.flat number) }
         requires empty { containers_on self.old.flat.nodes number ≡ [] }
-        ensures { self.new.flat ≡ without_node number self.old.flat }
+        ensures flat { self.new.flat ≡ without_node number self.old.flat }
+        ensures accounts { self.new.accounts ≡ self.old.accounts }
     {
         keep_first(self, &Reserved::Node(number), 0);
         self.nodes.gone(number);

@@ -7,7 +7,7 @@ mod owner;
 mod report;
 mod reservations;
 
-pub use cap_asks::{App, Apps, Position};
+pub use cap_asks::{App, Apps, Position, Reported};
 pub use cap_model::{AllocateReply, Event, HeartbeatReply, QueueReport, Reply, Request};
 pub use cap_nodes::{Container, Node, Nodes};
 pub use cap_tree::{Found, QueueTree};

@@ -1,6 +1,6 @@
 -- An allocate that is processed, and its answer.
-use Rattle.std.proofs.Common.{◌≡◌, ℕ, ◌+◌, ◌-◌, ◌<◌, ◌≤◌, Bool, true, false, List, [], ◌∷◌, ◌++◌, get_or, length, take, refl, sym, ◌∙◌, ap, subst, inl, arith}
-use Rattle.std.specs.Prelude.{Option, Some, None, IsSome, IfSome, not, ◌==◌, ◌&&◌, ◌||◌, is_some, is_none, filter, option_map, option_and_then, nat_lt, if◌then◌else◌}
+use Rattle.std.proofs.Common.{◌≡◌, ℕ, ◌+◌, ◌-◌, ◌<◌, ◌≤◌, Bool, true, false, List, [], ◌∷◌, ◌++◌, get_or, length, take, refl, sym, ◌∙◌, ap, subst, inl, inr, arith}
+use Rattle.std.specs.Prelude.{Option, Some, None, IsSome, IfSome, not, ◌==◌, ◌&&◌, ◌||◌, is_none, filter, option_map, option_and_then, if◌then◌else◌}
 use Rattle.std.specs.List.{fold, list_any}
 use Rattle.std.proofs.lemmas.List.{take_more}
 use Rattle.std.proofs.lemmas.List.Sums.{fold-append}
@@ -12,8 +12,7 @@ use Rattle.cap_model.specs.declared.reply.Reply.{Reply}
 use Rattle.cap_model.specs.declared.refusal.Refusal.{Refusal}
 use Rattle.cap_model.specs.Cascade.{earliest, holds_of}
 use Rattle.cap_model.specs.Flat.{Flat, App, Container, app_at, with_app}
-use Rattle.cap_model.specs.Limits.{response_end}
-use Rattle.cap_model.specs.ResponseIds.{next_response, is_current, is_repeated, is_bad_id}
+use Rattle.cap_model.specs.ResponseIds.{is_current, is_repeated, is_bad_id}
 use Rattle.cap_model.specs.Asking.{after_asks, after_ask, rounded, put_ask}
 use Rattle.cap_model.specs.Ending.{after_ends, with_ends, named_among}
 use Rattle.cap_model.specs.Allocate.{allocate_refusal, is_repeated_allocate, is_too_large, has_too_many_keys, released_by, after_wishes, after_telling, after_allocate, kept_reply}
@@ -21,8 +20,11 @@ use Rattle.cap_model.specs.Replies.{refused_or, reply_to, after_request}
 use Rattle.cap_model.specs.Replies as flat_replies
 use Rattle.cap_model.proofs.Members.{find_changed}
 use Rattle.cap_model.proofs.ContainerNumbers.{asks_keep}
+use Rattle.cap_asks.specs.declared.app.Reported.{Reported}
+use Rattle.cap_asks.specs.Held.{numbers_of, repeated_numbers}
 use Rattle.cap_commit.specs.Changes.{IsAt}
-use Rattle.cap_masters.specs.Processed.{after_processed, IsKept}
+use Rattle.cap_masters.proofs.Refused.{repeats_it, repeats_none}
+use Rattle.cap_masters.specs.Processed.{after_processed}
 
 kept_by : (f : App → App) → ((a : App) → (f a).response ≡ a.response) → (o : Option App) → option_map (λ (a : App). a.response) (option_map f o) ≡ option_map (λ a. a.response) o
 kept_by f r None = refl
@@ -42,10 +44,6 @@ none_of_five true b c d e p q r s t h = absurd (cc h)
 none_of_five false true c d e p q r s t h = absurd (cc h)
 none_of_five false false true d e p q r s t h = absurd (cc h)
 none_of_five false false false d e p q r s t h = (refl, refl)
-
-has_some : {A : Type 0} (o : Option A) (b c : Bool) → (is_some o && b) && c ≡ true → IsSome o
-has_some None b c h = absurd (cc h)
-has_some (Some x) b c h = refl
 
 app_is : (x y : App) → Some y ≡ Some x → y ≡ x
 app_is x y e = cc e
@@ -85,6 +83,15 @@ module _ {K : ℕ} where
       by (Some b) g = (b, g, (let same : Some b.response ≡ Some a.response = sym (ap (option_map (λ (x : App). x.response)) g) ∙ e ∙ ap (option_map (λ (x : App). x.response)) f in cc (same, r)))
       by None g = let none : None ≡ Some a.response = sym (ap (option_map (λ (x : App). x.response)) g) ∙ e ∙ ap (option_map (λ (x : App). x.response)) f in absurd (cc none)
 
+  pub ended_at : (old asked ended : Flat K) (n id : ℕ) (asks : List Ask) (releases : List ℕ) → IsAt old n id → asked ≡ after_asks n asks old → ended ≡ after_ends Cause.Released (released_by asked n releases) asked → IsAt ended n id
+  ended_at old asked ended n id asks releases at a e =
+      still_at old ended n id
+      (ap (λ (c : Flat K). option_map (λ (x : App). x.response) (app_at c n)) e ∙ ends_leave Cause.Released (released_by asked n releases) asked n
+      ∙ ap (λ (c : Flat K). option_map (λ (x : App). x.response) (app_at c n)) a ∙ asks_leave n asks old n) at
+
+  pub is_there : (cluster : Flat K) (n id : ℕ) → IsAt cluster n id → IsSome (app_at cluster n)
+  is_there cluster n id (a, f, r) = subst IsSome (sym f) refl
+
   -- after asks, releases and the telling
   pub processed : (old asked ended told : Flat K) (n id ignored : ℕ) (asks : List Ask) (releases : List ℕ) → IsAt old n id → asked ≡ after_asks n asks old → ended ≡ after_ends Cause.Released (released_by asked n releases) asked →
       ignored + length (released_by asked n releases) ≡ length releases → IfSome (app_at ended n) (λ app. told ≡ with_app n (after_telling app.response ignored) ended) → told ≡ after_processed n id asks releases old
@@ -93,9 +100,7 @@ module _ {K : ℕ} where
       let named : released_by asked n releases ≡ released_by old n releases = ap (λ cs. named_among releases (filter (λ (c : Container). c.app == n) cs)) live in
       let wishes : ended ≡ after_wishes old n asks releases = e ∙ (λ j. after_ends Cause.Released (named j) (a j)) in
       let count : ignored ≡ length releases - length (released_by old n releases) = (let len = ap length named in omega (arith, i, len)) in
-      let there = still_at old ended n id
-      (ap (λ (c : Flat K). option_map (λ (x : App). x.response) (app_at c n)) e ∙ ends_leave Cause.Released (released_by asked n releases) asked n
-      ∙ ap (λ (c : Flat K). option_map (λ (x : App). x.response) (app_at c n)) a ∙ asks_leave n asks old n) at in
+      let there = ended_at old asked ended n id asks releases at a e in
       at_some (app_at ended n) (there.0) (there.1) t
       ∙ (λ j. with_app n (after_telling (there.2 j) (count j)) (wishes j))
     where
@@ -119,26 +124,6 @@ module _ {K : ℕ} where
       by None g a b c = absurd (cc a)
       by (Some x) g a b c = (x, g, (let same = or_parts (is_current x.response id) (is_repeated x.response x.kept id) b c in grind (arith, nat_tests, same)))
 
-  -- the application keeps a reply afterwards
-  pub kept_after : (old : Flat K) (n id : ℕ) (asks : List Ask) (releases : List ℕ) → IsAt old n id → IsKept (after_processed n id asks releases old) n
-  kept_after old n id asks releases at =
-      let mid = after_wishes old n asks releases in
-      let f = after_telling id (length releases - length (released_by old n releases)) in
-      let change : App → App = λ app. if app.number == n then f app else app in
-      let there = still_at old mid n id (ends_leave Cause.Released (released_by old n releases) (after_asks n asks old) n ∙ asks_leave n asks old n) at in
-      let found : app_at (with_app n f mid) n ≡ Some (change (there.0)) =
-      find_changed (λ (a : App). a.number) change (λ a. same_if (a.number == n) (λ (x : App). x.number) (f a) a refl) n mid.apps.active ∙ ap (option_map change) (there.1) in
-      let number : (there.0).number == n ≡ true = (Rattle.cap_model.proofs.Choosing.found (λ (a : App). a.number == n) mid.apps.active (there.0) (there.1)).1 in
-      let kept : (change (there.0)).kept ≡ (f (there.0)).kept = ap (λ b. (if b then f (there.0) else there.0).kept) number in
-      subst IsSome (sym (ap (option_and_then (λ (a : App). a.kept)) found ∙ kept)) refl
-
-  pub kept_already : (cluster : Flat K) (n id : ℕ) → is_repeated_allocate cluster n id ≡ true → IsKept cluster n
-  kept_already cluster n id e = by (app_at cluster n) e
-    where
-      by : (o : Option App) → holds_of (λ (a : App). is_repeated a.response a.kept id) o ≡ true → IsSome (option_and_then (λ (a : App). a.kept) o)
-      by None h = absurd (cc h)
-      by (Some a) h = has_some a.kept (nat_lt id response_end) (next_response id == a.response) h
-
   -- the answer is the kept reply of the new cluster
   pub answered : (old new : Flat K) (n id : ℕ) (asks : List Ask) (releases : List ℕ) (reply : Reply K) → allocate_refusal old n id asks ≡ None → new ≡ after_allocate old n id asks releases → reply ≡ Reply.Allocate (kept_reply new n) →
       flat_replies.Replies old (Request.Allocate n id asks releases) reply new
@@ -154,3 +139,25 @@ module _ {K : ℕ} where
 
   pub fresh_processed : (old new : Flat K) (n id : ℕ) (asks : List Ask) (releases : List ℕ) → is_repeated_allocate old n id ≡ false → new ≡ after_processed n id asks releases old → new ≡ after_allocate old n id asks releases
   fresh_processed old new n id asks releases e is = is ∙ sym (ap (λ b. if b then old else after_processed n id asks releases old) e)
+
+  -- the numbers of the kept reply are given where the request repeats the last one, and only there
+  pub repeated_is : (cluster : Flat K) (n id : ℕ) (reported : Reported) → Some reported ≡ option_and_then (λ app. repeated_numbers app id) (app_at cluster n) →
+      (is_repeated_allocate cluster n id ≡ true) × (option_map numbers_of (option_and_then (λ app. app.kept) (app_at cluster n)) ≡ Some reported)
+  repeated_is cluster n id reported e = by (app_at cluster n) e
+    where
+      by : (o : Option App) → Some reported ≡ option_and_then (λ app. repeated_numbers app id) o →
+          (holds_of (λ (a : App). is_repeated a.response a.kept id) o ≡ true) × (option_map numbers_of (option_and_then (λ (a : App). a.kept) o) ≡ Some reported)
+      by None h = absurd (cc h)
+      by (Some a) h = repeats_it a id reported h
+
+  pub fresh_is : (cluster : Flat K) (n id : ℕ) → None ≡ option_and_then (λ app. repeated_numbers app id) (app_at cluster n) → is_repeated_allocate cluster n id ≡ false
+  fresh_is cluster n id e = by (app_at cluster n) e
+    where
+      by : (o : Option App) → None ≡ option_and_then (λ app. repeated_numbers app id) o → holds_of (λ (a : App). is_repeated a.response a.kept id) o ≡ false
+      by None h = refl
+      by (Some a) h = repeats_none a id h
+
+  -- where no memory was found
+  pub no_memory : (old new : Flat K) (n id : ℕ) (asks : List Ask) (releases : List ℕ) → allocate_refusal old n id asks ≡ None → is_repeated_allocate old n id ≡ false → new ≡ old →
+      flat_replies.Replies old (Request.Allocate n id asks releases) (Reply.Refused Refusal.NoMemory) new
+  no_memory old new n id asks releases none fresh same = inr (record { grows = ap not fresh; unrefused = none; reply_is = refl }, same)

@@ -1,6 +1,6 @@
 -- What is known where no refusal holds, and how amounts are compared.
 use Rattle.std.proofs.Common.{◌≡◌, ℕ, Bool, true, false, List, [], ◌∷◌, refl, sym, ◌∙◌, ap}
-use Rattle.std.specs.Prelude.{Option, Some, None, IsSome, IsTrue, ◌↔◌, is_none, not, find, ◌==◌, ◌&&◌}
+use Rattle.std.specs.Prelude.{Option, Some, None, IsSome, IsTrue, ◌↔◌, is_none, option_map, if◌then◌else◌, not, find, ◌==◌, ◌&&◌}
 use Rattle.std.specs.List.{list_any}
 use Rattle.cap_vector.specs.Vector.{Fits}
 use Rattle.cap_model.specs.Amounts.{fits}
@@ -11,6 +11,9 @@ use Rattle.cap_model.specs.Flat.{Flat, App, AppTable, app_at}
 use Rattle.cap_model.specs.ResponseIds.{is_bad_id, is_repeated}
 use Rattle.cap_model.specs.Allocate.{allocate_refusal, has_too_many_keys, is_too_large}
 use Rattle.cap_model.specs.FinishMaster.{finish_master_refusal}
+use Rattle.cap_model.specs.News.{AllocateReply}
+use Rattle.cap_asks.specs.declared.app.Reported.{Reported}
+use Rattle.cap_asks.specs.Held.{numbers_of, repeated_numbers}
 use Rattle.cap_model.proofs.Measures.{fits_amounts, amounts_fit}
 
 -- the first test says that there is one
@@ -44,3 +47,20 @@ app_shown cluster table n app is found = ap (λ (t : AppTable). find (λ (a : Ap
 
 pub app_missing : {K : ℕ} (cluster : Flat K) (table : AppTable) (n : ℕ) → table ≡ cluster.apps → None ≡ find (λ (a : App). a.number == n) table.active → app_at cluster n ≡ None
 app_missing cluster table n is missing = ap (λ (t : AppTable). find (λ (a : App). a.number == n) t.active) (sym is) ∙ sym missing
+
+-- the kept reply, where the request repeats the last one
+pub repeats_it : (app : App) (id : ℕ) (reported : Reported) → Some reported ≡ repeated_numbers app id → (is_repeated app.response app.kept id ≡ true) × (option_map numbers_of app.kept ≡ Some reported)
+repeats_it app id reported e = by (is_repeated app.response app.kept id) refl e
+  where
+    by : (b : Bool) → is_repeated app.response app.kept id ≡ b → Some reported ≡ (if b then option_map numbers_of app.kept else None) → (is_repeated app.response app.kept id ≡ true) × (option_map numbers_of app.kept ≡ Some reported)
+    by true f h = (f, sym h)
+    by false f h = absurd (cc h)
+
+-- and where it gives none, it repeats nothing
+pub repeats_none : (app : App) (id : ℕ) → None ≡ repeated_numbers app id → is_repeated app.response app.kept id ≡ false
+repeats_none app id e = by app.kept refl (is_repeated app.response app.kept id) refl e
+  where
+    by : (o : Option AllocateReply) → app.kept ≡ o → (b : Bool) → is_repeated app.response app.kept id ≡ b → None ≡ (if b then option_map numbers_of app.kept else None) → is_repeated app.response app.kept id ≡ false
+    by None f b g h = ap (λ k. is_repeated app.response k id) f
+    by (Some r) f true g h = absurd (cc (h ∙ ap (option_map numbers_of) f))
+    by (Some r) f false g h = g

@@ -1,6 +1,6 @@
 -- The table as nodes and containers come and go.
 use Rattle.std.proofs.Common.{◌≡◌, ℕ, ◌+◌, ◌≤◌, ◌<◌, Bool, true, false, cond, List, [], ◌∷◌, ◌++◌, length, map, not, sym, ap, ◌∙◌, arith, subst, refl, Option, Some, None}
-use Rattle.std.specs.Prelude.{filter, find, count_by, ◌==◌, IsSome, ◌||◌}
+use Rattle.std.specs.Prelude.{filter, find, count_by, ◌==◌, IsSome, ◌||◌, option_and_then}
 use Rattle.std.specs.List.{All, sum_by, list_any, AllByRecursion}
 use Rattle.std.proofs.lemmas.List.Elements.{All-from_recursion}
 use Rattle.cap_model.proofs.Measures.{amounts_fit}
@@ -11,6 +11,7 @@ use Rattle.std.proofs.lemmas.List.{ext_get_or}
 use Rattle.cap_vector.specs.Vector.{amount, plus, less, Fits, IsWithin, amount_max, zeros}
 use Rattle.cap_model.specs.Amounts.{fits, sum_where}
 use Rattle.cap_model.specs.Bounds.{IsRising}
+use Rattle.cap_model.specs.declared.replies.HeartbeatReply.{HeartbeatReply}
 use Rattle.cap_model.specs.Flat.{ClusterNode, Container}
 use Rattle.cap_model.specs.RegisterNode.{sum_of_totals}
 use Rattle.cap_nodes.specs.Tables.{left_of, beaten}
@@ -40,6 +41,27 @@ node_of_none (q ∷ places) n there = by (q.node.number == n) there (node_of_non
         cond b (Some q.node) (find (λ x. x.number == n) (nodes_of places)) ≡ None
     by true h more = absurd (cc h)
     by false h more = more h
+
+-- the place of a number after it changed
+pub place_changed : (f : Place → Place) → ((p : Place) → (f p).node.number ≡ p.node.number) → (places : List Place) (n : ℕ) (p : Place) → place_at places n ≡ Some p → place_at (change_place n f places) n ≡ Some (f p)
+place_changed f same [] n p there = absurd (cc there)
+place_changed f same (q ∷ places) n p there = by (q.node.number == n) refl (place_changed f same places n p) there
+  where
+    by : (b : Bool) → q.node.number == n ≡ b → (place_at places n ≡ Some p → place_at (change_place n f places) n ≡ Some (f p)) → cond b (Some q) (place_at places n) ≡ Some p →
+        cond ((cond b (f q) q).node.number == n) (Some (cond b (f q) q)) (place_at (change_place n f places) n) ≡ Some (f p)
+    by true e more h =
+        let q_is : q ≡ p = cc h in
+        ap (λ m. cond (m == n) (Some (f q)) (place_at (change_place n f places) n)) (same q) ∙ ap (λ c. cond c (Some (f q)) (place_at (change_place n f places) n)) e ∙ ap (λ (x : Place). Some (f x)) q_is
+    by false e more h = ap (λ c. cond c (Some q) (place_at (change_place n f places) n)) e ∙ more h
+
+-- the reply that a node keeps is there in its place
+pub kept_shown : (places : List Place) (n : ℕ) (reply : HeartbeatReply) → option_and_then (λ (p : Place). p.node.kept) (place_at places n) ≡ Some reply →
+    option_and_then (λ (x : ClusterNode). x.kept) (find (λ x. x.number == n) (nodes_of places)) ≡ Some reply
+kept_shown places n reply h = by (place_at places n) refl h
+  where
+    by : (o : Option Place) → place_at places n ≡ o → option_and_then (λ (p : Place). p.node.kept) o ≡ Some reply → option_and_then (λ (x : ClusterNode). x.kept) (find (λ x. x.number == n) (nodes_of places)) ≡ Some reply
+    by None e k = absurd (cc k)
+    by (Some p) e k = ap (option_and_then (λ (x : ClusterNode). x.kept)) (node_of_place places n p e) ∙ k
 
 some_is : (o : Option ClusterNode) → o ≡ None → IsSome o → ⊥
 some_is None e h = absurd (cc h)

@@ -1,4 +1,4 @@
-ghost use Rattle.std.specs.Prelude.{◌≡◌, ◌<◌, None};
+ghost use Rattle.std.specs.Prelude.{◌≡◌, ◌<◌, Some, None, if◌then◌else◌};
 ghost use Rattle.cap_vector.specs.Vector.{IsResource};
 ghost use Rattle.cap_model.specs.ResponseIds.{is_repeated, is_bad_id};
 ghost use Rattle.cap_nodes.specs.Tables.{beaten};
@@ -100,18 +100,15 @@ impl<const K: usize> Node<K> {
         self.response
     }
 
-    /// The reply to the last heartbeat, none before the first.
-    pub fn kept(&self) -> Option<HeartbeatReply>
-        ensures { result ≡ self.now.kept }
+    /// The reply that is kept, where a heartbeat of this response id repeats the last processed one; else none.
+    pub fn repeated(&self, id: u32) -> Option<HeartbeatReply>
+        ensures { result ≡ (if is_repeated self.now.response self.now.kept id then self.now.kept else None) }
     {
-        self.kept
-    }
-
-    /// Whether a heartbeat of this response id repeats the last one, whose reply is kept.
-    pub fn is_repeated(&self, id: u32) -> bool
-        ensures { result ≡ is_repeated self.now.response self.now.kept id }
-    {
-        repeats(self.response, self.kept.is_some(), id)
+        if repeats(self.response, self.kept.is_some(), id) {
+            self.kept
+        } else {
+            None
+        }
     }
 
     /// Whether a heartbeat of this response id is neither the next one nor a repetition of the last.
@@ -122,16 +119,18 @@ impl<const K: usize> Node<K> {
     }
 
     /// One more heartbeat is answered, of which so many ends named no container that was live there, and so many are live there now:
-    /// the response id moves on, and the reply is kept.
-    pub(crate) fn beat(&mut self, ignored: u16, live: u32)
-        ensures { self.new ≡ beaten ignored live self.old }
+    /// the response id moves on, and the reply, which is the result, is kept.
+    pub(crate) fn beat(&mut self, ignored: u16, live: u32) -> HeartbeatReply
+        ensures node { self.new ≡ beaten ignored live self.old }
+        ensures kept { self.new.kept ≡ Some result }
     {
-        let response = next_response(self.response);
-        self.response = response;
-        self.kept = Some(HeartbeatReply {
-            response,
+        let reply = HeartbeatReply {
+            response: next_response(self.response),
             ignored,
             live,
-        });
+        };
+        self.response = reply.response;
+        self.kept = Some(reply);
+        reply
     }
 }

@@ -1,4 +1,4 @@
-ghost use Rattle.std.specs.Prelude.{◌≡◌, ◌+◌, ◌<◌, ◌≤◌, ◌==◌, ◌&&◌, nat_lt, [], ◌∷◌, IsSome, Some, IfOk, IfSome, OnOk, OnErr, bytes_eq, length, map, find, true};
+ghost use Rattle.std.specs.Prelude.{◌≡◌, ◌+◌, ◌<◌, ◌≤◌, ◌==◌, ◌&&◌, nat_lt, [], ◌∷◌, IsSome, Some, IfOk, IfSome, OnOk, OnErr, bytes_eq, length, map, find, true, option_and_then};
 ghost use Rattle.std.specs.List.{All, list_any, remove};
 ghost use Rattle.std.specs.Option.{option_copied};
 ghost use Rattle.cap_vector.specs.Vector.{Fits, IsWithin, amount_max, plus};
@@ -16,7 +16,7 @@ ghost use Rattle.cap_nodes.specs.Tables.{free_on, beaten};
 use crate::live::Live;
 use crate::node::Node;
 use crate::present::Present;
-use cap_model::{Container, Key, NoMemory, Reservation, ShortText};
+use cap_model::{Container, Key, NoMemory, Reservation, ShortText, HeartbeatReply};
 use cap_vector::{Resource, checked_add, minus};
 use std::alloc::Global;
 use std::marker::Model;
@@ -246,12 +246,13 @@ impl<const K: usize> Nodes<K> {
     }
 
     /// One more heartbeat of a present node is answered, of which so many ends named no container that was live there: the response
-    /// id moves on, and the reply is kept, which tells how many are live there now.
-    pub fn beat(&mut self, number: u64, ignored: u16)
+    /// id moves on, and the reply, which is the result, is kept. It tells how many are live there now.
+    pub fn beat(&mut self, number: u64, ignored: u16) -> HeartbeatReply
         requires { IsSome (node_in self.old number) }
-        ensures { self.new ≡ change_node number (beaten ignored (length (containers_on self.old number))) self.old }
+        ensures table { self.new ≡ change_node number (beaten ignored (length (containers_on self.old number))) self.old }
+        ensures kept { option_and_then (λ node. node.kept) (node_in self.new number) ≡ Some result }
     {
-        self.present.beat(number, ignored);
+        self.present.beat(number, ignored)
     }
 
     /// A present node goes, on which no container is live, and its total with it.

@@ -1,8 +1,9 @@
-ghost use Rattle.std.specs.Prelude.{◌≡◌, length};
+ghost use Rattle.std.specs.Prelude.{◌≡◌, Some, length};
 ghost use Rattle.cap_vector.specs.Vector.{Fits, plus, less};
 ghost use Rattle.cap_nodes.specs.Places.{HasRoom, HasOne, held_more, held_less, beaten_place};
 
 use crate::node::Node;
+use cap_model::HeartbeatReply;
 use cap_vector::{Resource, checked_add, minus};
 use std::marker::Model;
 
@@ -76,10 +77,12 @@ impl<const K: usize> Place<K> {
         self.live -= 1;
     }
 
-    /// One more heartbeat of it is answered, of which so many ends named no container that was live on it.
-    pub(crate) fn beat(&mut self, ignored: u16)
-        ensures { self.new ≡ beaten_place ignored self.old }
+    /// One more heartbeat of it is answered, of which so many ends named no container that was live on it. The result is the reply,
+    /// which is kept.
+    pub(crate) fn beat(&mut self, ignored: u16) -> HeartbeatReply
+        ensures place { self.new ≡ beaten_place ignored self.old }
+        ensures kept { self.new.node.kept ≡ Some result }
     {
-        self.node.beat(ignored, self.live);
+        self.node.beat(ignored, self.live)
     }
 }

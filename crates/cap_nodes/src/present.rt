@@ -1,4 +1,4 @@
-ghost use Rattle.std.specs.Prelude.{◌≡◌, ◌+◌, ◌<◌, ◌≤◌, ◌++◌, ◌∷◌, [], None, ◌==◌, IsSome, IfSome, IfOk, OnErr, bytes_eq, length, map, filter, not};
+ghost use Rattle.std.specs.Prelude.{◌≡◌, ◌+◌, ◌<◌, ◌≤◌, ◌++◌, ◌∷◌, [], Some, None, option_and_then, ◌==◌, IsSome, IfSome, IfOk, OnErr, bytes_eq, length, map, filter, not};
 ghost use Rattle.std.specs.List.{list_any};
 ghost use Rattle.std.specs.Option.{option_copied};
 ghost use Rattle.cap_vector.specs.Vector.{plus, zeros};
@@ -8,7 +8,7 @@ ghost use Rattle.cap_nodes.specs.Places.{HasRoom, HasOne, place_at, change_place
 
 use crate::node::Node;
 use crate::place::Place;
-use cap_model::{NoMemory, ShortText};
+use cap_model::{HeartbeatReply, NoMemory, ShortText};
 use cap_vector::Resource;
 use indexmap::IndexMap;
 use std::alloc::Global;
@@ -140,10 +140,12 @@ impl<const K: usize> Present<K> {
         }
     }
 
-    /// One more heartbeat of a node is answered, of which so many ends named no container that was live there.
-    pub(crate) fn beat(&mut self, number: u64, ignored: u16)
+    /// One more heartbeat of a node is answered, of which so many ends named no container that was live there. The result is the
+    /// reply, which is kept.
+    pub(crate) fn beat(&mut self, number: u64, ignored: u16) -> HeartbeatReply
         requires { IsSome (place_at self.old.places number) }
-        ensures { self.new ≡ record self.old { places = change_place number (beaten_place ignored) self.old.places } }
+        ensures places { self.new ≡ record self.old { places = change_place number (beaten_place ignored) self.old.places } }
+        ensures kept { option_and_then (λ p. p.node.kept) (place_at self.new.places number) ≡ Some result }
     {
         match self.places.get_mut(&number) {
             Some(place) => place.beat(ignored),

@@ -1,6 +1,6 @@
 -- A heartbeat that is not refused.
 use Rattle.std.proofs.Common.{◌≡◌, ℕ, ◌+◌, ◌-◌, Bool, true, false, List, [], ◌∷◌, length, map, Option, Some, None, refl, sym, ◌∙◌, ap, subst, inl, inr, arith}
-use Rattle.std.specs.Prelude.{nat_lt, is_some, IsSome, cond, not, filter, find, count_by, ◌==◌, ◌&&◌, ◌||◌, if◌then◌else◌}
+use Rattle.std.specs.Prelude.{unwrap_or, option_and_then, cond, not, filter, find, count_by, ◌==◌, ◌&&◌, ◌||◌, if◌then◌else◌}
 use Rattle.std.proofs.lemmas.Bool.Decides.{nat_tests}
 use Rattle.std.proofs.lemmas.List.Sums.{length-filter}
 use Rattle.std.proofs.lemmas.List.Filters.{length-filter_both}
@@ -9,19 +9,19 @@ use Rattle.cap_model.specs.declared.request.Request.{Request}
 use Rattle.cap_model.specs.declared.reply.Reply.{Reply}
 use Rattle.cap_model.specs.declared.refusal.Refusal.{Refusal}
 use Rattle.cap_model.specs.Flat.{Flat, ClusterNode, Container, NodeTable, node_at, with_node, node_in, containers_on}
+use Rattle.cap_model.specs.declared.replies.HeartbeatReply.{HeartbeatReply}
 use Rattle.cap_model.specs.Bounds.{IsRising}
 use Rattle.cap_model.specs.Cascade.{earliest}
-use Rattle.cap_model.specs.Limits.{response_end}
 use Rattle.cap_model.specs.ResponseIds.{next_response, is_current, is_repeated, is_bad_id}
 use Rattle.cap_model.specs.Ending.{is_among, after_ends}
-use Rattle.cap_model.specs.Heartbeat.{heartbeat_refusal, is_repeated_heartbeat, ended_by, beat_of, after_processed_heartbeat, after_heartbeat}
+use Rattle.cap_model.specs.Heartbeat.{heartbeat_refusal, is_repeated_heartbeat, ended_by, beat_of, after_processed_heartbeat, after_heartbeat, no_beat}
 use Rattle.cap_model.specs.EngineLaws.{HasDistinctNumbers}
 use Rattle.cap_model.specs.Replies.{reply_to, after_request}
-use Rattle.cap_model.proofs.Choosing.{IsIn, found}
-use Rattle.cap_model.proofs.Members.{rising_kept, found_by_number, find_changed}
+use Rattle.cap_model.proofs.Choosing.{IsIn}
+use Rattle.cap_model.proofs.Members.{rising_kept, found_by_number}
 use Rattle.cap_model.proofs.Balance.{filter_same, filter_twice, filter_whole, among_itself}
 use Rattle.cap_model.proofs.NamedEnds.{is_named, count_named, among_named}
-use Rattle.cap_trackers.specs.Beats.{IsKept, kept_beat}
+
 use Rattle.cap_trackers.proofs.Answering.{granted_is, refused_is}
 
 -- a node that answered one more heartbeat
@@ -48,10 +48,6 @@ map_same : {A B : Type 0} (f g : A → B) (xs : List A) → ((x : A) → IsIn x 
 map_same f g [] e = refl
 map_same f g (x ∷ xs) e = λ i. e x (inl refl) i ∷ map_same f g xs (λ y m. e y (inr m)) i
 
-first_false : (a b : Bool) → a && b ≡ true → a ≡ true
-first_false true b e = refl
-first_false false b e = absurd (cc e)
-
 is_not_bad : (b : Bool) → earliest ((b, Refusal.BadResponseId) ∷ (false, Refusal.UnknownNode) ∷ []) ≡ None → b ≡ false
 is_not_bad true e = absurd (cc e)
 is_not_bad false e = refl
@@ -60,28 +56,6 @@ is_current_one : (a b : Bool) → not (a || b) ≡ false → b ≡ false → a �
 is_current_one true b e f = refl
 is_current_one false true e f = absurd (cc f)
 is_current_one false false e f = absurd (cc e)
-
-module _ {K : ℕ} (cluster : Flat K) (n : ℕ) where
-  -- a node that was present keeps a reply when it has answered
-  pub kept_then : (ignored live : ℕ) → IsSome (node_at cluster n) → IsKept (with_node n (beaten ignored live) cluster) n
-  kept_then ignored live there = by (node_at cluster n) refl
-    where
-      change : ClusterNode → ClusterNode
-      change node = if node.number == n then beaten ignored live node else node
-
-      same : (b : Bool) (x : ClusterNode) → (if b then beaten ignored live x else x).number ≡ x.number
-      same true x = refl
-      same false x = refl
-
-      kept : (b : Bool) (x : ClusterNode) → b ≡ true → IsSome ((if b then beaten ignored live x else x).kept)
-      kept true x e = refl
-      kept false x e = absurd (cc e)
-
-      by : (o : Option ClusterNode) → node_at cluster n ≡ o → IsKept (with_node n (beaten ignored live) cluster) n
-      by None e = absurd (cc (there, e))
-      by (Some x) e =
-          rw (find_changed (λ (y : ClusterNode). y.number) change (λ y. same (y.number == n) y) n cluster.nodes.present, e)
-          (kept (x.number == n) x (found (λ (y : ClusterNode). y.number == n) cluster.nodes.present x e).1)
 
 -- what the table of nodes shows is what the flat cluster has
 pub node_shown : {K : ℕ} (cluster : Flat K) (nodes : NodeTable) (n : ℕ) (x : ClusterNode) → nodes ≡ cluster.nodes → Some x ≡ node_in nodes n → node_at cluster n ≡ Some x
@@ -106,13 +80,22 @@ module _ {K : ℕ} (cluster : Flat K) (n id : ℕ) where
   bad_refused ended x there bad = refused_is cluster (Request.Heartbeat n id ended) Refusal.BadResponseId (rw (there, bad) refl)
 
 module _ {K : ℕ} (cluster : Flat K) (n id : ℕ) where
-  -- a heartbeat that repeats the last one finds its reply
-  pub kept_repeated : is_repeated_heartbeat cluster n id ≡ true → IsKept cluster n
-  kept_repeated repeated = by (node_at cluster n) refl
+  -- what a node keeps, where the heartbeat repeats the last one
+  pub repeats_it : (x : ClusterNode) (reply : HeartbeatReply) → Some reply ≡ (if is_repeated x.response x.kept id then x.kept else None) → (is_repeated x.response x.kept id ≡ true) × (x.kept ≡ Some reply)
+  repeats_it x reply e = by (is_repeated x.response x.kept id) refl e
     where
-      by : (o : Option ClusterNode) → node_at cluster n ≡ o → IsKept cluster n
-      by None e = absurd (cc (rw e at repeated))
-      by (Some x) e = rw e (first_false (is_some x.kept) (nat_lt id response_end) (first_false (is_some x.kept && nat_lt id response_end) (next_response id == x.response) (rw e at repeated)))
+      by : (b : Bool) → is_repeated x.response x.kept id ≡ b → Some reply ≡ (if b then x.kept else None) → (is_repeated x.response x.kept id ≡ true) × (x.kept ≡ Some reply)
+      by true f h = (f, sym h)
+      by false f h = absurd (cc h)
+
+  -- and where it gives none, it repeats nothing
+  pub repeats_none : (x : ClusterNode) → None ≡ (if is_repeated x.response x.kept id then x.kept else None) → is_repeated x.response x.kept id ≡ false
+  repeats_none x e = by x.kept refl (is_repeated x.response x.kept id) refl e
+    where
+      by : (o : Option HeartbeatReply) → x.kept ≡ o → (b : Bool) → is_repeated x.response x.kept id ≡ b → None ≡ (if b then x.kept else None) → is_repeated x.response x.kept id ≡ false
+      by None f b g h = ap (λ k. is_repeated x.response k id) f
+      by (Some r) f true g h = absurd (cc (h, f))
+      by (Some r) f false g h = g
 
   -- the id is the one that the node answered last
   answered_last : heartbeat_refusal cluster n id ≡ None → is_repeated_heartbeat cluster n id ≡ false → (x : ClusterNode) → node_at cluster n ≡ Some x → x.response ≡ id
@@ -171,9 +154,13 @@ module _ {K : ℕ} (cluster : Flat K) (n id : ℕ) where
             λ i. record x { response = next_response (last i); kept = Some (record { response = next_response (last i); ignored = ignored_is i; live = live_is i }) }
         by x m false e = refl
 
-    -- the reply is the kept one
-    pub told_is : (new : Flat K) (reply : Reply K) → heartbeat_refusal cluster n id ≡ None → reply ≡ Reply.Heartbeat (kept_beat new n) → new ≡ after_heartbeat cluster n id ended →
-        (reply ≡ reply_to cluster (Request.Heartbeat n id ended)) × (new ≡ after_request cluster (Request.Heartbeat n id ended))
-    told_is new reply none told is =
-        let granted = granted_is cluster (Request.Heartbeat n id ended) none in
-        (told ∙ ap (λ (x : Flat K). Reply.Heartbeat (kept_beat x n)) is ∙ granted.0, is ∙ granted.1)
+    -- the reply is the one that is kept afterwards
+    pub told_is : (new : Flat K) (reply : HeartbeatReply) → heartbeat_refusal cluster n id ≡ None → option_and_then (λ node. node.kept) (node_at new n) ≡ Some reply → new ≡ after_heartbeat cluster n id ended →
+        (Reply.Heartbeat reply ≡ reply_to cluster (Request.Heartbeat n id ended)) × (new ≡ after_request cluster (Request.Heartbeat n id ended))
+    told_is new reply none kept is =
+        let granted = granted_is cluster (Request.Heartbeat n id ended) none in (
+          sym (ap (λ o. Reply.Heartbeat (unwrap_or o no_beat)) kept)
+              ∙ ap (λ (x : Flat K). Reply.Heartbeat (unwrap_or (option_and_then (λ node. node.kept) (node_at x n)) no_beat)) is
+              ∙ granted.0,
+          is ∙ granted.1,
+        )

@@ -1,4 +1,4 @@
-use cap_asks::{Apps, Position};
+use cap_asks::{Apps, Position, Reported};
 use cap_model::{Ask, Cause, End, Grant, Key, NUMBER_END, PathText, ShortText};
 use cap_testing::first;
 use cap_vector::Resource;
@@ -105,7 +105,10 @@ fn make(alloc: Global, apps: &mut Apps<2>, change: Change) -> Option<()> {
         Change::TakeOne(priority, request) => Some(apps.take_one(1, &Key { priority, request })),
         Change::Grants(count) => grant_all(apps, count),
         Change::End(container) => end(apps, container),
-        Change::Tell(ignored) => Some(apps.tell(1, ignored)),
+        Change::Tell(ignored) => {
+            apps.tell(1, ignored);
+            Some(())
+        }
         Change::Finish(number) => Some(apps.finish(number)),
     }
 }
@@ -254,10 +257,16 @@ const NEWS: [Change; 5] = [
     Change::Tell(0),
 ];
 
+/// The numbers of the last reply.
+fn reported(apps: &Apps<2>) -> Option<Reported> {
+    let app = apps.app(1)?;
+    app.repeated(app.response().checked_sub(1)?)
+}
+
 /// The last reply: its response id, how many releases were ignored, and how many grants and ends it has.
 fn reply(alloc: Global, changes: &[Change]) -> Option<(u32, u16, usize, usize)> {
     let apps = after(alloc, changes)?;
-    let reply = apps.app(1)?.kept_reply()?;
+    let reply = apps.reply(1, &reported(&apps)?);
     Some((
         reply.response,
         reply.ignored,
@@ -283,7 +292,7 @@ fn granted_containers_are_live_until_they_end(rt: HostRuntime) {
 /// The first and the last container that the last reply grants.
 fn granted(alloc: Global, changes: &[Change]) -> Option<(u64, u64)> {
     let apps = after(alloc, changes)?;
-    let reply = apps.app(1)?.kept_reply()?;
+    let reply = apps.reply(1, &reported(&apps)?);
     let (begin, end) = (reply.grants.first()?, reply.grants.last()?);
     Some((begin.container(), end.container()))
 }
@@ -303,7 +312,11 @@ fn grants_and_ends_are_reported_64_at_a_time(rt: HostRuntime) {
 fn id(alloc: Global, changes: &[Change], id: u32) -> Option<(u32, bool, bool)> {
     let apps = after(alloc, changes)?;
     let app = apps.app(1)?;
-    Some((app.response(), app.is_repeated(id), app.is_bad_id(id)))
+    Some((
+        app.response(),
+        app.repeated(id).is_some(),
+        app.is_bad_id(id),
+    ))
 }
 
 #[test]

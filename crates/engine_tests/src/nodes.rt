@@ -278,14 +278,14 @@ fn a_node_shows_what_it_is(rt: HostRuntime) {
 /// The response id of node 1, and how many containers its last reply says were ignored and are live.
 fn kept(nodes: &Nodes<2>) -> Option<(u32, u16, u32)> {
     let node = nodes.node(1)?;
-    let kept = node.kept()?;
+    let kept = node.repeated(0)?;
     Some((node.response(), kept.ignored, kept.live))
 }
 
 /// Whether node 1 takes a response id as a repeat, and whether as a bad one.
 fn id(nodes: &Nodes<2>, id: u32) -> Option<(bool, bool)> {
     let node = nodes.node(1)?;
-    Some((node.is_repeated(id), node.is_bad_id(id)))
+    Some((node.repeated(id).is_some(), node.is_bad_id(id)))
 }
 
 /// The reply kept after a heartbeat that named five containers which are not there.

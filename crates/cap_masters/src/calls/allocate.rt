@@ -1,15 +1,17 @@
-ghost use Rattle.std.specs.Prelude.{◌≡◌, ◌≤◌, ◌+◌, Some, IfOk, IfErr, OnOk, OnErr, length, true};
+ghost use Rattle.std.specs.Prelude.{◌≡◌, ◌≤◌, ◌+◌, Some, None, option_map, option_and_then, IfOk, IfErr, OnOk, OnErr, length, true};
 ghost use Rattle.std.specs.List.{list_any};
 ghost use Rattle.cap_model.specs.declared.request.Request.TheVariants.{Allocate};
 ghost use Rattle.cap_model.specs.Limits.{resources_max};
 ghost use Rattle.cap_model.specs.Asking.{after_asks};
-ghost use Rattle.cap_asks.specs.Apps.{ask_room};
+ghost use Rattle.cap_model.specs.Flat.{app_at};
+ghost use Rattle.cap_asks.specs.Held.{numbers_of, repeated_numbers};
+ghost use Rattle.cap_asks.specs.Apps.{kept_of, ask_room};
 ghost use Rattle.cap_model.specs.Allocate.{allocate_refusal, is_too_large, kept_reply};
 ghost use Rattle.cap_model.specs.Replies.{Replies};
 ghost use Rattle.cap_commit.specs.Changes.{IsAt};
-ghost use Rattle.cap_masters.specs.Processed.{after_processed, IsAdmitted, IsKept};
+ghost use Rattle.cap_masters.specs.Processed.{after_processed};
 
-use cap_commit::{Cluster, Owner};
+use cap_commit::{Cluster, Owner, Reported};
 use cap_model::{Ask, Asks, Cause, NoMemory, Numbers, Refusal, Reply};
 use cap_vector::fits;
 
@@ -33,23 +35,25 @@ pub fn allocate<const K: usize>(
         Ok(repeated) => repeated,
         Err(refusal) => return Reply::Refused(refusal),
     };
-    if !repeated {
-        match process(cluster, application, response, asks, releases) {
-            Ok(()) => {}
-            Err(NoMemory) => return Reply::Refused(Refusal::NoMemory),
-        }
+    if let Some(reported) = repeated {
+        return reply_of(cluster, application, &reported);
     }
-    told(cluster, application)
+    match process(cluster, application, response, asks, releases) {
+        Ok(reported) => reply_of(cluster, application, &reported),
+        Err(NoMemory) => Reply::Refused(Refusal::NoMemory),
+    }
 }
 
-/// Whether the request repeats the last processed one, whose reply is kept; else the first refusal that holds, memory aside.
+/// The numbers of the kept reply, where the request repeats the last processed one, none where it doesn't; or the first refusal
+/// that holds, memory aside.
 fn admit<const K: usize>(
     cluster: &Cluster<K>,
     application: u64,
     response: u32,
     asks: &[Ask<K>],
-) -> Result<bool, Refusal>
-    ensures ok { IfOk result (λ repeated. IsAdmitted cluster.now.flat application response asks.now repeated) }
+) -> Result<Option<Reported>, Refusal>
+    ensures ok { OnOk result (allocate_refusal cluster.now.flat application response asks.now ≡ None) }
+    ensures repeated { IfOk result (λ r. r ≡ option_and_then (λ app. repeated_numbers app response) (app_at cluster.now.flat application)) }
     ensures err { IfErr result (λ refusal. allocate_refusal cluster.now.flat application response asks.now ≡ Some refusal) }
     ensures resources { K ≤ resources_max }
 {
@@ -62,8 +66,8 @@ fn admit<const K: usize>(
     if app.is_bad_id(response) {
         return Err(Refusal::BadResponseId);
     }
-    if app.is_repeated(response) {
-        return Ok(true);
+    if let Some(reported) = app.repeated(response) {
+        return Ok(Some(reported));
     }
     if has_too_large(cluster, asks) {
         return Err(Refusal::AskTooLarge);
@@ -71,7 +75,7 @@ fn admit<const K: usize>(
     if app.has_too_many_keys(asks) {
         return Err(Refusal::TooManyAsks);
     }
-    Ok(false)
+    Ok(None)
 }
 
 /// Whether an ask with a count above 0 passes the maximum allocation, before it is rounded.
@@ -87,16 +91,17 @@ fn has_too_large<const K: usize>(cluster: &Cluster<K>, asks: &[Ask<K>]) -> bool
     false
 }
 
-/// Puts the asks, ends what is released, and tells the news. `NoMemory` changes nothing.
+/// Puts the asks, ends what is released, and tells the news; the result is the numbers of the reply. `NoMemory` changes nothing.
 fn process<const K: usize>(
     cluster: &mut Cluster<K>,
     application: u64,
     response: u32,
     asks: &Asks<K>,
     releases: &Numbers,
-) -> Result<(), NoMemory>
+) -> Result<Reported, NoMemory>
     requires { IsAt cluster.old.flat application response }
     ensures ok { OnOk result (cluster.new.flat ≡ after_processed application response asks.now releases.now cluster.old.flat) }
+    ensures told { IfOk result (λ reported. option_map numbers_of (kept_of application cluster.new.flat.apps) ≡ Some reported) }
     ensures err { OnErr result (cluster.new.flat ≡ cluster.old.flat) }
 {
     match cluster.room(application, asks.as_slice().len(), 0, 0) {
@@ -109,8 +114,7 @@ fn process<const K: usize>(
         releases.as_slice(),
         Cause::Released,
     );
-    cluster.tell(application, ignored);
-    Ok(())
+    Ok(cluster.tell(application, ignored))
 }
 
 /// Puts the asks, one after the other, for which there is room.
@@ -123,16 +127,12 @@ fn put_asks<const K: usize>(cluster: &mut Cluster<K>, application: u64, asks: &[
     }
 }
 
-/// The reply that the application keeps.
-fn told<const K: usize>(cluster: &Cluster<K>, application: u64) -> Reply<K>
-    requires { IsKept cluster.now.flat application }
+/// The reply of these numbers, with the news that the application was told last.
+fn reply_of<const K: usize>(cluster: &Cluster<K>, application: u64, reported: &Reported) -> Reply<K>
+    requires { option_map numbers_of (kept_of application cluster.now.flat.apps) ≡ Some reported.now }
     ensures { result ≡ Reply.Allocate (kept_reply cluster.now.flat application) }
 {
-    let Some(app) = cluster.apps().app(application) else {
-        unreachable!()
-    };
-    let Some(reply) = app.kept_reply() else {
-        unreachable!()
-    };
-    Reply::Allocate { reply }
+    Reply::Allocate {
+        reply: cluster.apps().reply(application, reported),
+    }
 }

@@ -1,7 +1,5 @@
-ghost use Rattle.std.specs.Prelude.{◌≡◌};
 ghost use Rattle.cap_model.specs.declared.request.Request.TheVariants.{Heartbeat};
 ghost use Rattle.cap_model.specs.Replies.{RepliesAlways};
-ghost use Rattle.cap_trackers.specs.Beats.{IsKept, kept_beat};
 
 use cap_commit::{Cluster, Owner};
 use cap_model::{Cause, Numbers, Refusal, Reply};
@@ -25,23 +23,10 @@ pub fn heartbeat<const K: usize>(
     if found.is_bad_id(response) {
         return Reply::Refused(Refusal::BadResponseId);
     }
-    if !found.is_repeated(response) {
-        let ignored = cluster.end_named(Owner::Node(node), ended.as_slice(), Cause::EndedOnNode);
-        cluster.beat(node, ignored);
+    if let Some(reply) = found.repeated(response) {
+        return Reply::Heartbeat { reply };
     }
-    told(cluster, node)
-}
-
-/// The reply that the node keeps.
-fn told<const K: usize>(cluster: &Cluster<K>, node: u64) -> Reply<K>
-    requires { IsKept cluster.now.flat node }
-    ensures { result ≡ Reply.Heartbeat (kept_beat cluster.now.flat node) }
-{
-    let Some(node) = cluster.nodes().node(node) else {
-        unreachable!()
-    };
-    let Some(reply) = node.kept() else {
-        unreachable!()
-    };
+    let ignored = cluster.end_named(Owner::Node(node), ended.as_slice(), Cause::EndedOnNode);
+    let reply = cluster.beat(node, ignored);
     Reply::Heartbeat { reply }
 }

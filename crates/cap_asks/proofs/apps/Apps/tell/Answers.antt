@@ -1,7 +1,9 @@
 use Rattle.std.proofs.Common.{ap, sym, ◌∙◌}
+use Rattle.std.specs.Prelude.{nat_eq}
+use Rattle.std.specs.Map.{set_value}
 use Rattle.cap_model.specs.Flat.{App}
 use Rattle.cap_model.specs.Allocate.{after_telling}
-use Rattle.cap_asks.proofs.Entries.{apps_of, numbers_rise, none_changed, one_changed, still_numbered, one_uses}
+use Rattle.cap_asks.proofs.Entries.{apps_of, numbers_rise, none_changed, one_changed, still_numbered, one_uses, found_after, kept_now, missing_app}
 use Rattle.cap_asks.proofs.apps.Apps.tell.Goals as goal
 
 pub returns-in_default-clause-table : goal.returns-in_default-clause-table
@@ -33,3 +35,14 @@ returns-in_default-clause-rising g c = rw (← c.self.view_is) (numbers_rise 1 c
 
 pub returns-clause-rising : goal.returns-clause-rising
 returns-clause-rising g c = rw (← c.self.view_is) (numbers_rise 1 c.self.inside.next c.self.inside.active.entries c.self.invariant)
+
+pub returns-in_default-clause-told : goal.returns-in_default-clause-told
+returns-in_default-clause-told g c = λ there. missing_app 1 c.args.n c.self.inside.next c.self.inside.active.entries c.self.invariant (sym c.in_default.ensures.value) (rw (← c.self.view_is) at there)
+
+pub returns-clause-told : goal.returns-clause-told
+returns-clause-told g c =
+    let found = sym c.in-Some.ensures.value in
+    let es = c.self.inside.active.entries in
+    let entries = (c.get_mut.follows.holds c.tell.new.self).0 in
+    let numbered = still_numbered 1 c.args.n c.self.inside.next es c.in-Some.app.now c.tell.new.self c.self.invariant found (ap (λ (a : App). a.number) c.tell.ensures.app) in
+    λ there. rw entries (kept_now 1 c.args.n c.self.inside.next (set_value (nat_eq c.args.n) es c.tell.new.self) c.tell.new.self c.tell.result numbered (found_after c.args.n es c.in-Some.app.now c.tell.new.self found) c.tell.ensures.told)

@@ -1,11 +1,11 @@
 use Rattle.std.proofs.Common.{ap, arith, take, length, length-take}
 use Rattle.std.specs.Prelude.{not, ◌==◌}
 use Rattle.cap_asks.specs.Held.{HeldAsks, AreKept}
-use Rattle.cap_asks.proofs.Keeping.{count_next, few_all, byte_few}
+use Rattle.cap_asks.proofs.Keeping.{count_next, few_all, byte_few, not_too_many}
 use Rattle.cap_asks.proofs.asks.Asks.has_too_many_keys.Goals as goal
 
-pub overflow_add-count : goal.overflow_add-count
-overflow_add-count g c =
+pub overflow_add-count-in-loop-i : goal.overflow_add-count-in-loop-i
+overflow_add-count-in-loop-i g c =
     let kept : AreKept c.args.self.now.asks = rw (← c.self.view_is) c.self.invariant in
     let few = few_all c.args.self.now.asks (take c.loop-i.i c.args.asks.now) kept in
     let seen = ap (λ (a : HeldAsks). length a.asks) c.self.view_is in
@@ -13,6 +13,12 @@ overflow_add-count g c =
     let first = length-take c.loop-i.i c.args.asks.now in
     let one = byte_few (not (c.count-stands.result == 0)) in
     omega (arith, few, seen, is, first, one)
+
+pub returns-then-count-asks-le-KEYS_MAX : goal.returns-then-count-asks-le-KEYS_MAX
+returns-then-count-asks-le-KEYS_MAX g c =
+    let kept : AreKept c.args.self.now.asks = rw (← c.self.view_is) c.self.invariant in
+    let seen = ap (λ (a : HeldAsks). length a.asks) c.self.view_is in
+    not_too_many c.args.self.now.asks c.args.asks.now kept (omega (arith, seen))
 
 pub loop-i-preserved : goal.loop-i-preserved
 loop-i-preserved g c =

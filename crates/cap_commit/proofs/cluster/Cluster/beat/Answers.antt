@@ -9,4 +9,4 @@ beat-requires g c = (nodes_fit _ c.self.invariant.resources, rw (← c.self.view
 
 pub invariant_of-self : goal.invariant_of-self
 invariant_of-self g c =
-    held_nodes _ c.self.invariant c.beat.new.self (ap (λ (t : NodeTable). t.live) c.beat.ensures) (ap (λ (t : NodeTable). t.reserved) c.beat.ensures) (ap (λ (t : NodeTable). t.next_container) c.beat.ensures)
+    held_nodes _ c.self.invariant c.beat.new.self (ap (λ (t : NodeTable). t.live) c.beat.ensures.table) (ap (λ (t : NodeTable). t.reserved) c.beat.ensures.table) (ap (λ (t : NodeTable). t.next_container) c.beat.ensures.table)

@@ -10,8 +10,8 @@ invariant_of-self g c =
     let now = rw c.deref_mut-tree.ensures.value at c.set_state.ensures in
     rw now (held_state _ c.self.invariant (path_at c.args.position.now.items c.self.inside.tree.value) c.args.running)
 
-pub returns : goal.returns
-returns g c =
+pub returns-clause-flat : goal.returns-clause-flat
+returns-clause-flat g c =
     let x = c.self.inside in
     let now = rw c.deref_mut-tree.ensures.value at c.set_state.ensures in
     rw (← c.self.view_is) (with_queues (record { rows = x.tree.value; limits = x.limits; apps = x.apps; nodes = x.nodes }) _ _ (ap queues_of now ∙ state_in_settings (path_at c.args.position.now.items x.tree.value) c.args.running x.tree.value))

@@ -1,5 +1,8 @@
 use Rattle.std.proofs.Common.{true, false, refl, sym, ◌∙◌, ap, not}
-use Rattle.cap_masters.proofs.Refused.{allocate_tests, app_shown, app_missing}
+use Rattle.std.specs.Prelude.{option_and_then}
+use Rattle.cap_model.specs.Flat.{App}
+use Rattle.cap_asks.specs.Held.{repeated_numbers}
+use Rattle.cap_masters.proofs.Refused.{allocate_tests, app_shown, app_missing, repeats_it, repeats_none}
 use Rattle.cap_masters.proofs.calls.allocate.admit.Goals as goal
 
 pub returns-in_default-clause-err : goal.returns-in_default-clause-err
@@ -17,40 +20,42 @@ returns-then-is_bad_id-clause-err g c =
     let there = app_shown c.args.cluster.now.flat c.apps.result.now.table c.args.application app c.apps.ensures.table c.in-Some.ensures.found in
     allocate_tests c.args.cluster.now.flat c.args.application c.args.response c.args.asks.now app false true _ _ _ there (ap not (sym c.is_registered.ensures ∙ c.if-not-is_registered.false)) (sym c.is_bad_id.ensures ∙ c.if-is_bad_id.true) refl refl refl
 
-pub returns-then-is_repeated-clause-ok : goal.returns-then-is_repeated-clause-ok
-returns-then-is_repeated-clause-ok g c =
+pub returns-in-Some-repeated-clause-ok : goal.returns-in-Some-repeated-clause-ok
+returns-in-Some-repeated-clause-ok g c =
     let app = c.in-Some.app.now.app in
     let there = app_shown c.args.cluster.now.flat c.apps.result.now.table c.args.application app c.apps.ensures.table c.in-Some.ensures.found in
-    let repeated = sym c.is_repeated.ensures ∙ c.if-is_repeated.true in
-    record {
-      unrefused =
-          allocate_tests c.args.cluster.now.flat c.args.application c.args.response c.args.asks.now app false false true _ _ there (ap not (sym c.is_registered.ensures ∙ c.if-not-is_registered.false))
-          (sym c.is_bad_id.ensures ∙ c.if-is_bad_id.false) repeated refl refl;
-      again = rw (there, repeated) refl;
-    }
+    allocate_tests c.args.cluster.now.flat c.args.application c.args.response c.args.asks.now app false false true _ _ there (ap not (sym c.is_registered.ensures ∙ c.if-not-is_registered.false))
+    (sym c.is_bad_id.ensures ∙ c.if-is_bad_id.false) (repeats_it app c.args.response c.in-Some-repeated.reported c.in-Some-repeated.ensures).0 refl refl
+
+pub returns-in-Some-repeated-clause-repeated : goal.returns-in-Some-repeated-clause-repeated
+returns-in-Some-repeated-clause-repeated g c =
+    let app = c.in-Some.app.now.app in
+    let there = app_shown c.args.cluster.now.flat c.apps.result.now.table c.args.application app c.apps.ensures.table c.in-Some.ensures.found in
+    c.in-Some-repeated.ensures ∙ sym (ap (option_and_then (λ (a : App). repeated_numbers a c.args.response)) there)
 
 pub returns-then-has_too_large-clause-err : goal.returns-then-has_too_large-clause-err
 returns-then-has_too_large-clause-err g c =
     let app = c.in-Some.app.now.app in
     let there = app_shown c.args.cluster.now.flat c.apps.result.now.table c.args.application app c.apps.ensures.table c.in-Some.ensures.found in
     allocate_tests c.args.cluster.now.flat c.args.application c.args.response c.args.asks.now app false false false true _ there (ap not (sym c.is_registered.ensures ∙ c.if-not-is_registered.false))
-    (sym c.is_bad_id.ensures ∙ c.if-is_bad_id.false) (sym c.is_repeated.ensures ∙ c.if-is_repeated.false) (sym c.has_too_large.ensures ∙ c.if-has_too_large.true) refl
+    (sym c.is_bad_id.ensures ∙ c.if-is_bad_id.false) (repeats_none app c.args.response c.in_default-repeated.ensures) (sym c.has_too_large.ensures ∙ c.if-has_too_large.true) refl
 
 pub returns-then-has_too_many_keys-clause-err : goal.returns-then-has_too_many_keys-clause-err
 returns-then-has_too_many_keys-clause-err g c =
     let app = c.in-Some.app.now.app in
     let there = app_shown c.args.cluster.now.flat c.apps.result.now.table c.args.application app c.apps.ensures.table c.in-Some.ensures.found in
     allocate_tests c.args.cluster.now.flat c.args.application c.args.response c.args.asks.now app false false false false true there (ap not (sym c.is_registered.ensures ∙ c.if-not-is_registered.false))
-    (sym c.is_bad_id.ensures ∙ c.if-is_bad_id.false) (sym c.is_repeated.ensures ∙ c.if-is_repeated.false) (sym c.has_too_large.ensures ∙ c.if-has_too_large.false) (sym c.has_too_many_keys.ensures ∙ c.if-has_too_many_keys.true)
+    (sym c.is_bad_id.ensures ∙ c.if-is_bad_id.false) (repeats_none app c.args.response c.in_default-repeated.ensures) (sym c.has_too_large.ensures ∙ c.if-has_too_large.false) (sym c.has_too_many_keys.ensures ∙ c.if-has_too_many_keys.true)
 
 pub returns-clause-ok : goal.returns-clause-ok
 returns-clause-ok g c =
     let app = c.in-Some.app.now.app in
     let there = app_shown c.args.cluster.now.flat c.apps.result.now.table c.args.application app c.apps.ensures.table c.in-Some.ensures.found in
-    let repeated = sym c.is_repeated.ensures ∙ c.if-is_repeated.false in
-    record {
-      unrefused =
-          allocate_tests c.args.cluster.now.flat c.args.application c.args.response c.args.asks.now app false false false false false there (ap not (sym c.is_registered.ensures ∙ c.if-not-is_registered.false))
-          (sym c.is_bad_id.ensures ∙ c.if-is_bad_id.false) repeated (sym c.has_too_large.ensures ∙ c.if-has_too_large.false) (sym c.has_too_many_keys.ensures ∙ c.if-has_too_many_keys.false);
-      again = rw (there, repeated) refl;
-    }
+    allocate_tests c.args.cluster.now.flat c.args.application c.args.response c.args.asks.now app false false false false false there (ap not (sym c.is_registered.ensures ∙ c.if-not-is_registered.false))
+    (sym c.is_bad_id.ensures ∙ c.if-is_bad_id.false) (repeats_none app c.args.response c.in_default-repeated.ensures) (sym c.has_too_large.ensures ∙ c.if-has_too_large.false) (sym c.has_too_many_keys.ensures ∙ c.if-has_too_many_keys.false)
+
+pub returns-clause-repeated : goal.returns-clause-repeated
+returns-clause-repeated g c =
+    let app = c.in-Some.app.now.app in
+    let there = app_shown c.args.cluster.now.flat c.apps.result.now.table c.args.application app c.apps.ensures.table c.in-Some.ensures.found in
+    c.in_default-repeated.ensures ∙ sym (ap (option_and_then (λ (a : App). repeated_numbers a c.args.response)) there)

@@ -1,6 +1,6 @@
 use Rattle.std.proofs.Common.{◌∙◌, [], ap, sym, List, arith}
 use Rattle.cap_model.specs.Flat.{ClusterNode, NodeTable}
-use Rattle.cap_nodes.proofs.Changes.{place_of_node, is_at, with_beat, nodes_beaten, totals_beaten}
+use Rattle.cap_nodes.proofs.Changes.{place_of_node, is_at, with_beat, nodes_beaten, totals_beaten, kept_shown}
 use Rattle.cap_nodes.proofs.nodes.Nodes.beat.Goals as goal
 
 pub beat-requires : goal.beat-requires
@@ -10,13 +10,16 @@ beat-requires g c =
 
 pub invariant_of-self : goal.invariant_of-self
 invariant_of-self g c =
-    rw c.beat.ensures (
+    rw c.beat.ensures.places (
       with_beat g.row.K c.self.inside.present.places c.self.inside.live.live c.self.invariant.0 c.args.number c.args.ignored,
       c.self.invariant.1 ∙ sym (totals_beaten g.row.K c.args.number c.args.ignored c.self.inside.present.places),
     )
 
-pub returns : goal.returns
-returns g c =
-    rw (← c.self.view_is, c.beat.ensures)
+pub returns-clause-table : goal.returns-clause-table
+returns-clause-table g c =
+    rw (← c.self.view_is, c.beat.ensures.places)
     (ap (λ (ns : List ClusterNode). let t : NodeTable = record { present = ns; live = c.self.inside.live.live; reserved = c.self.inside.reserved.items; next_node = c.self.inside.present.next; next_container = c.self.inside.live.next } in t)
     (nodes_beaten g.row.K c.args.number c.args.ignored c.self.inside.live.live c.self.inside.present.places c.self.invariant.0.ties))
+
+pub returns-clause-kept : goal.returns-clause-kept
+returns-clause-kept g c = kept_shown c.beat.new.self.places c.args.number c.beat.result c.beat.ensures.kept

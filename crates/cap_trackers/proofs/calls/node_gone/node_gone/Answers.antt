@@ -14,4 +14,4 @@ drop_node-requires g c =
 pub returns : goal.returns
 returns g c =
     let there = some_seen c.args.cluster.now.flat c.nodes.result.now c.args.node c.node.result c.nodes.ensures.value c.node.ensures.found c.if-is_none.ensures in
-    gone_is c.args.cluster.now.flat c.args.node c.end_all-ended.new.self.flat c.drop_node.new.self.flat c.end_all-ended.result there c.end_all-ended.ensures.count c.end_all-ended.ensures.ended c.drop_node.ensures
+    gone_is c.args.cluster.now.flat c.args.node c.end_all-ended.new.self.flat c.drop_node.new.self.flat c.end_all-ended.result there c.end_all-ended.ensures.count c.end_all-ended.ensures.ended c.drop_node.ensures.flat

@@ -19,4 +19,4 @@ returns g c =
       | in-Parent w ↦ rw w.position-is w.in-Parent.ensures.found.0
     ] in
     let here = rw (c.tree.ensures.rows, c.as_bytes.ensures.value) at at in
-    state_is c.args.cluster.now.flat c.args.cluster.now.rows c.args.path.now c.match-find.position.items c.args.running c.set_state.new.self.flat c.tree.ensures.queues here c.set_state.ensures
+    state_is c.args.cluster.now.flat c.args.cluster.now.rows c.args.path.now c.match-find.position.items c.args.running c.set_state.new.self.flat c.tree.ensures.queues here c.set_state.ensures.flat
