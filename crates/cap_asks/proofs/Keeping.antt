@@ -11,7 +11,7 @@ use Rattle.cap_model.specs.Asks.{same_key, Ask}
 use Rattle.cap_model.specs.Flat.{ask_at}
 use Rattle.cap_model.specs.Asking.{without_key, with_ask, put_ask}
 use Rattle.cap_model.specs.Events.{take_one}
-use Rattle.cap_model.proofs.KeptAsks.{same_key_is, same_key_itself, put_is_found, others_are_found, one_less}
+use Rattle.cap_model.proofs.calls.KeptAsks.{same_key_is, same_key_itself, put_is_found, others_are_found, one_less}
 use Rattle.cap_asks.specs.Held.{is_before, AreAfter, AreKept, place_of}
 
 -- the order of keys in numbers

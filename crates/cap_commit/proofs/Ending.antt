@@ -12,14 +12,14 @@ use Rattle.cap_model.specs.declared.news.Cause.{Cause}
 use Rattle.cap_model.specs.declared.news.End.{End}
 use Rattle.cap_model.specs.Flat.{Flat, App, AppTable, Container, NodeTable, app_at}
 use Rattle.cap_model.specs.Ending.{is_among, with_ends, after_ends}
-use Rattle.cap_model.proofs.ContainerNumbers.{rising_filter}
-use Rattle.cap_model.proofs.Balance.{count_cons, filter_same}
-use Rattle.cap_model.proofs.Choosing.{IsIn, found, of_filter}
-use Rattle.cap_model.proofs.Lessening.{change_stands}
-use Rattle.cap_model.proofs.Measures.{counts}
-use Rattle.cap_model.proofs.Members.{each_of, of_each, of_map}
-use Rattle.cap_model.proofs.Moves.{KeepsApp, AppsChange, ends_change, only_app}
-use Rattle.cap_model.proofs.Tallies.{count_of, count_changed, ended_amount, same_use, sum_without, used_by}
+use Rattle.cap_model.proofs.lists.Numbered.{rising_kept}
+use Rattle.cap_model.proofs.lists.Sums.{count_cons}
+use Rattle.cap_model.proofs.lists.Filters.{filter_same}
+use Rattle.cap_model.proofs.lists.Members.{IsIn, found, of_filter, each_of, of_each, of_map}
+use Rattle.cap_model.proofs.calls.Lessening.{change_stands}
+use Rattle.cap_model.proofs.uses.Measures.{counts}
+use Rattle.cap_model.proofs.calls.Moves.{KeepsApp, AppsChange, ends_change, only_app}
+use Rattle.cap_model.proofs.uses.Tallies.{count_of, count_changed, ended_amount, same_use, sum_without, used_by}
 use Rattle.cap_tree.specs.Measure.{Measure}
 use Rattle.cap_tree.specs.Queue.{MayGive}
 use Rattle.cap_tree.specs.Count.{nothing, use_alone}
@@ -168,7 +168,7 @@ module _ {K : ℕ} (p : Parts K) (h : IsHeld p) (number : ℕ) (c : Container) (
               x (w.0) (ap (λ (y : App). y.leaf) (sym (w.2)) ∙ keeps.leaf (w.0)) (ap (λ (y : App). y.number) (sym (w.2)) ∙ keeps.number (w.0)) (room.positions (w.0).number) (each_of (IsPlaced p) p.apps.table.active h.placed (w.0) (w.1)));
           counted = λ m. (let r = h.counted m in let e = room.live m in let w = count_left nodes' live m in let t : weight (c.app == m) ≡ weight (m == n) = ap weight (turned c.app m) ∙ ap (λ k. weight (m == k)) (sym same) in let z = none_where (m == n) in omega (arith, r, e, w, t, z));
           owned = owned_stands old (flat_of q) (change_stands old (flat_of q) change) (λ d i. (of_filter (λ x. not (is_among (c ∷ []) x)) p.nodes.live d (subst (IsIn d) live i)).1) h.owned;
-          numbers = rw (lift) (rising_filter (λ d. not (d.number == number)) 1 p.nodes.live p.nodes.next_container h.numbers);
+          numbers = rw (lift) (rising_kept (λ (z : Container). z.number) (λ d. not (d.number == number)) 1 p.nodes.live p.nodes.next_container h.numbers);
           limit = h.limit;
           few = (let w = h.few in let k = ap length active in let l = length-map p.apps.table.active f in omega (arith, w, k, l));
           few_live = (let w = h.few_live in let k = ap length live in let l = length-filter (λ d. not (is_among (c ∷ []) d)) p.nodes.live in let m = count_by-le-length (λ d. not (is_among (c ∷ []) d)) p.nodes.live in omega (arith, w, k, l, m));

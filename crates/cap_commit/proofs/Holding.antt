@@ -17,15 +17,16 @@ use Rattle.cap_model.specs.Ending.{after_ends, with_ends, without}
 use Rattle.cap_model.specs.FinishMaster.{containers_of, after_finish_master}
 use Rattle.cap_model.specs.Submit.{submit_refusal}
 use Rattle.cap_model.specs.Bounds.{IsLeaf, IsRising}
-use Rattle.cap_model.proofs.Choosing.{IsIn, found, in_either, of_filter}
-use Rattle.cap_model.proofs.Balance.{filter_none}
-use Rattle.cap_model.proofs.Members.{each_of, of_each, of_map, find_others, find_with_more, one_where, rising_to_high}
-use Rattle.cap_model.proofs.Lessening.{IsSite, change_stands}
-use Rattle.cap_model.proofs.Measures.{counts}
-use Rattle.cap_model.proofs.Moves.{KeepsApp, AppsChange, only_app}
-use Rattle.cap_model.proofs.Registering.{may_enter}
-use Rattle.cap_model.proofs.Formed.{unrefused_leaf}
-use Rattle.cap_model.proofs.Tallies.{HoldsSame, count_of, count_changed, same_use, change_holds, coming_holds, going_holds}
+use Rattle.cap_model.proofs.lists.Members.{IsIn, found, in_either, of_filter, each_of, of_each, of_map}
+use Rattle.cap_model.proofs.lists.Filters.{filter_none}
+use Rattle.cap_model.proofs.lists.Numbered.{find_others, find_with_more, rising_to_high}
+use Rattle.cap_model.proofs.lists.Sums.{one_where}
+use Rattle.cap_model.proofs.calls.Lessening.{IsSite, change_stands}
+use Rattle.cap_model.proofs.uses.Measures.{counts}
+use Rattle.cap_model.proofs.calls.Moves.{KeepsApp, AppsChange, only_app}
+use Rattle.cap_model.proofs.calls.Registering.{may_enter}
+use Rattle.cap_model.proofs.bounds.Formed.{unrefused_leaf}
+use Rattle.cap_model.proofs.uses.Tallies.{HoldsSame, count_of, count_changed, same_use, change_holds, coming_holds, going_holds}
 use Rattle.cap_tree.specs.Measure.{Measure}
 use Rattle.cap_tree.specs.Queue.{IsUnused, MayLeave}
 use Rattle.cap_vector.proofs.AmountLemmas.{amount-zeros}
@@ -290,7 +291,7 @@ module _ {K : ℕ} where
           let q : Parts K = record p { rows = map (left K a.leaf a.user) p.rows; apps = apps' } in
           let active : apps'.table.active ≡ filter (λ (x : App). not (x.number == n)) p.apps.table.active = ap (λ (t : AppTable). t.active) e in
           let same : (flat_of q).settings.queues ≡ old.settings.queues = moved_settings K a.leaf a.user (one_application K) (nothing K) p.rows in
-          let stays : HoldsSame without_it (flat_of q) = record { live = refl; reserved = refl; apps = λ app node s. ap (λ (t : AppTable). Rattle.cap_model.proofs.Lessening.standing (find (λ (x : App). x.number == app) t.active)) e } in
+          let stays : HoldsSame without_it (flat_of q) = record { live = refl; reserved = refl; apps = λ app node s. ap (λ (t : AppTable). Rattle.cap_model.proofs.calls.Lessening.standing (find (λ (x : App). x.number == app) t.active)) e } in
           record {
             tied = tied_stays without_it (flat_of q) (record { counts = λ t. ap (count_of t) active; uses = same_use without_it (flat_of q) stays }) q.rows (tied_moved old without_it a.leaf a.user (one_application K) (nothing K) (leaves without_it old a.leaf a.user one_less) p.rows h.tied);
             placed =

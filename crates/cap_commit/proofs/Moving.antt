@@ -9,9 +9,9 @@ use Rattle.std.proofs.lemmas.Slice.Eq.{bytes_eq-Decides}
 use Rattle.cap_vector.specs.Vector.{amount, exchanged, zeros}
 use Rattle.cap_vector.proofs.AmountLemmas.{is_exchanged}
 use Rattle.cap_model.specs.Flat.{Flat, is_under}
-use Rattle.cap_model.proofs.Choosing.{IsIn}
-use Rattle.cap_model.proofs.Members.{each_of, one_where}
-use Rattle.cap_model.proofs.Tallies.{Test, count_of, used_by, length_used}
+use Rattle.cap_model.proofs.lists.Members.{IsIn, each_of}
+use Rattle.cap_model.proofs.lists.Sums.{one_where}
+use Rattle.cap_model.proofs.uses.Tallies.{Test, count_of, used_by, length_used}
 use Rattle.cap_tree.specs.Measure.{Measure}
 use Rattle.cap_tree.specs.Spot.{item_at}
 use Rattle.cap_tree.specs.Count.{Count, IsPart, count_moved, of_count, nothing, one_application, use_alone}

@@ -7,8 +7,8 @@ use Rattle.cap_model.specs.declared.news.Cause.{Cause}
 use Rattle.cap_model.specs.Flat.{Flat, Container}
 use Rattle.cap_model.specs.Ending.{named_among, after_ends}
 use Rattle.cap_model.specs.EngineLaws.{HasDistinctNumbers}
-use Rattle.cap_model.proofs.Choosing.{found}
-use Rattle.cap_model.proofs.EndsInOrder.{kept_if_passes, ends_none, then_found, then_none}
+use Rattle.cap_model.proofs.lists.Members.{found}
+use Rattle.cap_model.proofs.ending.EndsInOrder.{kept_if_passes, ends_none, then_found, then_none}
 
 -- what is found by a number is found by its own
 pub found_by_its_number : (live : List Container) (n : ℕ) (c : Container) → find (λ d. d.number == n) live ≡ Some c → find (λ d. d.number == c.number) live ≡ Some c

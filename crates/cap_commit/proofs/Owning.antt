@@ -7,10 +7,9 @@ use Rattle.cap_model.specs.Flat.{Flat, App, Container, app_at}
 use Rattle.cap_model.specs.declared.news.Cause.{Cause}
 use Rattle.cap_model.specs.Ending.{after_ends}
 use Rattle.cap_model.specs.FinishMaster.{containers_of}
-use Rattle.cap_model.proofs.Choosing.{IsIn, in_filter}
-use Rattle.cap_model.proofs.Lessening.{IsSite, change_stands, standing}
-use Rattle.cap_model.proofs.Moves.{ends_change}
-use Rattle.cap_model.proofs.Members.{each_of, of_each}
+use Rattle.cap_model.proofs.lists.Members.{IsIn, in_filter, each_of, of_each}
+use Rattle.cap_model.proofs.calls.Lessening.{IsSite, change_stands, standing}
+use Rattle.cap_model.proofs.calls.Moves.{ends_change}
 use Rattle.cap_asks.specs.Held.{Account}
 use Rattle.cap_asks.specs.Apps.{UsesRoom, live_of}
 

@@ -11,8 +11,8 @@ use Rattle.cap_model.specs.QueueCalls.{queue_report}
 use Rattle.cap_model.specs.Asking.{after_ask, rounded, keep_first, put_ask}
 use Rattle.cap_model.specs.Allocate.{after_telling}
 use Rattle.cap_model.specs.Bounds.{IsRising}
-use Rattle.cap_model.proofs.Choosing.{IsIn}
-use Rattle.cap_model.proofs.Members.{found_by_number}
+use Rattle.cap_model.proofs.lists.Members.{IsIn}
+use Rattle.cap_model.proofs.lists.Numbered.{found_by_number}
 use Rattle.cap_asks.specs.Apps.{with_app}
 use Rattle.cap_commit.specs.Held.{Parts, flat_of}
 

@@ -8,8 +8,7 @@ use Rattle.cap_model.specs.Settings.{QueueRow}
 use Rattle.cap_model.specs.Limits.{applications_max}
 use Rattle.cap_model.specs.Flat.{App, is_under}
 use Rattle.cap_model.specs.Bounds.{HasDistinctPaths}
-use Rattle.cap_model.proofs.Choosing.{IsIn}
-use Rattle.cap_model.proofs.Members.{each_of, in_map}
+use Rattle.cap_model.proofs.lists.Members.{IsIn, each_of, in_map}
 use Rattle.cap_tree.specs.Spot.{HoldsOfItem, IsPlace, item_at, path_at}
 use Rattle.cap_tree.specs.Rows.{Row, AreRows, IsAt, queues_of, settings_of_row, active_in}
 use Rattle.cap_tree.proofs.RowPaths.{at_place}

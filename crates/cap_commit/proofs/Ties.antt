@@ -5,8 +5,8 @@ use Rattle.std.specs.List.{All}
 use Rattle.cap_vector.specs.Vector.{amount}
 use Rattle.cap_vector.proofs.AmountLemmas.{amount-zeros}
 use Rattle.cap_model.specs.Flat.{Flat, is_under}
-use Rattle.cap_model.proofs.Members.{each_of, of_each, of_map}
-use Rattle.cap_model.proofs.Tallies.{Test, count_of, used_by}
+use Rattle.cap_model.proofs.lists.Members.{each_of, of_each, of_map}
+use Rattle.cap_model.proofs.uses.Tallies.{Test, count_of, used_by}
 use Rattle.cap_tree.specs.Measure.{Measure}
 use Rattle.cap_tree.specs.Queue.{Queue, UserRow, IsUnused, of_one, of_user, with_running}
 use Rattle.cap_tree.specs.Rows.{Row, changed_at, with_state}

@@ -10,7 +10,7 @@ use Rattle.cap_model.specs.Settings.{QueueRow, Settings}
 use Rattle.cap_model.specs.Flat.{is_under}
 use Rattle.cap_model.specs.Bounds.{depth}
 use Rattle.cap_model.specs.QueueCalls.{root_path}
-use Rattle.cap_model.proofs.Paths.{under_is, is_under_it}
+use Rattle.cap_model.proofs.paths.Paths.{under_is, is_under_it}
 use Rattle.cap_model.specs.Listing.{MayFollow, IsListed, IsListedFromRoot, IsListing}
 use Rattle.cap_model.specs.Limits.{factor_max}
 use Rattle.cap_config.specs.declared.entry.Entry.{Entry}

@@ -9,7 +9,7 @@ use Rattle.std.proofs.lemmas.List.Sums.{sum_by-cons, sum_by-append}
 use Rattle.std.proofs.lemmas.List.Folds.{list_any-append}
 use Rattle.std.proofs.lemmas.Slice.Eq.{bytes_eq-Decides}
 use Rattle.cap_model.specs.Settings.{QueueRow}
-use Rattle.cap_model.proofs.Paths.{IsUnder, before_dot, child_to, only_child}
+use Rattle.cap_model.proofs.paths.Paths.{IsUnder, before_dot, child_to, only_child}
 use Rattle.cap_config.specs.declared.entry.Entry.{Entry}
 use Rattle.cap_config.specs.Keys.{root, last_dot}
 use Rattle.cap_config.specs.Seen.{is_among}

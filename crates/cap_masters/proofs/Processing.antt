@@ -19,8 +19,8 @@ use Rattle.cap_model.specs.Ending.{after_ends, with_ends, named_among}
 use Rattle.cap_model.specs.Allocate.{allocate_refusal, is_repeated_allocate, is_too_large, has_too_many_keys, released_by, after_wishes, after_telling, after_allocate, kept_reply}
 use Rattle.cap_model.specs.Replies.{refused_or, reply_to, after_request}
 use Rattle.cap_model.specs.Replies as flat_replies
-use Rattle.cap_model.proofs.Members.{find_changed}
-use Rattle.cap_model.proofs.ContainerNumbers.{asks_keep}
+use Rattle.cap_model.proofs.lists.Numbered.{find_changed}
+use Rattle.cap_model.proofs.numbers.ContainerNumbers.{asks_keep}
 use Rattle.cap_commit.specs.Changes.{IsAt}
 use Rattle.cap_masters.specs.Processed.{after_processed, IsKept}
 
@@ -128,7 +128,7 @@ module _ {K : ℕ} where
       let there = still_at old mid n id (ends_leave Cause.Released (released_by old n releases) (after_asks n asks old) n ∙ asks_leave n asks old n) at in
       let found : app_at (with_app n f mid) n ≡ Some (change (there.0)) =
       find_changed (λ (a : App). a.number) change (λ a. same_if (a.number == n) (λ (x : App). x.number) (f a) a refl) n mid.apps.active ∙ ap (option_map change) (there.1) in
-      let number : (there.0).number == n ≡ true = (Rattle.cap_model.proofs.Choosing.found (λ (a : App). a.number == n) mid.apps.active (there.0) (there.1)).1 in
+      let number : (there.0).number == n ≡ true = (Rattle.cap_model.proofs.lists.Members.found (λ (a : App). a.number == n) mid.apps.active (there.0) (there.1)).1 in
       let kept : (change (there.0)).kept ≡ (f (there.0)).kept = ap (λ b. (if b then f (there.0) else there.0).kept) number in
       subst IsSome (sym (ap (option_and_then (λ (a : App). a.kept)) found ∙ kept)) refl
 

@@ -7,7 +7,7 @@ use Rattle.std.specs.Map.{lookup, remove_entry, values_of}
 use Rattle.cap_model.specs.Limits.{live_max}
 use Rattle.cap_model.specs.Bounds.{IsRising}
 use Rattle.cap_model.specs.Flat.{Container}
-use Rattle.cap_model.proofs.Members.{rising_kept, rising_more}
+use Rattle.cap_model.proofs.lists.Numbered.{rising_kept, rising_more}
 use Rattle.cap_nodes.specs.Places.{tagged, IsLive}
 use Rattle.cap_nodes.proofs.Numbered.{remove-tagged, insert-tagged, same_place, lookup-tagged, none_at_end, values-tagged, length-kept}
 

@@ -12,7 +12,7 @@ use Rattle.cap_vector.specs.Vector.{amount, plus, less, zeros, Fits}
 use Rattle.cap_vector.proofs.AmountLemmas.{amount-plus, amount-less, length-less}
 use Rattle.cap_model.specs.Amounts.{sum_where, part}
 use Rattle.cap_model.specs.Bounds.{IsRising}
-use Rattle.cap_model.proofs.Measures.{amount_of}
+use Rattle.cap_model.proofs.uses.Measures.{amount_of}
 use Rattle.cap_nodes.proofs.Numbered.{not_later}
 
 module _ {X : Type 0} (num : X → ℕ) where

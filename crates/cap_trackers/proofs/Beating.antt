@@ -17,10 +17,11 @@ use Rattle.cap_model.specs.Ending.{is_among, after_ends}
 use Rattle.cap_model.specs.Heartbeat.{heartbeat_refusal, is_repeated_heartbeat, containers_on, ended_by, beat_of, after_processed_heartbeat, after_heartbeat}
 use Rattle.cap_model.specs.EngineLaws.{HasDistinctNumbers}
 use Rattle.cap_model.specs.Replies.{reply_to, after_request}
-use Rattle.cap_model.proofs.Choosing.{IsIn, found}
-use Rattle.cap_model.proofs.Members.{rising_kept, found_by_number, find_changed}
-use Rattle.cap_model.proofs.Balance.{filter_same, filter_twice, filter_whole, among_itself}
-use Rattle.cap_model.proofs.NamedEnds.{is_named, count_named, among_named}
+use Rattle.cap_model.proofs.lists.Members.{IsIn, found}
+use Rattle.cap_model.proofs.lists.Numbered.{rising_kept, found_by_number, find_changed}
+use Rattle.cap_model.proofs.lists.Filters.{filter_same, filter_twice, filter_whole}
+use Rattle.cap_model.proofs.numbers.Balance.{among_itself}
+use Rattle.cap_model.proofs.ending.NamedEnds.{is_named, count_named, among_named}
 use Rattle.cap_trackers.specs.Beats.{IsKept, kept_beat}
 use Rattle.cap_nodes.specs.Tables.{node_in}
 use Rattle.cap_trackers.proofs.Answering.{granted_is, refused_is}

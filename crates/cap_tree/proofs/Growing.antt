@@ -13,9 +13,8 @@ use Rattle.cap_model.specs.Bounds.{HasDistinctPaths, has_path, depth}
 use Rattle.cap_model.specs.Listing.{IsListed, IsListing}
 use Rattle.cap_model.specs.Limits.{depth_max}
 use Rattle.cap_model.specs.QueueCalls.{root_path}
-use Rattle.cap_model.proofs.Choosing.{IsIn, in_right, in_either}
-use Rattle.cap_model.proofs.Members.{each_of, of_each, in_map}
-use Rattle.cap_model.proofs.Paths.{IsUnder, under_is, is_under_it}
+use Rattle.cap_model.proofs.lists.Members.{IsIn, in_right, in_either, each_of, of_each, in_map}
+use Rattle.cap_model.proofs.paths.Paths.{IsUnder, under_is, is_under_it}
 use Rattle.cap_tree.specs.Spot.{leads_to, path_at, last_place, IsAddedAt, IsAdded}
 use Rattle.cap_vector.specs.Vector.{amount, zeros}
 use Rattle.cap_tree.specs.Measure.{Measure}

@@ -5,7 +5,7 @@ use Rattle.cap_model.specs.EngineLaws.{HasDistinctNumbers}
 use Rattle.cap_model.specs.Limits.{live_max}
 use Rattle.cap_commit.specs.Held.{Held}
 use Rattle.cap_commit.specs.Owners.{owns, owned}
-use Rattle.cap_model.proofs.Drains.{none_gone, next_found, one_gone, gone_and_left, few_gone, all_gone, ends_drain, none_passes}
+use Rattle.cap_model.proofs.ending.Drains.{none_gone, next_found, one_gone, gone_and_left, few_gone, all_gone, ends_drain, none_passes}
 use Rattle.cap_commit.proofs.Sizes.{cluster_fits}
 use Rattle.cap_commit.proofs.cluster.Cluster.end_all.Goals as goal
 

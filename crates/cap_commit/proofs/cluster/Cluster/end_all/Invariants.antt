@@ -1,7 +1,7 @@
 use Rattle.std.proofs.Common.{length}
 use Rattle.cap_model.specs.Ending.{after_ends}
 use Rattle.cap_commit.specs.Owners.{owns, owned}
-use Rattle.cap_model.proofs.Drains.{IsDraining, ends_drain}
+use Rattle.cap_model.proofs.ending.Drains.{IsDraining, ends_drain}
 use Rattle.cap_commit.proofs.cluster.Cluster.end_all.Given as goal
 
 abbrev pub invariant-loop-container : goal.invariant-loop-container

@@ -1,0 +1,4 @@
+-- Numbers of containers, applications and nodes, each used once; what lives and what has ended.
+pub mod Balance
+pub mod ContainerNumbers
+pub mod UsedNumbers
