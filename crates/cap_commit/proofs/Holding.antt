@@ -27,6 +27,7 @@ use Rattle.cap_model.proofs.calls.Moves.{KeepsApp, AppsChange, only_app}
 use Rattle.cap_model.proofs.calls.Registering.{may_enter}
 use Rattle.cap_model.proofs.bounds.Formed.{unrefused_leaf}
 use Rattle.cap_model.proofs.uses.Tallies.{HoldsSame, count_of, count_changed, same_use, change_holds, coming_holds, going_holds}
+use Rattle.cap_model.proofs.lists.Tests.{kept_if}
 use Rattle.cap_tree.specs.Measure.{Measure}
 use Rattle.cap_tree.specs.Queue.{IsUnused, MayLeave}
 use Rattle.cap_vector.proofs.AmountLemmas.{amount-zeros}
@@ -41,7 +42,7 @@ use Rattle.cap_commit.proofs.Owning.{IsOwned, count_for, live_kept, none_left, n
 use Rattle.cap_commit.proofs.RowsAt.{row_at, still_at}
 use Rattle.cap_commit.proofs.Parts.{fewer}
 use Rattle.cap_commit.proofs.Moving.{HasOneMore, enters, leaves, may_leave, moved_settings, moved_stays, tied_moved}
-use Rattle.cap_commit.proofs.Ties.{of_user_in, state_path, state_place, unused_tied, tied_stays, tied_state}
+use Rattle.cap_commit.proofs.Ties.{of_user_in, unused_tied, tied_stays, tied_state}
 
 -- a change of the queues that keeps their paths keeps which of them are leaves
 pub leaf_kept : (f : QueueRow → QueueRow) (p : (q : QueueRow) → (f q).path ≡ q.path) → {K : ℕ} (old new : Flat K) (path : List ℕ) → new.settings.queues ≡ map f old.settings.queues → IsLeaf old path → IsLeaf new path
@@ -166,7 +167,7 @@ module _ {K : ℕ} where
               of_each (IsPlaced q) p.apps.table.active
               (λ a m.
               still_placed p q (λ x l. leaf_kept (set_running path running) (Rattle.cap_tree.proofs.Listings.same_path path running) old (flat_of q) x (state_in_settings path running p.rows) l)
-              (λ x position at. still_at (with_state path running) (λ r. state_place path running r) (λ r. state_path path running r) p.rows x position at) a a refl refl refl
+              (λ x position at. still_at (with_state path running) (λ r. kept_if (bytes_eq r.path path) (λ (x : Row). x.place) _ r refl) (λ r. kept_if (bytes_eq r.path path) (λ (x : Row). x.path) _ r refl) p.rows x position at) a a refl refl refl
               (each_of (IsPlaced p) p.apps.table.active h.placed a m));
           counted = h.counted;
           owned = owned_stands old (flat_of q) (λ n. refl) (λ c i. i) h.owned;

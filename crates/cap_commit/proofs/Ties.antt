@@ -68,20 +68,6 @@ tied_state cluster path running rows a =
     by r true h = record { active = h.active; used = h.used; users = h.users; single = h.single }
     by r false h = h
 
-pub state_place : (path : List ℕ) (running : Bool) (r : Row) → (with_state path running r).place ≡ r.place
-state_place path running r = by (bytes_eq r.path path)
-  where
-    by : (b : Bool) → (if b then record r { item = with_running running r.item } else r).place ≡ r.place
-    by true = refl
-    by false = refl
-
-pub state_path : (path : List ℕ) (running : Bool) (r : Row) → (with_state path running r).path ≡ r.path
-state_path path running r = by (bytes_eq r.path path)
-  where
-    by : (b : Bool) → (if b then record r { item = with_running running r.item } else r).path ≡ r.path
-    by true = refl
-    by false = refl
-
 -- a change at the leaf of a path and at the queues above it
 pub changed_row : (above at : Queue → Queue) (leaf : List ℕ) (Q : Row → Type 0) (r : Row) → (bytes_eq r.path leaf ≡ true → Q (record r { item = at r.item })) →
     (bytes_eq r.path leaf ≡ false → is_under r.path leaf ≡ true → Q (record r { item = above r.item })) → (bytes_eq r.path leaf ≡ false → is_under r.path leaf ≡ false → Q r) → Q (changed_at above at leaf r)

@@ -21,6 +21,7 @@ use Rattle.cap_model.specs.Replies.{refused_or, reply_to, after_request}
 use Rattle.cap_model.specs.Replies as flat_replies
 use Rattle.cap_model.proofs.lists.Numbered.{find_changed}
 use Rattle.cap_model.proofs.numbers.ContainerNumbers.{asks_keep}
+use Rattle.cap_model.proofs.lists.Tests.{first_holds}
 use Rattle.cap_commit.specs.Changes.{IsAt}
 use Rattle.cap_masters.specs.Processed.{after_processed, IsKept}
 
@@ -31,11 +32,6 @@ kept_by f r (Some a) = ap (λ n. Some n) (r a)
 same_if : {B : Type 0} (b : Bool) (g : App → B) (x y : App) → g x ≡ g y → g (if b then x else y) ≡ g y
 same_if true g x y e = e
 same_if false g x y e = refl
-
-or_parts : (a b : Bool) → not (a || b) ≡ false → b ≡ false → a ≡ true
-or_parts true b e f = refl
-or_parts false true e f = absurd (cc f)
-or_parts false false e f = absurd (cc e)
 
 none_of_five : {A : Type 0} (a b c d e : Bool) (p q r s t : A) → earliest ((a, p) ∷ (b, q) ∷ (c, r) ∷ (d, s) ∷ (e, t) ∷ []) ≡ None → (a ≡ false) × (c ≡ false)
 none_of_five true b c d e p q r s t h = absurd (cc h)
@@ -117,7 +113,7 @@ module _ {K : ℕ} where
     where
       by : (o : Option App) → app_at cluster n ≡ o → is_none o ≡ false → holds_of (λ (a : App). is_bad_id a.response a.kept id) o ≡ false → holds_of (λ (a : App). is_repeated a.response a.kept id) o ≡ false → IsAt cluster n id
       by None g a b c = absurd (cc a)
-      by (Some x) g a b c = (x, g, (let same = or_parts (is_current x.response id) (is_repeated x.response x.kept id) b c in grind (arith, nat_tests, same)))
+      by (Some x) g a b c = (x, g, (let same = first_holds (is_current x.response id) (is_repeated x.response x.kept id) b c in grind (arith, nat_tests, same)))
 
   -- the application keeps a reply afterwards
   pub kept_after : (old : Flat K) (n id : ℕ) (asks : List Ask) (releases : List ℕ) → IsAt old n id → IsKept (after_processed n id asks releases old) n

@@ -8,8 +8,9 @@ use Rattle.cap_model.specs.Limits.{live_max}
 use Rattle.cap_model.specs.Bounds.{IsRising}
 use Rattle.cap_model.specs.Flat.{Container}
 use Rattle.cap_model.proofs.lists.Numbered.{rising_kept, rising_more}
+use Rattle.cap_model.proofs.lists.Filters.{length-kept}
 use Rattle.cap_nodes.specs.Places.{tagged, IsLive}
-use Rattle.cap_nodes.proofs.Numbered.{remove-tagged, insert-tagged, same_place, lookup-tagged, none_at_end, values-tagged, length-kept}
+use Rattle.cap_nodes.proofs.Numbered.{remove-tagged, insert-tagged, same_place, lookup-tagged, none_at_end, values-tagged}
 
 pub found : (entries : List (ℕ × Container)) (next n : ℕ) → IsLive entries next → lookup (is_at (nat_cmp n)) entries ≡ find (λ c. c.number == n) (values_of entries)
 found entries next n h = ap (lookup (is_at (nat_cmp n))) h.0 ∙ lookup-tagged (λ (c : Container). c.number) (is_at (nat_cmp n)) n (same_place n) (values_of entries)

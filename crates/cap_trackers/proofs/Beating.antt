@@ -19,9 +19,10 @@ use Rattle.cap_model.specs.EngineLaws.{HasDistinctNumbers}
 use Rattle.cap_model.specs.Replies.{reply_to, after_request}
 use Rattle.cap_model.proofs.lists.Members.{IsIn, found}
 use Rattle.cap_model.proofs.lists.Numbered.{rising_kept, found_by_number, find_changed}
-use Rattle.cap_model.proofs.lists.Filters.{filter_same, filter_twice, filter_whole}
+use Rattle.cap_model.proofs.lists.Filters.{filter_same, filter_twice, filter_whole, map_same}
 use Rattle.cap_model.proofs.numbers.Balance.{among_itself}
 use Rattle.cap_model.proofs.ending.NamedEnds.{is_named, count_named, among_named}
+use Rattle.cap_model.proofs.lists.Tests.{and_true, first_holds}
 use Rattle.cap_trackers.specs.Beats.{IsKept, kept_beat}
 use Rattle.cap_nodes.specs.Tables.{node_in}
 use Rattle.cap_trackers.proofs.Answering.{granted_is, refused_is}
@@ -33,10 +34,6 @@ beaten ignored live node = record node {
   kept = Some (record { response = next_response node.response; ignored = ignored; live = live });
 }
 
-and_true : (b : Bool) → b && true ≡ b
-and_true true = refl
-and_true false = refl
-
 turn : (a b : Bool) → cond (not a) b false ≡ cond b (not a) false
 turn true true = refl
 turn true false = refl
@@ -46,10 +43,6 @@ turn false false = refl
 counted : (xs : List Container) → length xs ≡ count_by (λ c. true) xs
 counted xs = ap length (sym (filter_whole (λ c. true) xs (λ c m. refl))) ∙ length-filter (λ c. true) xs
 
-map_same : {A B : Type 0} (f g : A → B) (xs : List A) → ((x : A) → IsIn x xs → f x ≡ g x) → map f xs ≡ map g xs
-map_same f g [] e = refl
-map_same f g (x ∷ xs) e = λ i. e x (inl refl) i ∷ map_same f g xs (λ y m. e y (inr m)) i
-
 first_false : (a b : Bool) → a && b ≡ true → a ≡ true
 first_false true b e = refl
 first_false false b e = absurd (cc e)
@@ -57,11 +50,6 @@ first_false false b e = absurd (cc e)
 is_not_bad : (b : Bool) → earliest ((b, Refusal.BadResponseId) ∷ (false, Refusal.UnknownNode) ∷ []) ≡ None → b ≡ false
 is_not_bad true e = absurd (cc e)
 is_not_bad false e = refl
-
-is_current_one : (a b : Bool) → not (a || b) ≡ false → b ≡ false → a ≡ true
-is_current_one true b e f = refl
-is_current_one false true e f = absurd (cc f)
-is_current_one false false e f = absurd (cc e)
 
 module _ {K : ℕ} (cluster : Flat K) (n : ℕ) where
   -- a node that was present keeps a reply when it has answered
@@ -121,7 +109,7 @@ module _ {K : ℕ} (cluster : Flat K) (n id : ℕ) where
   answered_last none fresh x e =
       let good : is_bad_id x.response x.kept id ≡ false = is_not_bad (is_bad_id x.response x.kept id) (rw e at none) in
       let new : is_repeated x.response x.kept id ≡ false = rw e at fresh in
-      let current : id == x.response ≡ true = is_current_one (is_current x.response id) (is_repeated x.response x.kept id) good new in
+      let current : id == x.response ≡ true = first_holds (is_current x.response id) (is_repeated x.response x.kept id) good new in
       grind (arith, nat_tests, current)
 
   module _ (ended : List ℕ) where

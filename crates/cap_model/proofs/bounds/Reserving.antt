@@ -18,7 +18,7 @@ use Rattle.cap_model.proofs.lists.Parts.{IsPart, part_in, part_sum, part_keep_fi
 use Rattle.cap_model.proofs.lists.Numbered.{find_changed}
 use Rattle.cap_model.proofs.calls.Lessening.{capacity}
 use Rattle.cap_model.proofs.bounds.Growing.{in_sum}
-use Rattle.cap_model.proofs.calls.KeptAsks.{same_key_is, same_key_itself, kept_few, put_is_found, others_are_found}
+use Rattle.cap_model.proofs.calls.KeptAsks.{same_key_is, same_key_itself, kept_few, put_is_found, others_are_found, not_same_other}
 
 -- the asks of an application
 abbrev pub asking : Option App → Option (List Ask)
@@ -83,13 +83,6 @@ same_capacity resource None (Some x) e = absurd (cc e)
 same_capacity resource (Some x) None e = absurd (cc e)
 same_capacity resource (Some x) (Some y) e = ap (λ o. fits resource (Rattle.std.specs.Prelude.unwrap_or o [])) e
 
-pub same_key_other : (a b : Key) → same_key a b ≡ false → same_key b a ≡ false
-same_key_other a b e = by (cases_Bool (same_key b a))
-  where
-    by : ((same_key b a ≡ true) ⊎ (same_key b a ≡ false)) → same_key b a ≡ false
-    by (inl h) = let no : same_key b b ≡ false = ap (λ k. same_key k b) (same_key_is b a h) ∙ e in absurd (cc (no, same_key_itself b))
-    by (inr h) = h
-
 -- what a test of an application and a key says
 pub record IsForIt (n : ℕ) (k : Key) (r : Reservation) : Type 0 where
   pub app : r.app ≡ n
@@ -130,7 +123,7 @@ other_stays n ask app m k e h = by (app.number == n) refl
     by true g =
         let here : m == n ≡ true = grind (arith, nat_tests, e, g) in
         let no : same_key k ask.key ≡ false = ap (λ b. b && same_key k ask.key) (sym here) ∙ h in
-        others_are_found k ask app.asks (same_key_other k ask.key no)
+        others_are_found k ask app.asks (not_same_other k ask.key no)
     by false g = refl
 
 module _ {K : ℕ} where

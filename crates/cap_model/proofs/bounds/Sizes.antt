@@ -31,9 +31,7 @@ use Rattle.cap_model.proofs.calls.Moves.{AppsMove, call_moves}
 use Rattle.cap_model.proofs.calls.Lessening.{asked}
 use Rattle.cap_model.proofs.uses.Measures.{amount_of, amount_past}
 use Rattle.cap_model.proofs.bounds.Formed.{after_call}
-
-few_kept : {A : Type 0} (t : A → Bool) (xs : List A) → length (filter t xs) ≤ length xs
-few_kept t xs = omega (arith, length-filter t xs, count_by-le-length t xs)
+use Rattle.cap_model.proofs.lists.Filters.{length-kept}
 
 -- what some nodes have together
 abbrev together : ℕ → List ClusterNode → ℕ → ℕ
@@ -120,7 +118,7 @@ module _ {K : ℕ} where
         let b = a.totals k h in
         let p = part_sum (λ (x : ClusterNode). amount x.total k) old.nodes.present (filter (λ x. not (x.number == m)) old.nodes.present) (part_filter (λ x. not (x.number == m)) old.nodes.present) in
         omega (arith, b, p);
-    few = (let b = a.few in let l = few_kept (λ (x : ClusterNode). not (x.number == m)) old.nodes.present in omega (arith, b, l));
+    few = (let b = a.few in let l = length-kept (λ (x : ClusterNode). not (x.number == m)) old.nodes.present in omega (arith, b, l));
     numbers = a.numbers;
   }
   call_nodes old _ e a = a
@@ -148,7 +146,7 @@ module _ {K : ℕ} where
       let new = granted_cluster old request in
       let a = call_nodes old request e (nodes_of old s) in
       let t = call_thins old request in
-      let few = few_kept t.test old.nodes.live in
+      let few = length-kept t.test old.nodes.live in
       let same : length new.nodes.live ≡ length (filter t.test old.nodes.live) = ap length t.live in
       let before = s.live in
       let next = t.next in

@@ -14,14 +14,11 @@ use Rattle.cap_model.specs.EngineLaws.{ReasonsAreInOrder}
 use Rattle.cap_model.specs.BoundLaws.{WantedIsSeen}
 use Rattle.cap_model.proofs.lists.Members.{IsIn, found, each_of}
 use Rattle.cap_model.proofs.lists.Tests.{or_left, or_right, value_of}
-use Rattle.cap_model.proofs.lists.Sums.{sum_by_map, sum_of_zeros, one_where, sum_of_two}
+use Rattle.cap_model.proofs.lists.Sums.{sum_by_map, sum_of_zeros, one_where, sum_of_two, sum_by_same}
 use Rattle.cap_model.proofs.bounds.Growing.{in_sum}
 use Rattle.cap_model.proofs.choice.Proposers.{IsSeen}
 use Rattle.std.proofs.lemmas.Bool.{cases_Bool}
 use Rattle.cap_model.proofs.calls.KeptAsks.{same_key_is}
-
-same_sums : {A : Type 0} (f g : A → ℕ) (xs : List A) → ((x : A) → f x ≡ g x) → sum_by f xs ≡ sum_by g xs
-same_sums f g xs e = λ i. sum_by (λ x. e x i) xs
 
 -- nobody else is on the node of one of them
 pub none_there : (n m : ℕ) (rs : List Reservation) → list_any (λ (s : Reservation). n == s.node) rs ≡ false → n == m ≡ true → find (λ (s : Reservation). s.node == m) rs ≡ None
@@ -43,7 +40,7 @@ on_nodes t nodes (r ∷ rs) a at =
     let held : ClusterNode → ℕ = λ x. one_where (holds_of t (find (λ (s : Reservation). s.node == x.number) rs)) in
     let this : ClusterNode → ℕ = λ x. one_where (r.node == x.number && t r) in
     let both : count_by (λ (x : ClusterNode). holds_of t (find (λ (s : Reservation). s.node == x.number) (r ∷ rs))) nodes ≡ sum_by (λ x. held x + this x) nodes =
-    same_sums (λ (x : ClusterNode). one_where (holds_of t (find (λ (s : Reservation). s.node == x.number) (r ∷ rs)))) (λ x. held x + this x) nodes
+    sum_by_same (λ (x : ClusterNode). one_where (holds_of t (find (λ (s : Reservation). s.node == x.number) (r ∷ rs)))) (λ x. held x + this x) nodes
     (λ x. here_or_later t r (r.node == x.number) (find (λ (s : Reservation). s.node == x.number) rs) (none_there r.node x.number rs a.0)) in
     let two = sum_of_two held this nodes in
     let w = at r (inl refl) in
@@ -127,7 +124,7 @@ nodes_on t nodes high (r ∷ rs) rise a =
     let held : ClusterNode → ℕ = λ x. one_where (holds_of t (find (λ (s : Reservation). s.node == x.number) rs)) in
     let this : ClusterNode → ℕ = λ x. one_where (r.node == x.number && t r) in
     let both : count_by (λ (x : ClusterNode). holds_of t (find (λ (s : Reservation). s.node == x.number) (r ∷ rs))) nodes ≡ sum_by (λ x. held x + this x) nodes =
-    same_sums (λ (x : ClusterNode). one_where (holds_of t (find (λ (s : Reservation). s.node == x.number) (r ∷ rs)))) (λ x. held x + this x) nodes
+    sum_by_same (λ (x : ClusterNode). one_where (holds_of t (find (λ (s : Reservation). s.node == x.number) (r ∷ rs)))) (λ x. held x + this x) nodes
     (λ x. here_or_later t r (r.node == x.number) (find (λ (s : Reservation). s.node == x.number) rs) (none_there r.node x.number rs a.0)) in
     let two = sum_of_two held this nodes in
     let few : sum_by this nodes ≤ one_where (t r) = few_hold t r nodes high rise in

@@ -10,8 +10,8 @@ use Rattle.cap_model.specs.Flat.{ask_at}
 use Rattle.cap_model.specs.Asking.{without_key, with_ask, put_ask, keep_first}
 use Rattle.cap_model.specs.Events.{take_one}
 use Rattle.cap_model.proofs.lists.Members.{IsIn, of_filter, found}
-use Rattle.std.proofs.lemmas.Bool.{and_parts, cases_Bool, and_from}
-use Rattle.cap_model.proofs.lists.Tests.{not_true}
+use Rattle.cap_model.proofs.lists.Tests.{first_is}
+use Rattle.std.proofs.lemmas.Bool.{and_parts, cases_Bool, and_from, not-true}
 
 pub same_key_is : (a b : Key) → same_key a b ≡ true → a ≡ b
 same_key_is a b h =
@@ -24,6 +24,9 @@ pub same_key_itself : (a : Key) → same_key a a ≡ true
 same_key_itself a = and_from (a.priority == a.priority) (a.request == a.request) (grind (arith, nat_tests)) (grind (arith, nat_tests))
 
 -- keys of which one is another's but not a third's
+pub not_same_other : (a b : Key) → same_key a b ≡ false → same_key b a ≡ false
+not_same_other a b h = grind (arith, nat_tests, h)
+
 pub other_key : (a b c : Key) → same_key a b ≡ true → same_key b c ≡ false → same_key a c ≡ false
 other_key a b c h g = ap (λ x. same_key x c) (same_key_is a b h) ∙ g
 
@@ -83,7 +86,7 @@ other_without key gone (x ∷ xs) e = by (same_key x.key gone) refl (other_witho
 pub put_is_found : (ask : Ask) (xs : List Ask) → ask.count == 0 ≡ false → ask_at ask.key (put_ask ask xs) ≡ Some ask
 put_is_found ask xs e =
     ap (λ b. ask_at ask.key (cond b (without_key ask.key xs) (with_ask ask (without_key ask.key xs)))) e
-    ∙ found_with ask (without_key ask.key xs) (λ x m. not_true (same_key x.key ask.key) (of_filter (λ (y : Ask). not (same_key y.key ask.key)) xs x m).0)
+    ∙ found_with ask (without_key ask.key xs) (λ x m. not-true (same_key x.key ask.key) (of_filter (λ (y : Ask). not (same_key y.key ask.key)) xs x m).0)
 
 pub others_are_found : (key : Key) (ask : Ask) (xs : List Ask) → same_key ask.key key ≡ false → ask_at key (put_ask ask xs) ≡ ask_at key xs
 others_are_found key ask xs e = by (ask.count == 0)
@@ -113,10 +116,6 @@ passed_over key false x xs e = refl
 
 stays_first : (key : Key) (x : Ask) (xs : List Ask) → same_key x.key key ≡ true → x.count == 0 ≡ false → ask_at key (cond (not (x.count == 0)) (x ∷ xs) xs) ≡ Some x
 stays_first key x xs e f = ap (λ b. ask_at key (cond (not b) (x ∷ xs) xs)) f ∙ ap (λ c. cond c (Some x) (ask_at key xs)) e
-
-first_is : (b : Bool) (x y : Ask) (o : Option Ask) → b ≡ true → cond b (Some x) o ≡ Some y → x ≡ y
-first_is true x y o e f = ap (λ p. Rattle.std.specs.Prelude.unwrap_or p x) f
-first_is false x y o e f = absurd (cc e)
 
 rest_is : (b : Bool) (x y : Ask) (o : Option Ask) → b ≡ false → cond b (Some x) o ≡ Some y → o ≡ Some y
 rest_is true x y o e f = absurd (cc e)

@@ -2,6 +2,7 @@
 use Rattle.std.proofs.Common.{◌≡◌, ℕ, Bool, true, false, List, [], ◌∷◌, refl, sym, ◌∙◌, ap, subst, inl, inr, arith}
 use Rattle.std.specs.Prelude.{◌⊎◌, Option, Some, None, IsSome, cond, not, ◌&&◌, ◌==◌, ◌-◌, filter, find, option_map, if◌then◌else◌}
 use Rattle.std.proofs.lemmas.Bool.Decides.{nat_tests}
+use Rattle.std.proofs.lemmas.Bool.{not-true}
 use Rattle.cap_model.specs.Asks.{Ask}
 use Rattle.cap_model.specs.declared.request.Request.{Request}
 use Rattle.cap_model.specs.declared.news.Cause.{Cause}
@@ -18,7 +19,7 @@ use Rattle.cap_model.proofs.numbers.ContainerNumbers.{IsThinned, call_thins, thi
 use Rattle.cap_model.proofs.numbers.Balance.{among_itself}
 use Rattle.cap_model.proofs.lists.Parts.{IsPart, part_itself, part_filter, part_in, part_of_part, part_keep_first}
 use Rattle.cap_model.proofs.lists.Numbered.{find_changed, find_others, find_with_more}
-use Rattle.cap_model.proofs.lists.Tests.{not_true, kept_if}
+use Rattle.cap_model.proofs.lists.Tests.{kept_if}
 use Rattle.cap_model.proofs.calls.Moves.{AppsChange, allocate_change, ends_change, one_change, no_change}
 
 -- the leaf queue and the user of an application, and the total of a node
@@ -126,12 +127,12 @@ module _ {K : ℕ} where
   pub gone_app : (old : Flat K) (m app node : ℕ) → IsSite (granted_cluster old (Request.FinishMaster m)) app node → m == app ≡ false
   gone_app old m app node (inl (c, g, a, e)) = let other : c.app == m ≡ false = not_among (λ (d : Container). d.app == m) old.nodes.live c g in grind (arith, nat_tests, other, a)
   gone_app old m app node (inr (r, g, a, e)) =
-      let other : r.app == m ≡ false = not_true (r.app == m) (of_filter (λ (x : Reservation). not (x.app == m)) old.nodes.reserved r g).0 in grind (arith, nat_tests, other, a)
+      let other : r.app == m ≡ false = not-true (r.app == m) (of_filter (λ (x : Reservation). not (x.app == m)) old.nodes.reserved r g).0 in grind (arith, nat_tests, other, a)
 
   gone_node : (old : Flat K) (m app node : ℕ) → IsSite (granted_cluster old (Request.NodeGone m)) app node → m == node ≡ false
   gone_node old m app node (inl (c, g, a, e)) = let other : c.node == m ≡ false = not_among (λ (d : Container). d.node == m) old.nodes.live c g in grind (arith, nat_tests, other, e)
   gone_node old m app node (inr (r, g, a, e)) =
-      let other : r.node == m ≡ false = not_true (r.node == m) (of_filter (λ (x : Reservation). not (x.node == m)) old.nodes.reserved r g).0 in grind (arith, nat_tests, other, e)
+      let other : r.node == m ≡ false = not-true (r.node == m) (of_filter (λ (x : Reservation). not (x.node == m)) old.nodes.reserved r g).0 in grind (arith, nat_tests, other, e)
 
   beat_less : (old : Flat K) (n id : ℕ) (ended : List ℕ) → IsThinned old (after_processed_heartbeat old n id ended) → IsLessened old (after_processed_heartbeat old n id ended)
   beat_less old n id ended t = record {

@@ -1,6 +1,7 @@
 -- The live containers that pass a test end one after the other, in order of number.
 use Rattle.std.proofs.Common.{◌≡◌, ℕ, ◌+◌, ◌<◌, Bool, true, false, List, [], ◌∷◌, ◌++◌, refl, sym, ◌∙◌, ap, inl, inr, arith}
 use Rattle.std.specs.Prelude.{Some, None, cond, not, ◌&&◌, nat_lt, filter, find}
+use Rattle.std.proofs.lemmas.Bool.{and_parts, not-true}
 use Rattle.std.proofs.lemmas.Bool.Decides.{nat_tests}
 use Rattle.std.proofs.lemmas.List.{append_assoc, append-nil}
 use Rattle.cap_model.specs.Flat.{Container}
@@ -47,10 +48,6 @@ module _ (t : Container → Bool) where
       by false q f (inl s) rest = absurd (cc (p, q, ap t s))
       by false q f (inr s) rest = rest f s
 
-  not_is : (b : Bool) → not b ≡ true → b ≡ false
-  not_is true e = absurd (cc e)
-  not_is false e = refl
-
   pub drain_step : (all gone live : List Container) (after next : ℕ) (c : Container) → IsDrained t all gone live after next → find (λ d. t d && nat_lt after d.number) live ≡ Some c →
       IsDrained t all (gone ++ c ∷ []) (filter (λ d. not (is_among (c ∷ []) d)) live) c.number next
   drain_step all gone live after next c h e =
@@ -58,7 +55,7 @@ module _ (t : Container → Bool) where
       let rest = filter t (filter (λ d. not (is_among (c ∷ []) d)) live) in
       record {
         split = h.split ∙ ap (λ cs. gone ++ cs) (first_passes t 1 live next c h.rising first) ∙ sym (append_assoc gone (c ∷ []) rest);
-        above = λ d m p. (let o = of_filter (λ x. not (is_among (c ∷ []) x)) live d m in later_above 1 live next c h.rising first d o.1 p (not_is (is_among (c ∷ []) d) o.0));
+        above = λ d m p. (let o = of_filter (λ x. not (is_among (c ∷ []) x)) live d m in later_above 1 live next c h.rising first d o.1 p (not-true (is_among (c ∷ []) d) o.0));
         rising = rising_kept (λ (z : Container). z.number) (λ d. not (is_among (c ∷ []) d)) 1 live next h.rising;
       }
 
@@ -71,8 +68,4 @@ module _ (t : Container → Bool) where
   pub drained_found : (after : ℕ) (live : List Container) (c : Container) → find (λ d. t d && nat_lt after d.number) live ≡ Some c → IsIn c live × (t c ≡ true)
   drained_found after live c e =
       let f = found (λ (d : Container). t d && nat_lt after d.number) live c e in
-      (f.0, both (t c) (nat_lt after c.number) f.1)
-    where
-      both : (a b : Bool) → a && b ≡ true → a ≡ true
-      both true b h = refl
-      both false b h = absurd (cc h)
+      (f.0, (and_parts (t c) (nat_lt after c.number) f.1).0)

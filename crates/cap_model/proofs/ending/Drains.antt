@@ -1,6 +1,7 @@
 -- A cluster in which the live containers that pass a test go one after the other, in order of number.
 use Rattle.std.proofs.Common.{◌≡◌, ℕ, ◌+◌, ◌≤◌, Bool, true, false, List, [], ◌∷◌, ◌++◌, length, length-append, refl, sym, ◌∙◌, ap, subst, arith}
 use Rattle.std.specs.Prelude.{Some, None, not, ◌==◌, ◌&&◌, nat_lt, filter, find}
+use Rattle.std.proofs.lemmas.Bool.{not-true}
 use Rattle.std.proofs.lemmas.List.Sums.{length-filter, count_by-le-length}
 use Rattle.cap_model.specs.declared.news.Cause.{Cause}
 use Rattle.cap_model.specs.Flat.{Flat, Container}
@@ -10,33 +11,21 @@ use Rattle.cap_model.proofs.numbers.Balance.{among_some}
 use Rattle.cap_model.proofs.lists.Filters.{filter_none}
 use Rattle.cap_model.proofs.lists.Members.{of_filter, found}
 use Rattle.cap_model.proofs.ending.Draining.{IsDrained, drain_start, drain_step, drain_end, drained_found}
-use Rattle.cap_model.proofs.ending.EndsInOrder.{ends_none, ends_more, without_none, without_one_more}
+use Rattle.cap_model.proofs.ending.EndsInOrder.{ends_none, ends_more}
 use Rattle.cap_model.proofs.lists.Numbered.{found_by_number}
 
--- what some containers leave when they go: nothing changes where none goes, and the last may go after the others
-pub record Drains {K : ℕ} (leave : List Container → Flat K → Flat K) : Type 0 where
-  pub none : (x : Flat K) → leave [] x ≡ x
-  pub more : (gone : List Container) (c : Container) (x : Flat K) → leave (gone ++ c ∷ []) x ≡ leave (c ∷ []) (leave gone x)
-  pub live : (c : Container) (x : Flat K) → (leave (c ∷ []) x).nodes.live ≡ filter (λ d. not (is_among (c ∷ []) d)) x.nodes.live
-
-pub ends_drain : {K : ℕ} (cause : Cause) → Drains (after_ends {K = K} cause)
-ends_drain cause = record { none = ends_none cause; more = λ gone c x. ends_more cause gone c x; live = λ c x. refl }
-
-pub without_drains : {K : ℕ} → Drains (without {K = K})
-without_drains = record { none = without_none; more = without_one_more; live = λ c x. refl }
-
-module _ {K : ℕ} (leave : List Container → Flat K → Flat K) (laws : Drains leave) (t : Container → Bool) (old : Flat K) where
+module _ {K : ℕ} (cause : Cause) (t : Container → Bool) (old : Flat K) where
   -- so many have gone, and all that are left and pass are above the last of them
   pub record IsDraining (cluster : Flat K) (count after : ℕ) : Type 0 where
     pub gone : List Container
-    pub now : cluster ≡ leave gone old
+    pub now : cluster ≡ after_ends cause gone old
     pub drained : IsDrained t old.nodes.live gone cluster.nodes.live after old.nodes.next_container
     pub count_is : count ≡ length gone
 
   pub none_gone : HasDistinctNumbers old → IsDraining old 0 0
   none_gone rising = record {
     gone = [];
-    now = sym (laws.none old);
+    now = sym (ends_none cause old);
     drained = drain_start t old.nodes.live old.nodes.next_container rising;
     count_is = refl;
   }
@@ -47,16 +36,16 @@ module _ {K : ℕ} (leave : List Container → Flat K → Flat K) (laws : Drains
     next_found c e number same = rw same (found_by_number (λ (x : Container). x.number) 1 cluster.nodes.live old.nodes.next_container c h.drained.rising (drained_found t after cluster.nodes.live c e).0)
 
     -- and goes
-    pub one_gone : (new : Flat K) (c : Container) → find (λ d. t d && nat_lt after d.number) cluster.nodes.live ≡ Some c → (number : ℕ) → number ≡ c.number → new ≡ leave (c ∷ []) cluster → IsDraining new (count + 1) number
+    pub one_gone : (new : Flat K) (c : Container) → find (λ d. t d && nat_lt after d.number) cluster.nodes.live ≡ Some c → (number : ℕ) → number ≡ c.number → new ≡ after_ends cause (c ∷ []) cluster → IsDraining new (count + 1) number
     one_gone new c e number same is =
         let counted = h.count_is in
         let more : length (h.gone ++ c ∷ []) ≡ length h.gone + 1 = length-append h.gone (c ∷ []) in
         let step = drain_step t old.nodes.live h.gone cluster.nodes.live after old.nodes.next_container c h.drained e in
-        let live : filter (λ d. not (is_among (c ∷ []) d)) cluster.nodes.live ≡ new.nodes.live = sym (laws.live c cluster) ∙ ap (λ (x : Flat K). x.nodes.live) (sym is) in
+        let live : filter (λ d. not (is_among (c ∷ []) d)) cluster.nodes.live ≡ new.nodes.live = ap (λ (x : Flat K). x.nodes.live) (sym is) in
         let stepped = subst (λ cs. IsDrained t old.nodes.live (h.gone ++ c ∷ []) cs c.number old.nodes.next_container) live step in
         record {
           gone = h.gone ++ c ∷ [];
-          now = is ∙ ap (leave (c ∷ [])) h.now ∙ sym (laws.more h.gone c old);
+          now = is ∙ ap (after_ends cause (c ∷ [])) h.now ∙ sym (ends_more cause h.gone c old);
           drained = subst (λ (m : ℕ). IsDrained t old.nodes.live (h.gone ++ c ∷ []) new.nodes.live m old.nodes.next_container) (sym same) stepped;
           count_is = omega (arith, counted, more);
         }
@@ -74,10 +63,10 @@ module _ {K : ℕ} (leave : List Container → Flat K → Flat K) (laws : Drains
         omega (arith, all, length-filter t old.nodes.live, count_by-le-length t old.nodes.live)
 
     -- all have gone
-    pub all_gone : find (λ d. t d && nat_lt after d.number) cluster.nodes.live ≡ None → (cluster ≡ leave (filter t old.nodes.live) old) × (count ≡ length (filter t old.nodes.live))
+    pub all_gone : find (λ d. t d && nat_lt after d.number) cluster.nodes.live ≡ None → (cluster ≡ after_ends cause (filter t old.nodes.live) old) × (count ≡ length (filter t old.nodes.live))
     all_gone e =
         let all : filter t old.nodes.live ≡ h.gone = drain_end t old.nodes.live h.gone cluster.nodes.live after old.nodes.next_container h.drained e in
-        (h.now ∙ ap (λ cs. leave cs old) (sym all), h.count_is ∙ ap length (sym all))
+        (h.now ∙ ap (λ cs. after_ends cause cs old) (sym all), h.count_is ∙ ap length (sym all))
 
 -- and then none that passes is left
 pub none_passes : {K : ℕ} (t : Container → Bool) (old : Flat K) → HasDistinctNumbers old → filter t (filter (λ d. not (is_among (filter t old.nodes.live) d)) old.nodes.live) ≡ []
@@ -86,8 +75,4 @@ none_passes t old rising =
     (λ c m.
     let w = of_filter (λ d. not (is_among (filter t old.nodes.live) d)) old.nodes.live c m in
     let among = among_some t 1 old.nodes.live old.nodes.next_container c rising (w.1) in
-    is_not (t c) (ap not (sym among) ∙ (w.0)))
-  where
-    is_not : (b : Bool) → not b ≡ true → b ≡ false
-    is_not true e = absurd (cc e)
-    is_not false e = refl
+    not-true (t c) (ap not (sym among) ∙ (w.0)))

@@ -55,12 +55,6 @@ module _ {K : ℕ} where
     nodes = record old.nodes { live = without_more gone c old.nodes.live i };
   }
 
-  pub without_none : (old : Flat K) → without [] old ≡ old
-  without_none old = λ i. record old { nodes = record old.nodes { live = filter_whole (λ d. not (is_among [] d)) old.nodes.live (λ d m. refl) i } }
-
-  pub without_one_more : (gone : List Container) (c : Container) (old : Flat K) → without (gone ++ c ∷ []) old ≡ without (c ∷ []) (without gone old)
-  without_one_more gone c old = λ i. record old { nodes = record old.nodes { live = without_more gone c old.nodes.live i } }
-
 -- one more number names the container of that number that is left, if there is one
 cons_append : (o : Option Container) (xs ys : List Container) → cons_option o (xs ++ ys) ≡ cons_option o xs ++ ys
 cons_append None xs ys = refl

@@ -16,7 +16,7 @@ use Rattle.cap_model.proofs.lists.Numbered.{rising_kept, rising_from_low}
 use Rattle.cap_model.proofs.lists.Sums.{sum_of_zeros, sum_by_map, one_where, sum_of_two, count_kept}
 use Rattle.cap_model.proofs.numbers.Balance.{among_some}
 use Rattle.cap_model.proofs.lists.Filters.{filter_same, filter_twice}
-use Rattle.cap_model.proofs.lists.Tests.{twice_not}
+use Rattle.cap_model.proofs.lists.Tests.{twice_not, and_false, or_false}
 
 -- whether some numbers name a container
 abbrev pub is_named : List ℕ → Container → Bool
@@ -141,14 +141,6 @@ gone_number n c (x ∷ xs) e = by (x.number == n) refl (gone_number n c xs e)
         is_among (cond (not b) (x ∷ filter (λ (y : Container). not (y.number == n)) xs) (filter (λ (y : Container). not (y.number == n)) xs)) c ≡ false
     by true g r = r
     by false g r = let no : x.number == c.number ≡ false = grind (arith, nat_tests, g, e) in ap (λ b. b || is_among (filter (λ (y : Container). not (y.number == n)) xs) c) no ∙ r
-
-and_false : (b : Bool) → b && false ≡ false
-and_false true = refl
-and_false false = refl
-
-or_false : (b : Bool) → b || false ≡ b
-or_false true = refl
-or_false false = refl
 
 pub among_named : (ns : List ℕ) (xs : List Container) (c : Container) → is_among (named_among ns xs) c ≡ is_named ns c && is_among xs c
 among_named [] xs c = refl

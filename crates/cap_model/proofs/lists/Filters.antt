@@ -1,6 +1,7 @@
 -- What a filter keeps, and what is found in a mapped list.
-use Rattle.std.proofs.Common.{◌≡◌, Bool, true, false, List, [], ◌∷◌, refl, sym, ◌∙◌, ap, inl, inr}
+use Rattle.std.proofs.Common.{◌≡◌, ◌≤◌, length, arith, Bool, true, false, List, [], ◌∷◌, refl, sym, ◌∙◌, ap, inl, inr}
 use Rattle.std.specs.Prelude.{Option, Some, None, option_map, cond, filter, find, map}
+use Rattle.std.proofs.lemmas.List.Sums.{length-filter, count_by-le-length}
 use Rattle.cap_model.proofs.lists.Members.{IsIn}
 
 pub filter_same : {A : Type 0} (f g : A → Bool) (xs : List A) → ((x : A) → IsIn x xs → f x ≡ g x) → filter f xs ≡ filter g xs
@@ -35,3 +36,10 @@ find_mapped_at g t (x ∷ xs) = by (t (g x)) (find_mapped_at g t xs)
     by : (b : Bool) → find t (map g xs) ≡ option_map g (find (λ y. t (g y)) xs) → cond b (Some (g x)) (find t (map g xs)) ≡ option_map g (cond b (Some x) (find (λ y. t (g y)) xs))
     by true e = refl
     by false e = e
+
+pub length-kept : {A : Type 0} (t : A → Bool) (xs : List A) → length (filter t xs) ≤ length xs
+length-kept t xs = omega (arith, length-filter t xs, count_by-le-length t xs)
+
+pub map_same : {A B : Type 0} (f g : A → B) (xs : List A) → ((x : A) → IsIn x xs → f x ≡ g x) → map f xs ≡ map g xs
+map_same f g [] e = refl
+map_same f g (x ∷ xs) e = λ i. e x (inl refl) i ∷ map_same f g xs (λ y m. e y (inr m)) i

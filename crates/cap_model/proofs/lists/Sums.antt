@@ -40,3 +40,6 @@ sum_of_zeros f (x ∷ xs) e = sum_by-cons f x xs ∙ omega (arith, e x (inl refl
 pub sum_of_two : {A : Type 0} (f g : A → ℕ) (xs : List A) → sum_by (λ x. f x + g x) xs ≡ sum_by f xs + sum_by g xs
 sum_of_two f g [] = refl
 sum_of_two f g (x ∷ xs) = omega (arith, sum_by-cons (λ y. f y + g y) x xs, sum_by-cons f x xs, sum_by-cons g x xs, sum_of_two f g xs)
+
+pub sum_by_same : {A : Type 0} (f g : A → ℕ) (xs : List A) → ((x : A) → f x ≡ g x) → sum_by f xs ≡ sum_by g xs
+sum_by_same f g xs e = λ i. sum_by (λ x. e x i) xs

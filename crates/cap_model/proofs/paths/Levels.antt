@@ -11,8 +11,8 @@ use Rattle.cap_model.specs.Bounds.{IsRising, StandBelow, depth}
 use Rattle.cap_model.specs.BoundLaws.{LevelsInOrder}
 use Rattle.cap_model.proofs.lists.Members.{IsIn, in_filter, found, each_of, in_map, none_in}
 use Rattle.cap_model.proofs.lists.Sums.{one_where}
-use Rattle.cap_model.proofs.lists.Tests.{value_of}
-use Rattle.cap_model.proofs.paths.Paths.{IsUnder, under_is, is_under_it}
+use Rattle.cap_model.proofs.lists.Tests.{value_of, or_left, or_right}
+use Rattle.cap_model.proofs.paths.Paths.{IsUnder, under_is, is_under_it, head_is, tail_is, has_dot}
 
 pub depth_cons : (b : ℕ) (path : List ℕ) → depth (b ∷ path) ≡ one_where (b == 46) + depth path
 depth_cons b path = sum_by-cons (λ x. one_where (x == 46)) b path
@@ -24,15 +24,17 @@ below_is_deeper front rest =
     let dot = depth_cons 46 rest in
     omega (arith, whole, dot)
 
+-- a path without a dot is on no level below another
+pub no_levels : (name : List ℕ) → has_dot name ≡ false → depth name ≡ 0
+no_levels [] h = refl
+no_levels (b ∷ name) h =
+    let none : one_where (b == 46) ≡ 0 = ap one_where (or_left (b == 46) (has_dot name) h) in
+    let rest = no_levels name (or_right (b == 46) (has_dot name) h) in
+    omega (arith, depth_cons b name, none, rest)
+
 -- what is after a path: nothing, or a dot and more
 abbrev IsTail : List ℕ → Type 0
 IsTail rest = (rest ≡ []) ⊎ ((more : List ℕ) × (rest ≡ 46 ∷ more))
-
-head_is : (a b : ℕ) (xs ys : List ℕ) → a ∷ xs ≡ b ∷ ys → a ≡ b
-head_is a b xs ys e = ap (λ l. Rattle.std.specs.Prelude.slice_index l 0) e
-
-tail_is : (a b : ℕ) (xs ys : List ℕ) → a ∷ xs ≡ b ∷ ys → xs ≡ ys
-tail_is a b xs ys e = ap (λ l. Rattle.std.specs.Prelude.drop 1 l) e
 
 deeper : (b : ℕ) (x y : List ℕ) → IsUnder x y ⊎ IsUnder y x → IsUnder (b ∷ x) (b ∷ y) ⊎ IsUnder (b ∷ y) (b ∷ x)
 deeper b x y (inl (inl e)) = inl (inl (ap (λ l. b ∷ l) e))

@@ -13,15 +13,7 @@ use Rattle.cap_model.proofs.lists.Sums.{one_where}
 use Rattle.cap_model.proofs.lists.Tests.{or_left, or_right}
 use Rattle.std.proofs.lemmas.Bool.{or_from, cases_Bool}
 use Rattle.cap_model.proofs.paths.Paths.{IsUnder, under_is, has_dot, name_has_none}
-use Rattle.cap_model.proofs.paths.Levels.{depth_cons, below_is_deeper, comparable}
-
--- a path without a dot is on no level below another
-flat : (name : List ℕ) → has_dot name ≡ false → depth name ≡ 0
-flat [] h = refl
-flat (b ∷ name) h =
-    let none : one_where (b == 46) ≡ 0 = ap one_where (or_left (b == 46) (has_dot name) h) in
-    let rest = flat name (or_right (b == 46) (has_dot name) h) in
-    omega (arith, depth_cons b name, none, rest)
+use Rattle.cap_model.proofs.paths.Levels.{depth_cons, below_is_deeper, comparable, no_levels}
 
 -- what is under a queue that is under another is under the other
 under_both : (a b c : List ℕ) → IsUnder a b → IsUnder b c → IsUnder a c
@@ -36,7 +28,7 @@ module _ (parent path : List ℕ) (child : is_child_of parent path ≡ true) whe
   next_level : depth path ≡ depth parent + 1
   next_level =
       let below = below_is_deeper parent (name_of path) in
-      let none = flat (name_of path) (name_has_none path) in
+      let none = no_levels (name_of path) (name_has_none path) in
       let same : depth path ≡ depth (parent ++ 46 ∷ name_of path) = ap depth whole in
       omega (arith, below, none, same)
 

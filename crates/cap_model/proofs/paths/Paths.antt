@@ -1,6 +1,6 @@
 -- Dotted paths: what is under what, and the names of children.
 use Rattle.std.proofs.Common.{◌≡◌, ℕ, ◌+◌, Bool, true, false, List, [], ◌∷◌, ◌++◌, refl, sym, ◌∙◌, ap, subst, inl, inr, arith}
-use Rattle.std.specs.Prelude.{◌⊎◌, Some, IsSome, cond, ◌||◌, ◌==◌, find, length, drop, bytes_eq, nat_eq, count_by, if◌then◌else◌}
+use Rattle.std.specs.Prelude.{◌⊎◌, Some, IsSome, cond, ◌||◌, ◌==◌, find, length, drop, bytes_eq, nat_eq, count_by, if◌then◌else◌, slice_index}
 use Rattle.std.specs.List.{All, list_any, starts_with, sum_by}
 use Rattle.std.proofs.lemmas.Bool.Decides.{nat_tests}
 use Rattle.std.proofs.lemmas.Slice.Eq.{bytes_eq-Decides}
@@ -115,7 +115,7 @@ name_itself : (name : List ℕ) → has_dot name ≡ false → name_of name ≡ 
 name_itself [] h = refl
 name_itself (b ∷ name) h = ap (λ c. cond c (name_of name) (b ∷ name)) h
 
-dot_in : (path name : List ℕ) → has_dot (path ++ 46 ∷ name) ≡ true
+pub dot_in : (path name : List ℕ) → has_dot (path ++ 46 ∷ name) ≡ true
 dot_in path name = list_any-append (λ b. b == 46) path (46 ∷ name) ∙ or_second (has_dot path) true refl
 
 -- the name of a child
@@ -138,7 +138,10 @@ child_leads path rest = elim (first_name rest) [
   | inr (more, e) ↦ inr (more, ap (λ n. path ++ 46 ∷ n) e ∙ sym (append_assoc path (46 ∷ before_dot rest) (46 ∷ more)))
 ]
 
-tail_is : (a b : ℕ) (xs ys : List ℕ) → a ∷ xs ≡ b ∷ ys → xs ≡ ys
+pub head_is : (a b : ℕ) (xs ys : List ℕ) → a ∷ xs ≡ b ∷ ys → a ≡ b
+head_is a b xs ys e = ap (λ l. slice_index l 0) e
+
+pub tail_is : (a b : ℕ) (xs ys : List ℕ) → a ∷ xs ≡ b ∷ ys → xs ≡ ys
 tail_is a b xs ys e = ap (drop 1) e
 
 -- it is the only one

@@ -7,14 +7,13 @@ use Rattle.cap_model.specs.Settings.{QueueRow}
 use Rattle.cap_model.specs.Bounds.{HasDistinctPaths, IsTree, fronts, has_distinct_paths, is_tree}
 use Rattle.cap_model.specs.BoundLaws.{TreesAreTested}
 use Rattle.cap_model.proofs.lists.Members.{IsIn, each_of, of_each, of_map, in_map, all_in}
-use Rattle.std.proofs.lemmas.Bool.{and_parts, and_from}
-use Rattle.cap_model.proofs.lists.Tests.{not_true}
+use Rattle.std.proofs.lemmas.Bool.{and_parts, and_from, not-true}
 
 distinct_is : (queues : List QueueRow) → has_distinct_paths queues ≡ true → HasDistinctPaths queues
 distinct_is [] h = tt
 distinct_is (q ∷ queues) h =
     let both = and_parts (not (list_any (λ (r : QueueRow). bytes_eq r.path q.path) queues)) (has_distinct_paths queues) h in
-    (not_true (list_any (λ (r : QueueRow). bytes_eq r.path q.path) queues) (both.0), distinct_is queues (both.1))
+    (not-true (list_any (λ (r : QueueRow). bytes_eq r.path q.path) queues) (both.0), distinct_is queues (both.1))
 
 is_distinct : (queues : List QueueRow) → HasDistinctPaths queues → has_distinct_paths queues ≡ true
 is_distinct [] d = refl

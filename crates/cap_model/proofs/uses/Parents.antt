@@ -12,6 +12,7 @@ use Rattle.cap_model.specs.Amounts.{part, sum_where}
 use Rattle.cap_model.specs.Flat.{Flat, App, app_at, is_under, is_child_of}
 use Rattle.cap_model.specs.Uses.{Holding, holdings, queue_use}
 use Rattle.cap_model.specs.BoundLaws.{IsInOneChild, ParentUsesChildren}
+use Rattle.cap_model.proofs.lists.Sums.{sum_by_same}
 
 abbrev one_if : Bool → ℕ
 one_if b = cond b 1 0
@@ -38,9 +39,6 @@ when_one true false a n s e f g = let z : s ≡ a = g (omega (arith, e)) in omeg
 when_one false u a n s e f g = let z : s ≡ a = g (omega (arith, e)) in omega (arith, z)
 
 module _ {X : Type 0} where
-  sum_by_same : (f g : X → ℕ) (xs : List X) → ((x : X) → f x ≡ g x) → sum_by f xs ≡ sum_by g xs
-  sum_by_same f g xs e = λ i. sum_by (λ x. e x i) xs
-
   sum_of_nothing : (b : X → Bool) (xs : List X) → sum_by (λ x. if b x then 0 else 0) xs ≡ 0
   sum_of_nothing b [] = refl
   sum_of_nothing b (x ∷ xs) = sum_by-cons (λ y. if b y then 0 else 0) x xs ∙ omega (arith, nothing_in (b x), sum_of_nothing b xs)

@@ -11,14 +11,8 @@ use Rattle.cap_model.proofs.lists.Members.{found, each_of, of_each}
 use Rattle.std.proofs.lemmas.Bool.{and_parts, and_from, cases_Bool}
 use Rattle.cap_model.proofs.lists.Sums.{sum_of_zeros}
 use Rattle.cap_model.proofs.uses.Parents.{parent_uses_children}
-use Rattle.cap_model.proofs.lists.Tests.{value_of}
+use Rattle.cap_model.proofs.lists.Tests.{value_of, same_test}
 use Rattle.cap_model.proofs.paths.Paths.{IsUnder, under_is, is_under_it, child_to, its_child, child_leads, only_child, under_parent, counted_once}
-
--- two tests that hold of the same
-same_test : (a b : Bool) → (a ≡ true → b ≡ true) → (b ≡ true → a ≡ true) → a ≡ b
-same_test true b f g = sym (f refl)
-same_test false true f g = g refl
-same_test false false f g = refl
 
 abbrev leads : List ℕ → List ℕ → QueueRow → Bool
 leads path leaf child = is_child_of path child.path && is_under child.path leaf
