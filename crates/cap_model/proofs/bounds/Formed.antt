@@ -24,7 +24,7 @@ use Rattle.cap_model.proofs.choice.Reasons.{none_holds}
 use Rattle.cap_model.proofs.lists.Tests.{true_of_none, some_kept}
 use Rattle.cap_model.proofs.lists.Numbered.{rising_kept, rising_more, same_numbers}
 use Rattle.cap_model.proofs.calls.Moves.{AppsMove, call_moves, grant_change, no_change}
-use Rattle.cap_model.proofs.telling.ToldRuns.{app_numbers_move}
+use Rattle.cap_model.proofs.numbers.AppNumbers.{app_numbers_move}
 use Rattle.cap_model.proofs.calls.Lessening.{HasPlaces, IsSite, lessened, asked, change_stands}
 use Rattle.cap_model.proofs.bounds.CallBounds.{places_stay}
 use Rattle.cap_model.proofs.choice.Proposers.{seen_is, node_seen}

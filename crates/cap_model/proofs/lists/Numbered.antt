@@ -87,6 +87,16 @@ module _ {A : Type 0} (num : A → ℕ) where
       by true c r = let other : num x == n ≡ false = grind (arith, nat_tests, c, e) in r ∙ sym (ap (λ b. cond b (Some x) (find (λ y. num y == n) xs)) other)
       by false c r = ap (λ o. cond (num x == n) (Some x) o) r
 
+  -- the one of the number that goes is not found
+  pub find_gone : (m n : ℕ) → m == n ≡ true → (xs : List A) → find (λ y. num y == n) (filter (λ y. not (num y == m)) xs) ≡ None
+  find_gone m n e [] = refl
+  find_gone m n e (x ∷ xs) = by (num x == m) refl (find_gone m n e xs)
+    where
+      by : (c : Bool) → num x == m ≡ c → find (λ y. num y == n) (filter (λ y. not (num y == m)) xs) ≡ None →
+          find (λ y. num y == n) (cond (not c) (x ∷ filter (λ y. not (num y == m)) xs) (filter (λ y. not (num y == m)) xs)) ≡ None
+      by true c r = r
+      by false c r = let other : num x == n ≡ false = grind (arith, nat_tests, c, e) in ap (λ b. cond b (Some x) (find (λ y. num y == n) (filter (λ y. not (num y == m)) xs))) other ∙ r
+
   -- one that is there stays found where one more comes
   kept_found : (o p : Option A) → IsSome o → option_or o p ≡ o
   kept_found None p h = absurd (cc h)

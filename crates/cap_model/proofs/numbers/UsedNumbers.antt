@@ -14,7 +14,7 @@ use Rattle.cap_model.specs.Bounds.{IsWellFormed}
 use Rattle.cap_model.specs.BoundLaws.{NumbersAreNotUsedAgain}
 use Rattle.cap_model.proofs.lists.Members.{IsIn, found}
 use Rattle.cap_model.proofs.calls.Moves.{step_moves}
-use Rattle.cap_model.proofs.telling.ToldRuns.{stays_missing}
+use Rattle.cap_model.proofs.numbers.AppNumbers.{stays_missing}
 use Rattle.cap_model.proofs.calls.Lessening.{lessened, asked}
 use Rattle.cap_model.proofs.bounds.Formed.{places_of, after_call, step_formed}
 

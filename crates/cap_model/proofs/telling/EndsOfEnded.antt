@@ -9,7 +9,7 @@ use Rattle.cap_model.specs.declared.news.End.{End}
 use Rattle.cap_model.specs.declared.request.Request.{Request}
 use Rattle.cap_model.specs.declared.reply.Reply.{Reply}
 use Rattle.cap_model.specs.declared.refusal.Refusal.{Refusal}
-use Rattle.cap_model.specs.Flat.{Flat, Container, app_at}
+use Rattle.cap_model.specs.Flat.{Flat, App, Container, app_at}
 use Rattle.cap_model.specs.Ending.{is_among}
 use Rattle.cap_model.specs.FinishMaster.{containers_of}
 use Rattle.cap_model.specs.Allocate.{after_processed_allocate, is_repeated_allocate, released_by}
@@ -24,12 +24,13 @@ use Rattle.cap_model.proofs.lists.Sums.{sum_of_zeros, one_where, count_append, c
 use Rattle.cap_model.proofs.numbers.ContainerNumbers.{IsThinned, asks_keep}
 use Rattle.cap_model.proofs.numbers.Balance.{determined, none_ended, ended_by_thinning}
 use Rattle.cap_model.proofs.calls.Moves.{step_moves}
+use Rattle.cap_model.proofs.numbers.AppNumbers.{used, next_rises, never_back}
+use Rattle.cap_model.proofs.telling.Telling.{refused_tells}
+use Rattle.cap_model.proofs.telling.ToldRuns.{not_live, ends_nothing}
+use Rattle.cap_model.proofs.lists.Numbered.{find_gone}
 use Rattle.cap_model.proofs.bounds.Formed.{step_formed}
 use Rattle.cap_model.proofs.bounds.BoundedRuns.{step_stays_bounded}
 use Rattle.cap_model.proofs.lists.Tests.{not_none, there_or_not}
-use Rattle.cap_model.proofs.telling.Telling.{gone_is_none}
-use Rattle.cap_model.proofs.telling.ToldRuns.{used, next_rises}
-use Rattle.cap_model.proofs.telling.ToldEnds.{refused_ends, not_live, step_quiet, never_told}
 use Rattle.cap_model.proofs.ending.NamedEnds.{count_ended, count_lost, count_ends, count_of}
 
 module _ (n number : ℕ) where
@@ -95,7 +96,7 @@ module _ (n number : ℕ) where
         ∙ ap (count_by it) (sym (ended_by_thinning old new b.numbers t))
       where
         by : (e : Bool) → app == n ≡ e → app == n ≡ false
-        by true e = absurd (not_none (app_at (granted_cluster old (Request.FinishMaster app)) n) (gone_is_none app n e old.apps.active) h)
+        by true e = absurd (not_none (app_at (granted_cluster old (Request.FinishMaster app)) n) (find_gone (λ (a : App). a.number) app n e old.apps.active) h)
         by false e = e
 
         other : (c : Container) → IsIn c old.nodes.live → c.app == app ≡ true → c.app == n ≡ false
@@ -109,7 +110,7 @@ module _ (n number : ℕ) where
     call_ends by request h = sym (still (granted_cluster old request) refl)
 
     refusal_ends : (by : ℕ) (request : Request K) (refusal : Refusal) → told (new_ends old n (Event.Call by request (Reply.Refused refusal))) ≡ count_by it (ended_between old old)
-    refusal_ends by request refusal = ap told (refused_ends old n by request refusal).1 ∙ sym (still old refl)
+    refusal_ends by request refusal = ap told (refused_tells old n by request refusal).2 ∙ sym (still old refl)
 
     reply_ends : (by : ℕ) (request : Request K) (o : Option Refusal) → IsSome (app_at (refused_or o (λ refusal. old) (granted_cluster old request)) n) →
         told (new_ends old n (Event.Call by request (refused_or o (λ refusal. Reply.Refused refusal) (granted_reply old request)))) ≡ count_by it (ended_between old (refused_or o (λ refusal. old) (granted_cluster old request)))
@@ -137,9 +138,9 @@ module _ (n number : ℕ) where
       by (inl a) o = step_ends old b mid event step a
       by (inr a) (inl o) =
           let below : n < mid.apps.next = omega (arith, used old n b.formed.apps o, next_rises old mid (step_moves old mid event step)) in
-          absurd (not_none (app_at new n) (never_told events mid new n a below (step_formed old mid event b.formed step) run).2 h)
+          absurd (not_none (app_at new n) (never_back events mid new n a below run) h)
       by (inr a) (inr o) =
-          ap told (step_quiet old n o b.formed mid event step).1
+          ap told (ends_nothing old n o b.formed mid event step)
           ∙ sym (nobody (λ c. not (is_among mid.nodes.live c)) old.nodes.live (λ c m e. not_live old n o b.formed c m))
 
       joined : told (new_ends old n event) ≡ count_by it (ended_between old mid) → told (ever_new_ends mid n events) ≡ count_by it (ever_ended mid events) → told (ever_new_ends old n (event ∷ events)) ≡ count_by it (ever_ended old (event ∷ events))
