@@ -246,10 +246,6 @@ pub kept_all : (kept asks : List Ask) → AreKept kept → AreKept (put_all kept
 kept_all kept [] k = k
 kept_all kept (ask ∷ asks) k = kept_all (put_ask ask kept) asks (kept_put ask kept k)
 
--- an ask with one container less to want is put, and asks that are none of its key stay
-abbrev lessened : Key → Ask → Ask
-lessened key ask = if same_key ask.key key then record ask { count = ask.count - 1 } else ask
-
 one_stays : (key : Key) (x : Ask) (xs : List Ask) → 1 ≤ x.count → same_key x.key key ≡ false → take_one key (x ∷ xs) ≡ x ∷ take_one key xs
 one_stays key x xs c e =
     let none : x.count == 0 ≡ false = grind (arith, nat_tests, c) in

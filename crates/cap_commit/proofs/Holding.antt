@@ -18,7 +18,7 @@ use Rattle.cap_model.specs.FinishMaster.{containers_of, after_finish_master}
 use Rattle.cap_model.specs.Submit.{submit_refusal}
 use Rattle.cap_model.specs.Bounds.{IsLeaf, IsRising}
 use Rattle.cap_model.proofs.lists.Members.{IsIn, found, in_either, of_filter, each_of, of_each, of_map}
-use Rattle.cap_model.proofs.lists.Filters.{filter_none}
+use Rattle.cap_model.proofs.lists.Filters.{filter_none, length-kept}
 use Rattle.cap_model.proofs.lists.Numbered.{find_others, find_with_more, rising_to_high}
 use Rattle.cap_model.proofs.lists.Sums.{one_where}
 use Rattle.cap_model.proofs.calls.Lessening.{IsSite, change_stands}
@@ -40,7 +40,6 @@ use Rattle.cap_commit.specs.Held.{Parts, IsHeld, IsPlaced, flat_of, of_cluster}
 use Rattle.cap_commit.proofs.Counting.{count_entered, count_without, only_one, unused}
 use Rattle.cap_commit.proofs.Owning.{IsOwned, count_for, live_kept, none_left, none_of, owned_after, owned_stands, sites_owned}
 use Rattle.cap_commit.proofs.RowsAt.{row_at, still_at}
-use Rattle.cap_commit.proofs.Parts.{fewer}
 use Rattle.cap_commit.proofs.Moving.{HasOneMore, enters, leaves, may_leave, moved_settings, moved_stays, tied_moved}
 use Rattle.cap_commit.proofs.Ties.{of_user_in, unused_tied, tied_stays, tied_state}
 
@@ -309,7 +308,7 @@ module _ {K : ℕ} where
                 (λ c m. subst IsSome (sym (ap (find (λ (x : App). x.number == c.app)) active ∙ find_others (λ (x : App). x.number) n c.app (turned c.app n (none_of n p.nodes.live none_live c m)) p.apps.table.active)) (each_of (IsOwned old) p.nodes.live h.owned c m));
             numbers = h.numbers;
             limit = h.limit;
-            few = (let f = h.few in let l = ap length active in let g = fewer n p.apps.table.active in omega (arith, f, l, g));
+            few = (let f = h.few in let l = ap length active in let g = length-kept (λ (a : App). not (a.number == n)) p.apps.table.active in omega (arith, f, l, g));
             few_live = h.few_live;
             unreserved = h.unreserved;
             resources = h.resources;

@@ -34,15 +34,6 @@ ask_put {K} p table' n ask kept none is put =
     ap (λ t. record (flat_of p) { apps = t }) (put ∙ ap (λ k. with_app n (λ app. record app { asks = put_ask k app.asks }) p.apps.table) is)
     ∙ ap (λ rs. with_reserved rs (record (flat_of p) { apps = with_app n (λ app. record app { asks = put_ask (rounded K (flat_of p).settings ask) app.asks }) p.apps.table })) (sym (no_drops (is_for n ask.key) _ p.nodes.reserved none))
 
--- no more applications where one goes
-pub fewer : (n : ℕ) (apps : List App) → length (filter (λ app. not (app.number == n)) apps) ≤ length apps
-fewer n [] = omega arith
-fewer n (a ∷ apps) = by (a.number == n) (fewer n apps)
-  where
-    by : (b : Bool) → length (filter (λ app. not (app.number == n)) apps) ≤ length apps → length (cond (not b) (a ∷ filter (λ app. not (app.number == n)) apps) (filter (λ app. not (app.number == n)) apps)) ≤ length (a ∷ apps)
-    by true h = omega (arith, h)
-    by false h = omega (arith, h)
-
 -- of applications in order, only the one that is found by a number has it
 pub only_found : (n : ℕ) (apps : List App) (next : ℕ) (f : App → App → App) (a : App) → IsRising 1 (map (λ app. app.number) apps) next → find (λ app. app.number == n) apps ≡ Some a →
     map (λ app. if app.number == n then f app app else app) apps ≡ map (λ app. if app.number == n then f a app else app) apps

@@ -21,17 +21,13 @@ use Rattle.cap_model.specs.Replies.{refused_or, reply_to, after_request}
 use Rattle.cap_model.specs.Replies as flat_replies
 use Rattle.cap_model.proofs.lists.Numbered.{find_changed}
 use Rattle.cap_model.proofs.numbers.ContainerNumbers.{asks_keep}
-use Rattle.cap_model.proofs.lists.Tests.{first_holds}
+use Rattle.cap_model.proofs.lists.Tests.{first_holds, kept_if}
 use Rattle.cap_commit.specs.Changes.{IsAt}
 use Rattle.cap_masters.specs.Processed.{after_processed, IsKept}
 
 kept_by : (f : App → App) → ((a : App) → (f a).response ≡ a.response) → (o : Option App) → option_map (λ (a : App). a.response) (option_map f o) ≡ option_map (λ a. a.response) o
 kept_by f r None = refl
 kept_by f r (Some a) = ap (λ n. Some n) (r a)
-
-same_if : {B : Type 0} (b : Bool) (g : App → B) (x y : App) → g x ≡ g y → g (if b then x else y) ≡ g y
-same_if true g x y e = e
-same_if false g x y e = refl
 
 none_of_five : {A : Type 0} (a b c d e : Bool) (p q r s t : A) → earliest ((a, p) ∷ (b, q) ∷ (c, r) ∷ (d, s) ∷ (e, t) ∷ []) ≡ None → (a ≡ false) × (c ≡ false)
 none_of_five true b c d e p q r s t h = absurd (cc h)
@@ -65,8 +61,8 @@ module _ {K : ℕ} where
       let kept = rounded K old.settings ask in
       let f : App → App = λ app. if app.number == n then record app { asks = put_ask kept app.asks } else app in
       asks_leave n asks (after_ask n old kept) m
-      ∙ ap (option_map (λ (a : App). a.response)) (find_changed (λ (a : App). a.number) f (λ a. same_if (a.number == n) (λ (x : App). x.number) (record a { asks = put_ask kept a.asks }) a refl) m old.apps.active)
-      ∙ kept_by f (λ a. same_if (a.number == n) (λ (x : App). x.response) (record a { asks = put_ask kept a.asks }) a refl) (app_at old m)
+      ∙ ap (option_map (λ (a : App). a.response)) (find_changed (λ (a : App). a.number) f (λ a. kept_if (a.number == n) (λ (x : App). x.number) (record a { asks = put_ask kept a.asks }) a refl) m old.apps.active)
+      ∙ kept_by f (λ a. kept_if (a.number == n) (λ (x : App). x.response) (record a { asks = put_ask kept a.asks }) a refl) (app_at old m)
 
   ends_leave : (cause : Cause) (gone : List Container) (old : Flat K) (m : ℕ) → option_map (λ (a : App). a.response) (app_at (after_ends cause gone old) m) ≡ option_map (λ a. a.response) (app_at old m)
   ends_leave cause gone old m =
@@ -123,7 +119,7 @@ module _ {K : ℕ} where
       let change : App → App = λ app. if app.number == n then f app else app in
       let there = still_at old mid n id (ends_leave Cause.Released (released_by old n releases) (after_asks n asks old) n ∙ asks_leave n asks old n) at in
       let found : app_at (with_app n f mid) n ≡ Some (change (there.0)) =
-      find_changed (λ (a : App). a.number) change (λ a. same_if (a.number == n) (λ (x : App). x.number) (f a) a refl) n mid.apps.active ∙ ap (option_map change) (there.1) in
+      find_changed (λ (a : App). a.number) change (λ a. kept_if (a.number == n) (λ (x : App). x.number) (f a) a refl) n mid.apps.active ∙ ap (option_map change) (there.1) in
       let number : (there.0).number == n ≡ true = (Rattle.cap_model.proofs.lists.Members.found (λ (a : App). a.number == n) mid.apps.active (there.0) (there.1)).1 in
       let kept : (change (there.0)).kept ≡ (f (there.0)).kept = ap (λ b. (if b then f (there.0) else there.0).kept) number in
       subst IsSome (sym (ap (option_and_then (λ (a : App). a.kept)) found ∙ kept)) refl

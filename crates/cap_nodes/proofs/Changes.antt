@@ -269,10 +269,6 @@ any_node test (p ∷ places) = by (test p.node.host) (any_node test places)
     by true e = refl
     by false e = e
 
-pub length-nodes : (places : List Place) → length (nodes_of places) ≡ length places
-length-nodes [] = refl
-length-nodes (p ∷ places) = let e = length-nodes places in omega (arith, e)
-
 pub at_of : (places : List Place) (n : ℕ) → IsSome (place_at places n) → IsAt places n
 at_of places n h = by (place_at places n) refl h
   where

@@ -42,10 +42,6 @@ whole (b ∷ name) (d ∷ path) h = by (d == b) refl h (whole name path)
     by true e g r = let s : d ≡ b = grind (arith, nat_tests, e) in λ i. s i ∷ r g i
     by false e g r = absurd (cc g)
 
-longer_differs : (name : List ℕ) (b : ℕ) (x : List ℕ) → bytes_eq (name ++ b ∷ x) name ≡ false
-longer_differs [] b x = refl
-longer_differs (a ∷ name) b x = rw (eq-eqb a a refl) (longer_differs name b x)
-
 shorter_differs : (name : List ℕ) (b : ℕ) (x : List ℕ) → bytes_eq name (name ++ b ∷ x) ≡ false
 shorter_differs [] b x = refl
 shorter_differs (a ∷ name) b x = rw (eq-eqb a a refl) (shorter_differs name b x)

@@ -12,7 +12,7 @@ use Rattle.cap_model.specs.Ending.{is_among, named_among, with_ends, without, af
 use Rattle.cap_model.specs.Bounds.{IsRising}
 use Rattle.cap_model.specs.EngineLaws.{numbers_of}
 use Rattle.cap_model.proofs.lists.Filters.{map_twice, filter_same, filter_twice, filter_whole}
-use Rattle.cap_model.proofs.lists.Numbered.{rising_kept, rising_from_low}
+use Rattle.cap_model.proofs.lists.Numbered.{rising_kept, rising_from_low, none_before}
 use Rattle.cap_model.proofs.numbers.Balance.{among_some}
 use Rattle.cap_model.proofs.ending.NamedEnds.{is_named, among_named}
 use Rattle.cap_model.proofs.lists.Members.{found}
@@ -76,12 +76,6 @@ abbrev pub kept_if_passes : (Container → Bool) → Option Container → Option
 kept_if_passes t None = None
 kept_if_passes t (Some c) = if t c then Some c else None
 
-none_later : (n low : ℕ) (xs : List Container) (high : ℕ) → IsRising low (numbers_of xs) high → n < low → find (λ (c : Container). c.number == n) xs ≡ None
-none_later n low [] high r h = refl
-none_later n low (x ∷ xs) high r h =
-    let no : x.number == n ≡ false = grind (arith, nat_tests, r.0, h) in
-    ap (λ b. cond b (Some x) (find (λ (c : Container). c.number == n) xs)) no ∙ none_later n (x.number + 1) xs high r.1 (omega (arith, r.0, h))
-
 pub find_among_some : (t : Container → Bool) (n low : ℕ) (xs : List Container) (high : ℕ) → IsRising low (numbers_of xs) high →
     find (λ c. c.number == n) (filter t xs) ≡ kept_if_passes t (find (λ c. c.number == n) xs)
 find_among_some t n low [] high r = refl
@@ -92,7 +86,7 @@ find_among_some t n low (x ∷ xs) high r = by (x.number == n) (t x) refl refl (
     by true true e p i = ap (λ b. cond b (Some x) (find (λ (c : Container). c.number == n) (filter t xs))) e ∙ ap (λ b. cond b (Some x) None) (sym p)
     by true false e p i =
         i
-        ∙ ap (kept_if_passes t) (none_later n (x.number + 1) xs high r.1 (grind (arith, nat_tests, e)))
+        ∙ ap (kept_if_passes t) (none_before (λ (z : Container). z.number) n (x.number + 1) xs high r.1 (grind (arith, nat_tests, e)))
         ∙ ap (λ b. cond b (Some x) None) (sym p)
     by false true e p i = ap (λ b. cond b (Some x) (find (λ (c : Container). c.number == n) (filter t xs))) e ∙ i
     by false false e p i = i

@@ -36,9 +36,6 @@ count_at : (g : Container → Bool) (n low : ℕ) (xs : List Container) (high : 
 count_at g n low [] high r = refl
 count_at g n low (x ∷ xs) high r = by (x.number == n) refl (count_at g n (x.number + 1) xs high r.1)
   where
-    weight : Container → ℕ
-    weight y = one_where (y.number == n && g y)
-
     first : sum_by (λ (y : Container). one_where (y.number == n && g y)) (x ∷ xs) ≡ one_where (x.number == n && g x) + sum_by (λ (y : Container). one_where (y.number == n && g y)) xs
     first = sum_by-cons (λ (y : Container). one_where (y.number == n && g y)) x xs
 

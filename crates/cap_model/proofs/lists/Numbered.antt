@@ -61,6 +61,13 @@ module _ {A : Type 0} (num : A → ℕ) where
       let other : num y == n ≡ false = grind (arith, nat_tests, below, h) in
       ap (λ b. cond b (Some y) (find (λ z. num z == n) xs)) other ∙ none_from_high (num y + 1) xs high n r.1 h
 
+  -- nobody has a number below the lower bound
+  pub none_before : (n low : ℕ) (xs : List A) (high : ℕ) → IsRising low (map num xs) high → n < low → find (λ y. num y == n) xs ≡ None
+  none_before n low [] high r h = refl
+  none_before n low (y ∷ xs) high r h =
+      let no : num y == n ≡ false = grind (arith, nat_tests, r.0, h) in
+      ap (λ b. cond b (Some y) (find (λ z. num z == n) xs)) no ∙ none_before n (num y + 1) xs high r.1 (omega (arith, r.0, h))
+
   -- a change that keeps numbers
   pub same_numbers : (f : A → A) → ((x : A) → num (f x) ≡ num x) → (xs : List A) → map num (map f xs) ≡ map num xs
   same_numbers f e [] = refl
