@@ -4,7 +4,7 @@ use Rattle.std.specs.Prelude.{IsSome, is_some, ◌==◌, ◌||◌, not, find, fi
 use Rattle.std.specs.List.{sum_by}
 use Rattle.std.proofs.lemmas.Bool.Decides.{nat_tests}
 use Rattle.std.proofs.lemmas.List.{append-nil, length-map}
-use Rattle.std.proofs.lemmas.List.Sums.{count_by-le-length, length-filter, sum_by-cons}
+use Rattle.std.proofs.lemmas.List.Sums.{count_by-le-length, length-filter}
 use Rattle.std.proofs.lemmas.Slice.Eq.{bytes_eq-Decides}
 use Rattle.cap_vector.specs.Vector.{amount}
 use Rattle.cap_model.specs.Settings.{QueueRow}
@@ -13,7 +13,6 @@ use Rattle.cap_model.specs.declared.news.End.{End}
 use Rattle.cap_model.specs.Flat.{Flat, App, AppTable, Container, NodeTable, app_at}
 use Rattle.cap_model.specs.Ending.{is_among, with_ends, after_ends}
 use Rattle.cap_model.proofs.lists.Numbered.{rising_kept}
-use Rattle.cap_model.proofs.lists.Sums.{count_cons}
 use Rattle.cap_model.proofs.lists.Filters.{filter_same}
 use Rattle.cap_model.proofs.lists.Members.{IsIn, found, of_filter, each_of, of_each, of_map}
 use Rattle.cap_model.proofs.calls.Lessening.{change_stands}

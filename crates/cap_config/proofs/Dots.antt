@@ -1,5 +1,5 @@
 -- The last dot.
-use Rattle.std.proofs.Common.{◌≡◌, ℕ, zero, suc, ◌+◌, ◌-◌, ◌<◌, ◌≤◌, List, [], ◌∷◌, length, get_or, take, drop, true, false, Some, None, refl, arith, add-one}
+use Rattle.std.proofs.Common.{◌≡◌, ℕ, zero, suc, ◌+◌, ◌-◌, ◌<◌, ◌≤◌, List, [], ◌∷◌, length, get_or, take, drop, true, Some, None, refl, arith, add-one}
 use Rattle.cap_text.proofs.Cuts.{rest_all}
 use Rattle.cap_config.specs.Keys.{last_dot, is_dot, parts_at_last_dot}
 

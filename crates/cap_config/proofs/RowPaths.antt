@@ -4,7 +4,6 @@ use Rattle.std.specs.Prelude.{◌||◌, map}
 use Rattle.std.specs.List.{flat_map}
 use Rattle.std.specs.Str.{bytes_eq}
 use Rattle.std.specs.Str.Lines.{lines}
-use Rattle.std.proofs.lemmas.Slice.Eq.{bytes_eq-Decides}
 use Rattle.cap_model.specs.Settings.{QueueRow}
 use Rattle.cap_model.proofs.lists.Tests.{same_test, bytes_itself}
 use Rattle.cap_config.specs.declared.entry.Entry.{Entry}

@@ -1,6 +1,6 @@
 -- One more queue, under the one that its path names.
-use Rattle.std.proofs.Common.{◌≡◌, ℕ, zero, suc, ◌+◌, ◌-◌, ◌≤◌, ◌<◌, Bool, true, false, cond, ◌&&◌, List, [], ◌∷◌, ◌++◌, length, take, drop, get_or, Some, refl, sym, ◌∙◌, ap, subst, arith, inl, inr}
-use Rattle.std.specs.Prelude.{◌⊎◌, bytes_eq, nat_eq, ◌==◌, ◌||◌, find, is_some, count_by}
+use Rattle.std.proofs.Common.{◌≡◌, ℕ, suc, ◌+◌, ◌-◌, ◌≤◌, ◌<◌, Bool, true, false, cond, ◌&&◌, List, [], ◌∷◌, ◌++◌, length, take, drop, get_or, Some, refl, sym, ◌∙◌, ap, subst, arith, inl, inr}
+use Rattle.std.specs.Prelude.{◌⊎◌, bytes_eq, ◌==◌, ◌||◌, find, is_some}
 use Rattle.std.specs.List.{All, list_any, sum_by}
 use Rattle.std.proofs.lemmas.Bool.Decides.{nat_tests}
 use Rattle.std.proofs.Math.Seq.{drop-cons}
@@ -19,7 +19,7 @@ use Rattle.cap_model.proofs.paths.Paths.{IsUnder, under_is, is_under_it, name_ha
 use Rattle.cap_model.proofs.lists.Tests.{same_test}
 use Rattle.cap_model.proofs.paths.Levels.{no_levels}
 use Rattle.cap_tree.specs.Spot.{leads_to, path_at, last_place, IsAddedAt, IsAdded}
-use Rattle.cap_vector.specs.Vector.{amount, zeros}
+use Rattle.cap_vector.specs.Vector.{amount}
 use Rattle.cap_vector.proofs.AmountLemmas.{amount-zeros}
 use Rattle.cap_tree.specs.Measure.{Measure}
 use Rattle.cap_tree.specs.Queue.{Queue, Shows, IsUnused, of_queue, of_user, of_users}

@@ -19,7 +19,7 @@ use Rattle.cap_model.specs.Sight.{sight_of, app_sight, node_sight, queue_sight, 
 use Rattle.cap_model.specs.Admission.{NodeProposal, IsWithinLimits, leaf_path, user_name, replaced, use_after, fits_free}
 use Rattle.cap_model.specs.Events.{grant_proposal, reserve_proposal, after_grant, after_reserve}
 use Rattle.cap_model.specs.Bounds.{IsRising, FitsMaximum, IsNodeBounded, IsQueueBounded, IsWellFormed}
-use Rattle.cap_model.proofs.lists.Members.{IsIn, in_filter, each_of, of_each, found}
+use Rattle.cap_model.proofs.lists.Members.{IsIn, in_filter, each_of, of_each}
 use Rattle.cap_model.proofs.lists.Sums.{sum_by_agree}
 use Rattle.cap_model.proofs.lists.Numbered.{found_by_number}
 use Rattle.cap_model.proofs.calls.Moves.{grant_change}

@@ -18,7 +18,7 @@ use Rattle.cap_model.proofs.lists.Parts.{IsPart, part_in, part_sum, part_keep_fi
 use Rattle.cap_model.proofs.lists.Numbered.{find_changed}
 use Rattle.cap_model.proofs.calls.Lessening.{capacity}
 use Rattle.cap_model.proofs.bounds.Growing.{in_sum}
-use Rattle.cap_model.proofs.calls.KeptAsks.{same_key_is, same_key_itself, kept_few, put_is_found, others_are_found, not_same_other}
+use Rattle.cap_model.proofs.calls.KeptAsks.{same_key_is, kept_few, put_is_found, others_are_found, not_same_other}
 
 -- the asks of an application
 abbrev pub asking : Option App → Option (List Ask)

@@ -5,7 +5,7 @@ use Rattle.std.specs.List.{sum_by, list_any}
 use Rattle.std.proofs.lemmas.Bool.{cases_lt, not-false}
 use Rattle.std.proofs.lemmas.Bool.Decides.{nat_tests}
 use Rattle.std.proofs.lemmas.List.{length-append, length-map}
-use Rattle.std.proofs.lemmas.List.Sums.{length-filter, count_by-le-length, sum_by_push}
+use Rattle.std.proofs.lemmas.List.Sums.{sum_by_push}
 use Rattle.cap_vector.specs.Vector.{amount, amount_max, plus, is_zero, is_within, IsWithin}
 use Rattle.cap_vector.proofs.AmountLemmas.{amount-plus, within_from_test}
 use Rattle.cap_model.specs.Limits.{number_end, nodes_max}

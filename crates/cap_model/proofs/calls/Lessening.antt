@@ -1,13 +1,13 @@
 -- What a call that is not refused leaves: of the live containers and the reservations some, each with its application and its node.
 use Rattle.std.proofs.Common.{◌≡◌, ℕ, Bool, true, false, List, [], ◌∷◌, refl, sym, ◌∙◌, ap, subst, inl, inr, arith}
-use Rattle.std.specs.Prelude.{◌⊎◌, Option, Some, None, IsSome, cond, not, ◌&&◌, ◌==◌, ◌-◌, filter, find, option_map, if◌then◌else◌}
+use Rattle.std.specs.Prelude.{◌⊎◌, Option, Some, None, IsSome, cond, not, ◌==◌, filter, find, option_map, if◌then◌else◌}
 use Rattle.std.proofs.lemmas.Bool.Decides.{nat_tests}
 use Rattle.std.proofs.lemmas.Bool.{not-true}
 use Rattle.cap_model.specs.Asks.{Ask}
 use Rattle.cap_model.specs.declared.request.Request.{Request}
 use Rattle.cap_model.specs.declared.news.Cause.{Cause}
 use Rattle.cap_model.specs.Flat.{Flat, App, ClusterNode, Container, Reservation, app_at, node_at, is_for}
-use Rattle.cap_model.specs.Asking.{after_asks, after_ask, rounded, keep_first}
+use Rattle.cap_model.specs.Asking.{after_asks, after_ask, rounded}
 use Rattle.cap_model.specs.Ending.{is_among}
 use Rattle.cap_model.specs.Submit.{new_app}
 use Rattle.cap_model.specs.RegisterNode.{new_node}

@@ -1,6 +1,6 @@
 -- What is known of a node that is not refused.
-use Rattle.std.proofs.Common.{◌≡◌, ℕ, ◌<◌, Bool, true, false, List, [], ◌∷◌, length, map, Option, Some, None, refl, sym, inl, inr}
-use Rattle.std.specs.Prelude.{not, nat_le, bytes_eq, is_none, IsSome, is_some, ◌↔◌, option_map}
+use Rattle.std.proofs.Common.{◌≡◌, ℕ, ◌<◌, Bool, true, false, List, [], ◌∷◌, length, Option, Some, None, refl, sym, inl, inr}
+use Rattle.std.specs.Prelude.{not, nat_le, bytes_eq, is_none, IsSome, is_some, ◌↔◌}
 use Rattle.std.specs.List.{list_any}
 use Rattle.std.proofs.lemmas.Bool.{cases_Bool, not-false, not-true, leb-false}
 use Rattle.cap_vector.specs.Vector.{amount_max, plus, is_within, IsWithin, IsVector, is_zero}

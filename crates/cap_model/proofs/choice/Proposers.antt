@@ -1,7 +1,6 @@
 -- What an admissible proposal is of: its application, its node and the reservation that it replaces.
 use Rattle.std.proofs.Common.{◌≡◌, ℕ, Bool, true, false, List, [], ◌∷◌, refl, sym, ◌∙◌, ap, subst, inl, inr, arith}
 use Rattle.std.specs.Prelude.{◌⊎◌, Option, Some, None, IsSome, cond, ◌&&◌, ◌==◌, filter, find, map, option_map, option_and_then, unwrap_or, bytes_eq}
-use Rattle.std.specs.List.{list_all, list_any}
 use Rattle.std.proofs.lemmas.Bool.Decides.{nat_tests}
 use Rattle.std.proofs.lemmas.Slice.Eq.{bytes_eq-Decides}
 use Rattle.cap_model.specs.Settings.{QueueRow}
@@ -11,8 +10,8 @@ use Rattle.cap_model.specs.Sight.{AppSight, NodeSight, QueueSight, sight_of, app
 use Rattle.cap_model.specs.Admission.{NodeProposal, is_grant, leaf_path, replaced, is_reserved_for, node_reservation, stays_in_maximum, stays_in_maxima}
 use Rattle.cap_model.specs.Bounds.{IsRising, HasDistinctPaths}
 use Rattle.cap_model.proofs.lists.Members.{IsIn, found, of_filter, in_filter, of_map, in_map, all_in, none_in}
-use Rattle.std.proofs.lemmas.Bool.{and_parts, cases_Bool}
-use Rattle.cap_model.proofs.lists.Tests.{or_left, or_right, value_of}
+use Rattle.std.proofs.lemmas.Bool.{cases_Bool}
+use Rattle.cap_model.proofs.lists.Tests.{value_of}
 use Rattle.cap_model.proofs.lists.Numbered.{found_by_number}
 use Rattle.cap_model.proofs.lists.Filters.{find_mapped_at}
 

@@ -1,15 +1,15 @@
 -- A cluster in which the live containers that pass a test go one after the other, in order of number.
-use Rattle.std.proofs.Common.{◌≡◌, ℕ, ◌+◌, ◌≤◌, Bool, true, false, List, [], ◌∷◌, ◌++◌, length, length-append, refl, sym, ◌∙◌, ap, subst, arith}
+use Rattle.std.proofs.Common.{◌≡◌, ℕ, ◌+◌, ◌≤◌, Bool, List, [], ◌∷◌, ◌++◌, length, length-append, refl, sym, ◌∙◌, ap, subst, arith}
 use Rattle.std.specs.Prelude.{Some, None, not, ◌==◌, ◌&&◌, nat_lt, filter, find}
 use Rattle.std.proofs.lemmas.Bool.{not-true}
 use Rattle.std.proofs.lemmas.List.Sums.{length-filter, count_by-le-length}
 use Rattle.cap_model.specs.declared.news.Cause.{Cause}
 use Rattle.cap_model.specs.Flat.{Flat, Container}
-use Rattle.cap_model.specs.Ending.{is_among, without, after_ends}
+use Rattle.cap_model.specs.Ending.{is_among, after_ends}
 use Rattle.cap_model.specs.EngineLaws.{HasDistinctNumbers}
 use Rattle.cap_model.proofs.numbers.Balance.{among_some}
 use Rattle.cap_model.proofs.lists.Filters.{filter_none}
-use Rattle.cap_model.proofs.lists.Members.{of_filter, found}
+use Rattle.cap_model.proofs.lists.Members.{of_filter}
 use Rattle.cap_model.proofs.ending.Draining.{IsDrained, drain_start, drain_step, drain_end, drained_found}
 use Rattle.cap_model.proofs.ending.EndsInOrder.{ends_none, ends_more}
 use Rattle.cap_model.proofs.lists.Numbered.{found_by_number}

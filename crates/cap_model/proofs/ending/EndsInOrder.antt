@@ -1,5 +1,5 @@
 -- Containers end one after the other.
-use Rattle.std.proofs.Common.{◌≡◌, ℕ, ◌+◌, ◌<◌, Bool, true, false, List, [], ◌∷◌, ◌++◌, length, length-append, map, subst, refl, sym, ◌∙◌, ap, arith}
+use Rattle.std.proofs.Common.{◌≡◌, ℕ, ◌+◌, Bool, true, false, List, [], ◌∷◌, ◌++◌, length, length-append, map, subst, refl, sym, ◌∙◌, ap, arith}
 use Rattle.std.specs.Prelude.{Option, Some, None, cond, not, ◌&&◌, ◌||◌, ◌==◌, filter, find, if◌then◌else◌}
 use Rattle.std.specs.List.{cons_option}
 use Rattle.std.proofs.lemmas.Bool.Decides.{nat_tests}
@@ -8,14 +8,13 @@ use Rattle.std.proofs.lemmas.List.Elements.{filter-append}
 use Rattle.std.proofs.lemmas.List.Folds.{list_any-append}
 use Rattle.cap_model.specs.declared.news.Cause.{Cause}
 use Rattle.cap_model.specs.Flat.{Flat, App, Container}
-use Rattle.cap_model.specs.Ending.{is_among, named_among, with_ends, without, after_ends}
+use Rattle.cap_model.specs.Ending.{is_among, named_among, with_ends, after_ends}
 use Rattle.cap_model.specs.Bounds.{IsRising}
 use Rattle.cap_model.specs.EngineLaws.{numbers_of}
 use Rattle.cap_model.proofs.lists.Filters.{map_twice, filter_same, filter_twice, filter_whole}
 use Rattle.cap_model.proofs.lists.Numbered.{rising_kept, rising_from_low, none_before}
 use Rattle.cap_model.proofs.numbers.Balance.{among_some}
 use Rattle.cap_model.proofs.ending.NamedEnds.{is_named, among_named}
-use Rattle.cap_model.proofs.lists.Members.{found}
 
 not_or : (a b : Bool) → not (a || b) ≡ cond (not a) (not b) false
 not_or true b = refl

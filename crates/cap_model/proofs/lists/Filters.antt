@@ -1,6 +1,6 @@
 -- What a filter keeps, and what is found in a mapped list.
 use Rattle.std.proofs.Common.{◌≡◌, ◌≤◌, length, arith, Bool, true, false, List, [], ◌∷◌, refl, sym, ◌∙◌, ap, inl, inr}
-use Rattle.std.specs.Prelude.{Option, Some, None, option_map, cond, filter, find, map}
+use Rattle.std.specs.Prelude.{Some, option_map, cond, filter, find, map}
 use Rattle.std.proofs.lemmas.List.Sums.{length-filter, count_by-le-length}
 use Rattle.cap_model.proofs.lists.Members.{IsIn}
 

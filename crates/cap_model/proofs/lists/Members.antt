@@ -1,15 +1,11 @@
 -- Members of a list.
 use Rattle.std.proofs.Common.{◌≡◌, Bool, true, false, List, [], ◌∷◌, ◌++◌, refl, sym, ◌∙◌, ap, subst, inl, inr}
-use Rattle.std.specs.Prelude.{◌⊎◌, Option, Some, None, cond, filter, find, flat_map, map, unwrap_or}
+use Rattle.std.specs.Prelude.{◌⊎◌, Option, Some, cond, filter, find, flat_map, map, unwrap_or}
 use Rattle.std.specs.List.{All, AllByRecursion, list_all, list_any}
 use Rattle.std.proofs.lemmas.Bool.{and_parts}
 use Rattle.std.proofs.lemmas.List.Elements.{All-from_recursion, recursion_from_All}
 use Rattle.cap_model.proofs.lists.Tests.{or_left, or_right}
-
--- x is an element of the list
-abbrev pub IsIn : {A : Type 0} → A → List A → Type 0
-IsIn x [] = ⊥
-IsIn x (y ∷ ys) = (y ≡ x) ⊎ IsIn x ys
+pub use Rattle.cap_model.specs.Members.{IsIn}
 
 pub in_left : {A : Type 0} (x : A) (xs ys : List A) → IsIn x xs → IsIn x (xs ++ ys)
 in_left x [] ys m = absurd m

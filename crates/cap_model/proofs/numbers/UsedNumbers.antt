@@ -12,7 +12,7 @@ use Rattle.cap_model.specs.declared.event.Event.{Event}
 use Rattle.cap_model.specs.Events.{Step, Run}
 use Rattle.cap_model.specs.Bounds.{IsWellFormed}
 use Rattle.cap_model.specs.BoundLaws.{NumbersAreNotUsedAgain}
-use Rattle.cap_model.proofs.lists.Members.{IsIn, found}
+use Rattle.cap_model.proofs.lists.Members.{IsIn}
 use Rattle.cap_model.proofs.calls.Moves.{step_moves}
 use Rattle.cap_model.proofs.numbers.AppNumbers.{stays_missing}
 use Rattle.cap_model.proofs.calls.Lessening.{lessened, asked}

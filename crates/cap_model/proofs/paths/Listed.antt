@@ -1,6 +1,6 @@
 -- In a list of queues from the root each queue stands before those under it.
 use Rattle.std.proofs.Common.{◌≡◌, ℕ, ◌+◌, true, false, List, [], ◌∷◌, ◌++◌, append_assoc, refl, sym, ◌∙◌, ap, subst, inl, inr, arith}
-use Rattle.std.specs.Prelude.{◌⊎◌, bytes_eq, ◌==◌}
+use Rattle.std.specs.Prelude.{◌⊎◌, bytes_eq}
 use Rattle.std.specs.List.{list_any}
 use Rattle.std.proofs.lemmas.Slice.Eq.{bytes_eq-Decides}
 use Rattle.cap_model.specs.Settings.{QueueRow}
@@ -9,11 +9,10 @@ use Rattle.cap_model.specs.Bounds.{HasDistinctPaths, StandBelow, depth}
 use Rattle.cap_model.specs.QueueCalls.{root_path}
 use Rattle.cap_model.specs.Listing.{IsListed, IsListedFromRoot}
 use Rattle.cap_model.specs.BoundLaws.{ListingsStandBelow}
-use Rattle.cap_model.proofs.lists.Sums.{one_where}
 use Rattle.cap_model.proofs.lists.Tests.{or_left, or_right}
 use Rattle.std.proofs.lemmas.Bool.{or_from, cases_Bool}
-use Rattle.cap_model.proofs.paths.Paths.{IsUnder, under_is, has_dot, name_has_none}
-use Rattle.cap_model.proofs.paths.Levels.{depth_cons, below_is_deeper, comparable, no_levels}
+use Rattle.cap_model.proofs.paths.Paths.{IsUnder, under_is, name_has_none}
+use Rattle.cap_model.proofs.paths.Levels.{below_is_deeper, comparable, no_levels}
 
 -- what is under a queue that is under another is under the other
 under_both : (a b c : List ℕ) → IsUnder a b → IsUnder b c → IsUnder a c

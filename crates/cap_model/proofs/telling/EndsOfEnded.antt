@@ -28,7 +28,6 @@ use Rattle.cap_model.proofs.numbers.AppNumbers.{used, next_rises, never_back}
 use Rattle.cap_model.proofs.telling.Telling.{refused_tells}
 use Rattle.cap_model.proofs.telling.ToldRuns.{not_live, ends_nothing}
 use Rattle.cap_model.proofs.lists.Numbered.{find_gone}
-use Rattle.cap_model.proofs.bounds.Formed.{step_formed}
 use Rattle.cap_model.proofs.bounds.BoundedRuns.{step_stays_bounded}
 use Rattle.cap_model.proofs.lists.Tests.{not_none, there_or_not}
 use Rattle.cap_model.proofs.ending.NamedEnds.{count_ended, count_lost, count_ends, count_of}
