@@ -20,7 +20,7 @@ use Rattle.cap_tree.specs.Queue.{Queue, UserRow, MayGive, MayLeave, count_in, mo
 use Rattle.cap_tree.specs.QueueLaws.{nothing_counts}
 use Rattle.cap_tree.specs.Rows.{Row, IsAt, moved, queues_of, user_row_at}
 use Rattle.cap_tree.proofs.Listings.{settings_stay}
-use Rattle.cap_tree.proofs.RowPaths.{under_itself}
+use Rattle.cap_model.proofs.paths.Paths.{under_itself}
 use Rattle.cap_tree.proofs.OneUser.{count_where, moved_own, moved_single, none_there, single_row, some_row}
 use Rattle.cap_commit.specs.Held.{IsRowOf, of_cluster}
 use Rattle.cap_commit.proofs.RowsAt.{still_at}

@@ -15,7 +15,7 @@ use Rattle.cap_model.specs.Listing.{IsListed, IsListing}
 use Rattle.cap_model.specs.Limits.{depth_max}
 use Rattle.cap_model.specs.QueueCalls.{root_path}
 use Rattle.cap_model.proofs.lists.Members.{IsIn, in_right, in_either, each_of, of_each, in_map}
-use Rattle.cap_model.proofs.paths.Paths.{IsUnder, under_is, is_under_it, name_has_none, dot_in, head_is, tail_is}
+use Rattle.cap_model.proofs.paths.Paths.{IsUnder, under_is, is_under_it, name_has_none, dot_in, head_is, tail_is, under_itself}
 use Rattle.cap_model.proofs.lists.Tests.{same_test}
 use Rattle.cap_model.proofs.paths.Levels.{no_levels}
 use Rattle.cap_tree.specs.Spot.{leads_to, path_at, last_place, IsAddedAt, IsAdded}
@@ -25,7 +25,7 @@ use Rattle.cap_tree.specs.Measure.{Measure}
 use Rattle.cap_tree.specs.Queue.{Queue, Shows, IsUnused, of_queue, of_user, of_users}
 use Rattle.cap_tree.specs.Rows.{Row, AreRows, PlacesArePaths, settings_of_row, queues_of}
 use Rattle.cap_tree.specs.Growth.{IsClosed, IsGrowing}
-use Rattle.cap_tree.proofs.RowPaths.{at_place, agree, same_row, leads_itself, under_itself}
+use Rattle.cap_tree.proofs.RowPaths.{at_place, agree, same_row, leads_itself}
 use Rattle.cap_tree.proofs.Adding.{last-append}
 
 -- dots

@@ -8,7 +8,7 @@ use Rattle.std.proofs.lemmas.Slice.Eq.{bytes_eq-Decides}
 use Rattle.cap_model.specs.Settings.{QueueRow}
 use Rattle.cap_model.specs.Flat.{is_under}
 use Rattle.cap_model.proofs.lists.Members.{IsIn, each_of, of_each, of_map}
-use Rattle.cap_model.proofs.paths.Paths.{IsUnder, under_is, is_under_it}
+use Rattle.cap_model.proofs.paths.Paths.{IsUnder, under_is, is_under_it, under_itself}
 use Rattle.cap_model.proofs.lists.Filters.{map_same, filter_same}
 use Rattle.cap_tree.specs.Spot.{leads_to, item_at, path_at, change_along, along, first_failing, HoldsOfItem, IsPlace}
 use Rattle.cap_tree.specs.Queue.{Queue}
@@ -47,9 +47,6 @@ same_place p q =
     (λ e. let s = (bytes_eq-Decides p q).0 e in subst (λ x. leads_to p x ≡ true) s (leads_itself p))
     (λ e. let s = (bytes_eq-Decides p q).0 e in subst (λ x. leads_to x p ≡ true) s (leads_itself p))
     (λ f g. (bytes_eq-Decides p q).1 (leads_back p q f g))
-
-pub under_itself : (p : List ℕ) → is_under p p ≡ true
-under_itself p = is_under_it p p (inl refl)
 
 under_back : (p q : List ℕ) → IsUnder p q → IsUnder q p → p ≡ q
 under_back p q (inl e) g = sym e

@@ -60,6 +60,9 @@ is_under_it path queue (inr (rest, e)) =
     or_second (bytes_eq path queue) (starts_with nat_eq queue (path ++ 46 ∷ []))
     (ap (λ q. starts_with nat_eq q (path ++ 46 ∷ [])) (e ∙ sym (append_assoc path (46 ∷ []) rest)) ∙ begins_with (path ++ 46 ∷ []) rest)
 
+pub under_itself : (path : List ℕ) → is_under path path ≡ true
+under_itself path = is_under_it path path (inl refl)
+
 pub under_by_path : UnderByPath
 under_by_path path queue = (under_is path queue, is_under_it path queue)
 
