@@ -8,7 +8,7 @@ use Rattle.std.proofs.lemmas.Slice.Eq.{bytes_eq-Decides}
 use Rattle.cap_model.specs.Settings.{QueueRow}
 use Rattle.cap_model.specs.Flat.{is_under}
 use Rattle.cap_model.proofs.lists.Members.{IsIn, each_of, of_each, of_map}
-use Rattle.cap_model.proofs.paths.Paths.{IsUnder, under_is, is_under_it, under_itself}
+use Rattle.cap_model.proofs.paths.Paths.{IsUnder, under_is, under_itself}
 use Rattle.cap_model.proofs.lists.Filters.{map_same, filter_same}
 use Rattle.cap_tree.specs.Spot.{leads_to, item_at, path_at, change_along, along, first_failing, HoldsOfItem, IsPlace}
 use Rattle.cap_tree.specs.Queue.{Queue}
