@@ -131,10 +131,6 @@ one_uses n a g e es old new found t =
       ends = λ m. account_after (λ b x y. option_map_or (λ c. c.ends) x 0 ≤ option_map_or (λ c. c.ends) y 0 + (if b then e else 0)) m n es old new found (omega (arith, ends)) (λ o. omega arith);
     }
 
--- what a look-up found, as a reference
-pub found_by : (n : ℕ) (es : List (ℕ × HeldApp)) (r : Option HeldApp) (old : HeldApp) → r ≡ lookup (nat_eq n) es → r ≡ Some old → lookup (nat_eq n) es ≡ Some old
-found_by n es r old e f = sym e ∙ f
-
 -- the account of an application that is there
 pub account_there : (n : ℕ) (es : List (ℕ × HeldApp)) (old : HeldApp) → lookup (nat_eq n) es ≡ Some old → account_of n (accounts_of es) ≡ Some old.account
 account_there n es old found = account_found n es ∙ ap (option_map (λ (x : HeldApp). x.account)) found

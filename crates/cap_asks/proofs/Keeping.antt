@@ -11,9 +11,10 @@ use Rattle.cap_model.specs.Asks.{same_key, Ask}
 use Rattle.cap_model.specs.Flat.{ask_at}
 use Rattle.cap_model.specs.Asking.{without_key, with_ask, put_ask}
 use Rattle.cap_model.specs.Events.{take_one}
+use Rattle.cap_model.proofs.calls.KeptAsks.{same_key_is, same_key_itself, put_is_found, others_are_found, one_less, not_same_other}
+use Rattle.cap_model.proofs.lists.Tests.{first_is}
+use Rattle.cap_asks.specs.Held.{is_before, AreAfter, AreKept, place_of, IsIndex, index_of}
 use Rattle.cap_model.specs.Limits.{keys_max}
-use Rattle.cap_model.proofs.KeptAsks.{same_key_is, same_key_itself, put_is_found, others_are_found, one_less}
-use Rattle.cap_asks.specs.Held.{is_before, AreAfter, AreKept, IsIndex, index_of}
 
 -- the order of keys in numbers
 before_numbers : (a b : Key) → is_before a b ≡ (nat_lt a.priority b.priority || nat_eq a.priority b.priority && nat_lt a.request b.request)
@@ -33,9 +34,6 @@ before_through a b c h g = let e = sym (before_numbers a b) ∙ h in let f = sym
 
 not_same_back : (a b : Key) → is_before a b ≡ true → same_key b a ≡ false
 not_same_back a b h = let e = sym (before_numbers a b) ∙ h in grind (arith, nat_tests, e)
-
-not_same_other : (a b : Key) → same_key a b ≡ false → same_key b a ≡ false
-not_same_other a b h = grind (arith, nat_tests, h)
 
 -- asks after a key: it is none of theirs, and its ask goes first
 after_absent : (key : Key) (xs : List Ask) → AreAfter key xs → ask_at key xs ≡ None
@@ -249,10 +247,6 @@ pub kept_all : (kept asks : List Ask) → AreKept kept → AreKept (put_all kept
 kept_all kept [] k = k
 kept_all kept (ask ∷ asks) k = kept_all (put_ask ask kept) asks (kept_put ask kept k)
 
--- an ask with one container less to want is put, and asks that are none of its key stay
-abbrev lessened : Key → Ask → Ask
-lessened key ask = if same_key ask.key key then record ask { count = ask.count - 1 } else ask
-
 one_stays : (key : Key) (x : Ask) (xs : List Ask) → 1 ≤ x.count → same_key x.key key ≡ false → take_one key (x ∷ xs) ≡ x ∷ take_one key xs
 one_stays key x xs c e =
     let none : x.count == 0 ≡ false = grind (arith, nat_tests, c) in
@@ -266,10 +260,6 @@ none_taken key (x ∷ xs) k h = by (same_key x.key key) refl (none_taken key xs 
     by : (b : Bool) → same_key x.key key ≡ b → (is_some (ask_at key xs) ≡ false → take_one key xs ≡ xs) → take_one key (x ∷ xs) ≡ x ∷ xs
     by true e rec = absurd (cc (sym (ap (λ b. is_some (cond b (Some x) (ask_at key xs))) e) ∙ h))
     by false e rec = one_stays key x xs k.0 e ∙ ap (λ ys. x ∷ ys) (rec (sym (ap (λ b. is_some (cond b (Some x) (ask_at key xs))) e) ∙ h))
-
-first_is : (b : Bool) (x y : Ask) (o : Option Ask) → b ≡ true → cond b (Some x) o ≡ Some y → x ≡ y
-first_is true x y o e f = cc
-first_is false x y o e f = absurd (cc e)
 
 found_same : (key : Key) (ask : Ask) (xs : List Ask) → ask_at key xs ≡ Some ask → same_key ask.key key ≡ true
 found_same key ask [] h = absurd (cc h)

@@ -6,12 +6,13 @@ use Rattle.std.proofs.lemmas.List.{ext_get_or, get_or-replicate, length-replicat
 use Rattle.cap_vector.specs.Vector.{amount, zeros}
 use Rattle.cap_model.specs.Flat.{Flat, App, Container, Reservation, app_at}
 use Rattle.cap_model.specs.Bounds.{IsRising}
-use Rattle.cap_model.proofs.Choosing.{IsIn, found}
-use Rattle.cap_model.proofs.Balance.{count_append, count_cons, filter_whole}
-use Rattle.cap_model.proofs.Members.{rising_from_low, sum_of_zeros, one_where}
-use Rattle.cap_model.proofs.Lessening.{IsSite}
-use Rattle.cap_model.proofs.Measures.{counts, counted, use_amount}
-use Rattle.cap_model.proofs.Tallies.{Test, count_of, used_by, length_used}
+use Rattle.cap_model.proofs.lists.Members.{IsIn, found}
+use Rattle.cap_model.proofs.lists.Sums.{count_append, count_cons, sum_of_zeros, one_where}
+use Rattle.cap_model.proofs.lists.Filters.{filter_whole}
+use Rattle.cap_model.proofs.lists.Numbered.{rising_from_low}
+use Rattle.cap_model.proofs.calls.Lessening.{IsSite}
+use Rattle.cap_model.proofs.uses.Measures.{counts, counted, use_amount}
+use Rattle.cap_model.proofs.uses.Tallies.{Test, count_of, used_by, length_used}
 
 -- one more application
 pub count_entered : (test : Test) (active : List App) (a : App) → count_of test (active ++ a ∷ []) ≡ count_of test active + one_where (test a.leaf a.user)
@@ -69,7 +70,7 @@ only_one test low active high n a r e t one m other = by (find (λ (x : App). x.
             let at = found (λ (x : App). x.number == m) active b f in
             let number = at.1 in
             let stays : not (b.number == n) ≡ true = (let no : b.number == n ≡ false = grind (arith, nat_tests, number, other) in ap not no) in
-            let more = count_positive test left b (Rattle.cap_model.proofs.Choosing.in_filter (λ (x : App). not (x.number == n)) active b at.0 stays) h in
+            let more = count_positive test left b (Rattle.cap_model.proofs.lists.Members.in_filter (λ (x : App). not (x.number == n)) active b at.0 stays) h in
             let whole = count_without test low active high n a r e in
             let weight : one_where (test a.leaf a.user) ≡ 1 = ap one_where t in
             absurd (omega (arith, more, whole, weight, one))

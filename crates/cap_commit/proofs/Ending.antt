@@ -4,7 +4,7 @@ use Rattle.std.specs.Prelude.{IsSome, is_some, ◌==◌, ◌||◌, not, find, fi
 use Rattle.std.specs.List.{sum_by}
 use Rattle.std.proofs.lemmas.Bool.Decides.{nat_tests}
 use Rattle.std.proofs.lemmas.List.{append-nil, length-map}
-use Rattle.std.proofs.lemmas.List.Sums.{count_by-le-length, length-filter, sum_by-cons}
+use Rattle.std.proofs.lemmas.List.Sums.{count_by-le-length, length-filter}
 use Rattle.std.proofs.lemmas.Slice.Eq.{bytes_eq-Decides}
 use Rattle.cap_vector.specs.Vector.{amount}
 use Rattle.cap_model.specs.Settings.{QueueRow}
@@ -12,14 +12,14 @@ use Rattle.cap_model.specs.declared.news.Cause.{Cause}
 use Rattle.cap_model.specs.declared.news.End.{End}
 use Rattle.cap_model.specs.Flat.{Flat, App, AppTable, Container, NodeTable, app_at, change_app, Reservation}
 use Rattle.cap_model.specs.Ending.{is_among, with_ends, after_ends, complete}
-use Rattle.cap_model.proofs.ContainerNumbers.{rising_filter}
-use Rattle.cap_model.proofs.Balance.{count_cons, filter_same}
-use Rattle.cap_model.proofs.Choosing.{IsIn, found, of_filter}
-use Rattle.cap_model.proofs.Lessening.{change_stands}
-use Rattle.cap_model.proofs.Measures.{counts}
-use Rattle.cap_model.proofs.Members.{each_of, of_each, of_map}
-use Rattle.cap_model.proofs.Moves.{KeepsApp, AppsChange, ends_change, only_app}
-use Rattle.cap_model.proofs.Tallies.{count_of, count_changed, ended_amount, same_use, sum_without, used_by}
+use Rattle.cap_model.proofs.lists.Numbered.{rising_kept}
+use Rattle.cap_model.proofs.lists.Filters.{filter_same}
+use Rattle.cap_model.proofs.lists.Members.{IsIn, found, of_filter, each_of, of_each, of_map}
+use Rattle.cap_model.proofs.calls.Lessening.{change_stands}
+use Rattle.cap_model.proofs.uses.Measures.{counts}
+use Rattle.cap_model.proofs.calls.Moves.{KeepsApp, AppsChange, ends_change, only_app}
+use Rattle.cap_model.proofs.uses.Tallies.{count_of, count_changed, ended_amount, same_use, sum_without, used_by}
+use Rattle.cap_model.proofs.lists.Sums.{count_cons}
 use Rattle.cap_tree.specs.Measure.{Measure}
 use Rattle.cap_tree.specs.Queue.{MayGive}
 use Rattle.cap_tree.specs.Count.{nothing, use_alone}
@@ -41,8 +41,7 @@ weight b = if b then 1 else 0
 
 -- a count is a sum
 count_sum : (t : Container → Bool) (cs : List Container) → count_by t cs ≡ sum_by (λ c. cond (t c) 1 0) cs
-count_sum t [] = refl
-count_sum t (c ∷ cs) = let i = count_sum t cs in omega (arith, i, count_cons t c cs, sum_by-cons (λ (x : Container). cond (t x) 1 0) c cs)
+count_sum t cs = refl
 
 -- its application is to be told of it
 told : (cause : Cause) (c : Container) (app : App) → (if app.number == c.app then record app { ends = app.ends ++ record { container = c.number; cause = cause } ∷ [] } else app) ≡ with_ends cause (c ∷ []) app
@@ -149,7 +148,7 @@ module _ {K : ℕ} (p : Parts K) (h : IsHeld p) (number : ℕ) (c : Container) (
           counted = λ m. (let r = h.counted m in let e = room.live m in let w = count_left nodes' live m in let t : weight (c.app == m) ≡ weight (m == n) = ap weight (turned c.app m) ∙ ap (λ k. weight (m == k)) (sym same) in let z = none_where (m == n) in omega (arith, r, e, w, t, z));
           owned = owned_stands (λ (c : Container). c.app) p.nodes.live nodes'.live old (flat_of q) (change_stands old (flat_of q) change) (λ d i. (of_filter (λ x. not (is_among (c ∷ []) x)) p.nodes.live d (subst (IsIn d) live i)).1) h.owned;
           reserved = owned_stands (λ (r : Reservation). r.app) p.nodes.reserved nodes'.reserved old (flat_of q) (change_stands old (flat_of q) change) (λ r i. subst (IsIn r) (ap (λ (t : NodeTable). t.reserved) lift) i) h.reserved;
-          numbers = rw (lift) (rising_filter (λ d. not (is_among (c ∷ []) d)) 1 p.nodes.live p.nodes.next_container h.numbers);
+          numbers = rw (lift) (rising_kept (λ (z : Container). z.number) (λ d. not (is_among (c ∷ []) d)) 1 p.nodes.live p.nodes.next_container h.numbers);
           limit = h.limit;
           few = (let w = h.few in let k = ap length active in let l = length-map p.apps.table.active f in omega (arith, w, k, l));
           few_live = (let w = h.few_live in let k = ap length live in let l = length-filter (λ d. not (is_among (c ∷ []) d)) p.nodes.live in let m = count_by-le-length (λ d. not (is_among (c ∷ []) d)) p.nodes.live in omega (arith, w, k, l, m));

@@ -17,15 +17,17 @@ use Rattle.cap_model.specs.Ending.{after_ends, with_ends, without}
 use Rattle.cap_model.specs.FinishMaster.{after_finish_master, remove_app}
 use Rattle.cap_model.specs.Submit.{submit_refusal, new_app, add_app}
 use Rattle.cap_model.specs.Bounds.{IsLeaf, IsRising}
-use Rattle.cap_model.proofs.Choosing.{IsIn, found, in_either, of_filter}
-use Rattle.cap_model.proofs.Balance.{filter_none}
-use Rattle.cap_model.proofs.Members.{each_of, of_each, of_map, find_others, find_with_more, one_where, rising_to_high}
-use Rattle.cap_model.proofs.Lessening.{IsSite, change_stands}
-use Rattle.cap_model.proofs.Measures.{counts}
-use Rattle.cap_model.proofs.Moves.{KeepsApp, AppsChange, only_app}
-use Rattle.cap_model.proofs.Registering.{may_enter}
-use Rattle.cap_model.proofs.Formed.{unrefused_leaf}
-use Rattle.cap_model.proofs.Tallies.{HoldsSame, count_of, count_changed, same_use, change_holds, coming_holds, going_holds}
+use Rattle.cap_model.proofs.lists.Members.{IsIn, found, in_either, of_filter, each_of, of_each, of_map}
+use Rattle.cap_model.proofs.lists.Filters.{filter_none, length-kept}
+use Rattle.cap_model.proofs.lists.Numbered.{find_others, find_with_more, rising_to_high}
+use Rattle.cap_model.proofs.lists.Sums.{one_where}
+use Rattle.cap_model.proofs.calls.Lessening.{IsSite, change_stands}
+use Rattle.cap_model.proofs.uses.Measures.{counts}
+use Rattle.cap_model.proofs.calls.Moves.{KeepsApp, AppsChange, only_app}
+use Rattle.cap_model.proofs.calls.Registering.{may_enter}
+use Rattle.cap_model.proofs.bounds.Formed.{unrefused_leaf}
+use Rattle.cap_model.proofs.uses.Tallies.{HoldsSame, count_of, count_changed, same_use, change_holds, coming_holds, going_holds}
+use Rattle.cap_model.proofs.lists.Tests.{kept_if}
 use Rattle.cap_tree.specs.Measure.{Measure}
 use Rattle.cap_tree.specs.Queue.{IsUnused, MayLeave}
 use Rattle.cap_vector.proofs.AmountLemmas.{amount-zeros}
@@ -38,9 +40,8 @@ use Rattle.cap_commit.specs.Held.{Parts, IsHeld, IsPlaced, flat_of, of_cluster}
 use Rattle.cap_commit.proofs.Counting.{count_entered, count_without, only_one, unused}
 use Rattle.cap_commit.proofs.Owning.{IsOwned, IsReservedFor, count_for, live_kept, none_left, none_of, none_reserved, owned_after, owned_stands, sites_owned}
 use Rattle.cap_commit.proofs.RowsAt.{row_at, still_at}
-use Rattle.cap_commit.proofs.Parts.{fewer}
 use Rattle.cap_commit.proofs.Moving.{HasOneMore, enters, leaves, may_leave, moved_settings, moved_stays, tied_moved}
-use Rattle.cap_commit.proofs.Ties.{of_user_in, state_path, state_place, unused_tied, tied_stays, tied_state}
+use Rattle.cap_commit.proofs.Ties.{of_user_in, unused_tied, tied_stays, tied_state}
 
 -- a change of the queues that keeps their paths keeps which of them are leaves
 pub leaf_kept : (f : QueueRow → QueueRow) (p : (q : QueueRow) → (f q).path ≡ q.path) → {K : ℕ} (old new : Flat K) (path : List ℕ) → new.settings.queues ≡ map f old.settings.queues → IsLeaf old path → IsLeaf new path
@@ -165,7 +166,7 @@ module _ {K : ℕ} where
               of_each (IsPlaced q) p.apps.table.active
               (λ a m.
               still_placed p q (λ x l. leaf_kept (set_running path running) (Rattle.cap_tree.proofs.Listings.same_path path running) old (flat_of q) x (state_in_settings path running p.rows) l)
-              (λ x position at. still_at (with_state path running) (λ r. state_place path running r) (λ r. state_path path running r) p.rows x position at) a a refl refl refl
+              (λ x position at. still_at (with_state path running) (λ r. kept_if (bytes_eq r.path path) (λ (x : Row). x.place) _ r refl) (λ r. kept_if (bytes_eq r.path path) (λ (x : Row). x.path) _ r refl) p.rows x position at) a a refl refl refl
               (each_of (IsPlaced p) p.apps.table.active h.placed a m));
           counted = h.counted;
           owned = owned_stands (λ (c : Container). c.app) p.nodes.live p.nodes.live old (flat_of q) (λ n. refl) (λ c i. i) h.owned;
@@ -292,7 +293,7 @@ module _ {K : ℕ} where
           let active : apps'.table.active ≡ filter (λ (x : App). not (x.number == n)) p.apps.table.active = ap (λ (t : AppTable). t.active) e in
           let same : (flat_of q).settings.queues ≡ old.settings.queues = moved_settings K a.leaf a.user (one_application K) (nothing K) p.rows in
           let remains : (k : ℕ) → k == n ≡ false → IsSome (app_at old k) → IsSome (app_at (flat_of q) k) = λ k other there. subst IsSome (sym (ap (find (λ (x : App). x.number == k)) active ∙ find_others (λ (x : App). x.number) n k (turned k n other) p.apps.table.active)) there in
-          let stays : HoldsSame without_it (flat_of q) = record { live = refl; reserved = refl; apps = λ app node s. ap (λ (t : AppTable). Rattle.cap_model.proofs.Lessening.standing (find (λ (x : App). x.number == app) t.active)) e } in
+          let stays : HoldsSame without_it (flat_of q) = record { live = refl; reserved = refl; apps = λ app node s. ap (λ (t : AppTable). Rattle.cap_model.proofs.calls.Lessening.standing (find (λ (x : App). x.number == app) t.active)) e } in
           record {
             tied = tied_stays without_it (flat_of q) (record { counts = λ t. ap (count_of t) active; uses = same_use without_it (flat_of q) stays }) q.rows (tied_moved old without_it a.leaf a.user (one_application K) (nothing K) (leaves without_it old a.leaf a.user one_less) p.rows h.tied);
             placed =
@@ -308,7 +309,7 @@ module _ {K : ℕ} where
             reserved = of_each (IsReservedFor (flat_of q)) p.nodes.reserved (λ r m. remains r.app (none_reserved n p.nodes.reserved bare r m) (each_of (IsReservedFor old) p.nodes.reserved h.reserved r m));
             numbers = h.numbers;
             limit = h.limit;
-            few = (let f = h.few in let l = ap length active in let g = fewer n p.apps.table.active in omega (arith, f, l, g));
+            few = (let f = h.few in let l = ap length active in let g = length-kept (λ (a : App). not (a.number == n)) p.apps.table.active in omega (arith, f, l, g));
             few_live = h.few_live;
             resources = h.resources;
           }

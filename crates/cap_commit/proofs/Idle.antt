@@ -2,10 +2,10 @@
 use Rattle.std.proofs.Common.{◌≡◌, ℕ, false, [], subst, inl, inr}
 use Rattle.cap_vector.specs.Vector.{zeros}
 use Rattle.cap_model.specs.Flat.{Flat, app_at}
-use Rattle.cap_model.proofs.Choosing.{IsIn}
-use Rattle.cap_model.proofs.Lessening.{IsSite}
-use Rattle.cap_model.proofs.Measures.{counts}
-use Rattle.cap_model.proofs.Tallies.{Test, used_by}
+use Rattle.cap_model.proofs.lists.Members.{IsIn}
+use Rattle.cap_model.proofs.calls.Lessening.{IsSite}
+use Rattle.cap_model.proofs.uses.Measures.{counts}
+use Rattle.cap_model.proofs.uses.Tallies.{Test, used_by}
 use Rattle.cap_commit.proofs.Counting.{unused}
 
 pub idle_use : {K : ℕ} (cluster : Flat K) (test : Test) → cluster.nodes.live ≡ [] → cluster.nodes.reserved ≡ [] → used_by cluster test ≡ zeros K

@@ -9,9 +9,10 @@ use Rattle.std.proofs.lemmas.Slice.Eq.{bytes_eq-Decides}
 use Rattle.cap_vector.specs.Vector.{amount, exchanged, zeros}
 use Rattle.cap_vector.proofs.AmountLemmas.{is_exchanged}
 use Rattle.cap_model.specs.Flat.{Flat, is_under}
-use Rattle.cap_model.proofs.Choosing.{IsIn}
-use Rattle.cap_model.proofs.Members.{each_of, one_where}
-use Rattle.cap_model.proofs.Tallies.{Test, count_of, used_by, length_used}
+use Rattle.cap_model.proofs.lists.Members.{IsIn, each_of}
+use Rattle.cap_model.proofs.lists.Sums.{one_where}
+use Rattle.cap_model.proofs.uses.Tallies.{Test, count_of, used_by, length_used}
+use Rattle.cap_model.proofs.lists.Tests.{bytes_turned}
 use Rattle.cap_tree.specs.Measure.{Measure}
 use Rattle.cap_tree.specs.Spot.{item_at}
 use Rattle.cap_tree.specs.Count.{Count, IsPart, count_moved, of_count, nothing, one_application, use_alone}
@@ -19,7 +20,7 @@ use Rattle.cap_tree.specs.Queue.{Queue, UserRow, MayGive, MayLeave, count_in, mo
 use Rattle.cap_tree.specs.QueueLaws.{nothing_counts}
 use Rattle.cap_tree.specs.Rows.{Row, IsAt, moved, queues_of, user_row_at}
 use Rattle.cap_tree.proofs.Listings.{settings_stay}
-use Rattle.cap_tree.proofs.RowPaths.{under_itself}
+use Rattle.cap_model.proofs.paths.Paths.{under_itself}
 use Rattle.cap_tree.proofs.OneUser.{count_where, moved_own, moved_single, none_there, single_row, some_row}
 use Rattle.cap_commit.specs.Held.{IsRowOf, of_cluster}
 use Rattle.cap_commit.proofs.RowsAt.{still_at}
@@ -39,15 +40,6 @@ pub record HasMoved {K : ℕ} (before after : Flat K) (leaf user : List ℕ) (ol
 -- a move keeps the settings
 pub moved_settings : (K : ℕ) (leaf user : List ℕ) (old new : Count) (rows : List Row) → queues_of (map (moved K leaf user old new) rows) ≡ queues_of rows
 moved_settings K leaf user old new rows = settings_stay (moved_above old new) (moved_at K user old new) (λ r. refl) (λ r. refl) leaf rows
-
-same_either : (a b : List ℕ) → bytes_eq a b ≡ bytes_eq b a
-same_either a b = by (bytes_eq a b) (bytes_eq b a) refl refl
-  where
-    by : (c d : Bool) → bytes_eq a b ≡ c → bytes_eq b a ≡ d → c ≡ d
-    by true true e f = refl
-    by false false e f = refl
-    by true false e f = let s = (bytes_eq-Decides b a).1 (sym ((bytes_eq-Decides a b).0 e)) in cc (s, f)
-    by false true e f = let s = (bytes_eq-Decides a b).1 (sym ((bytes_eq-Decides b a).0 f)) in cc (s, e)
 
 -- a leaf is under itself
 under_it : (leaf path : List ℕ) → bytes_eq path leaf ≡ true → is_under path leaf ≡ true
@@ -99,7 +91,7 @@ module _ {K : ℕ} (before after : Flat K) (leaf user : List ℕ) (old new : Cou
   user_there : (path owner : List ℕ) (m : Measure) → bytes_eq path leaf ≡ true →
       of_cluster after path owner m + count_where (bytes_eq user owner) old m ≡ of_cluster before path owner m + count_where (bytes_eq user owner) new m
   user_there path owner m e =
-      let own : of_user_in path owner leaf user ≡ bytes_eq user owner = ap (λ b. b && bytes_eq owner user) e ∙ same_either owner user in
+      let own : of_user_in path owner leaf user ≡ bytes_eq user owner = ap (λ b. b && bytes_eq owner user) e ∙ bytes_turned owner user in
       (λ i. sym (is_of_user path owner m after) i + count_where (sym own i) old m) ∙ h.counts (of_user_in path owner) m ∙ (λ i. is_of_user path owner m before i + count_where (own i) new m)
 
   -- the part that goes is the user's, at the row of the leaf

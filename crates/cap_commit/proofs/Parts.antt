@@ -1,6 +1,6 @@
 -- What the parts of a cluster say of the whole.
-use Rattle.std.proofs.Common.{◌≡◌, ℕ, ◌≤◌, Bool, true, false, List, [], ◌∷◌, length, refl, sym, ◌∙◌, ap, inl, inr, arith}
-use Rattle.std.specs.Prelude.{Option, Some, None, IfSome, find, not, ◌==◌, cond, filter, map, count_by, if◌then◌else◌}
+use Rattle.std.proofs.Common.{◌≡◌, ℕ, Bool, true, false, List, [], ◌∷◌, refl, sym, ◌∙◌, ap, inl, inr, arith}
+use Rattle.std.specs.Prelude.{Option, Some, None, IfSome, find, not, ◌==◌, cond, map, count_by, if◌then◌else◌}
 use Rattle.std.proofs.lemmas.Bool.Decides.{nat_tests}
 use Rattle.cap_model.specs.Settings.{QueueRow}
 use Rattle.cap_model.specs.Asks.{Ask}
@@ -12,8 +12,9 @@ use Rattle.cap_model.specs.Asking.{after_ask, rounded, keep_first, put_ask, rese
 use Rattle.std.specs.Option.{option_map_or}
 use Rattle.cap_model.specs.Allocate.{after_telling}
 use Rattle.cap_model.specs.Bounds.{IsRising}
-use Rattle.cap_model.proofs.Choosing.{IsIn}
-use Rattle.cap_model.proofs.Members.{found_by_number}
+use Rattle.cap_model.proofs.lists.Members.{IsIn}
+use Rattle.cap_model.proofs.lists.Numbered.{found_by_number}
+use Rattle.cap_asks.specs.Apps.{with_app}
 use Rattle.cap_commit.specs.Held.{Parts, flat_of}
 use Rattle.cap_commit.specs.Reservations.{kept_by_ask}
 
@@ -31,15 +32,6 @@ ask_put {K} old dropped table' n ask kept is drops put =
     ap (λ t. record dropped { apps = t }) put
     ∙ ap (λ (f : Flat K). record f { apps = change_app n (λ app. record app { asks = put_ask kept app.asks }) f.apps }) drops
     ∙ ap (λ k. with_reserved (kept_by_ask n k old) (record old { apps = change_app n (λ app. record app { asks = put_ask k app.asks }) old.apps })) is
-
--- no more applications where one goes
-pub fewer : (n : ℕ) (apps : List App) → length (filter (λ app. not (app.number == n)) apps) ≤ length apps
-fewer n [] = omega arith
-fewer n (a ∷ apps) = by (a.number == n) (fewer n apps)
-  where
-    by : (b : Bool) → length (filter (λ app. not (app.number == n)) apps) ≤ length apps → length (cond (not b) (a ∷ filter (λ app. not (app.number == n)) apps) (filter (λ app. not (app.number == n)) apps)) ≤ length (a ∷ apps)
-    by true h = omega (arith, h)
-    by false h = omega (arith, h)
 
 -- of applications in order, only the one that is found by a number has it
 pub only_found : (n : ℕ) (apps : List App) (next : ℕ) (f : App → App → App) (a : App) → IsRising 1 (map (λ app. app.number) apps) next → find (λ app. app.number == n) apps ≡ Some a →

@@ -6,7 +6,7 @@ use Rattle.cap_model.specs.Limits.{applications_max}
 use Rattle.cap_model.specs.Flat.{Flat, App, queue_at, is_under}
 use Rattle.cap_model.specs.QueueCalls.{queue_report}
 use Rattle.cap_model.specs.Uses.{queue_use}
-use Rattle.cap_model.proofs.Members.{each_of}
+use Rattle.cap_model.proofs.lists.Members.{each_of}
 use Rattle.cap_tree.specs.Spot.{item_at, path_at}
 use Rattle.cap_tree.specs.Queue.{Queue}
 use Rattle.cap_tree.specs.Rows.{Row, AreRows, IsAt, settings_of_row, has_children, is_running, used_at}

@@ -8,8 +8,8 @@ use Rattle.cap_model.specs.Settings.{QueueRow}
 use Rattle.cap_model.specs.Limits.{applications_max}
 use Rattle.cap_model.specs.Flat.{App, is_under}
 use Rattle.cap_model.specs.Bounds.{HasDistinctPaths}
-use Rattle.cap_model.proofs.Choosing.{IsIn}
-use Rattle.cap_model.proofs.Members.{each_of, in_map}
+use Rattle.cap_model.proofs.lists.Members.{IsIn, each_of, in_map}
+use Rattle.cap_model.proofs.lists.Tests.{bytes_itself}
 use Rattle.cap_tree.specs.Spot.{HoldsOfItem, IsPlace, item_at, path_at}
 use Rattle.cap_tree.specs.Rows.{Row, AreRows, IsAt, queues_of, settings_of_row, active_in}
 use Rattle.cap_tree.proofs.RowPaths.{at_place}
@@ -25,12 +25,9 @@ not_among [] path q h m = absurd m
 not_among (x ∷ qs) path q h (inl e) = subst (λ y. bytes_eq y.path path ≡ false) e (or_no (bytes_eq x.path path) (list_any (λ (r : QueueRow). bytes_eq r.path path) qs) h).0
 not_among (x ∷ qs) path q h (inr m) = not_among qs path q (or_no (bytes_eq x.path path) (list_any (λ (r : QueueRow). bytes_eq r.path path) qs) h).1 m
 
-itself : (p : List ℕ) → bytes_eq p p ≡ true
-itself p = (bytes_eq-Decides p p).1 refl
-
 pub found_by_path : (qs : List QueueRow) → HasDistinctPaths qs → (q : QueueRow) → IsIn q qs → find (λ r. bytes_eq r.path q.path) qs ≡ Some q
 found_by_path [] d q m = absurd m
-found_by_path (x ∷ qs) d q (inl e) = subst (λ y. find (λ (r : QueueRow). bytes_eq r.path y.path) (x ∷ qs) ≡ Some y) e (ap (λ b. cond b (Some x) (find (λ (r : QueueRow). bytes_eq r.path x.path) qs)) (itself x.path))
+found_by_path (x ∷ qs) d q (inl e) = subst (λ y. find (λ (r : QueueRow). bytes_eq r.path y.path) (x ∷ qs) ≡ Some y) e (ap (λ b. cond b (Some x) (find (λ (r : QueueRow). bytes_eq r.path x.path) qs)) (bytes_itself x.path))
 found_by_path (x ∷ qs) d q (inr m) = other (bytes_eq x.path q.path) refl (found_by_path qs d.1 q m)
   where
     other : (b : Bool) → bytes_eq x.path q.path ≡ b → find (λ r. bytes_eq r.path q.path) qs ≡ Some q → cond (bytes_eq x.path q.path) (Some x) (find (λ (r : QueueRow). bytes_eq r.path q.path) qs) ≡ Some q

@@ -5,8 +5,8 @@ use Rattle.std.specs.List.{All}
 use Rattle.cap_vector.specs.Vector.{amount}
 use Rattle.cap_vector.proofs.AmountLemmas.{amount-zeros}
 use Rattle.cap_model.specs.Flat.{Flat, is_under}
-use Rattle.cap_model.proofs.Members.{each_of, of_each, of_map}
-use Rattle.cap_model.proofs.Tallies.{Test, count_of, used_by}
+use Rattle.cap_model.proofs.lists.Members.{each_of, of_each, of_map}
+use Rattle.cap_model.proofs.uses.Tallies.{Test, count_of, used_by}
 use Rattle.cap_tree.specs.Measure.{Measure}
 use Rattle.cap_tree.specs.Queue.{Queue, UserRow, IsUnused, of_one, of_user, with_running}
 use Rattle.cap_tree.specs.Rows.{Row, changed_at, with_state}
@@ -67,20 +67,6 @@ tied_state cluster path running rows a =
     by : (r : Row) (b : Bool) → IsRowOf cluster r → IsRowOf cluster (if b then record r { item = with_running running r.item } else r)
     by r true h = record { active = h.active; used = h.used; users = h.users; single = h.single }
     by r false h = h
-
-pub state_place : (path : List ℕ) (running : Bool) (r : Row) → (with_state path running r).place ≡ r.place
-state_place path running r = by (bytes_eq r.path path)
-  where
-    by : (b : Bool) → (if b then record r { item = with_running running r.item } else r).place ≡ r.place
-    by true = refl
-    by false = refl
-
-pub state_path : (path : List ℕ) (running : Bool) (r : Row) → (with_state path running r).path ≡ r.path
-state_path path running r = by (bytes_eq r.path path)
-  where
-    by : (b : Bool) → (if b then record r { item = with_running running r.item } else r).path ≡ r.path
-    by true = refl
-    by false = refl
 
 -- a change at the leaf of a path and at the queues above it
 pub changed_row : (above at : Queue → Queue) (leaf : List ℕ) (Q : Row → Type 0) (r : Row) → (bytes_eq r.path leaf ≡ true → Q (record r { item = at r.item })) →

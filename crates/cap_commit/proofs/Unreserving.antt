@@ -7,10 +7,9 @@ use Rattle.std.proofs.lemmas.Slice.Eq.{bytes_eq-Decides}
 use Rattle.cap_vector.specs.Vector.{amount}
 use Rattle.cap_model.specs.Settings.{Settings}
 use Rattle.cap_model.specs.Flat.{Flat, App, NodeTable, Reservation, app_at, with_reserved}
-use Rattle.cap_model.proofs.Choosing.{IsIn, found}
-use Rattle.cap_model.proofs.Measures.{counts, counted, reserved_part, use_amount}
-use Rattle.cap_model.proofs.Members.{each_of, of_each}
-use Rattle.cap_model.proofs.Tallies.{count_of, used_by}
+use Rattle.cap_model.proofs.lists.Members.{IsIn, found, each_of, of_each}
+use Rattle.cap_model.proofs.uses.Measures.{counts, counted, reserved_part, use_amount}
+use Rattle.cap_model.proofs.uses.Tallies.{count_of, used_by}
 use Rattle.cap_tree.specs.Measure.{Measure}
 use Rattle.cap_tree.specs.Queue.{MayGive}
 use Rattle.cap_tree.specs.Count.{nothing, use_alone}

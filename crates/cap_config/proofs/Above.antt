@@ -3,17 +3,13 @@ use Rattle.std.proofs.Common.{◌≡◌, ℕ, suc, ◌+◌, ◌<◌, List, [], �
 use Rattle.std.proofs.lemmas.Option.{same_Some, some_pair_parts}
 use Rattle.cap_config.specs.Keys.{last_dot, dot_or, is_dot, parts_at_last_dot, parts_round}
 use Rattle.cap_config.specs.Queues.{above}
-
-no_dot : (first : Bool) (r : Option ℕ) → dot_or first r ≡ None → (first ≡ false) × (r ≡ None)
-no_dot first (Some i) h = absurd (cc h)
-no_dot true None h = absurd (cc h)
-no_dot false None h = (refl, refl)
+use Rattle.cap_config.proofs.Children.{dotless_cons}
 
 above_no : (bytes : List ℕ) → last_dot bytes ≡ None → above bytes ≡ []
 unfolding above
 above_no [] h = refl
 above_no (b ∷ bytes) h =
-    let both = no_dot (is_dot b) (last_dot bytes) h in
+    let both = dotless_cons (is_dot b) (last_dot bytes) h in
     let first = both.0 in
     let rest = above_no bytes both.1 in
     rw (rest, first) refl

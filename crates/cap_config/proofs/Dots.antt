@@ -1,5 +1,5 @@
 -- The last dot.
-use Rattle.std.proofs.Common.{◌≡◌, ℕ, zero, suc, ◌+◌, ◌-◌, ◌<◌, ◌≤◌, List, [], ◌∷◌, length, get_or, take, drop, true, false, Some, None, refl, arith, add-one}
+use Rattle.std.proofs.Common.{◌≡◌, ℕ, zero, suc, ◌+◌, ◌-◌, ◌<◌, ◌≤◌, List, [], ◌∷◌, length, get_or, take, drop, true, Some, None, refl, arith, add-one}
 use Rattle.cap_text.proofs.Cuts.{rest_all}
 use Rattle.cap_config.specs.Keys.{last_dot, is_dot, parts_at_last_dot}
 
@@ -7,11 +7,6 @@ pub last_dot_here : (bytes : List ℕ) (i : ℕ) → i < length bytes → last_d
 last_dot_here [] i h none dot = absurd (omega arith)
 last_dot_here (b ∷ bytes) zero h none dot = rw (none, dot) refl
 last_dot_here (b ∷ bytes) (suc i) h none dot = rw (last_dot_here bytes i (omega arith) none dot, add-one) refl
-
-pub last_dot_not_here : (bytes : List ℕ) (i : ℕ) → i < length bytes → last_dot (drop (suc i) bytes) ≡ None → is_dot (get_or bytes i 0) ≡ false → last_dot (drop i bytes) ≡ None
-last_dot_not_here [] i h none dot = absurd (omega arith)
-last_dot_not_here (b ∷ bytes) zero h none dot = rw (none, dot) refl
-last_dot_not_here (b ∷ bytes) (suc i) h none dot = last_dot_not_here bytes i (omega arith) none dot
 
 pub dot_found : (bytes : List ℕ) (end i : ℕ) → end ≡ suc i → end ≤ length bytes → last_dot (drop end bytes) ≡ None → is_dot (get_or bytes i 0) ≡ true →
     parts_at_last_dot bytes ≡ Some (take i bytes, take (length bytes - (i + 1)) (drop (i + 1) bytes))

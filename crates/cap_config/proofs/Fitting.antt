@@ -3,6 +3,7 @@ use Rattle.std.proofs.Common.{◌≡◌, ℕ, List, [], get_or, Bool, true, fals
 use Rattle.std.specs.Prelude.{◌&&◌, ◌||◌}
 use Rattle.std.specs.Str.{bytes_eq}
 use Rattle.std.proofs.lemmas.Bool.Decides.{nat_tests}
+use Rattle.std.proofs.lemmas.Bool.{not-true}
 use Rattle.cap_vector.specs.Vector.{zeros}
 use Rattle.cap_config.specs.declared.entry.Entry.{Entry}
 use Rattle.cap_config.specs.declared.value.Value.{Value}
@@ -11,7 +12,6 @@ use Rattle.cap_config.specs.declared.setting.Setting.TheVariants.{Queues, Capaci
 use Rattle.cap_config.specs.Keys.{root, parts_at_last_dot}
 use Rattle.cap_config.specs.Queues.{entry_for, is_for, is_path_at, same_setting, names_below, names_or_none, names_in_value, guaranteed, maximum, amounts_at, amounts_or, or_zero}
 use Rattle.cap_config.specs.Tests.{exceeds, exceeds_limit, is_over_limit, is_over_maximum, over_maximum_line, is_over_parts, guaranteed_below, is_over_above, is_over_parent, over_parent_line}
-use Rattle.cap_config.proofs.Steps.{not_true}
 use Rattle.cap_config.proofs.Above.{parent_is}
 use Rattle.cap_config.proofs.Trees.{maximum_own, maximum_inherited}
 use Rattle.cap_config.proofs.Found.{found_has, names_at, nowhere_all}
@@ -32,7 +32,7 @@ zero_fits None = refl
 own_fits : (entries : List Entry) (same : Bool) (queue : Option (List ℕ)) (value : Value) (path : List ℕ) → same ≡ true → queue ≡ Some path → not (same && is_over_limit entries queue value) ≡ true →
     exceeds_limit (or_zero (amounts_or None value)) (maximum entries path) ≡ false
 own_fits entries true (Some p) (Amounts amounts) path s q h =
-    let here : exceeds_limit amounts (maximum entries p) ≡ false = not_true _ h in
+    let here : exceeds_limit amounts (maximum entries p) ≡ false = not-true _ h in
     subst (λ (o : Option (List ℕ)). is_over_limit entries o (Amounts amounts) ≡ false) q here
 own_fits entries true (Some p) (Names names) path s q h = zero_fits (maximum entries path)
 own_fits entries true (Some p) (Number n) path s q h = zero_fits (maximum entries path)
@@ -63,7 +63,7 @@ spent false b other h = h
 below_fits : (entries : List Entry) (value : Value) (queue : Option (List ℕ)) (path : List ℕ) → queue ≡ Some path → bytes_eq path root ≡ false → (of_maximum : Bool) → not (is_over_above entries of_maximum queue value) ≡ true →
     exceeds (guaranteed_below entries path (names_in_value value)) (guaranteed entries path) ≡ false
 below_fits entries (Names names) queue path q other of_maximum h =
-    let here : is_over_above entries of_maximum (Some path) (Names names) ≡ false = not_true _ (subst (λ (o : Option (List ℕ)). not (is_over_above entries of_maximum o (Names names)) ≡ true) q h) in
+    let here : is_over_above entries of_maximum (Some path) (Names names) ≡ false = not-true _ (subst (λ (o : Option (List ℕ)). not (is_over_above entries of_maximum o (Names names)) ≡ true) q h) in
     spent (bytes_eq path root) _ other here
 below_fits entries (Amounts amounts) queue path q other of_maximum h = sum_of_none entries path (guaranteed entries path)
 below_fits entries (Number n) queue path q other of_maximum h = sum_of_none entries path (guaranteed entries path)
@@ -101,7 +101,7 @@ own_maximum entries same queue (Number n) path parent name amounts s q parts is 
 own_maximum entries same queue (Running running) path parent name amounts s q parts is h = absurd (cc is)
 own_maximum entries same queue (Amounts a) path parent name amounts s q parts is h =
     let at : not (is_over_above entries true (Some path) (Amounts a)) ≡ true = subst (λ (o : Option (List ℕ)). not (is_over_above entries true o (Amounts a)) ≡ true) q (subst (λ b. not (is_over_above entries b queue (Amounts a)) ≡ true) s h) in
-    let over : is_over_parts entries a (parts_at_last_dot path) ≡ false = not_true _ at in
+    let over : is_over_parts entries a (parts_at_last_dot path) ≡ false = not-true _ at in
     let here : is_over_parts entries a (Some (parent, name)) ≡ false = ap (is_over_parts entries a) (sym parts) ∙ over in
     subst (λ (x : List ℕ). exceeds_limit x (maximum entries parent) ≡ false) (let e : a ≡ amounts = cc is in e) here
 

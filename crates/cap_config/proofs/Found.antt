@@ -9,7 +9,7 @@ use Rattle.std.proofs.lemmas.Slice.Eq.{bytes_eq-Decides}
 use Rattle.std.proofs.lemmas.Bool.Decides.{nat_tests}
 use Rattle.std.proofs.lemmas.List.Folds.{list_all-append}
 use Rattle.std.proofs.lemmas.List.Sums.{AllPass-from_list_all}
-use Rattle.std.proofs.lemmas.Bool.{eqb-true}
+use Rattle.std.proofs.lemmas.Bool.{eqb-true, not-true}
 use Rattle.cap_vector.specs.Vector.{amount_max}
 use Rattle.cap_model.specs.Limits.{applications_max, factor_max}
 use Rattle.cap_model.specs.Texts.{is_text, is_graphic}
@@ -24,7 +24,6 @@ use Rattle.cap_config.specs.Queues.{setting_number, child, entry_for, is_for, is
 use Rattle.cap_config.specs.Tests.{cluster_entry, number_or, number_in, line_where, too_deep_line, lists_deep, is_deep, level}
 use Rattle.cap_config.specs.Rows.{factor}
 use Rattle.cap_config.specs.Bounds.{most_of, is_kept, is_bounded, are_bounded, are_under}
-use Rattle.cap_config.proofs.Steps.{not_true}
 
 pub same_bytes : (a b : List ℕ) → bytes_eq a b ≡ true → a ≡ b
 same_bytes a b h = (bytes_eq-Decides a b).0 h
@@ -103,7 +102,7 @@ nowhere_all test (e ∷ entries) h =
 deep_in : (value : Value) (queue : Option (List ℕ)) (path name : List ℕ) → queue ≡ Some path → not (is_deep queue value) ≡ true → is_among (names_in_value value) name ≡ true → eqb (level path) 16 ≡ false
 deep_in (Names names) queue path name e h in_list =
     let no : not (is_deep (Some path) (Names names)) ≡ true = subst (λ (q : Option (List ℕ)). not (is_deep q (Names names)) ≡ true) e h in
-    not_true (eqb (level path) 16) no
+    not-true (eqb (level path) 16) no
 deep_in (Amounts amounts) queue path name e h in_list = absurd (cc in_list)
 deep_in (Number n) queue path name e h in_list = absurd (cc in_list)
 deep_in (Running running) queue path name e h in_list = absurd (cc in_list)

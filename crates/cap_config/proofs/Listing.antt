@@ -1,5 +1,5 @@
 -- The rows are listed from the root, each queue before those under it.
-use Rattle.std.proofs.Common.{◌≡◌, ℕ, zero, suc, ◌≤◌, List, [], ◌∷◌, ◌++◌, append_assoc, true, None, refl, sym, ◌∙◌, arith, subst, inl, inr}
+use Rattle.std.proofs.Common.{◌≡◌, ℕ, zero, suc, ◌≤◌, List, [], ◌∷◌, ◌++◌, append_assoc, true, None, refl, sym, ◌∙◌, arith, subst, inr}
 use Rattle.std.specs.Prelude.{slice_index_or}
 use Rattle.std.specs.List.{All, flat_map, list_all}
 use Rattle.std.proofs.lemmas.List.{append-nil}
@@ -10,7 +10,7 @@ use Rattle.cap_model.specs.Settings.{QueueRow, Settings}
 use Rattle.cap_model.specs.Flat.{is_under}
 use Rattle.cap_model.specs.Bounds.{depth}
 use Rattle.cap_model.specs.QueueCalls.{root_path}
-use Rattle.cap_model.proofs.Paths.{under_is, is_under_it}
+use Rattle.cap_model.proofs.paths.Paths.{under_is, is_under_it, under_itself}
 use Rattle.cap_model.specs.Listing.{MayFollow, IsListed, IsListedFromRoot, IsListing}
 use Rattle.cap_model.specs.Limits.{factor_max}
 use Rattle.cap_config.specs.declared.entry.Entry.{Entry}
@@ -26,9 +26,6 @@ use Rattle.cap_config.proofs.Found.{both, under_path, factor_small}
 use Rattle.cap_config.proofs.Children.{name_no_dot, child_is, under_child}
 use Rattle.cap_config.proofs.RowPaths.{queue_level, queue_rows, rows_of_settings}
 use Rattle.cap_config.proofs.RowTrees.{rows_tree, own_path, made_of}
-
-under_itself : (p : List ℕ) → is_under p p ≡ true
-under_itself p = is_under_it p p (inl refl)
 
 -- what is under a child of a queue is under the queue
 of_child : (p name queue : List ℕ) → is_under (child p name) queue ≡ true → is_under p queue ≡ true

@@ -6,8 +6,9 @@ use Rattle.std.specs.Str.{bytes_eq}
 use Rattle.std.specs.Str.Lines.{lines}
 use Rattle.std.proofs.lemmas.Bool.Decides.{nat_tests}
 use Rattle.std.proofs.lemmas.List.Sums.{sum_by-cons, sum_by-append}
-use Rattle.std.proofs.lemmas.Slice.Eq.{bytes_eq-Decides}
 use Rattle.cap_model.specs.Settings.{QueueRow}
+use Rattle.cap_model.proofs.lists.Sums.{sum_of_two}
+use Rattle.cap_model.proofs.lists.Tests.{bytes_turned}
 use Rattle.cap_config.specs.declared.entry.Entry.{Entry}
 use Rattle.cap_config.specs.declared.value.Value.{Value}
 use Rattle.cap_config.specs.declared.value.Value.TheVariants.{Names, Amounts, Number, Running}
@@ -18,7 +19,7 @@ use Rattle.cap_config.specs.Tests.{listed_by, line_past, whole_fault}
 use Rattle.cap_config.specs.Entries.{read_lines}
 use Rattle.cap_config.specs.Rows.{rows_under, row_of, settings_of}
 use Rattle.cap_config.proofs.Kept.{lines_kept}
-use Rattle.cap_config.proofs.RowPaths.{shape_of, same_bools, rows_of_settings}
+use Rattle.cap_config.proofs.RowPaths.{shape_of, rows_of_settings}
 use Rattle.cap_config.proofs.RowCounts.{rows_for, rows_at_most}
 
 -- how many names all entries list
@@ -84,18 +85,9 @@ sum_le : {X : Type 0} (f g : X → ℕ) (xs : List X) → ((x : X) → f x ≤ g
 sum_le f g [] each = omega arith
 sum_le f g (x ∷ xs) each = let a = each x in let b = sum_le f g xs each in rw (sum_by-cons f x xs, sum_by-cons g x xs) (omega (arith, a, b))
 
-sum_both : {X : Type 0} (f g : X → ℕ) (xs : List X) → sum_by (λ x. f x + g x) xs ≡ sum_by f xs + sum_by g xs
-sum_both f g [] = refl
-sum_both f g (x ∷ xs) =
-    let e = sum_both f g xs in
-    rw (sum_by-cons (λ y. f y + g y) x xs, sum_by-cons f x xs, sum_by-cons g x xs) (omega (arith, e))
-
 same_zero : {X : Type 0} (xs : List X) → sum_by (λ x. 0) xs ≡ 0
 same_zero [] = refl
 same_zero (x ∷ xs) = sum_by-cons (λ y. 0) x xs ∙ (let e = same_zero xs in let z : 0 + sum_by (λ y. 0) xs ≡ 0 = omega (arith, e) in z)
-
-turned : (a b : List ℕ) → bytes_eq a b ≡ bytes_eq b a
-turned a b = same_bools (bytes_eq a b) (bytes_eq b a) (λ h. (bytes_eq-Decides b a).1 (sym ((bytes_eq-Decides a b).0 h))) (λ h. (bytes_eq-Decides a b).1 (sym ((bytes_eq-Decides b a).0 h)))
 
 weigh_none : (here : Bool) (n : ℕ) → cond here 1 0 + n ≡ 0 → (here ≡ false) × (n ≡ 0)
 weigh_none true n h = absurd (omega (arith, h))
@@ -117,13 +109,13 @@ none_weigh n q [] h = refl
 none_weigh n q (row ∷ rows) h =
     let both : cond (bytes_eq row.path q) 1 0 + rows_for rows q ≡ 0 = sym (sum_by-cons (λ (r : QueueRow). cond (bytes_eq r.path q) 1 0) row rows) ∙ h in
     let parts = weigh_none (bytes_eq row.path q) (rows_for rows q) both in
-    sum_by-cons _ row rows ∙ rw (turned q row.path ∙ parts.0) (plus_none (none_weigh n q rows parts.1))
+    sum_by-cons _ row rows ∙ rw (bytes_turned q row.path ∙ parts.0) (plus_none (none_weigh n q rows parts.1))
 
 one_weighs : (n : ℕ) (q : List ℕ) (rows : List QueueRow) → rows_for rows q ≤ 1 → sum_by (λ row. cond (bytes_eq q row.path) n 0) rows ≤ n
 one_weighs n q [] h = omega arith
 one_weighs n q (row ∷ rows) h =
     let both : cond (bytes_eq row.path q) 1 0 + rows_for rows q ≤ 1 = rw (← sum_by-cons (λ (r : QueueRow). cond (bytes_eq r.path q) 1 0) row rows) h in
-    rw (sum_by-cons (λ (r : QueueRow). cond (bytes_eq q r.path) n 0) row rows, turned q row.path)
+    rw (sum_by-cons (λ (r : QueueRow). cond (bytes_eq q r.path) n 0) row rows, bytes_turned q row.path)
     (weigh_one (bytes_eq row.path q) (rows_for rows q) n (sum_by (λ r. cond (bytes_eq q r.path) n 0) rows) both (none_weigh n q rows) (one_weighs n q rows))
 
 entry_weighs : (queue : Option (List ℕ)) (n : ℕ) (rows : List QueueRow) → ((q : List ℕ) → rows_for rows q ≤ 1) → sum_by (λ row. cond (is_path_at queue row.path) n 0) rows ≤ n
@@ -135,7 +127,7 @@ rows_weigh [] rows once = let e = same_zero rows in omega (arith, e)
 rows_weigh (e ∷ entries) rows once =
     let split : (row : QueueRow) → sum_by (listed_for row.path) (e ∷ entries) ≤ listed_for row.path e + sum_by (listed_for row.path) entries = λ row. equal_le (sum_by-cons (listed_for row.path) e entries) in
     let a = sum_le (λ row. sum_by (listed_for row.path) (e ∷ entries)) (λ row. listed_for row.path e + sum_by (listed_for row.path) entries) rows split in
-    let b = sum_both (λ (row : QueueRow). listed_for row.path e) (λ row. sum_by (listed_for row.path) entries) rows in
+    let b = sum_of_two (λ (row : QueueRow). listed_for row.path e) (λ row. sum_by (listed_for row.path) entries) rows in
     let c = entry_weighs e.queue (listed_by e.value) rows once in
     let d = rows_weigh entries rows once in
     rw (sum_by-cons (λ (x : Entry). listed_by x.value) e entries) (omega (arith, a, b, c, d))

@@ -8,8 +8,9 @@ use Rattle.std.proofs.lemmas.List.{append_cancel_left}
 use Rattle.std.proofs.lemmas.List.Sums.{sum_by-cons, sum_by-append}
 use Rattle.std.proofs.lemmas.List.Folds.{list_any-append}
 use Rattle.std.proofs.lemmas.Slice.Eq.{bytes_eq-Decides}
+use Rattle.std.proofs.lemmas.Bool.{or_parts, false_from_ne_true, not-true}
 use Rattle.cap_model.specs.Settings.{QueueRow}
-use Rattle.cap_model.proofs.Paths.{IsUnder, before_dot, child_to, only_child}
+use Rattle.cap_model.proofs.paths.Paths.{IsUnder, before_dot, child_to, only_child}
 use Rattle.cap_config.specs.declared.entry.Entry.{Entry}
 use Rattle.cap_config.specs.Keys.{root, last_dot}
 use Rattle.cap_config.specs.Seen.{is_among}
@@ -19,7 +20,6 @@ use Rattle.cap_config.specs.Tests.{whole_fault}
 use Rattle.cap_config.specs.Entries.{read_lines}
 use Rattle.cap_config.specs.Rows.{rows_under, row_of, settings_of}
 use Rattle.cap_config.specs.Bounds.{are_bounded}
-use Rattle.cap_config.proofs.Steps.{not_true}
 use Rattle.cap_config.proofs.Kept.{lines_kept}
 use Rattle.cap_config.proofs.Found.{both, same_bytes, names_once, under_path}
 use Rattle.cap_config.proofs.Children.{name_no_dot, child_is, child_rest, count_no, under_child}
@@ -28,10 +28,6 @@ use Rattle.cap_config.proofs.RowPaths.{paths_of, either, first_of_two, second_of
 -- how many rows a path has
 abbrev pub rows_for : List QueueRow → List ℕ → ℕ
 rows_for rows path = count_by (λ row. bytes_eq row.path path) rows
-
-neither : (a b : Bool) → (a || b) ≡ false → (a ≡ false) × (b ≡ false)
-neither true b h = absurd (cc h)
-neither false b h = (refl, h)
 
 -- the paths of the rows under a queue are its own and those below it
 pub row_below_is : (entries : List Entry) (n : ℕ) (p path : List ℕ) → is_among (paths_of (rows_under n entries p)) path ≡ true → IsUnder p path
@@ -61,7 +57,7 @@ longer p name path under e =
 none_for : (rows : List QueueRow) (path : List ℕ) → is_among (paths_of rows) path ≡ false → rows_for rows path ≡ 0
 none_for [] path h = refl
 none_for (row ∷ rows) path h =
-    let parts = neither (bytes_eq row.path path) (is_among (paths_of rows) path) h in
+    let parts = or_parts (bytes_eq row.path path) (is_among (paths_of rows) path) h in
     sum_by-cons _ row rows ∙ count_no (bytes_eq row.path path) (rows_for rows path) parts.0 ∙ none_for rows path parts.1
 
 some_by : (b : Bool) (n : ℕ) (among : Bool) → (b || among) ≡ true → (among ≡ true → 1 ≤ n) → 1 ≤ cond b 1 0 + n
@@ -105,7 +101,7 @@ not_before : (before : List (List ℕ)) (x : List ℕ) (names : List (List ℕ))
 not_before before x [] new h = refl
 not_before before x (name ∷ names) new h =
     let parts = both (not (is_among before name)) (are_new (before ++ name ∷ []) names) new in
-    let other : bytes_eq name x ≡ false = other_name (bytes_eq name x) before name x refl (not_true (is_among before name) parts.0) h in
+    let other : bytes_eq name x ≡ false = other_name (bytes_eq name x) before name x refl (not-true (is_among before name) parts.0) h in
     sum_by-cons _ name names ∙ count_no (bytes_eq name x) _ other ∙ not_before (before ++ name ∷ []) x names parts.1 (still_among before name x h)
 
 once_by : (b : Bool) (n : ℕ) → (b ≡ true → n ≡ 0) → n ≤ 1 → cond b 1 0 + n ≤ 1
@@ -152,10 +148,6 @@ zero_of false n h = omega (arith, h)
 under_one : {a b : ℕ} → a ≤ b → b ≤ 1 → a ≤ 1
 under_one h k = omega (arith, h, k)
 
-pub no_longer : (b : Bool) → (b ≡ true → ⊥) → b ≡ false
-no_longer true h = absurd (h refl)
-no_longer false h = refl
-
 pub rows_at_most : (entries : List Entry) → are_bounded entries ≡ true → (n : ℕ) (p path : List ℕ) → rows_for (rows_under n entries p) path ≤ 1
 rows_at_most entries all zero p path = no_rows entries p path
 rows_at_most entries all (suc n) p path =
@@ -170,7 +162,7 @@ rows_at_most entries all (suc n) p path =
     under_one (sum_at_most (λ name. rows_for (f name) path) (is_name_under p) x names (under_path entries p all) each) (names_stand_once [] x names (names_once entries p all)) in
     let own : bytes_eq p path ≡ true → sum_by (λ name. rows_for (f name) path) names ≡ 0 =
     λ same. sum_of_none (λ name. rows_for (f name) path) names
-    (λ name. none_for (f name) path (no_longer (is_among (paths_of (f name)) path) (λ there. longer p name path (row_below_is entries n (child p name) path there) (same_bytes p path same)))) in
+    (λ name. none_for (f name) path (false_from_ne_true (is_among (paths_of (f name)) path) (λ there. longer p name path (row_below_is entries n (child p name) path there) (same_bytes p path same)))) in
     rw (rows_first n entries p path, rows_of_all f names path) (below_by (bytes_eq p path) (sum_by (λ name. rows_for (f name) path) names) own (λ _. below))
 
 exactly_one : (b : Bool) (n : ℕ) → n ≤ 1 → (b ≡ true → 1 ≤ n) → (b ≡ false → n ≡ 0) → n ≡ cond b 1 0

@@ -4,8 +4,8 @@ use Rattle.std.specs.Prelude.{◌||◌, map}
 use Rattle.std.specs.List.{flat_map}
 use Rattle.std.specs.Str.{bytes_eq}
 use Rattle.std.specs.Str.Lines.{lines}
-use Rattle.std.proofs.lemmas.Slice.Eq.{bytes_eq-Decides}
 use Rattle.cap_model.specs.Settings.{QueueRow}
+use Rattle.cap_model.proofs.lists.Tests.{same_test, bytes_itself}
 use Rattle.cap_config.specs.declared.entry.Entry.{Entry}
 use Rattle.cap_config.specs.declared.fault.ConfigFault.{ConfigFault}
 use Rattle.cap_config.specs.declared.fault.ConfigFaultKind.{ConfigFaultKind}
@@ -42,9 +42,6 @@ or_assoc : (a b c : Bool) → (a || (b || c)) ≡ ((a || b) || c)
 or_assoc true b c = refl
 or_assoc false b c = refl
 
-pub same_is : (bytes : List ℕ) → bytes_eq bytes bytes ≡ true
-same_is bytes = (bytes_eq-Decides bytes bytes).1 refl
-
 paths_append : (xs ys : List QueueRow) (path : List ℕ) → is_among (paths_of (xs ++ ys)) path ≡ (is_among (paths_of xs) path || is_among (paths_of ys) path)
 paths_append [] ys path = refl
 paths_append (x ∷ xs) ys path = ap (λ b. bytes_eq x.path path || b) (paths_append xs ys path) ∙ or_assoc (bytes_eq x.path path) (is_among (paths_of xs) path) (is_among (paths_of ys) path)
@@ -55,7 +52,7 @@ pub in_some : (C : Type 0) (f : List ℕ → List QueueRow) (names : List (List 
 in_some C f [] path h found = absurd (cc h)
 in_some C f (n ∷ names) path h found =
     either C (is_among (paths_of (f n)) path) (is_among (paths_of (flat_map f names)) path) (sym (paths_append (f n) (flat_map f names) path) ∙ h)
-    (λ here. found n (first_of_two (bytes_eq n n) (is_among names n) (same_is n)) here)
+    (λ here. found n (first_of_two (bytes_eq n n) (is_among names n) (bytes_itself n)) here)
     (λ later. in_some C f names path later (λ name in_list here. found name (second_of_two (bytes_eq n name) (is_among names name) in_list) here))
 
 in_all : (f : List ℕ → List QueueRow) (names : List (List ℕ)) (name path : List ℕ) → is_among names name ≡ true → is_among (paths_of (f name)) path ≡ true → is_among (paths_of (flat_map f names)) path ≡ true
@@ -85,7 +82,7 @@ row_is entries all (suc n) p path q h =
     (λ name in_list here. row_is entries all n (child p name) path (listed_is entries p name all q in_list) here))
 
 first_row : (n : ℕ) (entries : List Entry) (p : List ℕ) → is_among (paths_of (rows_under (suc n) entries p)) p ≡ true
-first_row n entries p = paths_more n entries p p ∙ first_of_two (bytes_eq p p) _ (same_is p)
+first_row n entries p = paths_more n entries p p ∙ first_of_two (bytes_eq p p) _ (bytes_itself p)
 
 -- a level more has a row for each name that a queue of a row lists
 row_below : (entries : List Entry) (n : ℕ) (p q name : List ℕ) → is_among (names_below entries q) name ≡ true → is_among (paths_of (rows_under n entries p)) q ≡ true →
@@ -122,12 +119,6 @@ row_of_queue entries path h =
     of_queues entries (λ p. (n : ℕ) → level p ≤ n → is_among (paths_of (rows_under n entries root)) p ≡ true) (first_at entries)
     (λ p name q in_list cut above. below_at entries p name (level (child p name)) (level p) (level_below (child p name) p name cut) in_list above)
     path h
-
-pub same_bools : (a b : Bool) → (a ≡ true → b ≡ true) → (b ≡ true → a ≡ true) → a ≡ b
-same_bools true true f g = refl
-same_bools true false f g = sym (f refl)
-same_bools false true f g = g refl
-same_bools false false f g = refl
 
 pub no_other : (line : Option ℕ) (kind : ConfigFaultKind) (other : Option ConfigFault) → or_else line kind other ≡ None → (line ≡ None) × (other ≡ None)
 no_other None kind other h = (refl, h)
@@ -175,7 +166,7 @@ rows_of_settings entries = refl
 -- the rows from the root on are those of the queues
 pub queue_rows : (entries : List Entry) → are_bounded entries ≡ true → whole_fault entries ≡ None → (path : List ℕ) → is_among (paths_of (rows_under 16 entries root)) path ≡ is_queue entries path
 queue_rows entries all none path =
-    same_bools (is_among (paths_of (rows_under 16 entries root)) path) (is_queue entries path)
+    same_test (is_among (paths_of (rows_under 16 entries root)) path) (is_queue entries path)
     (λ h. row_is entries all 16 root path (root_is entries) h)
     (λ h. row_of_queue entries path h 16 (queue_level entries none path h))
 

@@ -8,6 +8,7 @@ use Rattle.std.proofs.lemmas.List.Sums.{sum_by-cons}
 use Rattle.std.proofs.lemmas.Option.{same_Some}
 use Rattle.cap_model.specs.Settings.{QueueRow, Settings}
 use Rattle.cap_model.specs.Bounds.{IsTree, HasDistinctPaths, has_path}
+use Rattle.cap_model.proofs.lists.Tests.{bytes_itself}
 use Rattle.cap_config.specs.declared.entry.Entry.{Entry}
 use Rattle.cap_config.specs.declared.fault.ConfigFault.{ConfigFault}
 use Rattle.cap_config.specs.Keys.{root, last_dot, is_dot}
@@ -20,7 +21,7 @@ use Rattle.cap_config.specs.Bounds.{are_bounded}
 use Rattle.cap_config.specs.First.{settings_in, settings_after, unless_fault}
 use Rattle.cap_config.proofs.Children.{dotless_cons}
 use Rattle.cap_config.proofs.Least.{of_queues}
-use Rattle.cap_config.proofs.RowPaths.{paths_of, first_of_two, second_of_two, same_is, queue_rows}
+use Rattle.cap_config.proofs.RowPaths.{paths_of, first_of_two, second_of_two, queue_rows}
 use Rattle.cap_config.proofs.RowCounts.{rows_for, rows_at_most}
 
 -- where the settings of a text come from
@@ -69,7 +70,7 @@ count_first row rows path most = subst (λ n. n ≤ 1) (sum_by-cons (λ (r : Que
 distinct_rows : (rows : List QueueRow) → ((path : List ℕ) → rows_for rows path ≤ 1) → HasDistinctPaths rows
 distinct_rows [] most = tt
 distinct_rows (row ∷ rows) most = (
-  none_there rows row.path (no_second (bytes_eq row.path row.path) (rows_for rows row.path) (same_is row.path) (count_first row rows row.path (most row.path))),
+  none_there rows row.path (no_second (bytes_eq row.path row.path) (rows_for rows row.path) (bytes_itself row.path) (count_first row rows row.path (most row.path))),
   distinct_rows rows (λ path. less_by (bytes_eq row.path path) (rows_for rows path) (count_first row rows path (most path))),
 )
 
@@ -85,7 +86,7 @@ is_there (row ∷ rows) path h = is_there_by (bytes_eq row.path path) row (find 
 -- the path of each row is among those of the rows
 pub own_path : (rows : List QueueRow) (k : ℕ) (d : QueueRow) → k < length rows → is_among (paths_of rows) (slice_index_or rows k d).path ≡ true
 own_path [] k d h = absurd (omega arith)
-own_path (row ∷ rows) zero d h = first_of_two (bytes_eq row.path row.path) (is_among (paths_of rows) row.path) (same_is row.path)
+own_path (row ∷ rows) zero d h = first_of_two (bytes_eq row.path row.path) (is_among (paths_of rows) row.path) (bytes_itself row.path)
 own_path (row ∷ rows) (suc k) d h =
     second_of_two (bytes_eq row.path (slice_index_or rows k d).path) (is_among (paths_of rows) (slice_index_or rows k d).path) (own_path rows k d (omega (arith, h)))
 

@@ -4,6 +4,7 @@ use Rattle.std.specs.Prelude.{◌||◌}
 use Rattle.std.proofs.lemmas.Bool.Decides.{nat_tests}
 use Rattle.std.proofs.lemmas.List.{drop_all}
 use Rattle.std.proofs.lemmas.List.Sums.{sum_by-cons}
+use Rattle.std.proofs.lemmas.Bool.{or_parts}
 use Rattle.cap_config.specs.declared.entry.Entry.{Entry}
 use Rattle.cap_config.specs.Queues.{guaranteed, child}
 use Rattle.cap_config.specs.Tests.{exceeds, guaranteed_below, sum_below}
@@ -33,10 +34,6 @@ passes_more l m g h s t over = grind (arith, nat_tests)
 lt_later : (l g s : ℕ) → ltb l g ≡ false → ltb l (g + s) ≡ ltb (l - g) s
 lt_later l g s h = grind (arith, nat_tests)
 
-both_false : (a b : Bool) → (a || b) ≡ false → (a ≡ false) × (b ≡ false)
-both_false true b h = absurd (cc h)
-both_false false b h = (refl, h)
-
 both_are : (a b x y : Bool) → a ≡ x → b ≡ y → (a || b) ≡ (x || y)
 both_are a b x y h k = rw (h, k) refl
 
@@ -49,7 +46,7 @@ spend_here entries path left names i name guarantee h is g over =
 pub spend_later : (entries : List Entry) (path left : List ℕ) (names : List (List ℕ)) (i : ℕ) (name guarantee : List ℕ) → i < length names → name ≡ get_or names i name →
     guarantee ≡ guaranteed entries (child path name) → exceeds guarantee left ≡ false → overspends entries path left (drop i names) ≡ overspends entries path (left_of left guarantee) (drop (i + 1) names)
 spend_later entries path left names i name guarantee h is g over =
-    let no = both_false _ _ over in
+    let no = or_parts _ _ over in
     both_are _ _ _ _
     (ap (ltb (get_or left 0 0)) (sum_more entries path names i name guarantee 0 h is g) ∙ lt_later (get_or left 0 0) (get_or guarantee 0 0) (sum_below entries path (drop (i + 1) names) 0) no.0)
     (ap (ltb (get_or left 1 0)) (sum_more entries path names i name guarantee 1 h is g) ∙ lt_later (get_or left 1 0) (get_or guarantee 1 0) (sum_below entries path (drop (i + 1) names) 1) no.1)

@@ -1,5 +1,5 @@
 -- A line after those before.
-use Rattle.std.proofs.Common.{◌≡◌, ℕ, ◌+◌, List, [], ◌∷◌, ◌++◌, length, Bool, true, false, not, Some, None, Result, Ok, Err, refl, arith}
+use Rattle.std.proofs.Common.{◌≡◌, ℕ, ◌+◌, List, [], ◌∷◌, ◌++◌, length, true, false, Some, None, Result, Ok, Err, refl, arith}
 use Rattle.std.specs.Str.Lines.{lines}
 use Rattle.cap_config.specs.declared.entry.Entry.{Entry}
 use Rattle.cap_config.specs.declared.key.Key.{Key}
@@ -12,14 +12,6 @@ use Rattle.cap_config.specs.Keys.{key_of}
 use Rattle.cap_config.specs.Seen.{is_among}
 use Rattle.cap_config.specs.Values.{value_of}
 use Rattle.cap_config.specs.Entries.{line_parts, entry_of, is_passed_over, read_after, key_text}
-
-pub not_false : (b : Bool) → not b ≡ false → b ≡ true
-not_false true h = refl
-not_false false h = absurd (cc h)
-
-pub not_true : (b : Bool) → not b ≡ true → b ≡ false
-not_true true h = absurd (cc h)
-not_true false h = refl
 
 pub entry_no_parts : (keys : List (List ℕ)) (n : ℕ) (line : List ℕ) → line_parts line ≡ None → entry_of keys n line ≡ Err (fault_at n BadLine)
 unfolding entry_of

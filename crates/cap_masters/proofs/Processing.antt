@@ -1,6 +1,6 @@
 -- An allocate that is processed, and its answer.
-use Rattle.std.proofs.Common.{◌≡◌, ℕ, ◌+◌, ◌-◌, ◌<◌, ◌≤◌, Bool, true, false, List, [], ◌∷◌, ◌++◌, get_or, length, take, refl, sym, ◌∙◌, ap, subst, inl, inr, arith}
-use Rattle.std.specs.Prelude.{Option, Some, None, IsSome, IfSome, not, ◌==◌, ◌&&◌, ◌||◌, is_none, filter, option_map, option_and_then, if◌then◌else◌}
+use Rattle.std.proofs.Common.{◌≡◌, ℕ, ◌+◌, ◌-◌, ◌<◌, ◌≤◌, Bool, true, false, List, [], ◌∷◌, ◌++◌, get_or, length, take, refl, sym, ◌∙◌, ap, subst, inl, arith, inr}
+use Rattle.std.specs.Prelude.{Option, Some, None, IsSome, IfSome, not, ◌==◌, ◌&&◌, is_some, is_none, filter, option_map, option_and_then, nat_lt, if◌then◌else◌, ◌||◌}
 use Rattle.std.specs.List.{fold, list_any}
 use Rattle.std.proofs.lemmas.List.{take_more}
 use Rattle.std.proofs.lemmas.List.Sums.{fold-append}
@@ -18,8 +18,9 @@ use Rattle.cap_model.specs.Ending.{after_ends, with_ends, named_among}
 use Rattle.cap_model.specs.Allocate.{allocate_refusal, is_repeated_allocate, is_too_large, has_too_many_keys, released_by, after_wishes, after_telling, after_allocate, kept_reply}
 use Rattle.cap_model.specs.Replies.{refused_or, reply_to, after_request}
 use Rattle.cap_model.specs.Replies as flat_replies
-use Rattle.cap_model.proofs.Members.{find_changed}
-use Rattle.cap_model.proofs.ContainerNumbers.{asks_keep}
+use Rattle.cap_model.proofs.lists.Numbered.{find_changed}
+use Rattle.cap_model.proofs.numbers.ContainerNumbers.{asks_keep}
+use Rattle.cap_model.proofs.lists.Tests.{first_holds, kept_if}
 use Rattle.cap_asks.specs.declared.app.Reported.{Reported}
 use Rattle.cap_asks.specs.Held.{numbers_of, repeated_numbers}
 use Rattle.cap_commit.specs.Changes.{IsAt}
@@ -29,15 +30,6 @@ use Rattle.cap_masters.specs.Processed.{after_processed}
 kept_by : (f : App → App) → ((a : App) → (f a).response ≡ a.response) → (o : Option App) → option_map (λ (a : App). a.response) (option_map f o) ≡ option_map (λ a. a.response) o
 kept_by f r None = refl
 kept_by f r (Some a) = ap (λ n. Some n) (r a)
-
-same_if : {B : Type 0} (b : Bool) (g : App → B) (x y : App) → g x ≡ g y → g (if b then x else y) ≡ g y
-same_if true g x y e = e
-same_if false g x y e = refl
-
-or_parts : (a b : Bool) → not (a || b) ≡ false → b ≡ false → a ≡ true
-or_parts true b e f = refl
-or_parts false true e f = absurd (cc f)
-or_parts false false e f = absurd (cc e)
 
 none_of_five : {A : Type 0} (a b c d e : Bool) (p q r s t : A) → earliest ((a, p) ∷ (b, q) ∷ (c, r) ∷ (d, s) ∷ (e, t) ∷ []) ≡ None → (a ≡ false) × (c ≡ false)
 none_of_five true b c d e p q r s t h = absurd (cc h)
@@ -67,8 +59,8 @@ module _ {K : ℕ} where
       let kept = rounded K old.settings ask in
       let f : App → App = λ app. if app.number == n then record app { asks = put_ask kept app.asks } else app in
       asks_leave n asks (after_ask n old kept) m
-      ∙ ap (option_map (λ (a : App). a.response)) (find_changed (λ (a : App). a.number) f (λ a. same_if (a.number == n) (λ (x : App). x.number) (record a { asks = put_ask kept a.asks }) a refl) m old.apps.active)
-      ∙ kept_by f (λ a. same_if (a.number == n) (λ (x : App). x.response) (record a { asks = put_ask kept a.asks }) a refl) (app_at old m)
+      ∙ ap (option_map (λ (a : App). a.response)) (find_changed (λ (a : App). a.number) f (λ a. kept_if (a.number == n) (λ (x : App). x.number) (record a { asks = put_ask kept a.asks }) a refl) m old.apps.active)
+      ∙ kept_by f (λ a. kept_if (a.number == n) (λ (x : App). x.response) (record a { asks = put_ask kept a.asks }) a refl) (app_at old m)
 
   ends_leave : (cause : Cause) (gone : List Container) (old : Flat K) (m : ℕ) → option_map (λ (a : App). a.response) (app_at (after_ends cause gone old) m) ≡ option_map (λ a. a.response) (app_at old m)
   ends_leave cause gone old m =
@@ -122,7 +114,7 @@ module _ {K : ℕ} where
     where
       by : (o : Option App) → app_at cluster n ≡ o → is_none o ≡ false → holds_of (λ (a : App). is_bad_id a.response a.kept id) o ≡ false → holds_of (λ (a : App). is_repeated a.response a.kept id) o ≡ false → IsAt cluster n id
       by None g a b c = absurd (cc a)
-      by (Some x) g a b c = (x, g, (let same = or_parts (is_current x.response id) (is_repeated x.response x.kept id) b c in grind (arith, nat_tests, same)))
+      by (Some x) g a b c = (x, g, (let same = first_holds (is_current x.response id) (is_repeated x.response x.kept id) b c in grind (arith, nat_tests, same)))
 
   -- the answer is the kept reply of the new cluster
   pub answered : (old new : Flat K) (n id : ℕ) (asks : List Ask) (releases : List ℕ) (reply : Reply K) → allocate_refusal old n id asks ≡ None → new ≡ after_allocate old n id asks releases → reply ≡ Reply.Allocate (kept_reply new n) →

@@ -11,10 +11,10 @@ use Rattle.cap_model.specs.Flat.{Flat, App, AppTable, app_at}
 use Rattle.cap_model.specs.ResponseIds.{is_bad_id, is_repeated}
 use Rattle.cap_model.specs.Allocate.{allocate_refusal, has_too_many_keys, is_too_large}
 use Rattle.cap_model.specs.FinishMaster.{finish_master_refusal}
+use Rattle.cap_model.proofs.uses.Measures.{fits_amounts, amounts_fit}
 use Rattle.cap_model.specs.News.{AllocateReply}
 use Rattle.cap_asks.specs.declared.app.Reported.{Reported}
 use Rattle.cap_asks.specs.Held.{numbers_of, repeated_numbers}
-use Rattle.cap_model.proofs.Measures.{fits_amounts, amounts_fit}
 
 -- the first test says that there is one
 pub is_there : {A B : Type 0} (o : Option A) (x : B) (rest : List (Bool × B)) → earliest ((is_none o, x) ∷ rest) ≡ None → IsSome o

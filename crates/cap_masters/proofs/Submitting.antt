@@ -23,12 +23,6 @@ tests_are : {K : ℕ} (cluster : Flat K) (path : List ℕ) (missing parent runni
     earliest ((missing, Refusal.UnknownQueue) ∷ (parent, Refusal.NotLeaf) ∷ (not running, Refusal.QueueStopped) ∷ (full, Refusal.TooManyApplications) ∷ (spent, Refusal.NumbersSpent) ∷ [])
 tests_are cluster path missing parent running full spent a b c d e = rw (← a, ← b, ← c, ← d, ← e) refl
 
--- no queue has the path
-pub is_missing : {K : ℕ} (cluster : Flat K) (rows : List Row) (path : List ℕ) → queues_of rows ≡ cluster.settings.queues → find (λ q. bytes_eq q.path path) (queues_of rows) ≡ None → submit_refusal cluster path ≡ Some Refusal.UnknownQueue
-is_missing cluster rows path queues none =
-    let missing : queue_at cluster path ≡ None = ap (λ (qs : List QueueRow). find (λ q. bytes_eq q.path path) qs) (sym queues) ∙ none in
-    tests_are cluster path true _ _ _ _ (ap is_none missing) refl refl refl refl
-
 module _ {K : ℕ} (cluster : Flat K) (rows : List Row) (path position : List ℕ) (queues : queues_of rows ≡ cluster.settings.queues) (at : IsAt rows path position) where
   there : is_none (queue_at cluster path) ≡ false
   there = some_not_none (queue_at cluster path) (ap (λ (qs : List QueueRow). is_some (find (λ q. bytes_eq q.path path) qs)) (sym queues) ∙ is_found rows path position at)

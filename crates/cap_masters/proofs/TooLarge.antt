@@ -1,5 +1,5 @@
 -- Looking for an ask that is too large.
-use Rattle.std.proofs.Common.{◌≡◌, ℕ, zero, suc, ◌+◌, ◌<◌, ◌≤◌, Bool, true, false, List, [], ◌∷◌, length, get_or, drop, refl, sym, ◌∙◌, ap, arith}
+use Rattle.std.proofs.Common.{◌≡◌, ℕ, zero, suc, ◌+◌, ◌<◌, ◌≤◌, Bool, true, false, List, [], ◌∷◌, length, get_or, drop, sym, ◌∙◌, ap, arith}
 use Rattle.std.specs.Prelude.{IsTrue, ◌↔◌, not, ◌&&◌, ◌||◌, nat_le}
 use Rattle.std.specs.List.{list_any}
 use Rattle.std.proofs.lemmas.Bool.Decides.{nat_tests}
@@ -8,6 +8,7 @@ use Rattle.cap_model.specs.Amounts.{fits}
 use Rattle.cap_model.specs.Asks.{Ask}
 use Rattle.cap_model.specs.Flat.{Flat}
 use Rattle.cap_model.specs.Allocate.{is_too_large}
+use Rattle.cap_model.proofs.lists.Tests.{and_false}
 use Rattle.cap_masters.proofs.Refused.{fits_is}
 
 step : {A : Type 0} (test : A → Bool) (xs : List A) (i : ℕ) (x : A) → i < length xs → x ≡ get_or xs i x → list_any test (drop i xs) ≡ (test x || list_any test (drop (i + 1) xs))
@@ -34,10 +35,6 @@ pub fitting : {K : ℕ} (cluster : Flat K) (ask : Ask) (b : Bool) (resource most
 fitting cluster ask b resource most f g h high =
     let fit : fits ask.resource cluster.settings.maximum_allocation ≡ true = (λ j. fits (sym f j) (sym g j)) ∙ sym (fits_is b resource most h) ∙ high in
     ap (λ c. nat_le 1 ask.count && not c) fit ∙ and_false (nat_le 1 ask.count)
-  where
-    and_false : (c : Bool) → c && false ≡ false
-    and_false true = refl
-    and_false false = refl
 
 pub none_wanted : {K : ℕ} (cluster : Flat K) (ask : Ask) (count : ℕ) → count ≡ ask.count → count ≤ 0 → is_too_large cluster ask ≡ false
 none_wanted cluster ask count e none =

@@ -3,6 +3,7 @@ pub mod Refusals
 pub mod Settings
 pub mod Limits
 pub mod Listing
+pub mod Members
 pub mod Cascade
 pub mod Amounts
 pub mod Fullness

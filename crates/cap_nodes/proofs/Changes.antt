@@ -3,7 +3,7 @@ use Rattle.std.proofs.Common.{◌≡◌, ℕ, ◌+◌, ◌≤◌, ◌<◌, Bool,
 use Rattle.std.specs.Prelude.{filter, find, count_by, ◌==◌, IsSome, ◌||◌, option_and_then}
 use Rattle.std.specs.List.{All, sum_by, list_any, AllByRecursion}
 use Rattle.std.proofs.lemmas.List.Elements.{All-from_recursion}
-use Rattle.cap_model.proofs.Measures.{amounts_fit}
+use Rattle.cap_model.proofs.uses.Measures.{amounts_fit}
 use Rattle.std.proofs.lemmas.Bool.{eqb-true}
 use Rattle.std.proofs.lemmas.Bool.Decides.{nat_tests}
 use Rattle.std.proofs.lemmas.List.Sums.{length-filter, sum_by-cons}
@@ -294,10 +294,6 @@ any_node test (p ∷ places) = by (test p.node.host) (any_node test places)
     by : (b : Bool) → list_any (λ p. test p.node.host) places ≡ list_any (λ x. test x.host) (nodes_of places) → (b || list_any (λ p. test p.node.host) places) ≡ (b || list_any (λ x. test x.host) (nodes_of places))
     by true e = refl
     by false e = e
-
-pub length-nodes : (places : List Place) → length (nodes_of places) ≡ length places
-length-nodes [] = refl
-length-nodes (p ∷ places) = let e = length-nodes places in omega (arith, e)
 
 pub at_of : (places : List Place) (n : ℕ) → IsSome (place_at places n) → IsAt places n
 at_of places n h = by (place_at places n) refl h

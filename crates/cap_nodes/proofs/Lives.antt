@@ -7,13 +7,13 @@ use Rattle.std.specs.Map.{lookup, remove_entry, values_of}
 use Rattle.cap_model.specs.Limits.{live_max}
 use Rattle.cap_model.specs.Bounds.{IsRising}
 use Rattle.cap_model.specs.Flat.{Container}
+use Rattle.cap_model.proofs.lists.Numbered.{rising_kept, rising_more}
+use Rattle.cap_model.proofs.lists.Filters.{length-kept, filter_same}
+use Rattle.cap_model.proofs.lists.Members.{found as passes_found}
 use Rattle.cap_model.specs.Ending.{is_among}
-use Rattle.cap_model.proofs.Balance.{filter_same}
-use Rattle.cap_model.proofs.Choosing.{found as passes_found}
-use Rattle.cap_model.proofs.Members.{rising_kept, rising_more}
 use Rattle.std.proofs.lemmas.Bool.Decides.{nat_tests}
 use Rattle.cap_nodes.specs.Places.{tagged, IsLive}
-use Rattle.cap_nodes.proofs.Numbered.{remove-tagged, insert-tagged, same_place, lookup-tagged, none_at_end, values-tagged, length-kept}
+use Rattle.cap_nodes.proofs.Numbered.{remove-tagged, insert-tagged, same_place, lookup-tagged, none_at_end, values-tagged}
 
 pub found : (entries : List (ℕ × Container)) (next n : ℕ) → IsLive entries next → lookup (is_at (nat_cmp n)) entries ≡ find (λ c. c.number == n) (values_of entries)
 found entries next n h = ap (lookup (is_at (nat_cmp n))) h.0 ∙ lookup-tagged (λ (c : Container). c.number) (is_at (nat_cmp n)) n (same_place n) (values_of entries)

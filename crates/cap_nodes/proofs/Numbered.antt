@@ -8,7 +8,7 @@ use Rattle.std.specs.BTreeMap.{insert_entry, is_at}
 use Rattle.std.specs.Cmp.{unsigned_ties, nat_cmp_is}
 use Rattle.std.proofs.lemmas.Bool.Decides.{nat_tests}
 use Rattle.cap_model.specs.Bounds.{IsRising}
-use Rattle.cap_model.proofs.Members.{rising_ends}
+use Rattle.cap_model.proofs.lists.Numbered.{rising_ends}
 use Rattle.cap_nodes.specs.Places.{tagged}
 
 -- the tests of maps by number
@@ -100,11 +100,3 @@ module _ {X : Type 0} (num : X → ℕ) where
   pub length-change : (n : ℕ) (change : X → X) (xs : List X) → length (map (λ x. cond (num x == n) (change x) x) xs) ≡ length xs
   length-change n change [] = refl
   length-change n change (x ∷ xs) = let e = length-change n change xs in omega (arith, e)
-
-pub length-kept : {X : Type 0} (t : X → Bool) (xs : List X) → length (filter t xs) ≤ length xs
-length-kept t [] = omega arith
-length-kept t (x ∷ xs) = by (t x) (length-kept t xs)
-  where
-    by : (b : Bool) → length (filter t xs) ≤ length xs → length (cond b (x ∷ filter t xs) (filter t xs)) ≤ length (x ∷ xs)
-    by true h = omega (arith, h)
-    by false h = omega (arith, h)

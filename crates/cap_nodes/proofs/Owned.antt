@@ -4,13 +4,8 @@ use Rattle.std.specs.Prelude.{filter, find, ◌==◌, ◌&&◌, ◌||◌, nat_lt
 use Rattle.std.proofs.lemmas.Bool.Decides.{nat_tests}
 use Rattle.cap_model.specs.Bounds.{IsRising}
 use Rattle.cap_model.specs.Flat.{Container}
+use Rattle.cap_model.proofs.lists.Numbered.{none_before}
 use Rattle.cap_nodes.specs.Places.{IsIndex, is_of, has, HasMore, HasLess}
-
-none_before : (n low : ℕ) (cs : List Container) (high : ℕ) → IsRising low (map (λ c. c.number) cs) high → n < low → find (λ c. c.number == n) cs ≡ None
-none_before n low [] high r h = refl
-none_before n low (c ∷ cs) high r h =
-    let no : (c.number == n) ≡ false = grind (arith, nat_tests, r.0, h) in
-    rw no (none_before n (c.number + 1) cs high r.1 (omega (arith, r.0, h)))
 
 find_pushed : (n : ℕ) (cs : List Container) (c : Container) → find (λ x. x.number == c.number) cs ≡ None →
     find (λ x. x.number == n) (cs ++ c ∷ []) ≡ cond (c.number == n) (Some c) (find (λ x. x.number == n) cs)
@@ -101,7 +96,7 @@ module _ (key : Container → ℕ) (owner after : ℕ) where
     where
       by : (b : Bool) → (c.number == m) ≡ b → is_of key (cond b (Some c) (find (λ x. x.number == m) cs)) owner ≡ true
       by true e =
-          let none = none_before m (c.number + 1) cs high r (grind (arith, nat_tests, e)) in
+          let none = none_before (λ (z : Container). z.number) m (c.number + 1) cs high r (grind (arith, nat_tests, e)) in
           absurd (cc (sym (ap (λ x. is_of key x owner) none) ∙ there))
       by false e = there
 
@@ -123,7 +118,7 @@ module _ (key : Container → ℕ) (owner after : ℕ) where
       by true false f h i j t more = absurd (cc (sym i ∙ t))
       by false true true h i j t more =
           let low_enough : n ≤ c.number = least c.number (grind (arith, nat_tests, j)) (this i) in
-          let none = none_before n (c.number + 1) cs high r.1 (omega (arith, low_enough)) in
+          let none = none_before (λ (z : Container). z.number) n (c.number + 1) cs high r.1 (omega (arith, low_enough)) in
           absurd (cc (sym (ap (λ x. is_of key x owner) none) ∙ t))
       by false true false h i j t more = more t
       by false false f h i j t more = more t

@@ -5,9 +5,10 @@ use Rattle.std.proofs.lemmas.Option.{same_Some}
 use Rattle.std.specs.Map.{lookup, remove_entry, set_value, values_of}
 use Rattle.cap_model.specs.Bounds.{IsRising}
 use Rattle.cap_model.specs.Limits.{nodes_max}
-use Rattle.cap_model.proofs.Members.{rising_kept, rising_more}
+use Rattle.cap_model.proofs.lists.Numbered.{rising_kept, rising_more}
+use Rattle.cap_model.proofs.lists.Filters.{length-kept}
 use Rattle.cap_nodes.specs.Places.{Place, tagged, place_at, change_place}
-use Rattle.cap_nodes.proofs.Numbered.{remove-tagged, push-tagged, set-tagged, lookup-tagged, same_number, values-tagged, length-kept, length-change, numbers-change, none_at_end}
+use Rattle.cap_nodes.proofs.Numbered.{remove-tagged, push-tagged, set-tagged, lookup-tagged, same_number, values-tagged, length-change, numbers-change, none_at_end}
 
 -- the entries are the places by number, which rise and are few
 abbrev pub IsPresent : List (ℕ × Place) → ℕ → Type 0

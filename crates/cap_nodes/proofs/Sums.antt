@@ -12,7 +12,8 @@ use Rattle.cap_vector.specs.Vector.{amount, plus, less, zeros, Fits}
 use Rattle.cap_vector.proofs.AmountLemmas.{amount-plus, amount-less, length-less}
 use Rattle.cap_model.specs.Amounts.{sum_where, part}
 use Rattle.cap_model.specs.Bounds.{IsRising}
-use Rattle.cap_model.proofs.Measures.{amount_of}
+use Rattle.cap_model.proofs.uses.Measures.{amount_of}
+use Rattle.cap_model.proofs.lists.Sums.{one_where}
 use Rattle.cap_nodes.proofs.Numbered.{not_later}
 
 module _ {X : Type 0} (num : X → ℕ) where
@@ -94,11 +95,7 @@ module _ {X : Type 0} (K : ℕ) (t : X → Bool) (of : X → List ℕ) where
         | inr past ↦ let z : amount (of x) k ≡ 0 = get_or_past (of x) k 0 (omega (arith, short, past)) in omega (arith, z)
       ]
 
--- counts
-abbrev pub once : Bool → ℕ
-once b = cond b 1 0
-
-pub count-push : {X : Type 0} (t : X → Bool) (xs : List X) (x : X) → count_by t (xs ++ x ∷ []) ≡ count_by t xs + once (t x)
+pub count-push : {X : Type 0} (t : X → Bool) (xs : List X) (x : X) → count_by t (xs ++ x ∷ []) ≡ count_by t xs + one_where (t x)
 count-push t xs x = sum_by_push (λ y. cond (t y) 1 0) xs x
 
 -- no item passes

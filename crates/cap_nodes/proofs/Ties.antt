@@ -11,8 +11,9 @@ use Rattle.cap_model.specs.Limits.{live_max}
 use Rattle.cap_model.specs.Amounts.{sum_where}
 use Rattle.cap_model.specs.Bounds.{IsRising}
 use Rattle.cap_model.specs.Flat.{Container}
+use Rattle.cap_model.proofs.lists.Sums.{one_where}
 use Rattle.cap_nodes.specs.Places.{Place, IsTied, place_at, change_place, held_more, held_less, HasRoom, HasOne}
-use Rattle.cap_nodes.proofs.Sums.{where-push-other, where-push-own, where-less-other, where-less-own, where-had, sum-without, count-push, once}
+use Rattle.cap_nodes.proofs.Sums.{where-push-other, where-push-own, where-less-other, where-less-own, where-had, sum-without, count-push}
 
 -- what holds of each holds of the one that is found
 pub is_found : {X : Type 0} (P : X → Type 0) (t : X → Bool) (xs : List X) (x : X) → find t xs ≡ Some x → AllByRecursion P xs → P x × (t x ≡ true)
@@ -97,7 +98,7 @@ module _ (K : ℕ) (live : List Container) where
   pub tied_beside : (c : Container) (p : Place) → IsTied K live p → (c.node == p.node.number) ≡ false → IsTied K (live ++ c ∷ []) p
   tied_beside c p tie e =
       let t = λ (x : Container). x.node == p.node.number in
-      let z : once (t c) ≡ 0 = ap once e in
+      let z : one_where (t c) ≡ 0 = ap one_where e in
       record {
         held = tie.held ∙ sym (where-push-other K t (λ x. x.resource) live c e);
         count = (let a = count-push t live c in let b = tie.count in let r : p.live ≡ count_by t (live ++ c ∷ []) = omega (arith, a, b, z) in r);
@@ -109,7 +110,7 @@ module _ (K : ℕ) (live : List Container) where
       IsTied K (live ++ c ∷ []) (held_more c.resource p)
   tied_with c p tie e count fits =
       let t = λ (x : Container). x.node == p.node.number in
-      let z : once (t c) ≡ 1 = ap once e in
+      let z : one_where (t c) ≡ 1 = ap one_where e in
       let long : length (plus (sum_where K t (λ x. x.resource) live) c.resource) ≡ K = subst (λ (h : List ℕ). length (plus h c.resource) ≡ K) tie.held count in
       record {
         held = ap (λ (h : List ℕ). plus h c.resource) tie.held ∙ sym (where-push-own K t (λ x. x.resource) live c e long);
@@ -137,8 +138,8 @@ module _ (K : ℕ) (live : List Container) where
     untied_beside p tie e =
         let t = λ (x : Container). x.node == p.node.number in
         let left = filter (λ (x : Container). not (x.number == n)) live in
-        let z : once (t c) ≡ 0 = ap once e in
-        let m : count_by t live ≡ count_by t left + once (t c) = moved (λ x. once (t x)) in
+        let z : one_where (t c) ≡ 0 = ap one_where e in
+        let m : count_by t live ≡ count_by t left + one_where (t c) = moved (λ x. one_where (t x)) in
         record {
           held = tie.held ∙ sym (where-less-other K t (λ x. x.resource) live left c moved e);
           count = (let b = tie.count in let r : p.live ≡ count_by t left = omega (arith, m, b, z) in r);
@@ -150,8 +151,8 @@ module _ (K : ℕ) (live : List Container) where
     has_one p tie e short =
         let t = λ (x : Container). x.node == p.node.number in
         let left = filter (λ (x : Container). not (x.number == n)) live in
-        let z : once (t c) ≡ 1 = ap once e in
-        let m : count_by t live ≡ count_by t left + once (t c) = moved (λ x. once (t x)) in
+        let z : one_where (t c) ≡ 1 = ap one_where e in
+        let m : count_by t live ≡ count_by t left + one_where (t c) = moved (λ x. one_where (t x)) in
         record {
           held = subst (λ (h : List ℕ). Fits c.resource h) (sym tie.held) (where-had K t (λ x. x.resource) live left c moved e short);
           some = (let b = tie.count in let r : 0 < p.live = omega (arith, m, b, z) in r);
@@ -161,8 +162,8 @@ module _ (K : ℕ) (live : List Container) where
     untied_from p tie e =
         let t = λ (x : Container). x.node == p.node.number in
         let left = filter (λ (x : Container). not (x.number == n)) live in
-        let z : once (t c) ≡ 1 = ap once e in
-        let m : count_by t live ≡ count_by t left + once (t c) = moved (λ x. once (t x)) in
+        let z : one_where (t c) ≡ 1 = ap one_where e in
+        let m : count_by t live ≡ count_by t left + one_where (t c) = moved (λ x. one_where (t x)) in
         record {
           held = ap (λ (h : List ℕ). less h c.resource) tie.held ∙ sym (where-less-own K t (λ x. x.resource) live left c moved e);
           count = (let b = tie.count in let r : p.live - 1 ≡ count_by t left = omega (arith, m, b, z) in r);

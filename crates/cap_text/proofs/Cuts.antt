@@ -4,7 +4,7 @@ use Rattle.std.specs.Prelude.{not}
 use Rattle.std.specs.List.{position, position_or_len, slice_split, All}
 use Rattle.std.specs.Str.Lines.{lines, strip_carriage_return, lines_of_parts}
 use Rattle.std.proofs.lemmas.List.{take_all, drop_more, append_cancel_left}
-use Rattle.std.proofs.lemmas.Bool.{eqb-true}
+use Rattle.std.proofs.lemmas.Bool.{eqb-true, not-true}
 use Rattle.std.proofs.lemmas.Bool.Decides.{nat_tests}
 use Rattle.std.proofs.lemmas.List.Quantifiers.{position-Some}
 use Rattle.std.proofs.lemmas.List.Sums.{AllPass-from_list_all, fails_before_first}
@@ -46,12 +46,8 @@ cut_missing separator bytes h =
 pub cut_shorter : (separator : ℕ) (bytes front rest : List ℕ) → IsCut separator bytes front rest → length rest < length bytes
 cut_shorter separator bytes front rest cut = omega (arith, ap length cut.whole, length-append front (separator ∷ rest))
 
-not_true : (b : Bool) → not b ≡ true → b ≡ false
-not_true true h = absurd (cc h)
-not_true false h = refl
-
 fails : (separator : ℕ) (bytes : List ℕ) → lacks separator bytes ≡ true → All (λ b. eqb b separator ≡ false) bytes
-fails separator bytes h = λ k d l. not_true _ (AllPass-from_list_all (λ b. not (eqb b separator)) bytes h k d l)
+fails separator bytes h = λ k d l. not-true _ (AllPass-from_list_all (λ b. not (eqb b separator)) bytes h k d l)
 
 -- the parts between separators
 pub split_cut : (separator : ℕ) (bytes front rest : List ℕ) → IsCut separator bytes front rest →

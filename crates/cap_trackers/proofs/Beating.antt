@@ -1,6 +1,6 @@
 -- A heartbeat that is not refused.
-use Rattle.std.proofs.Common.{◌≡◌, ℕ, ◌+◌, ◌-◌, Bool, true, false, List, [], ◌∷◌, length, map, Option, Some, None, refl, sym, ◌∙◌, ap, subst, inl, inr, arith}
-use Rattle.std.specs.Prelude.{unwrap_or, option_and_then, cond, not, filter, find, count_by, ◌==◌, ◌&&◌, ◌||◌, if◌then◌else◌}
+use Rattle.std.proofs.Common.{◌≡◌, ℕ, ◌+◌, ◌-◌, Bool, true, false, List, [], ◌∷◌, length, map, Option, Some, None, refl, sym, ◌∙◌, ap, subst, arith, inl, inr}
+use Rattle.std.specs.Prelude.{nat_lt, is_some, IsSome, cond, not, filter, find, count_by, ◌==◌, ◌&&◌, if◌then◌else◌, unwrap_or, option_and_then, ◌||◌}
 use Rattle.std.proofs.lemmas.Bool.Decides.{nat_tests}
 use Rattle.std.proofs.lemmas.List.Sums.{length-filter}
 use Rattle.std.proofs.lemmas.List.Filters.{length-filter_both}
@@ -17,11 +17,14 @@ use Rattle.cap_model.specs.Ending.{is_among, after_ends}
 use Rattle.cap_model.specs.Heartbeat.{heartbeat_refusal, is_repeated_heartbeat, ended_by, beat_of, after_processed_heartbeat, after_heartbeat, no_beat}
 use Rattle.cap_model.specs.EngineLaws.{HasDistinctNumbers}
 use Rattle.cap_model.specs.Replies.{reply_to, after_request}
-use Rattle.cap_model.proofs.Choosing.{IsIn}
-use Rattle.cap_model.proofs.Members.{rising_kept, found_by_number}
-use Rattle.cap_model.proofs.Balance.{filter_same, filter_twice, filter_whole, among_itself}
-use Rattle.cap_model.proofs.NamedEnds.{is_named, count_named, among_named}
-
+use Rattle.cap_model.proofs.lists.Members.{IsIn, found}
+use Rattle.cap_model.proofs.lists.Numbered.{rising_kept, found_by_number, find_changed}
+use Rattle.cap_model.proofs.lists.Filters.{filter_same, filter_twice, filter_whole, map_same}
+use Rattle.cap_model.proofs.numbers.Balance.{among_itself}
+use Rattle.cap_model.proofs.ending.NamedEnds.{is_named, count_named, among_named}
+use Rattle.cap_model.proofs.lists.Tests.{and_true, first_holds}
+use Rattle.cap_trackers.specs.Beats.{IsKept, kept_beat}
+use Rattle.cap_nodes.specs.Tables.{node_in}
 use Rattle.cap_trackers.proofs.Answering.{granted_is, refused_is}
 
 -- a node that answered one more heartbeat
@@ -30,10 +33,6 @@ beaten ignored live node = record node {
   response = next_response node.response;
   kept = Some (record { response = next_response node.response; ignored = ignored; live = live });
 }
-
-and_true : (b : Bool) → b && true ≡ b
-and_true true = refl
-and_true false = refl
 
 turn : (a b : Bool) → cond (not a) b false ≡ cond b (not a) false
 turn true true = refl
@@ -44,9 +43,6 @@ turn false false = refl
 counted : (xs : List Container) → length xs ≡ count_by (λ c. true) xs
 counted xs = ap length (sym (filter_whole (λ c. true) xs (λ c m. refl))) ∙ length-filter (λ c. true) xs
 
-map_same : {A B : Type 0} (f g : A → B) (xs : List A) → ((x : A) → IsIn x xs → f x ≡ g x) → map f xs ≡ map g xs
-map_same f g [] e = refl
-map_same f g (x ∷ xs) e = λ i. e x (inl refl) i ∷ map_same f g xs (λ y m. e y (inr m)) i
 
 is_not_bad : (b : Bool) → earliest ((b, Refusal.BadResponseId) ∷ (false, Refusal.UnknownNode) ∷ []) ≡ None → b ≡ false
 is_not_bad true e = absurd (cc e)
@@ -102,7 +98,7 @@ module _ {K : ℕ} (cluster : Flat K) (n id : ℕ) where
   answered_last none fresh x e =
       let good : is_bad_id x.response x.kept id ≡ false = is_not_bad (is_bad_id x.response x.kept id) (rw e at none) in
       let new : is_repeated x.response x.kept id ≡ false = rw e at fresh in
-      let current : id == x.response ≡ true = is_current_one (is_current x.response id) (is_repeated x.response x.kept id) good new in
+      let current : id == x.response ≡ true = first_holds (is_current x.response id) (is_repeated x.response x.kept id) good new in
       grind (arith, nat_tests, current)
 
   module _ (ended : List ℕ) where

@@ -5,10 +5,11 @@ use Rattle.std.specs.List.{starts_with}
 use Rattle.std.proofs.lemmas.Bool.Decides.{nat_tests}
 use Rattle.std.proofs.lemmas.Slice.Eq.{bytes_eq-Decides}
 use Rattle.cap_model.specs.Flat.{is_under}
-use Rattle.cap_model.proofs.Choosing.{IsIn}
+use Rattle.cap_model.proofs.lists.Members.{IsIn}
+use Rattle.cap_model.proofs.paths.Paths.{under_itself}
 use Rattle.cap_tree.specs.Spot.{leads_to, leads_below, place_of, has_below, item_at, HoldsOfItem, IsPlace}
 use Rattle.cap_tree.specs.Rows.{Row, PlacesArePaths, queues_of, has_children, IsAt}
-use Rattle.cap_tree.proofs.RowPaths.{at_place, agree, same_row, same_path, under_itself}
+use Rattle.cap_tree.proofs.RowPaths.{at_place, agree, same_row, same_path}
 
 -- the row of a path
 

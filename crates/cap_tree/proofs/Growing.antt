@@ -1,28 +1,31 @@
 -- One more queue, under the one that its path names.
-use Rattle.std.proofs.Common.{◌≡◌, ℕ, zero, suc, ◌+◌, ◌-◌, ◌≤◌, ◌<◌, Bool, true, false, cond, ◌&&◌, List, [], ◌∷◌, ◌++◌, length, take, drop, get_or, Some, refl, sym, ◌∙◌, ap, subst, arith, inl, inr}
-use Rattle.std.specs.Prelude.{◌⊎◌, bytes_eq, nat_eq, ◌==◌, ◌||◌, find, is_some, count_by}
+use Rattle.std.proofs.Common.{◌≡◌, ℕ, suc, ◌+◌, ◌-◌, ◌≤◌, ◌<◌, Bool, true, false, cond, ◌&&◌, List, [], ◌∷◌, ◌++◌, length, take, drop, get_or, Some, refl, sym, ◌∙◌, ap, subst, arith, inl, inr}
+use Rattle.std.specs.Prelude.{◌⊎◌, bytes_eq, ◌==◌, ◌||◌, find, is_some}
 use Rattle.std.specs.List.{All, list_any, sum_by}
 use Rattle.std.proofs.lemmas.Bool.Decides.{nat_tests}
 use Rattle.std.proofs.Math.Seq.{drop-cons}
 use Rattle.std.proofs.lemmas.List.{append_assoc, length-append, map-append, take_more, take_all}
 use Rattle.std.proofs.lemmas.List.Sums.{sum_by-cons, sum_by-append}
 use Rattle.std.proofs.lemmas.Slice.Eq.{bytes_eq-Decides}
+use Rattle.std.proofs.lemmas.Bool.{false_from_ne_true}
 use Rattle.cap_model.specs.Settings.{QueueRow}
 use Rattle.cap_model.specs.Flat.{is_under, name_of}
 use Rattle.cap_model.specs.Bounds.{HasDistinctPaths, has_path, depth}
 use Rattle.cap_model.specs.Listing.{IsListed, IsListing}
 use Rattle.cap_model.specs.Limits.{depth_max}
 use Rattle.cap_model.specs.QueueCalls.{root_path}
-use Rattle.cap_model.proofs.Choosing.{IsIn, in_right, in_either}
-use Rattle.cap_model.proofs.Members.{each_of, of_each, in_map}
-use Rattle.cap_model.proofs.Paths.{IsUnder, under_is, is_under_it}
+use Rattle.cap_model.proofs.lists.Members.{IsIn, in_right, in_either, each_of, of_each, in_map}
+use Rattle.cap_model.proofs.paths.Paths.{IsUnder, under_is, is_under_it, name_has_none, dot_in, head_is, tail_is, under_itself}
+use Rattle.cap_model.proofs.lists.Tests.{same_test}
+use Rattle.cap_model.proofs.paths.Levels.{no_levels}
 use Rattle.cap_tree.specs.Spot.{leads_to, path_at, last_place, IsAddedAt, IsAdded}
-use Rattle.cap_vector.specs.Vector.{amount, zeros}
+use Rattle.cap_vector.specs.Vector.{amount}
+use Rattle.cap_vector.proofs.AmountLemmas.{amount-zeros}
 use Rattle.cap_tree.specs.Measure.{Measure}
 use Rattle.cap_tree.specs.Queue.{Queue, Shows, IsUnused, of_queue, of_user, of_users}
 use Rattle.cap_tree.specs.Rows.{Row, AreRows, PlacesArePaths, settings_of_row, queues_of}
 use Rattle.cap_tree.specs.Growth.{IsClosed, IsGrowing}
-use Rattle.cap_tree.proofs.RowPaths.{at_place, agree, same_row, leads_itself, under_itself}
+use Rattle.cap_tree.proofs.RowPaths.{at_place, agree, same_row, leads_itself}
 use Rattle.cap_tree.proofs.Adding.{last-append}
 
 -- dots
@@ -33,42 +36,12 @@ one_where b = cond b 1 0
 abbrev has_dot : List ℕ → Bool
 has_dot name = list_any (λ b. b == 46) name
 
-name_has_none : (path : List ℕ) → has_dot (name_of path) ≡ false
-name_has_none [] = refl
-name_has_none (b ∷ path) = by (has_dot (b ∷ path)) refl (name_has_none path)
-  where
-    by : (c : Bool) → has_dot (b ∷ path) ≡ c → has_dot (name_of path) ≡ false → has_dot (cond c (name_of path) (b ∷ path)) ≡ false
-    by true e r = r
-    by false e r = e
-
-no_dots : (name : List ℕ) → has_dot name ≡ false → depth name ≡ 0
-no_dots [] h = refl
-no_dots (b ∷ name) h = by (b == 46) refl h (no_dots name)
-  where
-    by : (c : Bool) → (b == 46) ≡ c → c || has_dot name ≡ false → (has_dot name ≡ false → depth name ≡ 0) → depth (b ∷ name) ≡ 0
-    by true e g r = absurd (cc g)
-    by false e g r = let s = sum_by-cons (λ x. one_where (x == 46)) b name in let n = r g in let z : one_where (b == 46) ≡ 0 = ap one_where e in omega (arith, s, n, z)
-
 child_depth : (path name : List ℕ) → has_dot name ≡ false → depth (path ++ 46 ∷ name) ≡ depth path + 1
 child_depth path name h =
     let a = sum_by-append (λ (x : ℕ). one_where (x == 46)) path (46 ∷ name) in
     let b = sum_by-cons (λ (x : ℕ). one_where (x == 46)) 46 name in
-    let c = no_dots name h in
+    let c = no_levels name h in
     omega (arith, a, b, c)
-
-dot_in : (x rest : List ℕ) → has_dot (x ++ 46 ∷ rest) ≡ true
-dot_in [] rest = refl
-dot_in (b ∷ x) rest = by (b == 46) (dot_in x rest)
-  where
-    by : (c : Bool) → has_dot (x ++ 46 ∷ rest) ≡ true → c || has_dot (x ++ 46 ∷ rest) ≡ true
-    by true h = refl
-    by false h = h
-
-head_is : (a b : ℕ) (xs ys : List ℕ) → a ∷ xs ≡ b ∷ ys → a ≡ b
-head_is a b xs ys e = ap (λ l. Rattle.std.specs.Prelude.slice_index l 0) e
-
-tail_is : (a b : ℕ) (xs ys : List ℕ) → a ∷ xs ≡ b ∷ ys → xs ≡ ys
-tail_is a b xs ys e = ap (λ l. Rattle.std.specs.Prelude.drop 1 l) e
 
 -- what is above a child is above its parent, or is the parent
 above_child : (x y name rest : List ℕ) → has_dot name ≡ false → x ++ 46 ∷ name ≡ y ++ 46 ∷ rest → IsUnder y x
@@ -178,15 +151,6 @@ none_of t (s ∷ ss) r h m = by (t s) refl h m (none_of t ss r)
     by false e g (inl n) f = ap t (sym n) ∙ e
     by false e g (inr n) f = f g n
 
-same_bool : (a b : Bool) → (a ≡ true → b ≡ true) → (b ≡ true → a ≡ true) → a ≡ b
-same_bool true b f g = sym (f refl)
-same_bool false true f g = g refl
-same_bool false false f g = refl
-
-not_so : (a : Bool) → (a ≡ true → ⊥) → a ≡ false
-not_so true f = absurd (f refl)
-not_so false f = refl
-
 paths_more : (rows : List Row) (t : Row) → PlacesArePaths rows → ((r : Row) → IsIn r rows → leads_to r.place t.place ≡ is_under r.path t.path) → ((r : Row) → IsIn r rows → leads_to t.place r.place ≡ is_under t.path r.path) → PlacesArePaths (rows ++ t ∷ [])
 paths_more rows t a onto away =
     of_each (λ r. All (λ s. leads_to r.place s.place ≡ is_under r.path s.path) (rows ++ t ∷ [])) (rows ++ t ∷ []) (λ r m.
@@ -269,11 +233,11 @@ grow K rows rows' q todo levels item w lv sh un a =
     let row_is : settings_of_row spot ≡ q = shown q item (place ++ b.child ∷ []) sh in
     let fresh : (r : Row) → IsIn r rows → leads_to spot.place r.place ≡ false = λ r m. none_of (λ s. leads_to spot.place s.place) rows r b.fresh m in
     let other : (r : Row) → IsIn r rows → (r.path ≡ q.path → ⊥) = λ r m. other_path rows q todo r w.distinct m in
-    let not_above : (r : Row) → IsIn r rows → is_under q.path r.path ≡ false = λ r m. not_so (is_under q.path r.path) (λ u.
+    let not_above : (r : Row) → IsIn r rows → is_under q.path r.path ≡ false = λ r m. false_from_ne_true (is_under q.path r.path) (λ u.
     (let h = parent_row_of rows r q.path m w.closed (under_is q.path r.path u) in other h.row h.member h.path_is)) in
     let onto : (r : Row) → IsIn r rows → leads_to r.place spot.place ≡ is_under r.path q.path = λ r m.
     leads_above r.place place b.child (fresh r m) ∙ agree rows w.paths r p.row m p.member ∙ ap (is_under r.path) p.path_is
-    ∙ same_bool (is_under r.path path) (is_under r.path q.path)
+    ∙ same_test (is_under r.path path) (is_under r.path q.path)
     (λ u. is_under_it r.path q.path (subst (IsUnder r.path) (sym is) (under_child path r.path name (under_is r.path path u))))
     (λ u. is_under_it r.path path (child_under path r.path name none (subst (IsUnder r.path) is (under_is r.path q.path u)) (λ s. other r m (s ∙ sym is)))) in
     let queues : queues_of (rows ++ spot ∷ []) ≡ queues_of rows ++ q ∷ [] = map-append settings_of_row rows (spot ∷ []) ∙ ap (λ x. queues_of rows ++ x ∷ []) row_is in
@@ -292,13 +256,8 @@ grow K rows rows' q todo levels item w lv sh un a =
 
 -- an unused queue counts nothing
 
-nothing_at : (n k : ℕ) → amount (zeros n) k ≡ 0
-nothing_at zero k = refl
-nothing_at (suc n) zero = refl
-nothing_at (suc n) (suc k) = nothing_at n k
-
 pub unused_stored : (K : ℕ) (q : Queue) (m : Measure) → IsUnused K q → of_queue q m ≡ 0
-unused_stored K q (Measure.uses k) u = ap (λ v. amount v k) u.used ∙ nothing_at K k
+unused_stored K q (Measure.uses k) u = ap (λ v. amount v k) u.used ∙ amount-zeros K k
 unused_stored K q Measure.active u = u.active
 
 pub unused_own : (K : ℕ) (q : Queue) (m : Measure) → IsUnused K q → of_users q m ≡ 0

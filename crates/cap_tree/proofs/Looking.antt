@@ -9,6 +9,7 @@ use Rattle.std.proofs.lemmas.Bool.{eq-eqb, ne_eqb}
 use Rattle.std.proofs.lemmas.List.{get_or_default, append-nil}
 use Rattle.cap_tree.specs.Spot.{Spot, leads_to, leads_below, under, below, spots, place_of, along, first_failing, has_below}
 use Rattle.cap_tree.proofs.Spots.{steps-is, steps-empty}
+use Rattle.cap_model.proofs.lists.Tests.{bytes_itself}
 
 abbrev placed : ℕ → Option (List ℕ) → Option (List ℕ) → Option (List ℕ)
 placed i None rest = rest
@@ -41,17 +42,9 @@ whole (b ∷ name) (d ∷ path) h = by (d == b) refl h (whole name path)
     by true e g r = let s : d ≡ b = grind (arith, nat_tests, e) in λ i. s i ∷ r g i
     by false e g r = absurd (cc g)
 
-longer_differs : (name : List ℕ) (b : ℕ) (x : List ℕ) → bytes_eq (name ++ b ∷ x) name ≡ false
-longer_differs [] b x = refl
-longer_differs (a ∷ name) b x = rw (eq-eqb a a refl) (longer_differs name b x)
-
 shorter_differs : (name : List ℕ) (b : ℕ) (x : List ℕ) → bytes_eq name (name ++ b ∷ x) ≡ false
 shorter_differs [] b x = refl
 shorter_differs (a ∷ name) b x = rw (eq-eqb a a refl) (shorter_differs name b x)
-
-itself : (name : List ℕ) → bytes_eq name name ≡ true
-itself [] = refl
-itself (a ∷ name) = rw (eq-eqb a a refl) (itself name)
 
 bytes_differ : (a b : ℕ) (x y : List ℕ) → a ≢ b → bytes_eq (a ∷ x) (b ∷ y) ≡ false
 bytes_differ a b x y h = rw (ne_eqb a b h) refl
@@ -247,7 +240,7 @@ module _ {T : Type 0} where
   found_here name item kids value path e h l =
       let p : path ≡ name item ++ [] = whole (name item) path h ∙ ap (λ r. name item ++ r) (steps-empty (drop (length (name item)) path) l) in
       let q : path ≡ name item = p ∙ append-nil (name item) in
-      ap (place_of path) (sym e) ∙ ap (λ b. cond b (Some []) (place_of path (below (name item) 0 kids))) (ap (bytes_eq (name item)) q ∙ itself (name item))
+      ap (place_of path) (sym e) ∙ ap (λ b. cond b (Some []) (place_of path (below (name item) 0 kids))) (ap (bytes_eq (name item)) q ∙ bytes_itself (name item))
 
   -- another byte than a dot is behind it
   pub missing_by_dot : (name : T → List ℕ) (item : T) (kids : List (List (Spot T))) (value : List (Spot T)) (path : List ℕ) → spots name item kids ≡ value → pointwise nat_eq (take (length (name item)) path) (name item) ≡ true →

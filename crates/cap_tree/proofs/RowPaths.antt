@@ -7,9 +7,9 @@ use Rattle.std.proofs.lemmas.List.{length-append}
 use Rattle.std.proofs.lemmas.Slice.Eq.{bytes_eq-Decides}
 use Rattle.cap_model.specs.Settings.{QueueRow}
 use Rattle.cap_model.specs.Flat.{is_under}
-use Rattle.cap_model.proofs.Choosing.{IsIn}
-use Rattle.cap_model.proofs.Members.{each_of, of_each, of_map}
-use Rattle.cap_model.proofs.Paths.{IsUnder, under_is, is_under_it}
+use Rattle.cap_model.proofs.lists.Members.{IsIn, each_of, of_each, of_map}
+use Rattle.cap_model.proofs.paths.Paths.{IsUnder, under_is, under_itself}
+use Rattle.cap_model.proofs.lists.Filters.{map_same, filter_same}
 use Rattle.cap_tree.specs.Spot.{leads_to, item_at, path_at, change_along, along, first_failing, HoldsOfItem, IsPlace}
 use Rattle.cap_tree.specs.Queue.{Queue}
 use Rattle.cap_tree.proofs.Looking.{level_from, failing-cons}
@@ -47,9 +47,6 @@ same_place p q =
     (λ e. let s = (bytes_eq-Decides p q).0 e in subst (λ x. leads_to p x ≡ true) s (leads_itself p))
     (λ e. let s = (bytes_eq-Decides p q).0 e in subst (λ x. leads_to x p ≡ true) s (leads_itself p))
     (λ f g. (bytes_eq-Decides p q).1 (leads_back p q f g))
-
-pub under_itself : (p : List ℕ) → is_under p p ≡ true
-under_itself p = is_under_it p p (inl refl)
 
 under_back : (p q : List ℕ) → IsUnder p q → IsUnder q p → p ≡ q
 under_back p q (inl e) g = sym e
@@ -105,10 +102,6 @@ agree rows a r s m n = each_of (λ t. leads_to r.place t.place ≡ is_under r.pa
 pub same_row : (rows : List Row) → PlacesArePaths rows → (r s : Row) → IsIn r rows → IsIn s rows → bytes_eq r.place s.place ≡ bytes_eq r.path s.path
 same_row rows a r s m n = same_place r.place s.place ∙ ap (λ c. c && leads_to s.place r.place) (agree rows a r s m n) ∙ ap (λ c. is_under r.path s.path && c) (agree rows a s r n m) ∙ sym (same_path r.path s.path)
 
-map_same : {A B : Type 0} (f g : A → B) (xs : List A) → ((x : A) → IsIn x xs → f x ≡ g x) → map f xs ≡ map g xs
-map_same f g [] h = refl
-map_same f g (x ∷ xs) h = λ i. h x (inl refl) i ∷ map_same f g xs (λ y m. h y (inr m)) i
-
 pub changed_rows : (above at : Queue → Queue) (place : List ℕ) (rows : List Row) → PlacesArePaths rows → IsPlace rows place → map (change_along above at place) rows ≡ map (changed_at above at (path_at place rows)) rows
 changed_rows above at place rows a h =
     let t = at_place place rows h in
@@ -118,10 +111,6 @@ changed_rows above at place rows a h =
     λ i. cond (same i) (record r { item = at r.item }) (cond (leads i) (record r { item = above r.item }) r))
 
 -- the rows on the way to a place are those on the way to its path
-
-filter_same : {A : Type 0} (f g : A → Bool) (xs : List A) → ((x : A) → IsIn x xs → f x ≡ g x) → filter f xs ≡ filter g xs
-filter_same f g [] h = refl
-filter_same f g (x ∷ xs) h = λ i. cond (h x (inl refl) i) (x ∷ filter_same f g xs (λ y m. h y (inr m)) i) (filter_same f g xs (λ y m. h y (inr m)) i)
 
 pub along_rows : (place : List ℕ) (rows : List Row) → PlacesArePaths rows → IsPlace rows place → along place rows ≡ rows_to (path_at place rows) rows
 along_rows place rows a h =

@@ -5,12 +5,12 @@ use Rattle.std.specs.List.{position_or_len, take-map}
 use Rattle.std.specs.Option.{option_map_or}
 use Rattle.std.specs.Map.{lookup, keys_of}
 use Rattle.std.proofs.Math.ListN.{get_or-map}
-use Rattle.std.proofs.lemmas.Bool.{eq-eqb}
 use Rattle.std.proofs.lemmas.Bool.Decides.{nat_tests}
 use Rattle.std.proofs.lemmas.List.{map-set, length-map}
 use Rattle.std.proofs.lemmas.Slice.Eq.{bytes_eq-Decides}
 use Rattle.indexmap.specs.IndexMap.{insert_entry, swap_remove_entry, swap_remove_by}
 use Rattle.cap_model.specs.Texts.{padded}
+use Rattle.cap_model.proofs.lists.Tests.{bytes_itself, bytes_turned, and_true, and_false}
 use Rattle.cap_tree.specs.Count.{Count, is_nothing}
 use Rattle.cap_tree.specs.Queue.{UserRow, user_row, with_count, with_row}
 
@@ -18,16 +18,6 @@ use Rattle.cap_tree.specs.Queue.{UserRow, user_row, with_count, with_row}
 
 abbrev pub same_text : List ℕ → List ℕ → Bool
 same_text a b = bytes_eq (padded 64 a) (padded 64 b) && (length a == length b)
-
-bytes_itself : (a : List ℕ) → bytes_eq a a ≡ true
-bytes_itself [] = refl
-bytes_itself (x ∷ a) = rw (eq-eqb x x refl) (bytes_itself a)
-
-pub bytes_turned : (a b : List ℕ) → bytes_eq a b ≡ bytes_eq b a
-bytes_turned [] [] = refl
-bytes_turned [] (y ∷ b) = refl
-bytes_turned (x ∷ a) [] = refl
-bytes_turned (x ∷ a) (y ∷ b) = let e : (x == y) ≡ (y == x) = grind (arith, nat_tests) in ap (λ c. c && bytes_eq a b) e ∙ ap (λ c. (y == x) && c) (bytes_turned a b)
 
 same_end : (a b rest : List ℕ) → length a ≡ length b → bytes_eq (a ++ rest) (b ++ rest) ≡ bytes_eq a b
 same_end [] [] rest h = bytes_itself rest
@@ -42,24 +32,12 @@ other_length (x ∷ a) [] h = refl
 other_length (x ∷ a) (y ∷ b) h =
     let e : (length a == length b) ≡ false = grind (arith, nat_tests, h) in
     ap (λ c. (x == y) && c) (other_length a b e) ∙ and_false (x == y)
-  where
-    and_false : (c : Bool) → c && false ≡ false
-    and_false true = refl
-    and_false false = refl
 
 text_cases : (c : Bool) (a b : List ℕ) → (length a == length b) ≡ c → bytes_eq (padded 64 a) (padded 64 b) && c ≡ bytes_eq a b
 text_cases true a b e =
     let l : length a ≡ length b = grind (arith, nat_tests, e) in
     and_true (bytes_eq (padded 64 a) (padded 64 b)) ∙ ap (λ n. bytes_eq (padded 64 a) (b ++ replicate (64 - n) 0)) (sym l) ∙ same_end a b (replicate (64 - length a) 0) l
-  where
-    and_true : (c : Bool) → c && true ≡ c
-    and_true true = refl
-    and_true false = refl
 text_cases false a b e = and_false (bytes_eq (padded 64 a) (padded 64 b)) ∙ sym (other_length a b e)
-  where
-    and_false : (c : Bool) → c && false ≡ false
-    and_false true = refl
-    and_false false = refl
 
 pub same_text-is : (a b : List ℕ) → same_text a b ≡ bytes_eq a b
 same_text-is a b = text_cases (length a == length b) a b refl

@@ -6,7 +6,7 @@ use Rattle.cap_vector.proofs.AmountLemmas.{amount-exchanged}
 use Rattle.std.specs.Option.{option_map_or}
 use Rattle.cap_model.specs.Cascade.{holds_of}
 use Rattle.cap_model.specs.Amounts.{fits, times}
-use Rattle.cap_model.proofs.Measures.{fits_amounts, amounts_fit}
+use Rattle.cap_model.proofs.uses.Measures.{fits_amounts, amounts_fit}
 use Rattle.cap_tree.specs.Measure.{Measure}
 use Rattle.cap_tree.specs.Count.{use_alone}
 use Rattle.cap_tree.specs.Spot.{along, first_failing, item_at, path_at, IsPlace}

@@ -4,7 +4,7 @@ use Rattle.std.specs.List.{All}
 use Rattle.cap_model.specs.Settings.{QueueRow}
 use Rattle.cap_model.specs.Bounds.{HasDistinctPaths, has_path, depth}
 use Rattle.cap_model.specs.Listing.{IsListed}
-use Rattle.cap_model.proofs.Choosing.{IsIn}
+use Rattle.cap_model.specs.Members.{IsIn}
 use Rattle.cap_tree.specs.Spot.{last_place}
 use Rattle.cap_tree.specs.Queue.{IsUnused}
 use Rattle.cap_tree.specs.Rows.{Row, PlacesArePaths, queues_of}

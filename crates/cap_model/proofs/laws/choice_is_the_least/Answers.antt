@@ -1,5 +1,5 @@
-use Rattle.cap_model.proofs.Ranks.{one_of_each_rank}
-use Rattle.cap_model.proofs.Choosing.{choice_is_computed, choice_from_is_computed}
+use Rattle.cap_model.proofs.choice.Ranks.{one_of_each_rank}
+use Rattle.cap_model.proofs.choice.Choosing.{choice_is_computed, choice_from_is_computed}
 use Rattle.cap_model.proofs.laws.choice_is_the_least.Goals as goal
 
 pub returns-clause-ranks : goal.returns-clause-ranks

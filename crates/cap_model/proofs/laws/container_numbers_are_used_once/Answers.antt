@@ -1,4 +1,4 @@
-use Rattle.cap_model.proofs.ContainerNumbers.{numbers_stay_distinct, granted_once}
+use Rattle.cap_model.proofs.numbers.ContainerNumbers.{numbers_stay_distinct, granted_once}
 use Rattle.cap_model.proofs.laws.container_numbers_are_used_once.Goals as goal
 
 pub returns-clause-live : goal.returns-clause-live

@@ -1,4 +1,4 @@
-use Rattle.cap_model.proofs.Balance.{containers_balance, ended_once, live_is_what_was_not_ended}
+use Rattle.cap_model.proofs.numbers.Balance.{containers_balance, ended_once, live_is_what_was_not_ended}
 use Rattle.cap_model.proofs.laws.containers_end_once.Goals as goal
 
 pub returns-clause-balance : goal.returns-clause-balance

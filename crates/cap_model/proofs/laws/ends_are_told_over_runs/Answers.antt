@@ -1,5 +1,5 @@
-use Rattle.cap_model.proofs.ToldEnds.{ends_are_told_over_runs}
-use Rattle.cap_model.proofs.EndsOfEnded.{new_ends_are_of_the_ended}
+use Rattle.cap_model.proofs.telling.ToldRuns.{ends_are_told_over_runs}
+use Rattle.cap_model.proofs.telling.EndsOfEnded.{new_ends_are_of_the_ended}
 use Rattle.cap_model.proofs.laws.ends_are_told_over_runs.Goals as goal
 
 pub returns-clause-told : goal.returns-clause-told

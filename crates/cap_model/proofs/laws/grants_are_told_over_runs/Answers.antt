@@ -1,4 +1,4 @@
-use Rattle.cap_model.proofs.ToldRuns.{grants_are_told_over_runs, new_grants_are_of_the_granted}
+use Rattle.cap_model.proofs.telling.ToldRuns.{grants_are_told_over_runs, new_grants_are_of_the_granted}
 use Rattle.cap_model.proofs.laws.grants_are_told_over_runs.Goals as goal
 
 pub returns-clause-told : goal.returns-clause-told

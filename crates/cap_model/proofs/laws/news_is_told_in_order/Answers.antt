@@ -1,5 +1,4 @@
-use Rattle.cap_model.proofs.Telling.{grants_are_told_in_order}
-use Rattle.cap_model.proofs.TellingEnds.{ends_are_told_in_order}
+use Rattle.cap_model.proofs.telling.Telling.{grants_are_told_in_order, ends_are_told_in_order}
 use Rattle.cap_model.proofs.laws.news_is_told_in_order.Goals as goal
 
 pub returns-clause-grants : goal.returns-clause-grants

@@ -1,4 +1,4 @@
-use Rattle.cap_model.proofs.Parents.{parent_uses_children}
+use Rattle.cap_model.proofs.uses.Parents.{parent_uses_children}
 use Rattle.cap_model.proofs.laws.parents_use_what_their_children_use.Goals as goal
 
 pub returns : goal.returns

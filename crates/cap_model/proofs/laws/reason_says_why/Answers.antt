@@ -1,5 +1,5 @@
-use Rattle.cap_model.proofs.Reasons.{rejected_exactly, passed_is_step}
-use Rattle.cap_model.proofs.Wanting.{reasons_are_in_order}
+use Rattle.cap_model.proofs.choice.Reasons.{rejected_exactly, passed_is_step}
+use Rattle.cap_model.proofs.bounds.Wanting.{reasons_are_in_order}
 use Rattle.cap_model.proofs.laws.reason_says_why.Goals as goal
 
 pub returns-clause-exact : goal.returns-clause-exact

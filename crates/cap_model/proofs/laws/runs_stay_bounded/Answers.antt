@@ -1,4 +1,4 @@
-use Rattle.cap_model.proofs.BoundedRuns.{opened_is_bounded, runs_are_bounded}
+use Rattle.cap_model.proofs.bounds.BoundedRuns.{opened_is_bounded, runs_are_bounded}
 use Rattle.cap_model.proofs.laws.runs_stay_bounded.Goals as goal
 
 pub returns-clause-opened : goal.returns-clause-opened

@@ -1,4 +1,4 @@
-use Rattle.cap_model.proofs.Sizes.{sizes_stay, runs_stay_within_sizes, opened_is_within_sizes}
+use Rattle.cap_model.proofs.bounds.Sizes.{sizes_stay, runs_stay_within_sizes, opened_is_within_sizes}
 use Rattle.cap_model.proofs.laws.sizes_stay_bounded.Goals as goal
 
 pub returns-clause-opened : goal.returns-clause-opened

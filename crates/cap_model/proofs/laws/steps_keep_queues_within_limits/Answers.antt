@@ -1,4 +1,4 @@
-use Rattle.cap_model.proofs.StepBounds.{queues_stay_bounded}
+use Rattle.cap_model.proofs.bounds.StepBounds.{queues_stay_bounded}
 use Rattle.cap_model.proofs.laws.steps_keep_queues_within_limits.Goals as goal
 
 pub returns : goal.returns

@@ -1,4 +1,4 @@
-use Rattle.cap_model.proofs.StepBounds.{reservations_stay_apart, reservations_stay_bounded}
+use Rattle.cap_model.proofs.bounds.StepBounds.{reservations_stay_apart, reservations_stay_bounded}
 use Rattle.cap_model.proofs.laws.steps_keep_reservations_within_asks.Goals as goal
 
 pub returns-clause-apart : goal.returns-clause-apart

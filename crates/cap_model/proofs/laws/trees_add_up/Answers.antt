@@ -1,8 +1,8 @@
-use Rattle.cap_model.proofs.Levels.{levels_in_order}
-use Rattle.cap_model.proofs.Listed.{listings_stand_below}
-use Rattle.cap_model.proofs.Trees.{trees_are_tested}
-use Rattle.cap_model.proofs.Paths.{under_by_path}
-use Rattle.cap_model.proofs.TreeSums.{trees_add_up}
+use Rattle.cap_model.proofs.paths.Levels.{levels_in_order}
+use Rattle.cap_model.proofs.paths.Listed.{listings_stand_below}
+use Rattle.cap_model.proofs.paths.Trees.{trees_are_tested}
+use Rattle.cap_model.proofs.paths.Paths.{under_by_path}
+use Rattle.cap_model.proofs.uses.TreeSums.{trees_add_up}
 use Rattle.cap_model.proofs.laws.trees_add_up.Goals as goal
 
 pub returns-clause-under : goal.returns-clause-under

@@ -1,4 +1,4 @@
-use Rattle.cap_model.proofs.UseSums.{uses_are_sums}
+use Rattle.cap_model.proofs.uses.UseSums.{uses_are_sums}
 use Rattle.cap_model.proofs.laws.uses_are_sums.Goals as goal
 
 pub returns : goal.returns

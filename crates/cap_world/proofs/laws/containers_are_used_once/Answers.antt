@@ -1,5 +1,5 @@
-use Rattle.cap_model.proofs.ContainerNumbers.{granted_once}
-use Rattle.cap_model.proofs.Balance.{ended_once}
+use Rattle.cap_model.proofs.numbers.ContainerNumbers.{granted_once}
+use Rattle.cap_model.proofs.numbers.Balance.{ended_once}
 use Rattle.cap_world.proofs.laws.containers_are_used_once.Goals as goal
 
 pub returns : goal.returns

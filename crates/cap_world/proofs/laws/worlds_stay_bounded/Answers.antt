@@ -1,4 +1,4 @@
-use Rattle.cap_model.proofs.BoundedRuns.{opened_is_bounded, runs_are_bounded}
+use Rattle.cap_model.proofs.bounds.BoundedRuns.{opened_is_bounded, runs_are_bounded}
 use Rattle.cap_config.proofs.Listing.{settings_listed}
 use Rattle.cap_world.proofs.laws.worlds_stay_bounded.Goals as goal
 

@@ -1,6 +1,6 @@
 use Rattle.std.proofs.Common.{◌≡◌, length, arith, true, rules}
 use Rattle.cap_model.specs.Texts.{is_text}
-use Rattle.cap_model.proofs.Padding.{held, text_short}
+use Rattle.cap_model.proofs.lists.Padding.{held, text_short}
 use Rattle.cap_model.proofs.text.Text.new.Goals as goal
 
 pub invariant_of-result : goal.invariant_of-result

@@ -1,5 +1,5 @@
 use Rattle.std.proofs.Common.{◌≡◌, length}
-use Rattle.cap_model.proofs.Padding.{IsCopied}
+use Rattle.cap_model.proofs.lists.Padding.{IsCopied}
 use Rattle.cap_model.proofs.text.Text.new.Given as goal
 
 abbrev pub invariant-loop-i : goal.invariant-loop-i

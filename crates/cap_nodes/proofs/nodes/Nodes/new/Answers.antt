@@ -1,5 +1,5 @@
 use Rattle.std.proofs.Common.{[], sym}
-use Rattle.cap_model.proofs.NodeTotals.{totals-none}
+use Rattle.cap_model.proofs.uses.NodeTotals.{totals-none}
 use Rattle.cap_nodes.specs.Places.{AreTied}
 use Rattle.cap_nodes.proofs.nodes.Nodes.new.Goals as goal
 

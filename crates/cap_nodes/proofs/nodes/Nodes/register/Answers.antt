@@ -3,7 +3,7 @@ use Rattle.cap_vector.specs.Vector.{plus, zeros, IsWithin, amount_max}
 use Rattle.cap_vector.proofs.AmountLemmas.{amount-plus}
 use Rattle.cap_model.specs.Flat.{ClusterNode}
 use Rattle.cap_model.specs.RegisterNode.{sum_of_totals}
-use Rattle.cap_model.proofs.NodeTotals.{totals-push}
+use Rattle.cap_model.proofs.uses.NodeTotals.{totals-push}
 use Rattle.cap_nodes.specs.Places.{Place}
 use Rattle.cap_nodes.proofs.Changes.{nodes_of, with_node, nodes_pushed}
 use Rattle.cap_nodes.proofs.nodes.Nodes.register.Goals as goal

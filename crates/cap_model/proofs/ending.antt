@@ -1,0 +1,5 @@
+-- Containers that end one after the other, and those that some numbers name.
+pub mod Draining
+pub mod Drains
+pub mod EndsInOrder
+pub mod NamedEnds

@@ -1,0 +1,4 @@
+-- Grants and ends are told in order, each once, over steps and runs.
+pub mod EndsOfEnded
+pub mod Telling
+pub mod ToldRuns
