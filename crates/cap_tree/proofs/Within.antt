@@ -55,9 +55,7 @@ module _ (K : ℕ) (place user old new : List ℕ) (rows : List Row) (paths : Pl
   over_maximum level e =
       ap (λ o. option_map_or (λ n. Some (Maximum n)) o (if holds_of (stays_in_user_limit K user old new) (item_at place rows) then None else Some User)) (level_is ∙ sym e)
 
-  pub over_user : (q : Queue) (b : Bool) (used : List ℕ) (factor : ℕ) (capacity : List ℕ) → None ≡ first_failing (stays_in_maximum old new) (along place rows) → item_at place rows ≡ Some q →
-      used ≡ use_of K (user_row user q.users) → factor ≡ q.factor → capacity ≡ q.guaranteed → IsTrue b ↔ FitsTimes (exchanged old new used) factor capacity → over_limit K place user old new rows ≡ (if b then None else Some User)
-  over_user q b used factor capacity e i u f g d =
+  pub over_user : (b : Bool) → None ≡ first_failing (stays_in_maximum old new) (along place rows) → b ≡ holds_of (stays_in_user_limit K user old new) (item_at place rows) → over_limit K place user old new rows ≡ (if b then None else Some User)
+  over_user b e s =
       ap (λ o. option_map_or (λ n. Some (Maximum n)) o (if holds_of (stays_in_user_limit K user old new) (item_at place rows) then None else Some User)) (level_is ∙ sym e)
-      ∙ ap (λ o. if holds_of (stays_in_user_limit K user old new) o then None else Some User) i
-      ∙ ap (λ c. if c then None else Some User) (sym (fits_times b (exchanged old new used) factor capacity d ∙ (λ j. fits (exchanged old new (u j)) (times (f j) (g j)))))
+      ∙ ap (λ c. if c then None else Some User) (sym s)
