@@ -10,7 +10,7 @@ use Rattle.cap_model.proofs.Measures.{fits_amounts, amounts_fit}
 use Rattle.cap_tree.specs.Measure.{Measure}
 use Rattle.cap_tree.specs.Count.{use_alone}
 use Rattle.cap_tree.specs.Spot.{along, first_failing, item_at, path_at, IsPlace}
-use Rattle.cap_tree.specs.Queue.{Queue, stays_in_maximum, stays_in_user_limit, use_of, user_row}
+use Rattle.cap_tree.specs.Queue.{stays_in_maximum, stays_in_user_limit}
 use Rattle.cap_tree.specs.Rows.{Row, HasRoomAtRoot, PlacesArePaths, root_use}
 use Rattle.cap_tree.specs.Limits.{broken_level, over_limit}
 use Rattle.cap_tree.specs.declared.limits.OverLimit.TheVariants.{Maximum, User}

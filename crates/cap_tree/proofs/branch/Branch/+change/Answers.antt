@@ -122,6 +122,5 @@ returns-in-Ok-clause-unchanged g t c = search rules
 pub returns-in-Ok-clause-grows : goal.returns-in-Ok-clause-grows
 returns-in-Ok-clause-grows g t c = search rules
 
-
 pub returns-in-Ok-clause-moved : goal.returns-in-Ok-clause-moved
 returns-in-Ok-clause-moved g t c m = rw (← c.self.view_is, c.change_above.ensures) (g.met.C.Change.stored_above c.args.change.now c.self.inside.item m)

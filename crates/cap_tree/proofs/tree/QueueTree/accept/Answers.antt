@@ -36,3 +36,15 @@ returns-then-not-stays_in_user_limit-clause-ok g c = search rules
 
 pub returns-clause-err : goal.returns-clause-err
 returns-clause-err g c = search rules
+
+pub first_failing-requires-room-T-Held : goal.first_failing-requires-room-T-Held
+first_failing-requires-room-T-Held g c κs within = search rules
+
+pub first_failing-requires-room-T-Destruct : goal.first_failing-requires-room-T-Destruct
+first_failing-requires-room-T-Destruct g c κs within = search rules
+
+pub first_failing-requires-room-C-Test : goal.first_failing-requires-room-C-Test
+first_failing-requires-room-C-Test g c κs within = search rules
+
+pub first_failing-requires-room-C-Test-2 : goal.first_failing-requires-room-C-Test-2
+first_failing-requires-room-C-Test-2 g c κs within = search rules

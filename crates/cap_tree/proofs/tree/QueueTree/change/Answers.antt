@@ -52,3 +52,15 @@ returns-clause-err g c = search rules
 
 pub returns-clause-absent : goal.returns-clause-absent
 returns-clause-absent g c = search rules
+
+pub change-requires-room-T-Held : goal.change-requires-room-T-Held
+change-requires-room-T-Held g c κs within = search rules
+
+pub change-requires-room-T-Destruct : goal.change-requires-room-T-Destruct
+change-requires-room-T-Destruct g c κs within = search rules
+
+pub change-requires-room-C-Change : goal.change-requires-room-C-Change
+change-requires-room-C-Change g c κs within = search rules
+
+pub change-requires-room-C-Change-2 : goal.change-requires-room-C-Change-2
+change-requires-room-C-Change-2 g c κs within = search rules

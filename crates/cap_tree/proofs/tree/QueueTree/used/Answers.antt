@@ -8,3 +8,9 @@ returns g c = rw (← c.self.view_is) (c.used.ensures ∙ sym (ap (λ o. option_
 
 pub used-requires : goal.used-requires
 used-requires g c = search rules
+
+pub item-requires-room-T-Held : goal.item-requires-room-T-Held
+item-requires-room-T-Held g c κs within = search rules
+
+pub item-requires-room-T-Destruct : goal.item-requires-room-T-Destruct
+item-requires-room-T-Destruct g c κs within = search rules
