@@ -10,7 +10,7 @@ use Rattle.cap_model.proofs.uses.Measures.{fits_amounts, amounts_fit}
 use Rattle.cap_tree.specs.Measure.{Measure}
 use Rattle.cap_tree.specs.Count.{use_alone}
 use Rattle.cap_tree.specs.Spot.{along, first_failing, item_at, path_at, IsPlace}
-use Rattle.cap_tree.specs.Queue.{Queue, stays_in_maximum, stays_in_user_limit, use_of, user_row}
+use Rattle.cap_tree.specs.Queue.{stays_in_maximum, stays_in_user_limit}
 use Rattle.cap_tree.specs.Rows.{Row, HasRoomAtRoot, PlacesArePaths, root_use}
 use Rattle.cap_tree.specs.Limits.{broken_level, over_limit}
 use Rattle.cap_tree.specs.declared.limits.OverLimit.TheVariants.{Maximum, User}
@@ -55,9 +55,7 @@ module _ (K : ℕ) (place user old new : List ℕ) (rows : List Row) (paths : Pl
   over_maximum level e =
       ap (λ o. option_map_or (λ n. Some (Maximum n)) o (if holds_of (stays_in_user_limit K user old new) (item_at place rows) then None else Some User)) (level_is ∙ sym e)
 
-  pub over_user : (q : Queue) (b : Bool) (used : List ℕ) (factor : ℕ) (capacity : List ℕ) → None ≡ first_failing (stays_in_maximum old new) (along place rows) → item_at place rows ≡ Some q →
-      used ≡ use_of K (user_row user q.users) → factor ≡ q.factor → capacity ≡ q.guaranteed → IsTrue b ↔ FitsTimes (exchanged old new used) factor capacity → over_limit K place user old new rows ≡ (if b then None else Some User)
-  over_user q b used factor capacity e i u f g d =
+  pub over_user : (b : Bool) → None ≡ first_failing (stays_in_maximum old new) (along place rows) → b ≡ holds_of (stays_in_user_limit K user old new) (item_at place rows) → over_limit K place user old new rows ≡ (if b then None else Some User)
+  over_user b e s =
       ap (λ o. option_map_or (λ n. Some (Maximum n)) o (if holds_of (stays_in_user_limit K user old new) (item_at place rows) then None else Some User)) (level_is ∙ sym e)
-      ∙ ap (λ o. if holds_of (stays_in_user_limit K user old new) o then None else Some User) i
-      ∙ ap (λ c. if c then None else Some User) (sym (fits_times b (exchanged old new used) factor capacity d ∙ (λ j. fits (exchanged old new (u j)) (times (f j) (g j)))))
+      ∙ ap (λ c. if c then None else Some User) (sym s)

@@ -4,7 +4,7 @@ ghost use Rattle.std.specs.List.{list_any};
 ghost use Rattle.cap_model.specs.Flat.{name_of};
 ghost use Rattle.cap_tree.specs.Count.{IsPart, MayMove, of_count};
 ghost use Rattle.cap_tree.specs.Measure.{Measure};
-ghost use Rattle.cap_tree.specs.Queue.{IsUnused, Shows, count_in, moved_above, moved_at, of_queue, of_users, queue_count, stays_in_maximum, use_of, user_row, with_count, with_running};
+ghost use Rattle.cap_tree.specs.Queue.{IsUnused, Shows, count_in, moved_above, moved_at, of_queue, of_users, queue_count, stays_in_maximum, stays_in_user_limit, use_of, user_row, with_count, with_running};
 
 use crate::branch::Held;
 use crate::count::{Part, Total, moved};
@@ -150,6 +150,19 @@ impl<const K: usize, A: Allocator> Queue<K, A> {
             return true;
         };
         fits_exchanged(&self.used(), old, new, 1, &maximum)
+    }
+
+    /// Whether a user stays within its user limit with `old` taken away and `new` added.
+    pub(crate) fn stays_in_user_limit(
+        &self,
+        user: &ShortText,
+        old: &Resource<K>,
+        new: &Resource<K>,
+    ) -> bool
+        ensures { result ≡ stays_in_user_limit K user.now old.now new.now self.now }
+    {
+        let used = self.user_use(user);
+        fits_exchanged(&used, old, new, self.factor, &self.guaranteed)
     }
 
     /// Sets what is counted of a user: where that is nothing, the user has no row any more. `NoMemory` changes nothing, and comes

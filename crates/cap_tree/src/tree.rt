@@ -4,12 +4,13 @@ ghost use Rattle.std.specs.List.{All};
 ghost use Rattle.cap_vector.specs.Vector.{IsWithin, exchanged, sum_max};
 ghost use Rattle.cap_model.specs.Limits.{number_end};
 ghost use Rattle.cap_model.specs.Bounds.{depth};
+ghost use Rattle.cap_model.specs.Cascade.{holds_of};
 ghost use Rattle.cap_tree.specs.Finding.{IsStart};
 ghost use Rattle.cap_tree.specs.Growth.{IsGrowing};
 ghost use Rattle.cap_tree.specs.Limits.{over_limit};
 ghost use Rattle.cap_tree.specs.Paths.{TreeFitsInMemory};
 ghost use Rattle.cap_tree.specs.Count.{IsPart};
-ghost use Rattle.cap_tree.specs.Queue.{IsUnused, MayGive, MayLeave, count_in, use_of};
+ghost use Rattle.cap_tree.specs.Queue.{IsUnused, MayGive, MayLeave, count_in, stays_in_user_limit, use_of};
 ghost use Rattle.cap_tree.specs.Rows.{AreRows, FindsQueue, HasRoomAtRoot, active_in, applied, entered, is_running, left, lowered, moved, queues_of, root_use, used_at, user_row_at, with_state};
 ghost use Rattle.cap_tree.specs.Spot.{HoldsOfItem, IsPlace, item_at, path_at};
 
@@ -21,7 +22,7 @@ use crate::limits::{InMaximum, OverLimit};
 use crate::queue::Queue;
 use cap_config::{Config, QueueRow};
 use cap_model::{NoMemory, ShortText};
-use cap_vector::{Resource, Sum, fits_exchanged};
+use cap_vector::{Resource, Sum};
 use smallvec::SmallVec;
 use std::alloc::Allocator;
 use std::marker::Model;
@@ -202,16 +203,28 @@ impl<const K: usize, A: Allocator + Copy> QueueTree<K, A> {
         ensures err { IfErr result (λ e. over_limit K path.now.items user.now old.now new.now self.now ≡ Some e) }
     {
         let test = InMaximum { old, new };
-        let steps = path.as_slice();
-        if let Some(level) = self.root.first_failing(steps, &test) {
+        if let Some(level) = self.root.first_failing(path.as_slice(), &test) {
             return Err(OverLimit::Maximum { level });
         }
-        let leaf = self.root.get(steps);
-        let (used, capacity) = (leaf.user_use(user), leaf.guaranteed());
-        if !fits_exchanged(&used, old, new, leaf.factor(), &capacity) {
+        if !self.stays_in_user_limit(path, user, old, new) {
             return Err(OverLimit::User);
         }
         Ok(())
+    }
+
+    /// Whether the user stays within the user limit of the leaf, with `old` taken away and `new` added.
+    fn stays_in_user_limit(
+        &self,
+        path: &Path<A>,
+        user: &ShortText,
+        old: &Resource<K>,
+        new: &Resource<K>,
+    ) -> bool
+        requires { IsPlace self.now path.now.items }
+        ensures { result ≡ holds_of (stays_in_user_limit K user.now old.now new.now) (item_at path.now.items self.now) }
+    {
+        let leaf = self.root.get(path.as_slice());
+        leaf.stays_in_user_limit(user, old, new)
     }
 
     /// How many applications are active in all.

@@ -1,4 +1,4 @@
-use Rattle.std.proofs.Common.{arith, ◌≡◌, ◌≤◌, ◌-◌, length, refl}
+use Rattle.std.proofs.Common.{rules, arith, ◌≡◌, ◌≤◌, ◌-◌, length, refl}
 use Rattle.std.specs.Vec.{vec_len}
 use Rattle.std.proofs.lemmas.Result.{on_ok_weaker}
 use Rattle.std.proofs.lemmas.List.{length-set}
@@ -33,3 +33,24 @@ returns-in-Some-clause-ok g t c =
     (added_below c.args.levels (vec_len c.self.inside.children - 1) (g.T.Held.name c.args.item) g.T.Held.name c.self.inside.item c.args.item c.self.inside.children.items c.args.self.now c.in-Some.last.now c.add.new.self c.self.view_is c.self.invariant.filled
     (omega arith) (omega arith) c.in-Some.ensures.value (omega arith))
     c.add.ensures.ok
+
+pub add_child-requires-clause-stored : goal.add_child-requires-clause-stored
+add_child-requires-clause-stored g t c = c.requires.stored
+
+pub add_child-requires-clause-own : goal.add_child-requires-clause-own
+add_child-requires-clause-own g t c = c.requires.own
+
+pub add_child-requires-in-None-clause-stored : goal.add_child-requires-in-None-clause-stored
+add_child-requires-in-None-clause-stored g t c = c.requires.stored
+
+pub add_child-requires-in-None-clause-own : goal.add_child-requires-in-None-clause-own
+add_child-requires-in-None-clause-own g t c = c.requires.own
+
+pub returns-then-levels-eq0-clause-err : goal.returns-then-levels-eq0-clause-err
+returns-then-levels-eq0-clause-err g t c = search rules
+
+pub returns-then-levels-eq0-clause-kept : goal.returns-then-levels-eq0-clause-kept
+returns-then-levels-eq0-clause-kept g t c = search rules
+
+pub returns-then-levels-eq0-clause-filled : goal.returns-then-levels-eq0-clause-filled
+returns-then-levels-eq0-clause-filled g t c = search rules

@@ -103,3 +103,24 @@ returns-in-Err-clause-grows g t c =
     let into = in_child (g.C.Change.can c.args.change.now) g.T.Held.name c.self.inside.item c.self.inside.children.items c.args.self.now c.args.steps.now c.self.view_is c.in-len1-up.len_at_least c.requires.can in
     let same = as_in_child g.T.Held.name c.self.inside.item c.self.inside.children.items c.args.self.now c.args.steps.now c.index_mut-child.result.now c.self.view_is c.in-len1-up.len_at_least into.within c.index_mut-child.ensures.value in
     subst (HoldsOfItem (g.C.Change.grows c.args.change.now)) (sym same) c.in-Err.ensures.grows
+
+pub change_at-requires-clause-within : goal.change_at-requires-clause-within
+change_at-requires-clause-within g t c = search rules
+
+pub change_above-requires-clause-within : goal.change_above-requires-clause-within
+change_above-requires-clause-within g t c = search rules
+
+pub returns-in-Err-clause-changed : goal.returns-in-Err-clause-changed
+returns-in-Err-clause-changed g t c = search rules
+
+pub returns-in-Err-clause-moved : goal.returns-in-Err-clause-moved
+returns-in-Err-clause-moved g t c = search rules
+
+pub returns-in-Ok-clause-unchanged : goal.returns-in-Ok-clause-unchanged
+returns-in-Ok-clause-unchanged g t c = search rules
+
+pub returns-in-Ok-clause-grows : goal.returns-in-Ok-clause-grows
+returns-in-Ok-clause-grows g t c = search rules
+
+pub returns-in-Ok-clause-moved : goal.returns-in-Ok-clause-moved
+returns-in-Ok-clause-moved g t c m = rw (← c.self.view_is, c.change_above.ensures) (g.met.C.Change.stored_above c.args.change.now c.self.inside.item m)

@@ -31,3 +31,24 @@ move_below-requires g c =
         ),
       ),
     )
+
+pub user-requires : goal.user-requires
+user-requires g c = search rules
+
+pub set_user-requires : goal.set_user-requires
+set_user-requires g c = search rules
+
+pub returns-in-Err-clause-ok : goal.returns-in-Err-clause-ok
+returns-in-Err-clause-ok g c = search rules
+
+pub returns-in-Err-clause-err : goal.returns-in-Err-clause-err
+returns-in-Err-clause-err g c = search rules
+
+pub returns-in-Err-clause-absent : goal.returns-in-Err-clause-absent
+returns-in-Err-clause-absent g c = search rules
+
+pub returns-clause-err : goal.returns-clause-err
+returns-clause-err g c = search rules
+
+pub returns-clause-absent : goal.returns-clause-absent
+returns-clause-absent g c = search rules

@@ -1,20 +1,50 @@
-use Rattle.std.proofs.Common.{false, true}
+use Rattle.std.proofs.Common.{rules, false, true}
 use Rattle.cap_tree.proofs.Within.{over_maximum, over_user}
 use Rattle.cap_tree.proofs.tree.QueueTree.accept.Goals as goal
 
+pub as_slice-requires : goal.as_slice-requires
+as_slice-requires g c = search rules
+
+pub first_failing-requires : goal.first_failing-requires
+first_failing-requires g c = rw (← c.self.view_is, ← c.as_slice.ensures) at c.requires
+
 pub returns-in-Some-clause-err : goal.returns-in-Some-clause-err
 returns-in-Some-clause-err g c =
-    rw (← c.self.view_is, ← c.as_slice-steps.ensures)
-    (over_maximum g.row.K c.as_slice-steps.result.now c.args.user.now c.args.old.now c.args.new.now c.self.inside.root c.self.invariant.rows_are.paths (rw (← c.self.view_is, ← c.as_slice-steps.ensures) at c.requires) c.in-Some.level c.in-Some.ensures.level)
+    rw (← c.self.view_is, ← c.as_slice.ensures)
+    (over_maximum g.row.K c.as_slice.result.now c.args.user.now c.args.old.now c.args.new.now c.self.inside.root c.self.invariant.rows_are.paths (rw (← c.self.view_is, ← c.as_slice.ensures) at c.requires) c.in-Some.level c.in-Some.ensures.level)
 
-pub returns-then-not-fits_exchanged-clause-err : goal.returns-then-not-fits_exchanged-clause-err
-returns-then-not-fits_exchanged-clause-err g c =
-    rw (← c.self.view_is, ← c.as_slice-steps.ensures)
-    (over_user g.row.K c.as_slice-steps.result.now c.args.user.now c.args.old.now c.args.new.now c.self.inside.root c.self.invariant.rows_are.paths (rw (← c.self.view_is, ← c.as_slice-steps.ensures) at c.requires)
-    c.get-leaf.result.now false c.user_use-used.result c.factor.result c.guaranteed-capacity.result c.in_default.ensures.level c.get-leaf.ensures c.user_use-used.ensures c.factor.ensures c.guaranteed-capacity.ensures c.if-not-fits_exchanged.ensures)
+pub returns-then-not-stays_in_user_limit-clause-err : goal.returns-then-not-stays_in_user_limit-clause-err
+returns-then-not-stays_in_user_limit-clause-err g c =
+    rw (← c.self.view_is, ← c.as_slice.ensures)
+    (over_user g.row.K c.as_slice.result.now c.args.user.now c.args.old.now c.args.new.now c.self.inside.root c.self.invariant.rows_are.paths (rw (← c.self.view_is, ← c.as_slice.ensures) at c.requires)
+    false c.in_default.ensures.level (rw (← c.self.view_is, ← c.as_slice.ensures) at c.if-not-stays_in_user_limit.ensures))
 
 pub returns-clause-ok : goal.returns-clause-ok
 returns-clause-ok g c =
-    rw (← c.self.view_is, ← c.as_slice-steps.ensures)
-    (over_user g.row.K c.as_slice-steps.result.now c.args.user.now c.args.old.now c.args.new.now c.self.inside.root c.self.invariant.rows_are.paths (rw (← c.self.view_is, ← c.as_slice-steps.ensures) at c.requires)
-    c.get-leaf.result.now true c.user_use-used.result c.factor.result c.guaranteed-capacity.result c.in_default.ensures.level c.get-leaf.ensures c.user_use-used.ensures c.factor.ensures c.guaranteed-capacity.ensures c.if-not-fits_exchanged.ensures)
+    rw (← c.self.view_is, ← c.as_slice.ensures)
+    (over_user g.row.K c.as_slice.result.now c.args.user.now c.args.old.now c.args.new.now c.self.inside.root c.self.invariant.rows_are.paths (rw (← c.self.view_is, ← c.as_slice.ensures) at c.requires)
+    true c.in_default.ensures.level (rw (← c.self.view_is, ← c.as_slice.ensures) at c.if-not-stays_in_user_limit.ensures))
+
+pub returns-in-Some-clause-ok : goal.returns-in-Some-clause-ok
+returns-in-Some-clause-ok g c = search rules
+
+pub stays_in_user_limit-requires : goal.stays_in_user_limit-requires
+stays_in_user_limit-requires g c = (search rules, (search rules, (search rules, c.requires)))
+
+pub returns-then-not-stays_in_user_limit-clause-ok : goal.returns-then-not-stays_in_user_limit-clause-ok
+returns-then-not-stays_in_user_limit-clause-ok g c = search rules
+
+pub returns-clause-err : goal.returns-clause-err
+returns-clause-err g c = search rules
+
+pub first_failing-requires-room-T-Held : goal.first_failing-requires-room-T-Held
+first_failing-requires-room-T-Held g c κs within = search rules
+
+pub first_failing-requires-room-T-Destruct : goal.first_failing-requires-room-T-Destruct
+first_failing-requires-room-T-Destruct g c κs within = search rules
+
+pub first_failing-requires-room-C-Test : goal.first_failing-requires-room-C-Test
+first_failing-requires-room-C-Test g c κs within = search rules
+
+pub first_failing-requires-room-C-Test-2 : goal.first_failing-requires-room-C-Test-2
+first_failing-requires-room-C-Test-2 g c κs within = search rules

@@ -1,4 +1,4 @@
-use Rattle.std.proofs.Common.{◌≡◌, ◌∙◌, sym, refl, subst, None}
+use Rattle.std.proofs.Common.{rules, ◌≡◌, ◌∙◌, sym, refl, subst, None}
 use Rattle.cap_tree.specs.Count.{IsPart}
 use Rattle.cap_tree.specs.Queue.{count_in, moved_above, moved_at}
 use Rattle.cap_tree.specs.Rows.{AreRows}
@@ -34,3 +34,33 @@ returns-clause-ok g c =
 pub returns-in-Err-clause-absent : goal.returns-in-Err-clause-absent
 returns-in-Err-clause-absent g c =
     rw (← c.self.view_is, ← c.as_slice.ensures) (holds_of_row c.args.change.now.user.now c.as_slice.result.now c.self.inside.root (λ row. row ≡ None) c.in-Err.ensures.grows)
+
+pub as_slice-requires : goal.as_slice-requires
+as_slice-requires g c = search rules
+
+pub invariant_of-self : goal.invariant_of-self
+invariant_of-self g c = record { rows_are = subst AreRows (sym c.in-Err.ensures.unchanged) c.self.invariant.rows_are; start_is = c.self.invariant.start_is }
+
+pub returns-in-Err-clause-ok : goal.returns-in-Err-clause-ok
+returns-in-Err-clause-ok g c = search rules
+
+pub returns-in-Err-clause-err : goal.returns-in-Err-clause-err
+returns-in-Err-clause-err g c = rw (← c.self.view_is) c.in-Err.ensures.unchanged
+
+pub returns-clause-err : goal.returns-clause-err
+returns-clause-err g c = search rules
+
+pub returns-clause-absent : goal.returns-clause-absent
+returns-clause-absent g c = search rules
+
+pub change-requires-room-T-Held : goal.change-requires-room-T-Held
+change-requires-room-T-Held g c κs within = search rules
+
+pub change-requires-room-T-Destruct : goal.change-requires-room-T-Destruct
+change-requires-room-T-Destruct g c κs within = search rules
+
+pub change-requires-room-C-Change : goal.change-requires-room-C-Change
+change-requires-room-C-Change g c κs within = search rules
+
+pub change-requires-room-C-Change-2 : goal.change-requires-room-C-Change-2
+change-requires-room-C-Change-2 g c κs within = search rules

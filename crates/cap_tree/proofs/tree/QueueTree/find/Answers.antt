@@ -20,3 +20,24 @@ returns-in-Some-Parent-clause-found g c =
     let a = c.self.invariant.rows_are.paths in
     let f = c.in-Some-Parent.ensures in
     rw (← c.self.view_is) (found_at c.self.inside.root c.args.path.now _ a f.is, children_at c.self.inside.root c.args.path.now _ a f.is ∙ sym f.below ∙ ap is_parent c.in-Some-Parent.field-0-is)
+
+pub allocator-requires : goal.allocator-requires
+allocator-requires g c = search rules
+
+pub new-place-requires : goal.new-place-requires
+new-place-requires g c = search rules
+
+pub returns-in-None-clause-rows : goal.returns-in-None-clause-rows
+returns-in-None-clause-rows g c = rw (← c.self.view_is) c.self.invariant.rows_are
+
+pub returns-in-Some-Leaf-clause-rows : goal.returns-in-Some-Leaf-clause-rows
+returns-in-Some-Leaf-clause-rows g c = rw (← c.self.view_is) c.self.invariant.rows_are
+
+pub returns-in-Some-Parent-clause-rows : goal.returns-in-Some-Parent-clause-rows
+returns-in-Some-Parent-clause-rows g c = rw (← c.self.view_is) c.self.invariant.rows_are
+
+pub find-requires-room-T-Held : goal.find-requires-room-T-Held
+find-requires-room-T-Held g c κs within = search rules
+
+pub find-requires-room-T-Destruct : goal.find-requires-room-T-Destruct
+find-requires-room-T-Destruct g c κs within = search rules

@@ -46,3 +46,21 @@ returns-clause-queues g c =
     let l = subst IsListing (sym c.queues.ensures.rows) c.queues.ensures.listing in
     let s = start g.row.K qs others c.first-item.result c.in-Ok.queue e l c.in-Ok.ensures.0 c.in-Ok.ensures.1 in
     c.in-Ok-add_all.ensures.queues ∙ ap (λ r. queues_of r ++ others) c.leaf-root.ensures ∙ ap (λ x. x ++ others) s.queues ∙ sym e ∙ c.queues.ensures.rows
+
+pub queues-requires : goal.queues-requires
+queues-requires g c = search rules
+
+pub path-requires : goal.path-requires
+path-requires g c = search rules
+
+pub returns-in-Err-clause-queues : goal.returns-in-Err-clause-queues
+returns-in-Err-clause-queues g c = search rules
+
+pub returns-in-Err-clause-unused : goal.returns-in-Err-clause-unused
+returns-in-Err-clause-unused g c = search rules
+
+pub returns-in-Err-add_all-clause-queues : goal.returns-in-Err-add_all-clause-queues
+returns-in-Err-add_all-clause-queues g c = search rules
+
+pub returns-in-Err-add_all-clause-unused : goal.returns-in-Err-add_all-clause-unused
+returns-in-Err-add_all-clause-unused g c = search rules

@@ -1,4 +1,4 @@
-use Rattle.std.proofs.Common.{◌≡◌, ◌∙◌, Bool, true, false, ap, sym}
+use Rattle.std.proofs.Common.{rules, ◌≡◌, ◌∙◌, Bool, true, false, ap, sym}
 use Rattle.std.specs.Prelude.{is_some, not}
 use Rattle.cap_tree.proofs.RowPaths.{running_rows}
 use Rattle.cap_tree.proofs.tree.QueueTree.running.Goals as goal
@@ -12,3 +12,18 @@ returns g c =
     rw (← c.self.view_is, ← c.as_slice.ensures)
     (turned (is_some c.first_failing.result) c.is_none.result c.is_none.ensures ∙ ap (λ o. not (is_some o)) c.first_failing.ensures.level
     ∙ running_rows c.as_slice.result.now c.self.inside.root c.self.invariant.rows_are.paths (rw (← c.self.view_is, ← c.as_slice.ensures) at c.requires))
+
+pub as_slice-requires : goal.as_slice-requires
+as_slice-requires g c = search rules
+
+pub first_failing-requires : goal.first_failing-requires
+first_failing-requires g c = rw (← c.self.view_is, ← c.as_slice.ensures) at c.requires
+
+pub first_failing-requires-room-T-Held : goal.first_failing-requires-room-T-Held
+first_failing-requires-room-T-Held g c κs within = search rules
+
+pub first_failing-requires-room-T-Destruct : goal.first_failing-requires-room-T-Destruct
+first_failing-requires-room-T-Destruct g c κs within = search rules
+
+pub first_failing-requires-room-C-Test : goal.first_failing-requires-room-C-Test
+first_failing-requires-room-C-Test g c κs within = search rules

@@ -1,4 +1,4 @@
-use Rattle.std.proofs.Common.{◌∙◌, sym, subst}
+use Rattle.std.proofs.Common.{rules, arith, ◌∙◌, sym, subst, inl}
 use Rattle.cap_tree.specs.Queue.{with_running}
 use Rattle.cap_tree.specs.Rows.{AreRows}
 use Rattle.cap_tree.specs.Spot.{path_at, IsPlace}
@@ -26,3 +26,21 @@ returns g c =
 
 pub unreachable-requires : goal.unreachable-requires
 unreachable-requires g c = never_grows c.as_slice.result.now c.self.inside.root c.in_default.ensures.grows
+
+pub as_slice-requires : goal.as_slice-requires
+as_slice-requires g c = search rules
+
+pub change-requires-clause-can : goal.change-requires-clause-can
+change-requires-clause-can g c = rw (← c.self.view_is, ← c.as_slice.ensures) at c.requires
+
+pub change-requires-clause-within : goal.change-requires-clause-within
+change-requires-clause-within g c m = inl (omega arith)
+
+pub change-requires-room-T-Held : goal.change-requires-room-T-Held
+change-requires-room-T-Held g c κs within = search rules
+
+pub change-requires-room-T-Destruct : goal.change-requires-room-T-Destruct
+change-requires-room-T-Destruct g c κs within = search rules
+
+pub change-requires-room-C-Change : goal.change-requires-room-C-Change
+change-requires-room-C-Change g c κs within = search rules

@@ -1,7 +1,16 @@
-use Rattle.std.proofs.Common.{◌∙◌, [], ap, sym}
+use Rattle.std.proofs.Common.{◌∙◌, [], ap, sym, rules}
 use Rattle.std.specs.Option.{option_map_or}
 use Rattle.cap_tree.specs.Queue.{Queue}
 use Rattle.cap_tree.proofs.tree.QueueTree.used.Goals as goal
 
 pub returns : goal.returns
 returns g c = rw (← c.self.view_is) (c.used.ensures ∙ sym (ap (λ o. option_map_or (λ (q : Queue). q.used) o []) c.item.ensures))
+
+pub used-requires : goal.used-requires
+used-requires g c = search rules
+
+pub item-requires-room-T-Held : goal.item-requires-room-T-Held
+item-requires-room-T-Held g c κs within = search rules
+
+pub item-requires-room-T-Destruct : goal.item-requires-room-T-Destruct
+item-requires-room-T-Destruct g c κs within = search rules

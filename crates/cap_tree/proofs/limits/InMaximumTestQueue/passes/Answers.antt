@@ -1,0 +1,5 @@
+use Rattle.std.proofs.Common.{rules}
+use Rattle.cap_tree.proofs.limits.InMaximumTestQueue.passes.Goals as goal
+
+pub stays_in_maximum-requires : goal.stays_in_maximum-requires
+stays_in_maximum-requires g c = search rules

@@ -1,0 +1,9 @@
+use Rattle.std.proofs.Common.{rules, ap, ◌∙◌}
+use Rattle.cap_tree.specs.Count.{Count}
+use Rattle.cap_tree.proofs.queue.Queue.user_use.Goals as goal
+
+pub user-requires : goal.user-requires
+user-requires g c = search rules
+
+pub returns : goal.returns
+returns g c = ap (λ (n : Count). n.used) (c.result.view_is ∙ c.user.ensures)

@@ -1,0 +1,17 @@
+use Rattle.std.proofs.Common.{rules}
+use Rattle.cap_tree.proofs.tree.QueueTree.row.Goals as goal
+
+pub as_slice-requires : goal.as_slice-requires
+as_slice-requires g c = search rules
+
+pub get-requires : goal.get-requires
+get-requires g c = rw (← c.self.view_is, ← c.as_slice.ensures) at c.requires
+
+pub returns : goal.returns
+returns g c = rw (← c.self.view_is, ← c.as_slice.ensures) c.get.ensures
+
+pub get-requires-room-T-Held : goal.get-requires-room-T-Held
+get-requires-room-T-Held g c κs within = search rules
+
+pub get-requires-room-T-Destruct : goal.get-requires-room-T-Destruct
+get-requires-room-T-Destruct g c κs within = search rules
