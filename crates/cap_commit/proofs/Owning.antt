@@ -6,7 +6,6 @@ use Rattle.std.proofs.lemmas.List.Sums.{length-filter}
 use Rattle.cap_model.specs.Flat.{Flat, App, Container, Reservation, app_at, containers_of}
 use Rattle.cap_model.specs.declared.news.Cause.{Cause}
 use Rattle.cap_model.specs.Ending.{after_ends}
-use Rattle.cap_model.specs.FinishMaster.{containers_of}
 use Rattle.cap_model.proofs.lists.Members.{IsIn, in_filter, each_of, of_each}
 use Rattle.cap_model.proofs.calls.Lessening.{IsSite, change_stands, standing}
 use Rattle.cap_model.proofs.calls.Moves.{ends_change}

@@ -13,13 +13,13 @@ use Rattle.cap_model.specs.News.{Grant, AllocateReply}
 use Rattle.cap_model.specs.declared.request.Request.{Request}
 use Rattle.cap_model.specs.declared.reply.Reply.{Reply}
 use Rattle.cap_model.specs.declared.refusal.Refusal.{Refusal}
-use Rattle.cap_model.specs.Flat.{Flat, App, Container, app_at}
+use Rattle.cap_model.specs.Flat.{Flat, App, Container, app_at, containers_on}
 use Rattle.cap_model.specs.Asking.{after_asks, after_ask, rounded, put_ask}
 use Rattle.cap_model.specs.Ending.{with_ends}
 use Rattle.cap_model.specs.Submit.{new_app}
 use Rattle.cap_model.specs.Limits.{news_max}
 use Rattle.cap_model.specs.Allocate.{nothing_told, told, after_telling, after_processed_allocate, kept_reply, is_repeated_allocate, released_by}
-use Rattle.cap_model.specs.Heartbeat.{after_processed_heartbeat, is_repeated_heartbeat, ended_by, containers_on}
+use Rattle.cap_model.specs.Heartbeat.{after_processed_heartbeat, is_repeated_heartbeat, ended_by}
 use Rattle.cap_model.specs.Replies.{refused_or, refusal_of, granted_reply, granted_cluster, reply_to}
 use Rattle.cap_model.specs.declared.event.Event.{Event}
 use Rattle.cap_model.specs.Events.{Step, after_grant, news_of, take_one}

@@ -12,10 +12,10 @@ use Rattle.cap_model.specs.declared.news.Cause.{Cause}
 use Rattle.cap_model.specs.declared.request.Request.{Request}
 use Rattle.cap_model.specs.declared.reply.Reply.{Reply}
 use Rattle.cap_model.specs.declared.refusal.Refusal.{Refusal}
-use Rattle.cap_model.specs.Flat.{Flat, App, Container, app_at}
+use Rattle.cap_model.specs.Flat.{Flat, App, Container, app_at, containers_on}
 use Rattle.cap_model.specs.Ending.{named_among}
 use Rattle.cap_model.specs.Allocate.{allocate_refusal, is_repeated_allocate, released_by}
-use Rattle.cap_model.specs.Heartbeat.{is_repeated_heartbeat, ended_by, containers_on}
+use Rattle.cap_model.specs.Heartbeat.{is_repeated_heartbeat, ended_by}
 use Rattle.cap_model.specs.Replies.{refused_or, granted_reply, reply_to}
 use Rattle.cap_model.specs.declared.event.Event.{Event}
 use Rattle.cap_model.specs.Events.{Step, Run, after_event, news_of, granted_by, ever_granted}
