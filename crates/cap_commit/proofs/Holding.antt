@@ -166,7 +166,7 @@ module _ {K : ℕ} where
               of_each (IsPlaced q) p.apps.table.active
               (λ a m.
               still_placed p q (λ x l. leaf_kept (set_running path running) (Rattle.cap_tree.proofs.Listings.same_path path running) old (flat_of q) x (state_in_settings path running p.rows) l)
-              (λ x position at. still_at (with_state path running) (λ r. kept_if (bytes_eq r.path path) (λ (x : Row). x.place) _ r refl) (λ r. kept_if (bytes_eq r.path path) (λ (x : Row). x.path) _ r refl) p.rows x position at) a a refl refl refl
+              (λ x position at. still_at (with_state path running) (λ r. kept_if (bytes_eq r.path path) (λ (x : Row). x.position) _ r refl) (λ r. kept_if (bytes_eq r.path path) (λ (x : Row). x.path) _ r refl) p.rows x position at) a a refl refl refl
               (each_of (IsPlaced p) p.apps.table.active h.placed a m));
           counted = h.counted;
           owned = owned_stands (λ (c : Container). c.app) p.nodes.live p.nodes.live old (flat_of q) (λ n. refl) (λ c i. i) h.owned;
@@ -187,7 +187,7 @@ module _ {K : ℕ} where
         let a : App = new_app n leaf user in
         let active : apps'.table.active ≡ p.apps.table.active ++ a ∷ [] = ap (λ (t : AppTable). t.active) e in
         let same : (flat_of q).settings.queues ≡ old.settings.queues = moved_settings K leaf user (nothing K) (one_application K) p.rows in
-        let stays : (path place : List ℕ) → IsAt p.rows path place → IsAt q.rows path place = moved_stays K leaf user (nothing K) (one_application K) p.rows in
+        let stays : (path position : List ℕ) → IsAt p.rows path position → IsAt q.rows path position = moved_stays K leaf user (nothing K) (one_application K) p.rows in
         let may = may_enter old leaf unrefused in
         let still : (m : ℕ) → IsSome (app_at old m) → IsSome (app_at (flat_of q) m) = λ m there. subst IsSome (sym (ap (find (λ (x : App). x.number == m)) active ∙ find_with_more (λ (x : App). x.number) m p.apps.table.active (a ∷ []) there)) there in
         let own : position_of n apps'.accounts ≡ position = ap (λ o. option_map_or (λ (x : Account). x.position) o []) accounts.own in

@@ -24,7 +24,7 @@ use Rattle.cap_model.proofs.paths.Paths.{under_itself}
 use Rattle.cap_tree.proofs.OneUser.{count_where, moved_own, moved_single, none_there, single_row, some_row}
 use Rattle.cap_commit.specs.Held.{IsRowOf, of_cluster}
 use Rattle.cap_commit.proofs.RowsAt.{still_at}
-use Rattle.cap_commit.proofs.Ties.{changed_path, changed_place, changed_row, changed_rows, in_queue, of_user_in}
+use Rattle.cap_commit.proofs.Ties.{changed_path, changed_position, changed_row, changed_rows, in_queue, of_user_in}
 
 -- what is counted of all applications that pass a test: what they use, or how many are active
 abbrev pub of_test : {K : ℕ} → Flat K → Test → Measure → ℕ
@@ -146,12 +146,12 @@ module _ {K : ℕ} (before after : Flat K) (leaf user : List ℕ) (old new : Cou
         counts = λ m. sym (single_row user (of_user m) r.item.users s.0 (t.single user) s.1) ∙ t.users user m ∙ ap (λ q. of_cluster before q user m) p;
       }
 
-  module _ (some : 1 ≤ of_cluster before leaf user Measure.active) (rows : List Row) (tied : All (IsRowOf before) rows) (place : List ℕ) (r : Row) (there : IsIn r rows) (path : r.path ≡ leaf) (item : item_at place rows ≡ Some r.item) where
+  module _ (some : 1 ≤ of_cluster before leaf user Measure.active) (rows : List Row) (tied : All (IsRowOf before) rows) (position : List ℕ) (r : Row) (there : IsIn r rows) (path : r.path ≡ leaf) (item : item_at position rows ≡ Some r.item) where
     it : IsRowOfUser r
     it = user_row_of some r path (each_of (IsRowOf before) rows tied r there)
 
-    at_place : user_row_at place user rows ≡ Some it.own
-    at_place = ap (λ o. option_map_or (λ (q : Queue). user_row user q.users) o None) item ∙ it.found
+    at_position : user_row_at position user rows ≡ Some it.own
+    at_position = ap (λ o. option_map_or (λ (q : Queue). user_row user q.users) o None) item ∙ it.found
 
     own_old : (m : Measure) → of_count old m ≤ of_count (user_count it.own) m
     own_old m =
@@ -163,19 +163,19 @@ module _ {K : ℕ} (before after : Flat K) (leaf user : List ℕ) (old new : Cou
         omega (arith, f, o, is, c)
 
     -- the user may give the use of the old part back
-    pub may_give : MayGive old.used (user_row_at place user rows)
-    may_give = subst (MayGive old.used) (sym at_place) (λ k. own_old (Measure.uses k))
+    pub may_give : MayGive old.used (user_row_at position user rows)
+    may_give = subst (MayGive old.used) (sym at_position) (λ k. own_old (Measure.uses k))
 
     -- and an application may leave
-    pub may_leave : ((k : ℕ) → of_cluster before leaf user Measure.active ≡ 1 → of_cluster before leaf user (Measure.uses k) ≡ 0) → MayLeave (user_row_at place user rows)
+    pub may_leave : ((k : ℕ) → of_cluster before leaf user Measure.active ≡ 1 → of_cluster before leaf user (Measure.uses k) ≡ 0) → MayLeave (user_row_at position user rows)
     may_leave spent =
         let a = it.counts Measure.active in
-        subst MayLeave (sym at_place) (omega (arith, a, some), λ one k. it.counts (Measure.uses k) ∙ spent k (sym a ∙ one))
+        subst MayLeave (sym at_position) (omega (arith, a, some), λ one k. it.counts (Measure.uses k) ∙ spent k (sym a ∙ one))
 
 -- each queue is where it was
-pub moved_stays : (K : ℕ) (leaf user : List ℕ) (old new : Count) (rows : List Row) (path place : List ℕ) → IsAt rows path place → IsAt (map (moved K leaf user old new) rows) path place
-moved_stays K leaf user old new rows path place at =
-    still_at (moved K leaf user old new) (λ r. changed_place (moved_above old new) (moved_at K user old new) leaf r) (λ r. changed_path (moved_above old new) (moved_at K user old new) leaf r) rows path place at
+pub moved_stays : (K : ℕ) (leaf user : List ℕ) (old new : Count) (rows : List Row) (path position : List ℕ) → IsAt rows path position → IsAt (map (moved K leaf user old new) rows) path position
+moved_stays K leaf user old new rows path position at =
+    still_at (moved K leaf user old new) (λ r. changed_position (moved_above old new) (moved_at K user old new) leaf r) (λ r. changed_path (moved_above old new) (moved_at K user old new) leaf r) rows path position at
 
 -- the second cluster has one application more, of a user in a leaf, and nothing else is counted in another way
 pub record HasOneMore {K : ℕ} (fewer more : Flat K) (leaf user : List ℕ) : Type 0 where

@@ -18,39 +18,39 @@ use Rattle.cap_commit.proofs.RowsAt.{IsRowAt, row_at, found_row, active_few}
 some_same : {A : Type 0} (x y : A) → Some x ≡ Some y → x ≡ y
 some_same x y e = cc e
 
-module _ {K : ℕ} (p : Parts K) (path place : List ℕ) (tree : AreRows p.rows) (at : IsAt p.rows path place) (h : IsHeld p) where
+module _ {K : ℕ} (p : Parts K) (path position : List ℕ) (tree : AreRows p.rows) (at : IsAt p.rows path position) (h : IsHeld p) where
   abbrev rows : List Row
   rows = p.rows
 
   abbrev cluster : Flat K
   cluster = flat_of p
 
-  it : IsRowAt rows path place
-  it = row_at rows path place at
+  it : IsRowAt rows path position
+  it = row_at rows path position at
 
   its_settings : queue_at cluster path ≡ Some (settings_of_row (it.row))
-  its_settings = found_row rows path place tree it
+  its_settings = found_row rows path position tree it
 
   -- it is there
   pub is_there : is_some (queue_at cluster path) ≡ true
   is_there = ap is_some its_settings
 
-  its_item : (q : Queue) → item_at place rows ≡ Some q → it.row.item ≡ q
+  its_item : (q : Queue) → item_at position rows ≡ Some q → it.row.item ≡ q
   its_item q e = some_same it.row.item q (sym it.item_is ∙ e)
 
   -- not too many applications are active there
-  pub seen_few : (q : Queue) → item_at place rows ≡ Some q → q.active ≤ applications_max
+  pub seen_few : (q : Queue) → item_at position rows ≡ Some q → q.active ≤ applications_max
   seen_few q e = subst (λ (x : Queue). x.active ≤ applications_max) (its_item q e) (active_few p h it.row it.member)
 
   tied : IsRowOf cluster (it.row)
   tied = each_of (IsRowOf cluster) rows h.tied it.row it.member
 
   -- its use is the queue's
-  pub seen_use : (q : Queue) → item_at place rows ≡ Some q → q.used ≡ queue_use cluster path
+  pub seen_use : (q : Queue) → item_at position rows ≡ Some q → q.used ≡ queue_use cluster path
   seen_use q e = ap (λ (x : Queue). x.used) (sym (its_item q e)) ∙ tied.used ∙ ap (queue_use cluster) it.path_is
 
   -- what is reported of it
-  pub reported : (q : Queue) (running below : Bool) (r : QueueReport K) → item_at place rows ≡ Some q → running ≡ is_running rows (path_at place rows) → has_children rows path ≡ below →
+  pub reported : (q : Queue) (running below : Bool) (r : QueueReport K) → item_at position rows ≡ Some q → running ≡ is_running rows (path_at position rows) → has_children rows path ≡ below →
       r ≡ record { running = running; leaf = not below; guaranteed = q.guaranteed; maximum = q.maximum; used = q.used; applications = q.active } → r ≡ queue_report cluster path
   reported q running below r e runs childless is =
       let item = its_item q e in
@@ -61,5 +61,5 @@ module _ {K : ℕ} (p : Parts K) (path place : List ℕ) (tree : AreRows p.rows)
       (ap (λ (x : Queue). x.guaranteed) (sym item)) (ap (λ (x : Queue). x.maximum) (sym item)) (seen_use q e)
       (ap (λ (x : Queue). x.active) (sym item) ∙ tied.active ∙ ap (λ x. count_by (λ (a : App). is_under x a.leaf) cluster.apps.active) it.path_is)
 
-  pub seen_used : (used : List ℕ) → used ≡ used_at place rows → used ≡ queue_use cluster path
+  pub seen_used : (used : List ℕ) → used ≡ used_at position rows → used ≡ queue_use cluster path
   seen_used used e = e ∙ ap (λ o. option_map_or (λ (q : Queue). q.used) o []) it.item_is ∙ seen_use it.row.item it.item_is

@@ -1,4 +1,4 @@
--- The row of a queue, by its path and by its place.
+-- The row of a queue, by its path and by its position.
 use Rattle.std.proofs.Common.{◌≡◌, ℕ, ◌≤◌, Bool, true, false, cond, List, [], ◌∷◌, Some, map, refl, sym, ◌∙◌, ap, subst, inl, inr, arith}
 use Rattle.std.specs.Prelude.{bytes_eq, find, is_some, ◌||◌}
 use Rattle.std.specs.List.{list_any}
@@ -10,9 +10,9 @@ use Rattle.cap_model.specs.Flat.{App, is_under}
 use Rattle.cap_model.specs.Bounds.{HasDistinctPaths}
 use Rattle.cap_model.proofs.lists.Members.{IsIn, each_of, in_map}
 use Rattle.cap_model.proofs.lists.Tests.{bytes_itself}
-use Rattle.cap_tree.specs.Spot.{HoldsOfItem, IsPlace, item_at, path_at}
+use Rattle.cap_tree.specs.Spot.{HoldsOfItem, IsPosition, item_at, path_at}
 use Rattle.cap_tree.specs.Rows.{Row, AreRows, IsAt, queues_of, settings_of_row, active_in}
-use Rattle.cap_tree.proofs.RowPaths.{at_place}
+use Rattle.cap_tree.proofs.RowPaths.{at_position}
 use Rattle.cap_commit.specs.Held.{Parts, IsHeld, IsRowOf, flat_of}
 
 -- of paths that are all others, each is found
@@ -36,21 +36,21 @@ found_by_path (x ∷ qs) d q (inr m) = other (bytes_eq x.path q.path) refl (foun
         absurd (let no = not_among qs x.path q d.0 m in let yes : bytes_eq q.path x.path ≡ true = (bytes_eq-Decides q.path x.path).1 (sym same) in cc (no, yes))
     other false e f = ap (λ b. cond b (Some x) (find (λ (r : QueueRow). bytes_eq r.path q.path) qs)) e ∙ f
 
--- the row of a path and a place
-pub record IsRowAt (rows : List Row) (path place : List ℕ) : Type 0 where
+-- the row of a path and a position
+pub record IsRowAt (rows : List Row) (path position : List ℕ) : Type 0 where
   pub row : Row
   pub member : IsIn row rows
   pub path_is : row.path ≡ path
-  pub item_is : item_at place rows ≡ Some row.item
+  pub item_is : item_at position rows ≡ Some row.item
 
-pub row_at : (rows : List Row) (path place : List ℕ) → IsAt rows path place → IsRowAt rows path place
-row_at rows path place h =
-    let t = at_place place rows h.present in
+pub row_at : (rows : List Row) (path position : List ℕ) → IsAt rows path position → IsRowAt rows path position
+row_at rows path position h =
+    let t = at_position position rows h.present in
     record { row = t.row; member = t.member; path_is = sym t.path_is ∙ h.path_is; item_is = t.item_is }
 
 -- its settings are those of the path
-pub found_row : (rows : List Row) (path place : List ℕ) → AreRows rows → (r : IsRowAt rows path place) → find (λ q. bytes_eq q.path path) (queues_of rows) ≡ Some (settings_of_row r.row)
-found_row rows path place a r =
+pub found_row : (rows : List Row) (path position : List ℕ) → AreRows rows → (r : IsRowAt rows path position) → find (λ q. bytes_eq q.path path) (queues_of rows) ≡ Some (settings_of_row r.row)
+found_row rows path position a r =
     ap (λ p. find (λ (q : QueueRow). bytes_eq q.path p) (queues_of rows)) (sym r.path_is) ∙ found_by_path (queues_of rows) a.listing.tree.distinct (settings_of_row r.row) (in_map settings_of_row rows r.row r.member)
 
 -- a queue that is at a position is there
@@ -82,23 +82,23 @@ all_few p h = by p.rows (λ r m. active_few p h r m)
     by [] f = omega arith
     by (r ∷ rows) f = f r (inl refl)
 
--- a change of rows that keeps places and paths leaves each queue where it is
-module _ (g : Row → Row) (places : (r : Row) → (g r).place ≡ r.place) (paths : (r : Row) → (g r).path ≡ r.path) where
-  place_kept : (position : List ℕ) (rows : List Row) → IsPlace rows position → IsPlace (map g rows) position
-  place_kept position [] h = absurd h
-  place_kept position (r ∷ rows) h = rw (places r) (by (bytes_eq r.place position) h (place_kept position rows))
+-- a change of rows that keeps positions and paths leaves each queue where it is
+module _ (g : Row → Row) (positions : (r : Row) → (g r).position ≡ r.position) (paths : (r : Row) → (g r).path ≡ r.path) where
+  position_kept : (position : List ℕ) (rows : List Row) → IsPosition rows position → IsPosition (map g rows) position
+  position_kept position [] h = absurd h
+  position_kept position (r ∷ rows) h = rw (positions r) (by (bytes_eq r.position position) h (position_kept position rows))
     where
-      by : (b : Bool) → HoldsOfItem (λ _. Unit {0}) (cond b (Some r.item) (item_at position rows)) → (IsPlace rows position → IsPlace (map g rows) position) → HoldsOfItem (λ _. Unit {0}) (cond b (Some (g r).item) (item_at position (map g rows)))
+      by : (b : Bool) → HoldsOfItem (λ _. Unit {0}) (cond b (Some r.item) (item_at position rows)) → (IsPosition rows position → IsPosition (map g rows) position) → HoldsOfItem (λ _. Unit {0}) (cond b (Some (g r).item) (item_at position (map g rows)))
       by true x f = tt
       by false x f = f x
 
   path_kept : (position : List ℕ) (rows : List Row) → path_at position (map g rows) ≡ path_at position rows
   path_kept position [] = refl
-  path_kept position (r ∷ rows) = rw (places r) (by (bytes_eq r.place position) (path_kept position rows))
+  path_kept position (r ∷ rows) = rw (positions r) (by (bytes_eq r.position position) (path_kept position rows))
     where
       by : (b : Bool) → path_at position (map g rows) ≡ path_at position rows → cond b (g r).path (path_at position (map g rows)) ≡ cond b r.path (path_at position rows)
       by true e = paths r
       by false e = e
 
   pub still_at : (rows : List Row) (path position : List ℕ) → IsAt rows path position → IsAt (map g rows) path position
-  still_at rows path position h = record { present = place_kept position rows h.present; path_is = path_kept position rows ∙ h.path_is }
+  still_at rows path position h = record { present = position_kept position rows h.present; path_is = path_kept position rows ∙ h.path_is }

@@ -78,9 +78,9 @@ changed_row above at leaf Q r f g h = by (bytes_eq r.path leaf) (is_under r.path
     by false true d e = g d e
     by false false d e = h d e
 
--- it keeps the place and the path
-pub changed_place : (above at : Queue → Queue) (leaf : List ℕ) (r : Row) → (changed_at above at leaf r).place ≡ r.place
-changed_place above at leaf r = changed_row above at leaf (λ s. s.place ≡ r.place) r (λ e. refl) (λ e u. refl) (λ e u. refl)
+-- it keeps the position and the path
+pub changed_position : (above at : Queue → Queue) (leaf : List ℕ) (r : Row) → (changed_at above at leaf r).position ≡ r.position
+changed_position above at leaf r = changed_row above at leaf (λ s. s.position ≡ r.position) r (λ e. refl) (λ e u. refl) (λ e u. refl)
 
 pub changed_path : (above at : Queue → Queue) (leaf : List ℕ) (r : Row) → (changed_at above at leaf r).path ≡ r.path
 changed_path above at leaf r = changed_row above at leaf (λ s. s.path ≡ r.path) r (λ e. refl) (λ e u. refl) (λ e u. refl)

@@ -14,7 +14,7 @@ ghost use Rattle.cap_model.specs.FinishMaster.{after_finish_master};
 ghost use Rattle.cap_model.specs.EngineLaws.{HasDistinctNumbers};
 ghost use Rattle.cap_model.specs.NodeGone.{without_node};
 ghost use Rattle.cap_tree.specs.Rows.{IsAt, queues_of};
-ghost use Rattle.cap_tree.specs.Spot.{IsPlace, path_at};
+ghost use Rattle.cap_tree.specs.Spot.{IsPosition, path_at};
 ghost use Rattle.cap_asks.specs.Apps.{kept_of, ask_room, HasRooms, UsesRoom};
 ghost use Rattle.cap_asks.specs.Held.{numbers_of};
 ghost use Rattle.cap_nodes.specs.Tables.{beaten};
@@ -127,13 +127,13 @@ impl<const K: usize> Cluster<K> {
         let tree = &*self.tree;
         match tree.find(path) {
             Found::Missing => None,
-            Found::Leaf(place) => {
-                let running = tree.running(&place);
-                Some(report_of(tree.row(&place), running, true))
+            Found::Leaf(position) => {
+                let running = tree.running(&position);
+                Some(report_of(tree.row(&position), running, true))
             }
-            Found::Parent(place) => {
-                let running = tree.running(&place);
-                Some(report_of(tree.row(&place), running, false))
+            Found::Parent(position) => {
+                let running = tree.running(&position);
+                Some(report_of(tree.row(&position), running, false))
             }
         }
     }
@@ -153,7 +153,7 @@ impl<const K: usize> Cluster<K> {
 
     /// Sets the own state of the queue at this position, and nothing else.
     pub fn set_state(&mut self, position: &Position, running: bool)
-        requires { IsPlace self.old.rows position.now.items }
+        requires { IsPosition self.old.rows position.now.items }
         ensures flat { self.new.flat ≡ after_set_queue_state self.old.flat (path_at position.now.items self.old.rows) running }
         ensures accounts { self.new.accounts ≡ self.old.accounts }
     {
@@ -169,7 +169,7 @@ impl<const K: usize> Cluster<K> {
         position: Position,
         user: &ShortText,
     ) -> Result<u64, NoMemory>
-        requires place { IsAt self.old.rows path.now position.items }
+        requires position { IsAt self.old.rows path.now position.items }
         requires free { submit_refusal self.old.flat path.now ≡ None }
         ensures number { IfOk result (λ number. number ≡ self.old.flat.apps.next) }
         ensures ok { OnOk result (self.new.flat ≡ after_submit self.old.flat path.now user.now) }
@@ -217,7 +217,7 @@ impl<const K: usize> Cluster<K> {
         self.apps.room(number, asks, grants, ends)
     }
 
-    /// Puts an ask of an active application, rounded, in place of the one of its key; a count of 0 takes the key away. It needs room
+    /// Puts an ask of an active application, rounded, in position of the one of its key; a count of 0 takes the key away. It needs room
     /// that `room` made.
     pub fn put_ask(&mut self, number: u64, ask: &Ask<K>)
         requires { 1 ≤ ask_room number self.old.accounts }

@@ -5,7 +5,7 @@ use Rattle.std.specs.List.{All, list_any}
 use Rattle.std.proofs.lemmas.Bool.{eq-eqb, ne_eqb}
 use Rattle.std.proofs.lemmas.List.{append_assoc, append-nil, map-append, length-append, length-map, get_or_default}
 use Rattle.std.proofs.lemmas.List.Elements.{All-get_or, All-from_recursion, recursion_from_All}
-use Rattle.cap_tree.specs.Spot.{Spot, leads_to, item_at, path_at, last_place, under, below, spots, HoldsOfItem, IsPlace, IsAdded, IsAddedAt}
+use Rattle.cap_tree.specs.Spot.{Spot, leads_to, item_at, path_at, last_position, under, below, spots, HoldsOfItem, IsPosition, IsAdded, IsAddedAt}
 use Rattle.cap_tree.proofs.Spots.{item_at-spots}
 
 pub from_zero : (n : ℕ) → 0 + n ≡ n
@@ -21,17 +21,17 @@ module _ {T : Type 0} where
   rest_filled : (k : List (Spot T)) (ks : List (List (Spot T))) → Filled (k ∷ ks) → Filled ks
   rest_filled k ks f = All-from_recursion (λ kid. 1 ≤ length kid) ks ((recursion_from_All (λ kid. 1 ≤ length kid) (k ∷ ks) f).1)
 
-  -- the place of the last
+  -- the position of the last
 
-  last-cons : (s : Spot T) (ss : List (Spot T)) → 1 ≤ length ss → last_place (s ∷ ss) ≡ last_place ss
+  last-cons : (s : Spot T) (ss : List (Spot T)) → 1 ≤ length ss → last_position (s ∷ ss) ≡ last_position ss
   last-cons s [] h = absurd (omega arith)
   last-cons s (t ∷ ss) h = refl
 
-  pub last-append : (xs ys : List (Spot T)) → 1 ≤ length ys → last_place (xs ++ ys) ≡ last_place ys
+  pub last-append : (xs ys : List (Spot T)) → 1 ≤ length ys → last_position (xs ++ ys) ≡ last_position ys
   last-append [] ys h = refl
   last-append (x ∷ xs) ys h = last-cons x (xs ++ ys) (let n = length-append xs ys in omega arith) ∙ last-append xs ys h
 
-  last-under : (name : List ℕ) (i : ℕ) (k : List (Spot T)) → 1 ≤ length k → last_place (map (under name i) k) ≡ i ∷ last_place k
+  last-under : (name : List ℕ) (i : ℕ) (k : List (Spot T)) → 1 ≤ length k → last_position (map (under name i) k) ≡ i ∷ last_position k
   last-under name i [] h = absurd (omega arith)
   last-under name i (s ∷ []) h = refl
   last-under name i (s ∷ t ∷ ss) h = last-under name i (t ∷ ss) (omega arith)
@@ -39,25 +39,25 @@ module _ {T : Type 0} where
   length-below : (name : List ℕ) (j : ℕ) (k : List (Spot T)) (ks : List (List (Spot T))) → 1 ≤ length k → 1 ≤ length (below name j (k ∷ ks))
   length-below name j k ks h = let n = length-append (map (under name j) k) (below name (suc j) ks) in let m = length-map k (under name j) in omega arith
 
-  last-below : (name : List ℕ) (j n : ℕ) (kids : List (List (Spot T))) (d : List (Spot T)) → n + 1 ≡ length kids → Filled kids → last_place (below name j kids) ≡ (j + n) ∷ last_place (get_or kids n d)
+  last-below : (name : List ℕ) (j n : ℕ) (kids : List (List (Spot T))) (d : List (Spot T)) → n + 1 ≡ length kids → Filled kids → last_position (below name j kids) ≡ (j + n) ∷ last_position (get_or kids n d)
   last-below name j n [] d h f = absurd (omega arith)
   last-below name j zero (k ∷ []) d h f =
       let z : j ≡ j + 0 = omega arith in
-      ap last_place (append-nil (map (under name j) k)) ∙ last-under name j k (first_filled k [] f) ∙ ap (λ x. x ∷ last_place k) z
+      ap last_position (append-nil (map (under name j) k)) ∙ last-under name j k (first_filled k [] f) ∙ ap (λ x. x ∷ last_position k) z
   last-below name j (suc n) (k ∷ []) d h f = absurd (omega arith)
   last-below name j zero (k ∷ l ∷ ks) d h f = absurd (omega arith)
   last-below name j (suc n) (k ∷ l ∷ ks) d h f =
       let z : suc j + n ≡ j + suc n = omega arith in
       last-append (map (under name j) k) (below name (suc j) (l ∷ ks)) (length-below name (suc j) l ks (first_filled l ks (rest_filled k (l ∷ ks) f)))
       ∙ last-below name (suc j) n (l ∷ ks) d (omega arith) (rest_filled k (l ∷ ks) f)
-      ∙ ap (λ x. x ∷ last_place (get_or (l ∷ ks) n d)) z
+      ∙ ap (λ x. x ∷ last_position (get_or (l ∷ ks) n d)) z
 
-  last-spots : (name : T → List ℕ) (item : T) (n : ℕ) (kids : List (List (Spot T))) (d : List (Spot T)) → n + 1 ≡ length kids → Filled kids → last_place (spots name item kids) ≡ n ∷ last_place (get_or kids n d)
+  last-spots : (name : T → List ℕ) (item : T) (n : ℕ) (kids : List (List (Spot T))) (d : List (Spot T)) → n + 1 ≡ length kids → Filled kids → last_position (spots name item kids) ≡ n ∷ last_position (get_or kids n d)
   last-spots name item n [] d h f = absurd (omega arith)
   last-spots name item n (k ∷ ks) d h f =
-      last-cons (record { place = []; path = name item; item = item }) (below (name item) 0 (k ∷ ks)) (length-below (name item) 0 k ks (first_filled k ks f)) ∙ last-below (name item) 0 n (k ∷ ks) d h f ∙ ap (λ x. x ∷ last_place (get_or (k ∷ ks) n d)) (from_zero n)
+      last-cons (record { position = []; path = name item; item = item }) (below (name item) 0 (k ∷ ks)) (length-below (name item) 0 k ks (first_filled k ks f)) ∙ last-below (name item) 0 n (k ∷ ks) d h f ∙ ap (λ x. x ∷ last_position (get_or (k ∷ ks) n d)) (from_zero n)
 
-  -- the path at a place below child i
+  -- the path at a position below child i
 
   path_at-none_under : (name : List ℕ) (i j : ℕ) (p : List ℕ) (ss rest : List (Spot T)) → j ≢ i → path_at (i ∷ p) (map (under name j) ss ++ rest) ≡ path_at (i ∷ p) rest
   path_at-none_under name i j p [] rest h = refl
@@ -68,36 +68,36 @@ module _ {T : Type 0} where
   path_cases true name s o x y h f = refl
   path_cases false name s o x y h f = f h
 
-  path_at-under : (name : List ℕ) (i : ℕ) (p : List ℕ) (ss rest : List (Spot T)) → IsPlace ss p → path_at (i ∷ p) (map (under name i) ss ++ rest) ≡ name ++ 46 ∷ path_at p ss
+  path_at-under : (name : List ℕ) (i : ℕ) (p : List ℕ) (ss rest : List (Spot T)) → IsPosition ss p → path_at (i ∷ p) (map (under name i) ss ++ rest) ≡ name ++ 46 ∷ path_at p ss
   path_at-under name i p [] rest h = absurd h
   path_at-under name i p (s ∷ ss) rest h =
-      rw (eq-eqb i i refl) (path_cases (bytes_eq s.place p) name s (item_at p ss) (path_at (i ∷ p) (map (under name i) ss ++ rest)) (path_at p ss) h (path_at-under name i p ss rest))
+      rw (eq-eqb i i refl) (path_cases (bytes_eq s.position p) name s (item_at p ss) (path_at (i ∷ p) (map (under name i) ss ++ rest)) (path_at p ss) h (path_at-under name i p ss rest))
 
-  path_at-below : (name : List ℕ) (i j n : ℕ) (p : List ℕ) (kids : List (List (Spot T))) (d : List (Spot T)) → i ≡ j + n → n < length kids → IsPlace (get_or kids n d) p → path_at (i ∷ p) (below name j kids) ≡ name ++ 46 ∷ path_at p (get_or kids n d)
+  path_at-below : (name : List ℕ) (i j n : ℕ) (p : List ℕ) (kids : List (List (Spot T))) (d : List (Spot T)) → i ≡ j + n → n < length kids → IsPosition (get_or kids n d) p → path_at (i ∷ p) (below name j kids) ≡ name ++ 46 ∷ path_at p (get_or kids n d)
   path_at-below name i j n p [] d h w q = absurd (omega arith)
   path_at-below name i j zero p (k ∷ ks) d h w q = let e : j ≡ i = omega arith in rw e (path_at-under name i p k (below name (suc i) ks) q)
   path_at-below name i j (suc n) p (k ∷ ks) d h w q =
       path_at-none_under name i j p k (below name (suc j) ks) (λ e. absurd (omega arith)) ∙ path_at-below name i (suc j) n p ks d (omega arith) (omega arith) q
 
-  -- no spot on the way from a new place
+  -- no spot on the way from a new position
 
-  fresh-none_under : (name : List ℕ) (i j : ℕ) (p : List ℕ) (ss rest : List (Spot T)) → j ≢ i → list_any (λ s. leads_to (i ∷ p) s.place) (map (under name j) ss ++ rest) ≡ list_any (λ s. leads_to (i ∷ p) s.place) rest
+  fresh-none_under : (name : List ℕ) (i j : ℕ) (p : List ℕ) (ss rest : List (Spot T)) → j ≢ i → list_any (λ s. leads_to (i ∷ p) s.position) (map (under name j) ss ++ rest) ≡ list_any (λ s. leads_to (i ∷ p) s.position) rest
   fresh-none_under name i j p [] rest h = refl
   fresh-none_under name i j p (s ∷ ss) rest h = rw (ne_eqb i j (λ e. h (sym e))) (fresh-none_under name i j p ss rest h)
 
-  fresh-none_below : (name : List ℕ) (i j : ℕ) (p : List ℕ) (kids : List (List (Spot T))) → i < j → list_any (λ s. leads_to (i ∷ p) s.place) (below name j kids) ≡ false
+  fresh-none_below : (name : List ℕ) (i j : ℕ) (p : List ℕ) (kids : List (List (Spot T))) → i < j → list_any (λ s. leads_to (i ∷ p) s.position) (below name j kids) ≡ false
   fresh-none_below name i j p [] h = refl
   fresh-none_below name i j p (k ∷ ks) h = fresh-none_under name i j p k (below name (suc j) ks) (λ e. absurd (omega arith)) ∙ fresh-none_below name i (suc j) p ks (omega arith)
 
-  fresh-past_below : (name : List ℕ) (i j : ℕ) (p : List ℕ) (kids : List (List (Spot T))) → j + length kids ≤ i → list_any (λ s. leads_to (i ∷ p) s.place) (below name j kids) ≡ false
+  fresh-past_below : (name : List ℕ) (i j : ℕ) (p : List ℕ) (kids : List (List (Spot T))) → j + length kids ≤ i → list_any (λ s. leads_to (i ∷ p) s.position) (below name j kids) ≡ false
   fresh-past_below name i j p [] h = refl
   fresh-past_below name i j p (k ∷ ks) h = fresh-none_under name i j p k (below name (suc j) ks) (λ e. absurd (omega arith)) ∙ fresh-past_below name i (suc j) p ks (omega arith)
 
-  fresh-under : (name : List ℕ) (i : ℕ) (p : List ℕ) (ss rest : List (Spot T)) → list_any (λ s. leads_to (i ∷ p) s.place) rest ≡ false → list_any (λ s. leads_to (i ∷ p) s.place) (map (under name i) ss ++ rest) ≡ list_any (λ s. leads_to p s.place) ss
+  fresh-under : (name : List ℕ) (i : ℕ) (p : List ℕ) (ss rest : List (Spot T)) → list_any (λ s. leads_to (i ∷ p) s.position) rest ≡ false → list_any (λ s. leads_to (i ∷ p) s.position) (map (under name i) ss ++ rest) ≡ list_any (λ s. leads_to p s.position) ss
   fresh-under name i p [] rest h = h
-  fresh-under name i p (s ∷ ss) rest h = rw (eq-eqb i i refl) (ap (λ c. leads_to p s.place || c) (fresh-under name i p ss rest h))
+  fresh-under name i p (s ∷ ss) rest h = rw (eq-eqb i i refl) (ap (λ c. leads_to p s.position || c) (fresh-under name i p ss rest h))
 
-  fresh-below : (name : List ℕ) (i j n : ℕ) (p : List ℕ) (kids : List (List (Spot T))) (d : List (Spot T)) → i ≡ j + n → n < length kids → list_any (λ s. leads_to (i ∷ p) s.place) (below name j kids) ≡ list_any (λ s. leads_to p s.place) (get_or kids n d)
+  fresh-below : (name : List ℕ) (i j n : ℕ) (p : List ℕ) (kids : List (List (Spot T))) (d : List (Spot T)) → i ≡ j + n → n < length kids → list_any (λ s. leads_to (i ∷ p) s.position) (below name j kids) ≡ list_any (λ s. leads_to p s.position) (get_or kids n d)
   fresh-below name i j n p [] d h w = absurd (omega arith)
   fresh-below name i j zero p (k ∷ ks) d h w = let e : j ≡ i = omega arith in rw e (fresh-under name i p k (below name (suc i) ks) (fresh-none_below name i (suc i) p ks (omega arith)))
   fresh-below name i j (suc n) p (k ∷ ks) d h w =
@@ -133,7 +133,7 @@ module _ {T : Type 0} where
   added_here levels name item x kids value e h = rw (← e, h) (record {
     child = length kids;
     parent = tt;
-    is = ap (λ l. record { place = []; path = name item; item = item } ∷ l) (more-kids (name item) 0 kids (record { place = []; path = name x; item = x }) ∙ ap (λ n. below (name item) 0 kids ++ under (name item) n (record { place = []; path = name x; item = x }) ∷ []) (from_zero (length kids)));
+    is = ap (λ l. record { position = []; path = name item; item = item } ∷ l) (more-kids (name item) 0 kids (record { position = []; path = name x; item = x }) ∙ ap (λ n. below (name item) 0 kids ++ under (name item) n (record { position = []; path = name x; item = x }) ∷ []) (from_zero (length kids)));
     fresh = fresh-past_below (name item) (length kids) 0 [] kids (omega arith);
   })
 
@@ -141,22 +141,22 @@ module _ {T : Type 0} where
       child ≡ get_or kids (length kids - 1) child → IsAdded levels nm x child child' → IsAdded (suc levels) nm x value (spots name item (set kids (length kids - 1) child'))
   added_in_child levels nm name item x kids value child child' e f h c a =
       let n = length kids - 1 in
-      let last : last_place (spots name item kids) ≡ n ∷ last_place child = last-spots name item n kids child (omega arith) f ∙ ap (λ k. n ∷ last_place k) (sym c) in
-      let way : take (suc levels) (last_place (spots name item kids)) ≡ n ∷ take levels (last_place child) = ap (take (suc levels)) last in
-      let spot : Spot T = record { place = take levels (last_place child) ++ a.child ∷ []; path = path_at (take levels (last_place child)) child ++ 46 ∷ nm; item = x } in
-      let here : item_at (n ∷ take levels (last_place child)) (spots name item kids) ≡ item_at (take levels (last_place child)) child = item_at-spots name item n (take levels (last_place child)) kids ∙ ap (item_at (take levels (last_place child))) (get_or_default kids n [] child (omega arith) ∙ sym c) in
-      let path : path_at (n ∷ take levels (last_place child)) (spots name item kids) ≡ name item ++ 46 ∷ path_at (take levels (last_place child)) child =
-      path_at-below (name item) n 0 n (take levels (last_place child)) kids child (omega arith) (omega arith) (subst (λ k. IsPlace k (take levels (last_place child))) c a.parent) ∙ ap (λ k. name item ++ 46 ∷ path_at (take levels (last_place child)) k) (sym c) in
+      let last : last_position (spots name item kids) ≡ n ∷ last_position child = last-spots name item n kids child (omega arith) f ∙ ap (λ k. n ∷ last_position k) (sym c) in
+      let way : take (suc levels) (last_position (spots name item kids)) ≡ n ∷ take levels (last_position child) = ap (take (suc levels)) last in
+      let spot : Spot T = record { position = take levels (last_position child) ++ a.child ∷ []; path = path_at (take levels (last_position child)) child ++ 46 ∷ nm; item = x } in
+      let here : item_at (n ∷ take levels (last_position child)) (spots name item kids) ≡ item_at (take levels (last_position child)) child = item_at-spots name item n (take levels (last_position child)) kids ∙ ap (item_at (take levels (last_position child))) (get_or_default kids n [] child (omega arith) ∙ sym c) in
+      let path : path_at (n ∷ take levels (last_position child)) (spots name item kids) ≡ name item ++ 46 ∷ path_at (take levels (last_position child)) child =
+      path_at-below (name item) n 0 n (take levels (last_position child)) kids child (omega arith) (omega arith) (subst (λ k. IsPosition k (take levels (last_position child))) c a.parent) ∙ ap (λ k. name item ++ 46 ∷ path_at (take levels (last_position child)) k) (sym c) in
       let new : spots name item (set kids n child') ≡ spots name item kids ++ under (name item) n spot ∷ [] =
-      ap (λ k. spots name item (set kids n k)) (a.is ∙ ap (λ k. k ++ spot ∷ []) c) ∙ ap (λ l. record { place = []; path = name item; item = item } ∷ l) (more-below (name item) 0 n kids child spot (omega arith) ∙ ap (λ x. below (name item) 0 kids ++ under (name item) x spot ∷ []) (from_zero n)) in
-      let whole : IsAddedAt (n ∷ take levels (last_place child)) nm x (spots name item kids) (spots name item (set kids n child')) = record {
+      ap (λ k. spots name item (set kids n k)) (a.is ∙ ap (λ k. k ++ spot ∷ []) c) ∙ ap (λ l. record { position = []; path = name item; item = item } ∷ l) (more-below (name item) 0 n kids child spot (omega arith) ∙ ap (λ x. below (name item) 0 kids ++ under (name item) x spot ∷ []) (from_zero n)) in
+      let whole : IsAddedAt (n ∷ take levels (last_position child)) nm x (spots name item kids) (spots name item (set kids n child')) = record {
         child = a.child;
         parent = subst (HoldsOfItem (λ _. Unit {0})) (sym here) a.parent;
-        is = new ∙ ap (λ p. spots name item kids ++ record { place = n ∷ take levels (last_place child) ++ a.child ∷ []; path = p; item = x } ∷ [])
-            (sym (append_assoc (name item) (46 ∷ path_at (take levels (last_place child)) child) (46 ∷ nm)) ∙ ap (λ p. p ++ 46 ∷ nm) (sym path));
-        fresh = fresh-below (name item) n 0 n (take levels (last_place child) ++ a.child ∷ []) kids child (omega arith) (omega arith) ∙ ap (list_any (λ s. leads_to (take levels (last_place child) ++ a.child ∷ []) s.place)) (sym c) ∙ a.fresh;
+        is = new ∙ ap (λ p. spots name item kids ++ record { position = n ∷ take levels (last_position child) ++ a.child ∷ []; path = p; item = x } ∷ [])
+            (sym (append_assoc (name item) (46 ∷ path_at (take levels (last_position child)) child) (46 ∷ nm)) ∙ ap (λ p. p ++ 46 ∷ nm) (sym path));
+        fresh = fresh-below (name item) n 0 n (take levels (last_position child) ++ a.child ∷ []) kids child (omega arith) (omega arith) ∙ ap (list_any (λ s. leads_to (take levels (last_position child) ++ a.child ∷ []) s.position)) (sym c) ∙ a.fresh;
       } in
-      let here_too : IsAddedAt (take (suc levels) (last_place (spots name item kids))) nm x (spots name item kids) (spots name item (set kids n child')) = subst (λ w. IsAddedAt w nm x (spots name item kids) (spots name item (set kids n child'))) (sym way) whole in
+      let here_too : IsAddedAt (take (suc levels) (last_position (spots name item kids))) nm x (spots name item kids) (spots name item (set kids n child')) = subst (λ w. IsAddedAt w nm x (spots name item kids) (spots name item (set kids n child'))) (sym way) whole in
       subst (λ v. IsAdded (suc levels) nm x v (spots name item (set kids n child'))) e here_too
 
   -- the same, as code counts the levels and the children

@@ -1,43 +1,43 @@
--- What the conditions of the calls say of the item at a place.
+-- What the conditions of the calls say of the item at a position.
 use Rattle.std.proofs.Common.{ℕ, ◌<◌, List, [], ◌∷◌, Option, Some, None, inl, inr, arith}
 use Rattle.std.specs.Option.{option_map_or}
 use Rattle.cap_vector.proofs.AmountLemmas.{amount-zeros}
 use Rattle.cap_model.specs.Limits.{number_end}
-use Rattle.cap_tree.specs.Spot.{item_at, HoldsOfItem, IsPlace}
+use Rattle.cap_tree.specs.Spot.{item_at, HoldsOfItem, IsPosition}
 use Rattle.cap_tree.specs.Measure.{Measure}
 use Rattle.cap_tree.specs.Count.{Count, IsPart, nothing, one_application, use_alone}
 use Rattle.cap_tree.specs.QueueLaws.{nothing_counts}
 use Rattle.cap_tree.specs.Queue.{Queue, UserRow, MayLeave, MayGive, user_row, count_in}
 use Rattle.cap_tree.specs.Rows.{Row, HasRoomAtRoot, active_in, user_row_at}
 
--- what holds of a user's row at a place, and of the user's row in the queue there
+-- what holds of a user's row at a position, and of the user's row in the queue there
 
-module _ (user place : List ℕ) (rows : List Row) (P : Option UserRow → Type 0) where
-  pub row_holds : IsPlace rows place → P (user_row_at place user rows) → HoldsOfItem (λ q. P (user_row user q.users)) (item_at place rows)
-  row_holds i h = by (item_at place rows) i h
+module _ (user position : List ℕ) (rows : List Row) (P : Option UserRow → Type 0) where
+  pub row_holds : IsPosition rows position → P (user_row_at position user rows) → HoldsOfItem (λ q. P (user_row user q.users)) (item_at position rows)
+  row_holds i h = by (item_at position rows) i h
     where
       by : (o : Option Queue) → HoldsOfItem (λ _. Unit {0}) o → P (option_map_or (λ q. user_row user q.users) o None) → HoldsOfItem (λ q. P (user_row user q.users)) o
       by None i h = i
       by (Some q) i h = h
 
-  pub holds_of_row : HoldsOfItem (λ q. P (user_row user q.users)) (item_at place rows) → P (user_row_at place user rows)
-  holds_of_row h = by (item_at place rows) h
+  pub holds_of_row : HoldsOfItem (λ q. P (user_row user q.users)) (item_at position rows) → P (user_row_at position user rows)
+  holds_of_row h = by (item_at position rows) h
     where
       by : (o : Option Queue) → HoldsOfItem (λ q. P (user_row user q.users)) o → P (option_map_or (λ q. user_row user q.users) o None)
       by None h = absurd h
       by (Some q) h = h
 
   -- where only a row has it, there is a queue
-  pub there_holds : (P None → ⊥) → P (user_row_at place user rows) → IsPlace rows place
-  there_holds none h = by (item_at place rows) h
+  pub there_holds : (P None → ⊥) → P (user_row_at position user rows) → IsPosition rows position
+  there_holds none h = by (item_at position rows) h
     where
       by : (o : Option Queue) → P (option_map_or (λ q. user_row user q.users) o None) → HoldsOfItem (λ _. Unit {0}) o
       by None h = none h
       by (Some q) h = tt
 
 -- a change for which no item grows needs no memory
-pub never_grows : (place : List ℕ) (rows : List Row) → HoldsOfItem (λ (_ : Queue). ⊥) (item_at place rows) → ⊥
-never_grows place rows h = by (item_at place rows) h
+pub never_grows : (position : List ℕ) (rows : List Row) → HoldsOfItem (λ (_ : Queue). ⊥) (item_at position rows) → ⊥
+never_grows position rows h = by (item_at position rows) h
   where
     by : (o : Option Queue) → HoldsOfItem (λ (_ : Queue). ⊥) o → ⊥
     by None h = h

@@ -7,41 +7,41 @@ use Rattle.std.proofs.lemmas.Slice.Eq.{bytes_eq-Decides}
 use Rattle.cap_model.specs.Flat.{is_under}
 use Rattle.cap_model.proofs.lists.Members.{IsIn}
 use Rattle.cap_model.proofs.paths.Paths.{under_itself}
-use Rattle.cap_tree.specs.Spot.{leads_to, leads_below, place_of, has_below, item_at, HoldsOfItem, IsPlace}
-use Rattle.cap_tree.specs.Rows.{Row, PlacesArePaths, queues_of, has_children, IsAt}
-use Rattle.cap_tree.proofs.RowPaths.{at_place, agree, same_row, same_path}
+use Rattle.cap_tree.specs.Spot.{leads_to, leads_below, position_of_path, has_below, item_at, HoldsOfItem, IsPosition}
+use Rattle.cap_tree.specs.Rows.{Row, PositionsArePaths, queues_of, has_children, IsAt}
+use Rattle.cap_tree.proofs.RowPaths.{at_position, agree, same_row, same_path}
 
 -- the row of a path
 
-pub record OfPath (path place : List ℕ) (rows : List Row) : Type 0 where
+pub record OfPath (path position : List ℕ) (rows : List Row) : Type 0 where
   pub row : Row
   pub member : IsIn row rows
-  pub place_is : row.place ≡ place
+  pub position_is : row.position ≡ position
   pub path_is : row.path ≡ path
 
-of_cases : (c : Bool) (path place : List ℕ) (s : Row) (ss : List Row) → bytes_eq s.path path ≡ c → cond c (Some s.place) (place_of path ss) ≡ Some place → (place_of path ss ≡ Some place → OfPath path place ss) → OfPath path place (s ∷ ss)
-of_cases true path place s ss e h r = record { row = s; member = inl refl; place_is = cc; path_is = (bytes_eq-Decides s.path path).0 e }
-of_cases false path place s ss e h r = let a = r h in record { row = a.row; member = inr a.member; place_is = a.place_is; path_is = a.path_is }
+of_cases : (c : Bool) (path position : List ℕ) (s : Row) (ss : List Row) → bytes_eq s.path path ≡ c → cond c (Some s.position) (position_of_path path ss) ≡ Some position → (position_of_path path ss ≡ Some position → OfPath path position ss) → OfPath path position (s ∷ ss)
+of_cases true path position s ss e h r = record { row = s; member = inl refl; position_is = cc; path_is = (bytes_eq-Decides s.path path).0 e }
+of_cases false path position s ss e h r = let a = r h in record { row = a.row; member = inr a.member; position_is = a.position_is; path_is = a.path_is }
 
-of_path : (path place : List ℕ) (rows : List Row) → place_of path rows ≡ Some place → OfPath path place rows
-of_path path place [] h = absurd (cc)
-of_path path place (s ∷ ss) h = of_cases (bytes_eq s.path path) path place s ss refl h (of_path path place ss)
+of_path : (path position : List ℕ) (rows : List Row) → position_of_path path rows ≡ Some position → OfPath path position rows
+of_path path position [] h = absurd (cc)
+of_path path position (s ∷ ss) h = of_cases (bytes_eq s.path path) path position s ss refl h (of_path path position ss)
 
-there_cases : (c : Bool) (place : List ℕ) (s r : Row) (ss : List Row) → bytes_eq s.place place ≡ c → r.place ≡ place → (s ≡ r) ⊎ IsIn r ss → (IsIn r ss → IsPlace ss place) → HoldsOfItem (λ _. Unit {0}) (cond c (Some s.item) (item_at place ss))
-there_cases true place s r ss e p m f = tt
-there_cases false place s r ss e p (inl m) f = absurd (let t = (bytes_eq-Decides s.place place).1 (ap (λ (x : Row). x.place) m ∙ p) in cc (t, e))
-there_cases false place s r ss e p (inr m) f = f m
+there_cases : (c : Bool) (position : List ℕ) (s r : Row) (ss : List Row) → bytes_eq s.position position ≡ c → r.position ≡ position → (s ≡ r) ⊎ IsIn r ss → (IsIn r ss → IsPosition ss position) → HoldsOfItem (λ _. Unit {0}) (cond c (Some s.item) (item_at position ss))
+there_cases true position s r ss e p m f = tt
+there_cases false position s r ss e p (inl m) f = absurd (let t = (bytes_eq-Decides s.position position).1 (ap (λ (x : Row). x.position) m ∙ p) in cc (t, e))
+there_cases false position s r ss e p (inr m) f = f m
 
-there : (place : List ℕ) (r : Row) (rows : List Row) → r.place ≡ place → IsIn r rows → IsPlace rows place
-there place r [] p m = absurd m
-there place r (s ∷ ss) p m = there_cases (bytes_eq s.place place) place s r ss refl p m (there place r ss p)
+there : (position : List ℕ) (r : Row) (rows : List Row) → r.position ≡ position → IsIn r rows → IsPosition rows position
+there position r [] p m = absurd m
+there position r (s ∷ ss) p m = there_cases (bytes_eq s.position position) position s r ss refl p m (there position r ss p)
 
-pub found_at : (rows : List Row) (path place : List ℕ) → PlacesArePaths rows → place_of path rows ≡ Some place → IsAt rows path place
-found_at rows path place a h =
-    let r = of_path path place rows h in
-    let p = there place r.row rows r.place_is r.member in
-    let t = at_place place rows p in
-    let e : bytes_eq t.row.place r.row.place ≡ true = (bytes_eq-Decides t.row.place r.row.place).1 (t.place_is ∙ sym r.place_is) in
+pub found_at : (rows : List Row) (path position : List ℕ) → PositionsArePaths rows → position_of_path path rows ≡ Some position → IsAt rows path position
+found_at rows path position a h =
+    let r = of_path path position rows h in
+    let p = there position r.row rows r.position_is r.member in
+    let t = at_position position rows p in
+    let e : bytes_eq t.row.position r.row.position ≡ true = (bytes_eq-Decides t.row.position r.row.position).1 (t.position_is ∙ sym r.position_is) in
     let f = (bytes_eq-Decides t.row.path r.row.path).0 (sym (same_row rows a t.row r.row t.member r.member) ∙ e) in
     record { present = p; path_is = t.path_is ∙ f ∙ r.path_is }
 
@@ -72,24 +72,24 @@ child_is x y = by (bytes_eq x y) (starts_with nat_eq y (x ++ 46 ∷ [])) (is_und
     by false true false e z f g = refl
     by false false u e z f g = refl
 
-same_below : (t : Row) (rows ss : List Row) → PlacesArePaths rows → IsIn t rows → ((r : Row) → IsIn r ss → IsIn r rows) → has_below t.place ss ≡ has_children ss t.path
+same_below : (t : Row) (rows ss : List Row) → PositionsArePaths rows → IsIn t rows → ((r : Row) → IsIn r ss → IsIn r rows) → has_below t.position ss ≡ has_children ss t.path
 same_below t rows [] a m f = refl
 same_below t rows (s ∷ ss) a m f =
     let n = f s (inl refl) in
-    let e : leads_below t.place s.place ≡ starts_with nat_eq s.path (t.path ++ 46 ∷ []) =
-    below_is t.place s.place ∙ ap (λ c. c && not (leads_to s.place t.place)) (agree rows a t s m n) ∙ ap (λ c. is_under t.path s.path && not c) (agree rows a s t n m) ∙ sym (child_is t.path s.path) in
-    ap (λ c. c || has_below t.place ss) e ∙ ap (λ c. starts_with nat_eq s.path (t.path ++ 46 ∷ []) || c) (same_below t rows ss a m (λ r k. f r (inr k)))
+    let e : leads_below t.position s.position ≡ starts_with nat_eq s.path (t.path ++ 46 ∷ []) =
+    below_is t.position s.position ∙ ap (λ c. c && not (leads_to s.position t.position)) (agree rows a t s m n) ∙ ap (λ c. is_under t.path s.path && not c) (agree rows a s t n m) ∙ sym (child_is t.path s.path) in
+    ap (λ c. c || has_below t.position ss) e ∙ ap (λ c. starts_with nat_eq s.path (t.path ++ 46 ∷ []) || c) (same_below t rows ss a m (λ r k. f r (inr k)))
 
-pub children_at : (rows : List Row) (path place : List ℕ) → PlacesArePaths rows → place_of path rows ≡ Some place → has_children rows path ≡ has_below place rows
-children_at rows path place a h =
-    let r = of_path path place rows h in
-    ap (has_children rows) (sym r.path_is) ∙ sym (same_below r.row rows rows a r.member (λ x m. m)) ∙ ap (λ p. has_below p rows) r.place_is
+pub children_at : (rows : List Row) (path position : List ℕ) → PositionsArePaths rows → position_of_path path rows ≡ Some position → has_children rows path ≡ has_below position rows
+children_at rows path position a h =
+    let r = of_path path position rows h in
+    ap (has_children rows) (sym r.path_is) ∙ sym (same_below r.row rows rows a r.member (λ x m. m)) ∙ ap (λ p. has_below p rows) r.position_is
 
-missing_cases : (c : Bool) (path : List ℕ) (s : Row) (ss : List Row) → cond c (Some s.place) (place_of path ss) ≡ None → (place_of path ss ≡ None → find (λ q. bytes_eq q.path path) (queues_of ss) ≡ None) →
+missing_cases : (c : Bool) (path : List ℕ) (s : Row) (ss : List Row) → cond c (Some s.position) (position_of_path path ss) ≡ None → (position_of_path path ss ≡ None → find (λ q. bytes_eq q.path path) (queues_of ss) ≡ None) →
     cond c (Some (Rattle.cap_tree.specs.Rows.settings_of_row s)) (find (λ q. bytes_eq q.path path) (queues_of ss)) ≡ None
 missing_cases true path s ss h r = absurd (cc)
 missing_cases false path s ss h r = r h
 
-pub missing : (rows : List Row) (path : List ℕ) → place_of path rows ≡ None → find (λ q. bytes_eq q.path path) (queues_of rows) ≡ None
+pub missing : (rows : List Row) (path : List ℕ) → position_of_path path rows ≡ None → find (λ q. bytes_eq q.path path) (queues_of rows) ≡ None
 missing [] path h = refl
 missing (s ∷ ss) path h = missing_cases (bytes_eq s.path path) path s ss h (missing ss path)

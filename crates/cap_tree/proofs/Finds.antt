@@ -3,7 +3,7 @@ use Rattle.std.proofs.Common.{◌≡◌, ℕ, ◌+◌, ◌-◌, ◌≤◌, ◌<�
 use Rattle.std.specs.Prelude.{nat_eq, bytes_eq, cond}
 use Rattle.std.specs.Cmp.Lexicographic.{pointwise}
 use Rattle.smallvec.specs.SmallVec.{SmallVec, HasRoomFor}
-use Rattle.cap_tree.specs.Spot.{Spot, place_of, has_below, spots, under, below}
+use Rattle.cap_tree.specs.Spot.{Spot, position_of_path, has_below, spots, under, below}
 use Rattle.cap_tree.specs.Finding.{IsStart, IsFoundAt, IsMissing, is_parent}
 use Rattle.cap_tree.specs.declared.found.Kind.{Kind}
 use Rattle.std.specs.Prelude.{◌⊎◌}
@@ -26,39 +26,39 @@ inside_of name path rest s l d =
     subst (λ r. 1 ≤ length r → get_or r 0 0 ≡ 46 → IsInside name path (take (length r - 1) (drop 1 r))) (sym s.rest_is) (inside name path s.begins) l d
 
 module _ {T : Type 0} (name : T → List ℕ) (item : T) (kids : List (List (Spot T))) (value : List (Spot T)) (e : spots name item kids ≡ value) (path : List ℕ) where
-  pub other_name : (word : List ℕ) (place : SmallVec ℕ) → word ≡ name item → pointwise nat_eq (take (length word) path) word ≡ false → IsStart place → IsMissing path value place
-  other_name word place w h s = record { is = missing_by_name name item kids value path e (subst (λ n. pointwise nat_eq (take (length n) path) n ≡ false) w h); start = s }
+  pub other_name : (word : List ℕ) (position : SmallVec ℕ) → word ≡ name item → pointwise nat_eq (take (length word) path) word ≡ false → IsStart position → IsMissing path value position
+  other_name word position w h s = record { is = missing_by_name name item kids value path e (subst (λ n. pointwise nat_eq (take (length n) path) n ≡ false) w h); start = s }
 
-  pub at_name : (rest : List ℕ) (place : SmallVec ℕ) (kind : Kind) → IsSplit (name item) path rest → length rest < 1 → IsStart place → is_parent kind ≡ has_below [] value → IsFoundAt path value place kind
-  at_name rest place kind p l s k = record {
+  pub at_name : (rest : List ℕ) (position : SmallVec ℕ) (kind : Kind) → IsSplit (name item) path rest → length rest < 1 → IsStart position → is_parent kind ≡ has_below [] value → IsFoundAt path value position kind
+  at_name rest position kind p l s k = record {
     is = found_here name item kids value path e p.begins (subst (λ r. length r < 1) p.rest_is l) ∙ ap (λ x. Some x) (sym s.empty);
     room = s.room;
     below = k ∙ ap (λ x. has_below x value) (sym s.empty);
   }
 
-  pub other_byte : (rest : List ℕ) (place : SmallVec ℕ) → IsSplit (name item) path rest → 1 ≤ length rest → get_or rest 0 0 ≢ 46 → IsStart place → IsMissing path value place
-  other_byte rest place p l n s = record {
-    is = subst (λ r. 1 ≤ length r → get_or r 0 0 ≢ 46 → place_of path value ≡ None) (sym p.rest_is) (missing_by_dot name item kids value path e p.begins) l n;
+  pub other_byte : (rest : List ℕ) (position : SmallVec ℕ) → IsSplit (name item) path rest → 1 ≤ length rest → get_or rest 0 0 ≢ 46 → IsStart position → IsMissing path value position
+  other_byte rest position p l n s = record {
+    is = subst (λ r. 1 ≤ length r → get_or r 0 0 ≢ 46 → position_of_path path value ≡ None) (sym p.rest_is) (missing_by_dot name item kids value path e p.begins) l n;
     start = s;
   }
 
-  pub in_no_child : (q : List ℕ) (place : SmallVec ℕ) → IsInside (name item) path q → NoneBefore q kids (length kids) → IsStart place → IsMissing path value place
-  in_no_child q place i n s = record { is = missing_inside name item kids value path q e i n; start = s }
+  pub in_no_child : (q : List ℕ) (position : SmallVec ℕ) → IsInside (name item) path q → NoneBefore q kids (length kids) → IsStart position → IsMissing path value position
+  in_no_child q position i n s = record { is = missing_inside name item kids value path q e i n; start = s }
 
-  pub in_this_child : (q : List ℕ) (n : ℕ) (child : List (Spot T)) (found place : SmallVec ℕ) (kind : Kind) → IsInside (name item) path q → NoneBefore q kids n → n < length kids → child ≡ get_or kids n child →
-      IsFoundAt q child found kind → place.items ≡ n ∷ found.items → place.capacity ≡ found.capacity → IsFoundAt path value place kind
-  in_this_child q n child found place kind i none w c f items capacity = record {
-    is = found_inside name item kids value path q n child found.items e i none w (ap (place_of q) (sym c) ∙ f.is) ∙ ap (λ x. Some x) (sym items);
+  pub in_this_child : (q : List ℕ) (n : ℕ) (child : List (Spot T)) (found position : SmallVec ℕ) (kind : Kind) → IsInside (name item) path q → NoneBefore q kids n → n < length kids → child ≡ get_or kids n child →
+      IsFoundAt q child found kind → position.items ≡ n ∷ found.items → position.capacity ≡ found.capacity → IsFoundAt path value position kind
+  in_this_child q n child found position kind i none w c f items capacity = record {
+    is = found_inside name item kids value path q n child found.items e i none w (ap (position_of_path q) (sym c) ∙ f.is) ∙ ap (λ x. Some x) (sym items);
     room = capacity ∙ f.room;
     below = f.below ∙ ap (has_below found.items) c ∙ below_inside name item kids value n child found.items e w ∙ ap (λ p. has_below p value) (sym items);
   }
 
-none_more_cases : {T : Type 0} (q : List ℕ) (kids : List (List (Spot T))) (n : ℕ) (child : List (Spot T)) → NoneBefore q kids n → child ≡ get_or kids n child → place_of q child ≡ None →
-    (m : ℕ) (d : List (Spot T)) → m < length kids → (m < n) ⊎ (m ≡ n) → place_of q (get_or kids m d) ≡ None
+none_more_cases : {T : Type 0} (q : List ℕ) (kids : List (List (Spot T))) (n : ℕ) (child : List (Spot T)) → NoneBefore q kids n → child ≡ get_or kids n child → position_of_path q child ≡ None →
+    (m : ℕ) (d : List (Spot T)) → m < length kids → (m < n) ⊎ (m ≡ n) → position_of_path q (get_or kids m d) ≡ None
 none_more_cases q kids n child none c e m d w (inl l) = none m d l w
-none_more_cases q kids n child none c e m d w (inr l) = ap (place_of q) (get_or_default kids m d child w ∙ ap (λ k. get_or kids k child) l ∙ sym c) ∙ e
+none_more_cases q kids n child none c e m d w (inr l) = ap (position_of_path q) (get_or_default kids m d child w ∙ ap (λ k. get_or kids k child) l ∙ sym c) ∙ e
 
-pub none_more : {T : Type 0} (q : List ℕ) (kids : List (List (Spot T))) (n k : ℕ) (child : List (Spot T)) → NoneBefore q kids n → child ≡ get_or kids n child → place_of q child ≡ None → k ≡ n + 1 → NoneBefore q kids k
+pub none_more : {T : Type 0} (q : List ℕ) (kids : List (List (Spot T))) (n k : ℕ) (child : List (Spot T)) → NoneBefore q kids n → child ≡ get_or kids n child → position_of_path q child ≡ None → k ≡ n + 1 → NoneBefore q kids k
 none_more q kids n k child none c e s m d l w = none_more_cases q kids n child none c e m d w (grind arith)
 
 in_below : {T : Type 0} (name : List ℕ) (i j n : ℕ) (kids : List (List (Spot T))) (d : List (Spot T)) (s : Spot T) → i ≡ j + n → n < length kids → IsIn s (get_or kids n d) → IsIn (under name i s) (below name j kids)
@@ -68,28 +68,28 @@ in_below name i j zero (k ∷ ks) d s h w m =
     subst (λ x. IsIn (under name i s) (map (under name x) k ++ below name (suc x) ks)) (sym e) (in_left (under name i s) (map (under name i) k) (below name (suc i) ks) (in_map (under name i) k s m))
 in_below name i j (suc n) (k ∷ ks) d s h w m = in_right (under name i s) (map (under name j) k) (below name (suc j) ks) (in_below name i (suc j) n ks d s (omega arith) (omega arith) m)
 
--- the places of a child are shorter
+-- the positions of a child are shorter
 pub short_child : {T : Type 0} (name : T → List ℕ) (item : T) (kids : List (List (Spot T))) (value : List (Spot T)) (n bound : ℕ) (child : List (Spot T)) → spots name item kids ≡ value → n < length kids → child ≡ get_or kids n child →
-    All (λ s. length s.place ≤ bound) value → All (λ s. length s.place + 1 ≤ bound) child
+    All (λ s. length s.position ≤ bound) value → All (λ s. length s.position + 1 ≤ bound) child
 short_child name item kids value n bound child e w c a =
-    of_each (λ s. length s.place + 1 ≤ bound) child (λ s m.
-    let here = each_of (λ s. length s.place ≤ bound) value a (under (name item) n s) (subst (IsIn (under (name item) n s)) e (inr (in_below (name item) n 0 n kids child s (omega arith) w (subst (IsIn s) c m)))) in
+    of_each (λ s. length s.position + 1 ≤ bound) child (λ s m.
+    let here = each_of (λ s. length s.position ≤ bound) value a (under (name item) n s) (subst (IsIn (under (name item) n s)) e (inr (in_below (name item) n 0 n kids child s (omega arith) w (subst (IsIn s) c m)))) in
     omega (arith, here))
 
-pub shorter : {T : Type 0} (bound : ℕ) (ss : List (Spot T)) → All (λ s. length s.place + 1 ≤ bound) ss → All (λ s. length s.place ≤ bound) ss
-shorter bound ss a = of_each (λ s. length s.place ≤ bound) ss (λ s m. let h = each_of (λ s. length s.place + 1 ≤ bound) ss a s m in omega (arith, h))
+pub shorter : {T : Type 0} (bound : ℕ) (ss : List (Spot T)) → All (λ s. length s.position + 1 ≤ bound) ss → All (λ s. length s.position ≤ bound) ss
+shorter bound ss a = of_each (λ s. length s.position ≤ bound) ss (λ s m. let h = each_of (λ s. length s.position + 1 ≤ bound) ss a s m in omega (arith, h))
 
-place_cases : {T : Type 0} (b : Bool) (s : Spot T) (o : Option (List ℕ)) (p : List ℕ) (bound : ℕ) → cond b (Some s.place) o ≡ Some p → length s.place + 1 ≤ bound → (o ≡ Some p → length p + 1 ≤ bound) → length p + 1 ≤ bound
-place_cases true s o p bound e h f = let q : s.place ≡ p = cc in let l = ap length q in omega (arith, l)
-place_cases false s o p bound e h f = f e
+position_cases : {T : Type 0} (b : Bool) (s : Spot T) (o : Option (List ℕ)) (p : List ℕ) (bound : ℕ) → cond b (Some s.position) o ≡ Some p → length s.position + 1 ≤ bound → (o ≡ Some p → length p + 1 ≤ bound) → length p + 1 ≤ bound
+position_cases true s o p bound e h f = let q : s.position ≡ p = cc in let l = ap length q in omega (arith, l)
+position_cases false s o p bound e h f = f e
 
-short_place : {T : Type 0} (q : List ℕ) (ss : List (Spot T)) (p : List ℕ) (bound : ℕ) → AllByRecursion (λ s. length s.place + 1 ≤ bound) ss → place_of q ss ≡ Some p → length p + 1 ≤ bound
-short_place q [] p bound a e = absurd (cc)
-short_place q (s ∷ ss) p bound a e = place_cases (bytes_eq s.path q) s (place_of q ss) p bound e a.0 (short_place q ss p bound a.1)
+short_position : {T : Type 0} (q : List ℕ) (ss : List (Spot T)) (p : List ℕ) (bound : ℕ) → AllByRecursion (λ s. length s.position + 1 ≤ bound) ss → position_of_path q ss ≡ Some p → length p + 1 ≤ bound
+short_position q [] p bound a e = absurd (cc)
+short_position q (s ∷ ss) p bound a e = position_cases (bytes_eq s.path q) s (position_of_path q ss) p bound e a.0 (short_position q ss p bound a.1)
 
--- so a found place has room for one more step
-pub room_for_step : {T : Type 0} (q : List ℕ) (child : List (Spot T)) (found : SmallVec ℕ) (kind : Kind) → All (λ s. length s.place + 1 ≤ 15) child → IsFoundAt q child found kind → HasRoomFor found 1
-room_for_step q child found kind a f = let l = short_place q child found.items 15 (recursion_from_All (λ s. length s.place + 1 ≤ 15) child a) f.is in omega (arith, f.room)
+-- so a found position has room for one more step
+pub room_for_step : {T : Type 0} (q : List ℕ) (child : List (Spot T)) (found : SmallVec ℕ) (kind : Kind) → All (λ s. length s.position + 1 ≤ 15) child → IsFoundAt q child found kind → HasRoomFor found 1
+room_for_step q child found kind a f = let l = short_position q child found.items 15 (recursion_from_All (λ s. length s.position + 1 ≤ 15) child a) f.is in omega (arith, f.room)
 
 length-in_below : {T : Type 0} (name : List ℕ) (j n : ℕ) (kids : List (List (Spot T))) (d : List (Spot T)) → n < length kids → length (get_or kids n d) ≤ length (below name j kids)
 length-in_below name j n [] d w = absurd (omega arith)

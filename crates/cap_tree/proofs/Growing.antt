@@ -18,14 +18,14 @@ use Rattle.cap_model.proofs.lists.Members.{IsIn, in_right, in_either, each_of, o
 use Rattle.cap_model.proofs.paths.Paths.{IsUnder, under_is, is_under_it, name_has_none, dot_in, head_is, tail_is, under_itself}
 use Rattle.cap_model.proofs.lists.Tests.{same_test}
 use Rattle.cap_model.proofs.paths.Levels.{no_levels}
-use Rattle.cap_tree.specs.Spot.{leads_to, path_at, last_place, IsAddedAt, IsAdded}
+use Rattle.cap_tree.specs.Spot.{leads_to, path_at, last_position, IsAddedAt, IsAdded}
 use Rattle.cap_vector.specs.Vector.{amount}
 use Rattle.cap_vector.proofs.AmountLemmas.{amount-zeros}
 use Rattle.cap_tree.specs.Measure.{Measure}
 use Rattle.cap_tree.specs.Queue.{Queue, Shows, IsUnused, of_queue, of_user, of_users}
-use Rattle.cap_tree.specs.Rows.{Row, AreRows, PlacesArePaths, settings_of_row, queues_of}
+use Rattle.cap_tree.specs.Rows.{Row, AreRows, PositionsArePaths, settings_of_row, queues_of}
 use Rattle.cap_tree.specs.Growth.{IsClosed, IsGrowing}
-use Rattle.cap_tree.proofs.RowPaths.{at_place, agree, same_row, leads_itself}
+use Rattle.cap_tree.proofs.RowPaths.{at_position, agree, same_row, leads_itself}
 use Rattle.cap_tree.proofs.Adding.{last-append}
 
 -- dots
@@ -58,7 +58,7 @@ under_child : (x y name : List ℕ) → IsUnder y x → IsUnder y (x ++ 46 ∷ n
 under_child x y name (inl e) = inr (name, ap (λ p. p ++ 46 ∷ name) e)
 under_child x y name (inr (rest, e)) = inr (rest ++ 46 ∷ name, ap (λ p. p ++ 46 ∷ name) e ∙ append_assoc y (46 ∷ rest) (46 ∷ name))
 
--- places
+-- positions
 
 leads_take : (x y : List ℕ) → leads_to x y ≡ true → take (length x) y ≡ x
 leads_take [] y h = refl
@@ -69,7 +69,7 @@ leads_take (a ∷ x) (b ∷ y) h = by (a == b) refl h (leads_take x y)
     by true e g r = let s : b ≡ a = grind (arith, nat_tests, e) in λ i. s i ∷ r g i
     by false e g r = absurd (cc g)
 
--- what leads to a child of a place and is not the child leads to the place
+-- what leads to a child of a position and is not the child leads to the position
 leads_above : (x y : List ℕ) (n : ℕ) → leads_to (y ++ n ∷ []) x ≡ false → leads_to x (y ++ n ∷ []) ≡ leads_to x y
 leads_above [] y n h = refl
 leads_above (a ∷ []) [] n h = by (a == n) refl
@@ -151,16 +151,16 @@ none_of t (s ∷ ss) r h m = by (t s) refl h m (none_of t ss r)
     by false e g (inl n) f = ap t (sym n) ∙ e
     by false e g (inr n) f = f g n
 
-paths_more : (rows : List Row) (t : Row) → PlacesArePaths rows → ((r : Row) → IsIn r rows → leads_to r.place t.place ≡ is_under r.path t.path) → ((r : Row) → IsIn r rows → leads_to t.place r.place ≡ is_under t.path r.path) → PlacesArePaths (rows ++ t ∷ [])
+paths_more : (rows : List Row) (t : Row) → PositionsArePaths rows → ((r : Row) → IsIn r rows → leads_to r.position t.position ≡ is_under r.path t.path) → ((r : Row) → IsIn r rows → leads_to t.position r.position ≡ is_under t.path r.path) → PositionsArePaths (rows ++ t ∷ [])
 paths_more rows t a onto away =
-    of_each (λ r. All (λ s. leads_to r.place s.place ≡ is_under r.path s.path) (rows ++ t ∷ [])) (rows ++ t ∷ []) (λ r m.
-    of_each (λ s. leads_to r.place s.place ≡ is_under r.path s.path) (rows ++ t ∷ []) (λ s n. pair r s (in_either r rows (t ∷ []) m) (in_either s rows (t ∷ []) n)))
+    of_each (λ r. All (λ s. leads_to r.position s.position ≡ is_under r.path s.path) (rows ++ t ∷ [])) (rows ++ t ∷ []) (λ r m.
+    of_each (λ s. leads_to r.position s.position ≡ is_under r.path s.path) (rows ++ t ∷ []) (λ s n. pair r s (in_either r rows (t ∷ []) m) (in_either s rows (t ∷ []) n)))
   where
-    pair : (r s : Row) → IsIn r rows ⊎ IsIn r (t ∷ []) → IsIn s rows ⊎ IsIn s (t ∷ []) → leads_to r.place s.place ≡ is_under r.path s.path
+    pair : (r s : Row) → IsIn r rows ⊎ IsIn r (t ∷ []) → IsIn s rows ⊎ IsIn s (t ∷ []) → leads_to r.position s.position ≡ is_under r.path s.path
     pair r s (inl m) (inl n) = agree rows a r s m n
-    pair r s (inl m) (inr (inl e)) = subst (λ (x : Row). leads_to r.place x.place ≡ is_under r.path x.path) e (onto r m)
-    pair r s (inr (inl d)) (inl n) = subst (λ (x : Row). leads_to x.place s.place ≡ is_under x.path s.path) d (away s n)
-    pair r s (inr (inl d)) (inr (inl e)) = subst (λ (x : Row). leads_to x.place s.place ≡ is_under x.path s.path) d (subst (λ (x : Row). leads_to t.place x.place ≡ is_under t.path x.path) e (leads_itself t.place ∙ sym (under_itself t.path)))
+    pair r s (inl m) (inr (inl e)) = subst (λ (x : Row). leads_to r.position x.position ≡ is_under r.path x.path) e (onto r m)
+    pair r s (inr (inl d)) (inl n) = subst (λ (x : Row). leads_to x.position s.position ≡ is_under x.path s.path) d (away s n)
+    pair r s (inr (inl d)) (inr (inl e)) = subst (λ (x : Row). leads_to x.position s.position ≡ is_under x.path s.path) d (subst (λ (x : Row). leads_to t.position x.position ≡ is_under t.path x.path) e (leads_itself t.position ∙ sym (under_itself t.path)))
     pair r s (inl m) (inr (inr e)) = absurd e
     pair r s (inr (inr d)) n = absurd d
     pair r s (inr (inl d)) (inr (inr e)) = absurd e
@@ -201,8 +201,8 @@ front_there rows path front rest name c p h e = by (above_child path front name 
     by (inl s) = subst (λ x. has_path (queues_of rows) x ≡ true) (p.path_is ∙ s) (path_of_row rows p.row p.member)
     by (inr (more, s)) = each_of (λ y. (f r : List ℕ) → y.path ≡ f ++ 46 ∷ r → has_path (queues_of rows) f ≡ true) (queues_of rows) c (settings_of_row p.row) (in_map settings_of_row rows p.row p.member) front more (p.path_is ∙ s)
 
-shown : (q : QueueRow) (item : Queue) (place : List ℕ) → Shows q item → settings_of_row (record { place = place; path = q.path; item = item }) ≡ q
-shown q item place h = λ i. record { path = q.path; guaranteed = h.guaranteed i; maximum = h.maximum i; factor = h.factor i; running = h.running i }
+shown : (q : QueueRow) (item : Queue) (position : List ℕ) → Shows q item → settings_of_row (record { position = position; path = q.path; item = item }) ≡ q
+shown q item position h = λ i. record { path = q.path; guaranteed = h.guaranteed i; maximum = h.maximum i; factor = h.factor i; running = h.running i }
 
 pub record IsGrown (K : ℕ) (rows rows' : List Row) (q : QueueRow) (todo : List QueueRow) : Type 0 where
   pub growing : IsGrowing K rows' todo
@@ -217,26 +217,26 @@ grow K rows rows' q todo levels item w lv sh un a =
     let none = name_has_none q.path in
     let is : q.path ≡ path ++ 46 ∷ name = (bytes_eq-Decides q.path (path ++ 46 ∷ name)).0 f.child in
     let p : HasRow path rows = parent_row rows w.last path w.member w.closed (under_is path w.last.path f.above) in
-    let place = p.row.place in
-    let leads : leads_to place w.last.place ≡ true = agree rows w.paths p.row w.last p.member w.member ∙ ap (λ x. is_under x w.last.path) p.path_is ∙ f.above in
-    let d : length place ≡ depth path = each_of (λ r. length r.place ≡ depth r.path) rows w.depths p.row p.member ∙ ap depth p.path_is in
+    let position = p.row.position in
+    let leads : leads_to position w.last.position ≡ true = agree rows w.paths p.row w.last p.member w.member ∙ ap (λ x. is_under x w.last.path) p.path_is ∙ f.above in
+    let d : length position ≡ depth path = each_of (λ r. length r.position ≡ depth r.path) rows w.depths p.row p.member ∙ ap depth p.path_is in
     let dq : depth q.path ≡ depth path + 1 = ap depth is ∙ child_depth path name none in
-    let n : levels ≡ length place = omega (arith, lv, d, dq) in
-    let way : take levels (last_place rows) ≡ place = ap (λ k. take k (last_place rows)) n ∙ ap (take (length place)) w.last_is ∙ leads_take place w.last.place leads in
-    let b : IsAddedAt place item.name item rows rows' = subst (λ x. IsAddedAt x item.name item rows rows') way a in
-    let at = at_place place rows b.parent in
-    let e : bytes_eq at.row.place place ≡ true = (bytes_eq-Decides at.row.place place).1 at.place_is in
-    let here : path_at place rows ≡ path = at.path_is ∙ (bytes_eq-Decides at.row.path p.row.path).0 (sym (same_row rows w.paths at.row p.row at.member p.member) ∙ e) ∙ p.path_is in
-    let spot : Row = record { place = place ++ b.child ∷ []; path = q.path; item = item } in
-    let whole : path_at place rows ++ 46 ∷ item.name ≡ q.path = ap (λ x. x ++ 46 ∷ item.name) here ∙ ap (λ x. path ++ 46 ∷ x) sh.name ∙ sym is in
-    let new : rows' ≡ rows ++ spot ∷ [] = b.is ∙ ap (λ x. rows ++ record { place = place ++ b.child ∷ []; path = x; item = item } ∷ []) whole in
-    let row_is : settings_of_row spot ≡ q = shown q item (place ++ b.child ∷ []) sh in
-    let fresh : (r : Row) → IsIn r rows → leads_to spot.place r.place ≡ false = λ r m. none_of (λ s. leads_to spot.place s.place) rows r b.fresh m in
+    let n : levels ≡ length position = omega (arith, lv, d, dq) in
+    let way : take levels (last_position rows) ≡ position = ap (λ k. take k (last_position rows)) n ∙ ap (take (length position)) w.last_is ∙ leads_take position w.last.position leads in
+    let b : IsAddedAt position item.name item rows rows' = subst (λ x. IsAddedAt x item.name item rows rows') way a in
+    let at = at_position position rows b.parent in
+    let e : bytes_eq at.row.position position ≡ true = (bytes_eq-Decides at.row.position position).1 at.position_is in
+    let here : path_at position rows ≡ path = at.path_is ∙ (bytes_eq-Decides at.row.path p.row.path).0 (sym (same_row rows w.paths at.row p.row at.member p.member) ∙ e) ∙ p.path_is in
+    let spot : Row = record { position = position ++ b.child ∷ []; path = q.path; item = item } in
+    let whole : path_at position rows ++ 46 ∷ item.name ≡ q.path = ap (λ x. x ++ 46 ∷ item.name) here ∙ ap (λ x. path ++ 46 ∷ x) sh.name ∙ sym is in
+    let new : rows' ≡ rows ++ spot ∷ [] = b.is ∙ ap (λ x. rows ++ record { position = position ++ b.child ∷ []; path = x; item = item } ∷ []) whole in
+    let row_is : settings_of_row spot ≡ q = shown q item (position ++ b.child ∷ []) sh in
+    let fresh : (r : Row) → IsIn r rows → leads_to spot.position r.position ≡ false = λ r m. none_of (λ s. leads_to spot.position s.position) rows r b.fresh m in
     let other : (r : Row) → IsIn r rows → (r.path ≡ q.path → ⊥) = λ r m. other_path rows q todo r w.distinct m in
     let not_above : (r : Row) → IsIn r rows → is_under q.path r.path ≡ false = λ r m. false_from_ne_true (is_under q.path r.path) (λ u.
     (let h = parent_row_of rows r q.path m w.closed (under_is q.path r.path u) in other h.row h.member h.path_is)) in
-    let onto : (r : Row) → IsIn r rows → leads_to r.place spot.place ≡ is_under r.path q.path = λ r m.
-    leads_above r.place place b.child (fresh r m) ∙ agree rows w.paths r p.row m p.member ∙ ap (is_under r.path) p.path_is
+    let onto : (r : Row) → IsIn r rows → leads_to r.position spot.position ≡ is_under r.path q.path = λ r m.
+    leads_above r.position position b.child (fresh r m) ∙ agree rows w.paths r p.row m p.member ∙ ap (is_under r.path) p.path_is
     ∙ same_test (is_under r.path path) (is_under r.path q.path)
     (λ u. is_under_it r.path q.path (subst (IsUnder r.path) (sym is) (under_child path r.path name (under_is r.path path u))))
     (λ u. is_under_it r.path path (child_under path r.path name none (subst (IsUnder r.path) is (under_is r.path q.path u)) (λ s. other r m (s ∙ sym is)))) in
@@ -249,7 +249,7 @@ grow K rows rows' q todo levels item w lv sh un a =
       distinct = subst HasDistinctPaths (sym (ap (λ x. x ++ todo) queues ∙ append_assoc (queues_of rows) (q ∷ []) todo)) w.distinct;
       closed = subst IsClosed (sym queues) (closed_more (queues_of rows) q w.closed (λ front rest g. front_there rows path front rest name w.closed p none (sym is ∙ g)));
       paths = paths_more rows spot w.paths onto (λ r m. fresh r m ∙ sym (not_above r m));
-      depths = all_more (λ r. length r.place ≡ depth r.path) rows spot w.depths (let l = length-append place (b.child ∷ []) in omega (arith, l, d, dq));
+      depths = all_more (λ r. length r.position ≡ depth r.path) rows spot w.depths (let l = length-append position (b.child ∷ []) in omega (arith, l, d, dq));
       unused = all_more (λ r. IsUnused K r.item) rows spot w.unused un;
     } in
     record { growing = subst (λ x. IsGrowing K x todo) (sym new) grown; queues = ap queues_of new ∙ queues }
@@ -288,15 +288,15 @@ next_level K rows qs i q h e w =
 -- the root alone
 
 pub start : (K : ℕ) (qs others : List QueueRow) (first : QueueRow) (item : Queue) → qs ≡ first ∷ others → IsListing qs → Shows first item → IsUnused K item →
-    IsGrown K [] (record { place = []; path = item.name; item = item } ∷ []) first others
+    IsGrown K [] (record { position = []; path = item.name; item = item } ∷ []) first others
 start K qs others first item e l sh un =
     let k = subst IsListing e l in
     let root : first.path ≡ root_path = k.listed.0 in
     let name : item.name ≡ first.path = sh.name ∙ ap name_of root ∙ sym root in
-    let spot : Row = record { place = []; path = item.name; item = item } in
+    let spot : Row = record { position = []; path = item.name; item = item } in
     let same : settings_of_row spot ≡ first = λ i. record { path = name i; guaranteed = sh.guaranteed i; maximum = sh.maximum i; factor = sh.factor i; running = sh.running i } in
     let depth_is : depth item.name ≡ 0 = ap depth (name ∙ root) in
-    let paths : PlacesArePaths (spot ∷ []) = of_each (λ r. All (λ s. leads_to r.place s.place ≡ is_under r.path s.path) (spot ∷ [])) (spot ∷ []) (λ r m. of_each (λ s. leads_to r.place s.place ≡ is_under r.path s.path) (spot ∷ []) (λ s n. pair r s m n)) in
+    let paths : PositionsArePaths (spot ∷ []) = of_each (λ r. All (λ s. leads_to r.position s.position ≡ is_under r.path s.path) (spot ∷ [])) (spot ∷ []) (λ r m. of_each (λ s. leads_to r.position s.position ≡ is_under r.path s.path) (spot ∷ []) (λ s n. pair r s m n)) in
     record {
       growing = record {
         last = spot;
@@ -306,26 +306,26 @@ start K qs others first item e l sh un =
         distinct = subst (λ q. HasDistinctPaths (q ∷ others)) (sym same) k.tree.distinct;
         closed = of_each (λ q. (front rest : List ℕ) → q.path ≡ front ++ 46 ∷ rest → has_path (queues_of (spot ∷ [])) front ≡ true) (queues_of (spot ∷ [])) (λ q m front rest d. absurd (no_front q front rest m d));
         paths = paths;
-        depths = of_each (λ r. length r.place ≡ depth r.path) (spot ∷ []) (λ r m. one r m (sym depth_is));
+        depths = of_each (λ r. length r.position ≡ depth r.path) (spot ∷ []) (λ r m. one r m (sym depth_is));
         unused = of_each (λ r. IsUnused K r.item) (spot ∷ []) (λ r m. unused_one r m);
       };
       queues = ap (λ x. x ∷ []) same;
     }
   where
-    pair : (r s : Row) → IsIn r (record { place = []; path = item.name; item = item } ∷ []) → IsIn s (record { place = []; path = item.name; item = item } ∷ []) → leads_to r.place s.place ≡ is_under r.path s.path
-    pair r s (inl d) (inl c) = subst (λ (x : Row). leads_to x.place s.place ≡ is_under x.path s.path) d (subst (λ (x : Row). true ≡ is_under item.name x.path) c (sym (under_itself item.name)))
+    pair : (r s : Row) → IsIn r (record { position = []; path = item.name; item = item } ∷ []) → IsIn s (record { position = []; path = item.name; item = item } ∷ []) → leads_to r.position s.position ≡ is_under r.path s.path
+    pair r s (inl d) (inl c) = subst (λ (x : Row). leads_to x.position s.position ≡ is_under x.path s.path) d (subst (λ (x : Row). true ≡ is_under item.name x.path) c (sym (under_itself item.name)))
     pair r s (inr d) n = absurd d
     pair r s (inl d) (inr c) = absurd c
 
-    one : (r : Row) → IsIn r (record { place = []; path = item.name; item = item } ∷ []) → 0 ≡ depth item.name → length r.place ≡ depth r.path
-    one r (inl d) z = subst (λ (x : Row). length x.place ≡ depth x.path) d z
+    one : (r : Row) → IsIn r (record { position = []; path = item.name; item = item } ∷ []) → 0 ≡ depth item.name → length r.position ≡ depth r.path
+    one r (inl d) z = subst (λ (x : Row). length x.position ≡ depth x.path) d z
     one r (inr d) z = absurd d
 
-    unused_one : (r : Row) → IsIn r (record { place = []; path = item.name; item = item } ∷ []) → IsUnused K r.item
+    unused_one : (r : Row) → IsIn r (record { position = []; path = item.name; item = item } ∷ []) → IsUnused K r.item
     unused_one r (inl d) = subst (λ (x : Row). IsUnused K x.item) d un
     unused_one r (inr d) = absurd d
 
-    no_front : (q : QueueRow) (front rest : List ℕ) → IsIn q (queues_of (record { place = []; path = item.name; item = item } ∷ [])) → q.path ≡ front ++ 46 ∷ rest → ⊥
+    no_front : (q : QueueRow) (front rest : List ℕ) → IsIn q (queues_of (record { position = []; path = item.name; item = item } ∷ [])) → q.path ≡ front ++ 46 ∷ rest → ⊥
     no_front q front rest (inl d) c =
         let k = subst IsListing e l in
         let root : first.path ≡ root_path = k.listed.0 in
@@ -342,8 +342,8 @@ pub finished : (K : ℕ) (rows : List Row) (qs : List QueueRow) → IsGrowing K 
 finished K rows qs w e l = record {
   listing = subst IsListing (sym e) l;
   paths = w.paths;
-  short = of_each (λ r. length r.place ≤ 15) rows (λ r m.
-      let d = each_of (λ r. length r.place ≡ depth r.path) rows w.depths r m in
+  short = of_each (λ r. length r.position ≤ 15) rows (λ r m.
+      let d = each_of (λ r. length r.position ≡ depth r.path) rows w.depths r m in
       let k = each_of (λ q. depth q.path ≤ depth_max) qs l.levels (settings_of_row r) (subst (IsIn (settings_of_row r)) e (in_map settings_of_row rows r m)) in
       omega (arith, d, k));
 }

@@ -66,20 +66,20 @@ module _ (above at : Queue → Queue) (ka : (r : Row) → settings_of_row (recor
   row_cases false true r = ka r
   row_cases false false r = refl
 
-  -- by the path, and by the place
+  -- by the path, and by the position
   pub settings_stay : (path : List ℕ) (rows : List Row) → queues_of (map (changed_at above at path) rows) ≡ queues_of rows
   settings_stay path [] = refl
   settings_stay path (r ∷ rows) = λ i. row_cases (bytes_eq r.path path) (is_under r.path path) r i ∷ settings_stay path rows i
 
-  settings_kept : (place : List ℕ) (rows : List Row) → queues_of (map (change_along above at place) rows) ≡ queues_of rows
-  settings_kept place [] = refl
-  settings_kept place (r ∷ rows) = λ i. row_cases (bytes_eq r.place place) (leads_to r.place place) r i ∷ settings_kept place rows i
+  settings_kept : (position : List ℕ) (rows : List Row) → queues_of (map (change_along above at position) rows) ≡ queues_of rows
+  settings_kept position [] = refl
+  settings_kept position (r ∷ rows) = λ i. row_cases (bytes_eq r.position position) (leads_to r.position position) r i ∷ settings_kept position rows i
 
-  pub rows_kept : (place : List ℕ) (rows : List Row) → AreRows rows → AreRows (map (change_along above at place) rows)
-  rows_kept place rows a = record {
-    listing = subst IsListing (sym (settings_kept place rows)) a.listing;
-    paths = paths_kept above at place rows a.paths;
-    short = short_kept above at place rows 15 a.short;
+  pub rows_kept : (position : List ℕ) (rows : List Row) → AreRows rows → AreRows (map (change_along above at position) rows)
+  rows_kept position rows a = record {
+    listing = subst IsListing (sym (settings_kept position rows)) a.listing;
+    paths = paths_kept above at position rows a.paths;
+    short = short_kept above at position rows 15 a.short;
   }
 
 -- a change of a queue's own state
@@ -119,14 +119,14 @@ state_is_change path running (r ∷ rows) = λ i. by (bytes_eq r.path path) (is_
     by false true = refl
     by false false = refl
 
-pub state_rows : (running : Bool) (place path : List ℕ) (rows : List Row) → map (change_along (λ x. x) (with_running running) place) rows ≡ map (changed_at (λ x. x) (with_running running) path) rows →
-    map (change_along (λ x. x) (with_running running) place) rows ≡ map (with_state path running) rows
-state_rows running place path rows e = e ∙ state_is_change path running rows
+pub state_rows : (running : Bool) (position path : List ℕ) (rows : List Row) → map (change_along (λ x. x) (with_running running) position) rows ≡ map (changed_at (λ x. x) (with_running running) path) rows →
+    map (change_along (λ x. x) (with_running running) position) rows ≡ map (with_state path running) rows
+state_rows running position path rows e = e ∙ state_is_change path running rows
 
-pub state_kept : (running : Bool) (place path : List ℕ) (rows : List Row) → map (change_along (λ x. x) (with_running running) place) rows ≡ map (with_state path running) rows → AreRows rows →
-    AreRows (map (change_along (λ x. x) (with_running running) place) rows)
-state_kept running place path rows e a = record {
+pub state_kept : (running : Bool) (position path : List ℕ) (rows : List Row) → map (change_along (λ x. x) (with_running running) position) rows ≡ map (with_state path running) rows → AreRows rows →
+    AreRows (map (change_along (λ x. x) (with_running running) position) rows)
+state_kept running position path rows e a = record {
   listing = subst IsListing (sym (ap queues_of e ∙ state_in_settings path running rows)) (listing_kept (set_running path running) (same_path path running) (same_factor path running) (queues_of rows) a.listing);
-  paths = paths_kept (λ x. x) (with_running running) place rows a.paths;
-  short = short_kept (λ x. x) (with_running running) place rows 15 a.short;
+  paths = paths_kept (λ x. x) (with_running running) position rows a.paths;
+  short = short_kept (λ x. x) (with_running running) position rows 15 a.short;
 }

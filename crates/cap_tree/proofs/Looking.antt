@@ -1,4 +1,4 @@
--- What is on the way to a place, and below it.
+-- What is on the way to a position, and below it.
 use Rattle.std.proofs.Common.{◌≡◌, ℕ, zero, suc, ◌+◌, ◌-◌, ◌≤◌, ◌<◌, Bool, true, false, cond, ◌&&◌, List, [], ◌∷◌, ◌++◌, length, get_or, Option, Some, None, refl, sym, ◌∙◌, ap, arith, map, ◌≢◌, subst, take, drop}
 use Rattle.std.specs.Prelude.{bytes_eq, nat_eq, nat_lt, not, option_map, if◌then◌else◌, ◌||◌, ◌==◌}
 use Rattle.std.specs.List.{All, position_or_len}
@@ -7,7 +7,7 @@ use Rattle.std.proofs.lemmas.Bool.Decides.{nat_tests}
 use Rattle.std.proofs.lemmas.List.Elements.{All-get_or}
 use Rattle.std.proofs.lemmas.Bool.{eq-eqb, ne_eqb}
 use Rattle.std.proofs.lemmas.List.{get_or_default, append-nil}
-use Rattle.cap_tree.specs.Spot.{Spot, leads_to, leads_below, under, below, spots, place_of, along, first_failing, has_below}
+use Rattle.cap_tree.specs.Spot.{Spot, leads_to, leads_below, under, below, spots, position_of_path, along, first_failing, has_below}
 use Rattle.cap_tree.proofs.Spots.{steps-is, steps-empty}
 use Rattle.cap_model.proofs.lists.Tests.{bytes_itself}
 
@@ -68,7 +68,7 @@ module _ {T : Type 0} where
 
   along-under : (name : List ℕ) (i : ℕ) (p : List ℕ) (ss rest : List (Spot T)) → along (i ∷ p) rest ≡ [] → along (i ∷ p) (map (under name i) ss ++ rest) ≡ map (under name i) (along p ss)
   along-under name i p [] rest h = h
-  along-under name i p (s ∷ ss) rest h = rw (eq-eqb i i refl) (by (leads_to s.place p) (along-under name i p ss rest h))
+  along-under name i p (s ∷ ss) rest h = rw (eq-eqb i i refl) (by (leads_to s.position p) (along-under name i p ss rest h))
     where
       by : (b : Bool) → along (i ∷ p) (map (under name i) ss ++ rest) ≡ map (under name i) (along p ss) →
           cond b (under name i s ∷ along (i ∷ p) (map (under name i) ss ++ rest)) (along (i ∷ p) (map (under name i) ss ++ rest)) ≡ map (under name i) (cond b (s ∷ along p ss) (along p ss))
@@ -121,7 +121,7 @@ module _ {T : Type 0} where
     failing-map name i (s ∷ ss) = failing-cons (under name i s) (map (under name i) ss) ∙ ap (level_from (test s.item)) (failing-map name i ss) ∙ sym (failing-cons s ss)
 
     failing-spots : (name : T → List ℕ) (item : T) (kids : List (List (Spot T))) (steps : List ℕ) → first_failing test (along steps (spots name item kids)) ≡ level_from (test item) (first_failing test (along steps (below (name item) 0 kids)))
-    failing-spots name item kids steps = failing-cons (record { place = []; path = name item; item = item }) (along steps (below (name item) 0 kids))
+    failing-spots name item kids steps = failing-cons (record { position = []; path = name item; item = item }) (along steps (below (name item) 0 kids))
 
     pub failing-root : (name : T → List ℕ) (item : T) (kids : List (List (Spot T))) (value : List (Spot T)) (steps : List ℕ) → spots name item kids ≡ value → test item ≡ false →
         Some 0 ≡ first_failing test (along steps value)
@@ -152,7 +152,7 @@ module _ {T : Type 0} where
 
   below-under : (name : List ℕ) (i : ℕ) (p : List ℕ) (ss rest : List (Spot T)) → has_below (i ∷ p) rest ≡ false → has_below (i ∷ p) (map (under name i) ss ++ rest) ≡ has_below p ss
   below-under name i p [] rest h = h
-  below-under name i p (s ∷ ss) rest h = rw (eq-eqb i i refl) (ap (λ c. leads_below p s.place || c) (below-under name i p ss rest h))
+  below-under name i p (s ∷ ss) rest h = rw (eq-eqb i i refl) (ap (λ c. leads_below p s.position || c) (below-under name i p ss rest h))
 
   below-none_below : (name : List ℕ) (i j : ℕ) (p : List ℕ) (kids : List (List (Spot T))) → i < j → has_below (i ∷ p) (below name j kids) ≡ false
   below-none_below name i j p [] h = refl
@@ -185,86 +185,86 @@ module _ {T : Type 0} where
   leaf_has_none_below name item [] value e h = ap (has_below []) e
   leaf_has_none_below name item (k ∷ ks) value e h = absurd (omega arith)
 
-  -- the place of a path
+  -- the position of a path
 
-  place-under : (name : List ℕ) (i : ℕ) (q : List ℕ) (ss rest : List (Spot T)) →
-      place_of (name ++ 46 ∷ q) (map (under name i) ss ++ rest) ≡ placed i (place_of q ss) (place_of (name ++ 46 ∷ q) rest)
-  place-under name i q [] rest = refl
-  place-under name i q (s ∷ ss) rest =
-      ap (λ b. cond b (Some (i ∷ s.place)) (place_of (name ++ 46 ∷ q) (map (under name i) ss ++ rest))) (same_rest name (46 ∷ s.path) (46 ∷ q))
-      ∙ ap (λ o. cond (bytes_eq s.path q) (Some (i ∷ s.place)) o) (place-under name i q ss rest)
-      ∙ placed_cases (bytes_eq s.path q) i s.place (place_of q ss) (place_of (name ++ 46 ∷ q) rest)
+  position-under : (name : List ℕ) (i : ℕ) (q : List ℕ) (ss rest : List (Spot T)) →
+      position_of_path (name ++ 46 ∷ q) (map (under name i) ss ++ rest) ≡ placed i (position_of_path q ss) (position_of_path (name ++ 46 ∷ q) rest)
+  position-under name i q [] rest = refl
+  position-under name i q (s ∷ ss) rest =
+      ap (λ b. cond b (Some (i ∷ s.position)) (position_of_path (name ++ 46 ∷ q) (map (under name i) ss ++ rest))) (same_rest name (46 ∷ s.path) (46 ∷ q))
+      ∙ ap (λ o. cond (bytes_eq s.path q) (Some (i ∷ s.position)) o) (position-under name i q ss rest)
+      ∙ placed_cases (bytes_eq s.path q) i s.position (position_of_path q ss) (position_of_path (name ++ 46 ∷ q) rest)
 
   -- none of the children up to n has the path
   abbrev pub NoneBefore : List ℕ → List (List (Spot T)) → ℕ → Type 0
-  NoneBefore q kids n = (m : ℕ) (d : List (Spot T)) → m < n → m < length kids → place_of q (get_or kids m d) ≡ None
+  NoneBefore q kids n = (m : ℕ) (d : List (Spot T)) → m < n → m < length kids → position_of_path q (get_or kids m d) ≡ None
 
-  place-below : (name : List ℕ) (j n : ℕ) (q : List ℕ) (kids : List (List (Spot T))) (d : List (Spot T)) (p : List ℕ) → n < length kids → NoneBefore q kids n → place_of q (get_or kids n d) ≡ Some p →
-      place_of (name ++ 46 ∷ q) (below name j kids) ≡ Some ((j + n) ∷ p)
-  place-below name j n q [] d p h none e = absurd (omega arith)
-  place-below name j zero q (k ∷ ks) d p h none e =
+  position-below : (name : List ℕ) (j n : ℕ) (q : List ℕ) (kids : List (List (Spot T))) (d : List (Spot T)) (p : List ℕ) → n < length kids → NoneBefore q kids n → position_of_path q (get_or kids n d) ≡ Some p →
+      position_of_path (name ++ 46 ∷ q) (below name j kids) ≡ Some ((j + n) ∷ p)
+  position-below name j n q [] d p h none e = absurd (omega arith)
+  position-below name j zero q (k ∷ ks) d p h none e =
       let z : j ≡ j + 0 = omega arith in
-      place-under name j q k (below name (suc j) ks) ∙ ap (λ o. placed j o (place_of (name ++ 46 ∷ q) (below name (suc j) ks))) e ∙ ap (λ x. Some (x ∷ p)) z
-  place-below name j (suc n) q (k ∷ ks) d p h none e =
+      position-under name j q k (below name (suc j) ks) ∙ ap (λ o. placed j o (position_of_path (name ++ 46 ∷ q) (below name (suc j) ks))) e ∙ ap (λ x. Some (x ∷ p)) z
+  position-below name j (suc n) q (k ∷ ks) d p h none e =
       let z : suc j + n ≡ j + suc n = omega arith in
-      place-under name j q k (below name (suc j) ks)
-      ∙ ap (λ o. placed j o (place_of (name ++ 46 ∷ q) (below name (suc j) ks))) (none 0 d (omega arith) (omega arith))
-      ∙ place-below name (suc j) n q ks d p (omega arith) (λ m c l w. none (suc m) c (omega arith) (omega arith)) e
+      position-under name j q k (below name (suc j) ks)
+      ∙ ap (λ o. placed j o (position_of_path (name ++ 46 ∷ q) (below name (suc j) ks))) (none 0 d (omega arith) (omega arith))
+      ∙ position-below name (suc j) n q ks d p (omega arith) (λ m c l w. none (suc m) c (omega arith) (omega arith)) e
       ∙ ap (λ x. Some (x ∷ p)) z
 
-  place-none_below : (name : List ℕ) (j : ℕ) (q : List ℕ) (kids : List (List (Spot T))) → NoneBefore q kids (length kids) → place_of (name ++ 46 ∷ q) (below name j kids) ≡ None
-  place-none_below name j q [] none = refl
-  place-none_below name j q (k ∷ ks) none =
-      place-under name j q k (below name (suc j) ks)
-      ∙ ap (λ o. placed j o (place_of (name ++ 46 ∷ q) (below name (suc j) ks))) (none 0 k (omega arith) (omega arith))
-      ∙ place-none_below name (suc j) q ks (λ m c l w. none (suc m) c (omega arith) (omega arith))
+  position-none_below : (name : List ℕ) (j : ℕ) (q : List ℕ) (kids : List (List (Spot T))) → NoneBefore q kids (length kids) → position_of_path (name ++ 46 ∷ q) (below name j kids) ≡ None
+  position-none_below name j q [] none = refl
+  position-none_below name j q (k ∷ ks) none =
+      position-under name j q k (below name (suc j) ks)
+      ∙ ap (λ o. placed j o (position_of_path (name ++ 46 ∷ q) (below name (suc j) ks))) (none 0 k (omega arith) (omega arith))
+      ∙ position-none_below name (suc j) q ks (λ m c l w. none (suc m) c (omega arith) (omega arith))
 
-  no_place-under : (name path : List ℕ) (i : ℕ) (ss rest : List (Spot T)) → ((x : List ℕ) → bytes_eq (name ++ 46 ∷ x) path ≡ false) → place_of path (map (under name i) ss ++ rest) ≡ place_of path rest
-  no_place-under name path i [] rest f = refl
-  no_place-under name path i (s ∷ ss) rest f = rw (f s.path) (no_place-under name path i ss rest f)
+  no_position-under : (name path : List ℕ) (i : ℕ) (ss rest : List (Spot T)) → ((x : List ℕ) → bytes_eq (name ++ 46 ∷ x) path ≡ false) → position_of_path path (map (under name i) ss ++ rest) ≡ position_of_path path rest
+  no_position-under name path i [] rest f = refl
+  no_position-under name path i (s ∷ ss) rest f = rw (f s.path) (no_position-under name path i ss rest f)
 
-  no_place-below : (name path : List ℕ) (i : ℕ) (kids : List (List (Spot T))) → ((x : List ℕ) → bytes_eq (name ++ 46 ∷ x) path ≡ false) → place_of path (below name i kids) ≡ None
-  no_place-below name path i [] f = refl
-  no_place-below name path i (k ∷ ks) f = no_place-under name path i k (below name (suc i) ks) f ∙ no_place-below name path (suc i) ks f
+  no_position-below : (name path : List ℕ) (i : ℕ) (kids : List (List (Spot T))) → ((x : List ℕ) → bytes_eq (name ++ 46 ∷ x) path ≡ false) → position_of_path path (below name i kids) ≡ None
+  no_position-below name path i [] f = refl
+  no_position-below name path i (k ∷ ks) f = no_position-under name path i k (below name (suc i) ks) f ∙ no_position-below name path (suc i) ks f
 
   pub missing_by_name : (name : T → List ℕ) (item : T) (kids : List (List (Spot T))) (value : List (Spot T)) (path : List ℕ) → spots name item kids ≡ value → pointwise nat_eq (take (length (name item)) path) (name item) ≡ false →
-      place_of path value ≡ None
+      position_of_path path value ≡ None
   missing_by_name name item kids value path e h =
       let f : (x : List ℕ) → bytes_eq (name item ++ x) path ≡ false = λ x. other_start (name item) path x h in
       let z : bytes_eq (name item) path ≡ false = subst (λ l. bytes_eq l path ≡ false) (append-nil (name item)) (f []) in
-      ap (place_of path) (sym e) ∙ ap (λ b. cond b (Some []) (place_of path (below (name item) 0 kids))) z ∙ no_place-below (name item) path 0 kids (λ x. f (46 ∷ x))
+      ap (position_of_path path) (sym e) ∙ ap (λ b. cond b (Some []) (position_of_path path (below (name item) 0 kids))) z ∙ no_position-below (name item) path 0 kids (λ x. f (46 ∷ x))
 
   -- nothing is behind the name
   pub found_here : (name : T → List ℕ) (item : T) (kids : List (List (Spot T))) (value : List (Spot T)) (path : List ℕ) → spots name item kids ≡ value → pointwise nat_eq (take (length (name item)) path) (name item) ≡ true →
-      length (drop (length (name item)) path) < 1 → place_of path value ≡ Some []
+      length (drop (length (name item)) path) < 1 → position_of_path path value ≡ Some []
   found_here name item kids value path e h l =
       let p : path ≡ name item ++ [] = whole (name item) path h ∙ ap (λ r. name item ++ r) (steps-empty (drop (length (name item)) path) l) in
       let q : path ≡ name item = p ∙ append-nil (name item) in
-      ap (place_of path) (sym e) ∙ ap (λ b. cond b (Some []) (place_of path (below (name item) 0 kids))) (ap (bytes_eq (name item)) q ∙ bytes_itself (name item))
+      ap (position_of_path path) (sym e) ∙ ap (λ b. cond b (Some []) (position_of_path path (below (name item) 0 kids))) (ap (bytes_eq (name item)) q ∙ bytes_itself (name item))
 
   -- another byte than a dot is behind it
   pub missing_by_dot : (name : T → List ℕ) (item : T) (kids : List (List (Spot T))) (value : List (Spot T)) (path : List ℕ) → spots name item kids ≡ value → pointwise nat_eq (take (length (name item)) path) (name item) ≡ true →
-      1 ≤ length (drop (length (name item)) path) → get_or (drop (length (name item)) path) 0 0 ≢ 46 → place_of path value ≡ None
+      1 ≤ length (drop (length (name item)) path) → get_or (drop (length (name item)) path) 0 0 ≢ 46 → position_of_path path value ≡ None
   missing_by_dot name item kids value path e h l n =
       let rest = drop (length (name item)) path in
       let p : path ≡ name item ++ (get_or rest 0 0 ∷ take (length rest - 1) (drop 1 rest)) = whole (name item) path h ∙ ap (λ r. name item ++ r) (steps-is rest l) in
       let z : bytes_eq (name item) path ≡ false = ap (bytes_eq (name item)) p ∙ shorter_differs (name item) (get_or rest 0 0) (take (length rest - 1) (drop 1 rest)) in
       let f : (x : List ℕ) → bytes_eq (name item ++ 46 ∷ x) path ≡ false = λ x. ap (bytes_eq (name item ++ 46 ∷ x)) p ∙ same_rest (name item) (46 ∷ x) (get_or rest 0 0 ∷ take (length rest - 1) (drop 1 rest)) ∙ bytes_differ 46 (get_or rest 0 0) x (take (length rest - 1) (drop 1 rest)) (λ d. n (sym d)) in
-      ap (place_of path) (sym e) ∙ ap (λ b. cond b (Some []) (place_of path (below (name item) 0 kids))) z ∙ no_place-below (name item) path 0 kids f
+      ap (position_of_path path) (sym e) ∙ ap (λ b. cond b (Some []) (position_of_path path (below (name item) 0 kids))) z ∙ no_position-below (name item) path 0 kids f
 
-  place-inside : (name : T → List ℕ) (item : T) (kids : List (List (Spot T))) (value : List (Spot T)) (path q : List ℕ) → spots name item kids ≡ value → IsInside (name item) path q →
-      place_of path value ≡ place_of (name item ++ 46 ∷ q) (below (name item) 0 kids)
-  place-inside name item kids value path q e i =
-      ap (place_of path) (sym e) ∙ ap (λ b. cond b (Some []) (place_of path (below (name item) 0 kids))) (ap (bytes_eq (name item)) i.is ∙ shorter_differs (name item) 46 q)
-      ∙ ap (λ p. place_of p (below (name item) 0 kids)) i.is
+  position-inside : (name : T → List ℕ) (item : T) (kids : List (List (Spot T))) (value : List (Spot T)) (path q : List ℕ) → spots name item kids ≡ value → IsInside (name item) path q →
+      position_of_path path value ≡ position_of_path (name item ++ 46 ∷ q) (below (name item) 0 kids)
+  position-inside name item kids value path q e i =
+      ap (position_of_path path) (sym e) ∙ ap (λ b. cond b (Some []) (position_of_path path (below (name item) 0 kids))) (ap (bytes_eq (name item)) i.is ∙ shorter_differs (name item) 46 q)
+      ∙ ap (λ p. position_of_path p (below (name item) 0 kids)) i.is
 
   pub missing_inside : (name : T → List ℕ) (item : T) (kids : List (List (Spot T))) (value : List (Spot T)) (path q : List ℕ) → spots name item kids ≡ value → IsInside (name item) path q →
-      NoneBefore q kids (length kids) → place_of path value ≡ None
-  missing_inside name item kids value path q e i none = place-inside name item kids value path q e i ∙ place-none_below (name item) 0 q kids none
+      NoneBefore q kids (length kids) → position_of_path path value ≡ None
+  missing_inside name item kids value path q e i none = position-inside name item kids value path q e i ∙ position-none_below (name item) 0 q kids none
 
   pub found_inside : (name : T → List ℕ) (item : T) (kids : List (List (Spot T))) (value : List (Spot T)) (path q : List ℕ) (n : ℕ) (d : List (Spot T)) (p : List ℕ) → spots name item kids ≡ value → IsInside (name item) path q →
-      NoneBefore q kids n → n < length kids → place_of q (get_or kids n d) ≡ Some p → place_of path value ≡ Some (n ∷ p)
-  found_inside name item kids value path q n d p e i none w at = place-inside name item kids value path q e i ∙ place-below (name item) 0 n q kids d p w none at ∙ (let z : 0 + n ≡ n = omega arith in ap (λ x. Some (x ∷ p)) z)
+      NoneBefore q kids n → n < length kids → position_of_path q (get_or kids n d) ≡ Some p → position_of_path path value ≡ Some (n ∷ p)
+  found_inside name item kids value path q n d p e i none w at = position-inside name item kids value path q e i ∙ position-below (name item) 0 n q kids d p w none at ∙ (let z : 0 + n ≡ n = omega arith in ap (λ x. Some (x ∷ p)) z)
 
   pub below_inside : (name : T → List ℕ) (item : T) (kids : List (List (Spot T))) (value : List (Spot T)) (n : ℕ) (d : List (Spot T)) (p : List ℕ) → spots name item kids ≡ value → n < length kids →
       has_below p (get_or kids n d) ≡ has_below (n ∷ p) value

@@ -1,4 +1,4 @@
--- The rows of a tree by place and by path.
+-- The rows of a tree by position and by path.
 use Rattle.std.proofs.Common.{◌≡◌, ℕ, ◌≤◌, Bool, true, false, cond, ◌&&◌, List, [], ◌∷◌, ◌++◌, length, map, Some, refl, sym, ◌∙◌, ap, subst, arith, inl, inr}
 use Rattle.std.specs.Prelude.{bytes_eq, ◌==◌, Option, None, filter, not, is_some}
 use Rattle.std.specs.List.{All, list_all}
@@ -10,10 +10,10 @@ use Rattle.cap_model.specs.Flat.{is_under}
 use Rattle.cap_model.proofs.lists.Members.{IsIn, each_of, of_each, of_map}
 use Rattle.cap_model.proofs.paths.Paths.{IsUnder, under_is, under_itself}
 use Rattle.cap_model.proofs.lists.Filters.{map_same, filter_same}
-use Rattle.cap_tree.specs.Spot.{leads_to, item_at, path_at, change_along, along, first_failing, HoldsOfItem, IsPlace}
+use Rattle.cap_tree.specs.Spot.{leads_to, item_at, path_at, change_along, along, first_failing, HoldsOfItem, IsPosition}
 use Rattle.cap_tree.specs.Queue.{Queue}
 use Rattle.cap_tree.proofs.Looking.{level_from, failing-cons}
-use Rattle.cap_tree.specs.Rows.{Row, PlacesArePaths, settings_of_row, queues_of, changed_at, rows_to, is_running}
+use Rattle.cap_tree.specs.Rows.{Row, PositionsArePaths, settings_of_row, queues_of, changed_at, rows_to, is_running}
 
 -- two are the same where each leads to the other
 
@@ -41,8 +41,8 @@ leads_back (x ∷ p) (y ∷ q) f g = by (x == y) refl f (back (y == x) (leads_to
     by true e h k r = let s : x ≡ y = grind (arith, nat_tests, e) in λ i. s i ∷ r h k i
     by false e h k r = absurd (cc h)
 
-pub same_place : (p q : List ℕ) → bytes_eq p q ≡ leads_to p q && leads_to q p
-same_place p q =
+pub same_position : (p q : List ℕ) → bytes_eq p q ≡ leads_to p q && leads_to q p
+same_position p q =
     same_both (bytes_eq p q) (leads_to p q) (leads_to q p)
     (λ e. let s = (bytes_eq-Decides p q).0 e in subst (λ x. leads_to p x ≡ true) s (leads_itself p))
     (λ e. let s = (bytes_eq-Decides p q).0 e in subst (λ x. leads_to x p ≡ true) s (leads_itself p))
@@ -65,58 +65,58 @@ same_path p q =
     (λ e. let s = (bytes_eq-Decides p q).0 e in subst (λ x. is_under x p ≡ true) s (under_itself p))
     (λ f g. (bytes_eq-Decides p q).1 (under_back p q (under_is p q f) (under_is q p g)))
 
--- the row at a place
+-- the row at a position
 
-pub record AtPlace (place : List ℕ) (rows : List Row) : Type 0 where
+pub record AtPosition (position : List ℕ) (rows : List Row) : Type 0 where
   pub row : Row
   pub member : IsIn row rows
-  pub place_is : row.place ≡ place
-  pub path_is : path_at place rows ≡ row.path
-  pub item_is : item_at place rows ≡ Some row.item
+  pub position_is : row.position ≡ position
+  pub path_is : path_at position rows ≡ row.path
+  pub item_is : item_at position rows ≡ Some row.item
 
-at_cases : (c : Bool) (place : List ℕ) (s : Row) (ss : List Row) → bytes_eq s.place place ≡ c → HoldsOfItem (λ _. Unit {0}) (cond c (Some s.item) (item_at place ss)) → (IsPlace ss place → AtPlace place ss) → AtPlace place (s ∷ ss)
-at_cases true place s ss e h r = record {
+at_cases : (c : Bool) (position : List ℕ) (s : Row) (ss : List Row) → bytes_eq s.position position ≡ c → HoldsOfItem (λ _. Unit {0}) (cond c (Some s.item) (item_at position ss)) → (IsPosition ss position → AtPosition position ss) → AtPosition position (s ∷ ss)
+at_cases true position s ss e h r = record {
   row = s;
   member = inl refl;
-  place_is = (bytes_eq-Decides s.place place).0 e;
-  path_is = ap (λ c. cond c s.path (path_at place ss)) e;
-  item_is = ap (λ c. cond c (Some s.item) (item_at place ss)) e;
+  position_is = (bytes_eq-Decides s.position position).0 e;
+  path_is = ap (λ c. cond c s.path (path_at position ss)) e;
+  item_is = ap (λ c. cond c (Some s.item) (item_at position ss)) e;
 }
-at_cases false place s ss e h r = let a = r h in record {
+at_cases false position s ss e h r = let a = r h in record {
   row = a.row;
   member = inr a.member;
-  place_is = a.place_is;
-  path_is = ap (λ c. cond c s.path (path_at place ss)) e ∙ a.path_is;
-  item_is = ap (λ c. cond c (Some s.item) (item_at place ss)) e ∙ a.item_is;
+  position_is = a.position_is;
+  path_is = ap (λ c. cond c s.path (path_at position ss)) e ∙ a.path_is;
+  item_is = ap (λ c. cond c (Some s.item) (item_at position ss)) e ∙ a.item_is;
 }
 
-pub at_place : (place : List ℕ) (rows : List Row) → IsPlace rows place → AtPlace place rows
-at_place place [] h = absurd h
-at_place place (s ∷ ss) h = at_cases (bytes_eq s.place place) place s ss refl h (at_place place ss)
+pub at_position : (position : List ℕ) (rows : List Row) → IsPosition rows position → AtPosition position rows
+at_position position [] h = absurd h
+at_position position (s ∷ ss) h = at_cases (bytes_eq s.position position) position s ss refl h (at_position position ss)
 
--- a place leads as its path does
+-- a position leads as its path does
 
-pub agree : (rows : List Row) → PlacesArePaths rows → (r s : Row) → IsIn r rows → IsIn s rows → leads_to r.place s.place ≡ is_under r.path s.path
-agree rows a r s m n = each_of (λ t. leads_to r.place t.place ≡ is_under r.path t.path) rows (each_of (λ t. All (λ u. leads_to t.place u.place ≡ is_under t.path u.path) rows) rows a r m) s n
+pub agree : (rows : List Row) → PositionsArePaths rows → (r s : Row) → IsIn r rows → IsIn s rows → leads_to r.position s.position ≡ is_under r.path s.path
+agree rows a r s m n = each_of (λ t. leads_to r.position t.position ≡ is_under r.path t.path) rows (each_of (λ t. All (λ u. leads_to t.position u.position ≡ is_under t.path u.path) rows) rows a r m) s n
 
-pub same_row : (rows : List Row) → PlacesArePaths rows → (r s : Row) → IsIn r rows → IsIn s rows → bytes_eq r.place s.place ≡ bytes_eq r.path s.path
-same_row rows a r s m n = same_place r.place s.place ∙ ap (λ c. c && leads_to s.place r.place) (agree rows a r s m n) ∙ ap (λ c. is_under r.path s.path && c) (agree rows a s r n m) ∙ sym (same_path r.path s.path)
+pub same_row : (rows : List Row) → PositionsArePaths rows → (r s : Row) → IsIn r rows → IsIn s rows → bytes_eq r.position s.position ≡ bytes_eq r.path s.path
+same_row rows a r s m n = same_position r.position s.position ∙ ap (λ c. c && leads_to s.position r.position) (agree rows a r s m n) ∙ ap (λ c. is_under r.path s.path && c) (agree rows a s r n m) ∙ sym (same_path r.path s.path)
 
-pub changed_rows : (above at : Queue → Queue) (place : List ℕ) (rows : List Row) → PlacesArePaths rows → IsPlace rows place → map (change_along above at place) rows ≡ map (changed_at above at (path_at place rows)) rows
-changed_rows above at place rows a h =
-    let t = at_place place rows h in
-    map_same (change_along above at place) (changed_at above at (path_at place rows)) rows (λ r m.
-    let same : bytes_eq r.place place ≡ bytes_eq r.path (path_at place rows) = ap (bytes_eq r.place) (sym t.place_is) ∙ same_row rows a r t.row m t.member ∙ ap (bytes_eq r.path) (sym t.path_is) in
-    let leads : leads_to r.place place ≡ is_under r.path (path_at place rows) = ap (leads_to r.place) (sym t.place_is) ∙ agree rows a r t.row m t.member ∙ ap (is_under r.path) (sym t.path_is) in
+pub changed_rows : (above at : Queue → Queue) (position : List ℕ) (rows : List Row) → PositionsArePaths rows → IsPosition rows position → map (change_along above at position) rows ≡ map (changed_at above at (path_at position rows)) rows
+changed_rows above at position rows a h =
+    let t = at_position position rows h in
+    map_same (change_along above at position) (changed_at above at (path_at position rows)) rows (λ r m.
+    let same : bytes_eq r.position position ≡ bytes_eq r.path (path_at position rows) = ap (bytes_eq r.position) (sym t.position_is) ∙ same_row rows a r t.row m t.member ∙ ap (bytes_eq r.path) (sym t.path_is) in
+    let leads : leads_to r.position position ≡ is_under r.path (path_at position rows) = ap (leads_to r.position) (sym t.position_is) ∙ agree rows a r t.row m t.member ∙ ap (is_under r.path) (sym t.path_is) in
     λ i. cond (same i) (record r { item = at r.item }) (cond (leads i) (record r { item = above r.item }) r))
 
--- the rows on the way to a place are those on the way to its path
+-- the rows on the way to a position are those on the way to its path
 
-pub along_rows : (place : List ℕ) (rows : List Row) → PlacesArePaths rows → IsPlace rows place → along place rows ≡ rows_to (path_at place rows) rows
-along_rows place rows a h =
-    let t = at_place place rows h in
-    filter_same (λ r. leads_to r.place place) (λ r. is_under r.path (path_at place rows)) rows
-    (λ r m. ap (leads_to r.place) (sym t.place_is) ∙ agree rows a r t.row m t.member ∙ ap (is_under r.path) (sym t.path_is))
+pub along_rows : (position : List ℕ) (rows : List Row) → PositionsArePaths rows → IsPosition rows position → along position rows ≡ rows_to (path_at position rows) rows
+along_rows position rows a h =
+    let t = at_position position rows h in
+    filter_same (λ r. leads_to r.position position) (λ r. is_under r.path (path_at position rows)) rows
+    (λ r m. ap (leads_to r.position) (sym t.position_is) ∙ agree rows a r t.row m t.member ∙ ap (is_under r.path) (sym t.path_is))
 
 -- all run on the way where none fails to
 
@@ -139,44 +139,44 @@ running_settings path (s ∷ ss) = by (is_under s.path path) (running_settings p
     by true e = ap (λ x. s.item.running && x) e
     by false e = e
 
-pub running_rows : (place : List ℕ) (rows : List Row) → PlacesArePaths rows → IsPlace rows place → not (is_some (first_failing (λ (q : Queue). q.running) (along place rows))) ≡ is_running rows (path_at place rows)
-running_rows place rows a h =
-    ap (λ ss. not (is_some (first_failing (λ (q : Queue). q.running) ss))) (along_rows place rows a h)
-    ∙ running_first (rows_to (path_at place rows) rows) ∙ running_settings (path_at place rows) rows
+pub running_rows : (position : List ℕ) (rows : List Row) → PositionsArePaths rows → IsPosition rows position → not (is_some (first_failing (λ (q : Queue). q.running) (along position rows))) ≡ is_running rows (path_at position rows)
+running_rows position rows a h =
+    ap (λ ss. not (is_some (first_failing (λ (q : Queue). q.running) ss))) (along_rows position rows a h)
+    ∙ running_first (rows_to (path_at position rows) rows) ∙ running_settings (path_at position rows) rows
 
--- a change keeps places and paths
+-- a change keeps positions and paths
 
-place_kept : (above at : Queue → Queue) (place : List ℕ) (r : Row) → (change_along above at place r).place ≡ r.place
-place_kept above at place r = by (bytes_eq r.place place) (leads_to r.place place)
+position_kept : (above at : Queue → Queue) (position : List ℕ) (r : Row) → (change_along above at position r).position ≡ r.position
+position_kept above at position r = by (bytes_eq r.position position) (leads_to r.position position)
   where
-    by : (b c : Bool) → (cond b (record r { item = at r.item }) (cond c (record r { item = above r.item }) r)).place ≡ r.place
+    by : (b c : Bool) → (cond b (record r { item = at r.item }) (cond c (record r { item = above r.item }) r)).position ≡ r.position
     by true c = refl
     by false true = refl
     by false false = refl
 
-path_kept : (above at : Queue → Queue) (place : List ℕ) (r : Row) → (change_along above at place r).path ≡ r.path
-path_kept above at place r = by (bytes_eq r.place place) (leads_to r.place place)
+path_kept : (above at : Queue → Queue) (position : List ℕ) (r : Row) → (change_along above at position r).path ≡ r.path
+path_kept above at position r = by (bytes_eq r.position position) (leads_to r.position position)
   where
     by : (b c : Bool) → (cond b (record r { item = at r.item }) (cond c (record r { item = above r.item }) r)).path ≡ r.path
     by true c = refl
     by false true = refl
     by false false = refl
 
-pub short_kept : (above at : Queue → Queue) (place : List ℕ) (rows : List Row) (n : ℕ) → All (λ r. length r.place ≤ n) rows → All (λ r. length r.place ≤ n) (map (change_along above at place) rows)
-short_kept above at place rows n a =
-    of_each (λ r. length r.place ≤ n) (map (change_along above at place) rows) (λ r m.
-    let w = of_map (change_along above at place) rows r m in
-    let e : (w.0).place ≡ r.place = sym (place_kept above at place (w.0)) ∙ ap (λ (x : Row). x.place) (w.2) in
-    subst (λ p. length p ≤ n) e (each_of (λ r. length r.place ≤ n) rows a (w.0) (w.1)))
+pub short_kept : (above at : Queue → Queue) (position : List ℕ) (rows : List Row) (n : ℕ) → All (λ r. length r.position ≤ n) rows → All (λ r. length r.position ≤ n) (map (change_along above at position) rows)
+short_kept above at position rows n a =
+    of_each (λ r. length r.position ≤ n) (map (change_along above at position) rows) (λ r m.
+    let w = of_map (change_along above at position) rows r m in
+    let e : (w.0).position ≡ r.position = sym (position_kept above at position (w.0)) ∙ ap (λ (x : Row). x.position) (w.2) in
+    subst (λ p. length p ≤ n) e (each_of (λ r. length r.position ≤ n) rows a (w.0) (w.1)))
 
-pub paths_kept : (above at : Queue → Queue) (place : List ℕ) (rows : List Row) → PlacesArePaths rows → PlacesArePaths (map (change_along above at place) rows)
-paths_kept above at place rows a =
-    of_each (λ r. All (λ s. leads_to r.place s.place ≡ is_under r.path s.path) (map (change_along above at place) rows)) (map (change_along above at place) rows) (λ r m.
-    of_each (λ s. leads_to r.place s.place ≡ is_under r.path s.path) (map (change_along above at place) rows) (λ s n.
-    let w = of_map (change_along above at place) rows r m in
-    let v = of_map (change_along above at place) rows s n in
-    let rp : r.place ≡ (w.0).place = ap (λ (x : Row). x.place) (sym (w.2)) ∙ place_kept above at place (w.0) in
-    let rq : r.path ≡ (w.0).path = ap (λ (x : Row). x.path) (sym (w.2)) ∙ path_kept above at place (w.0) in
-    let sp : s.place ≡ (v.0).place = ap (λ (x : Row). x.place) (sym (v.2)) ∙ place_kept above at place (v.0) in
-    let sq : s.path ≡ (v.0).path = ap (λ (x : Row). x.path) (sym (v.2)) ∙ path_kept above at place (v.0) in
+pub paths_kept : (above at : Queue → Queue) (position : List ℕ) (rows : List Row) → PositionsArePaths rows → PositionsArePaths (map (change_along above at position) rows)
+paths_kept above at position rows a =
+    of_each (λ r. All (λ s. leads_to r.position s.position ≡ is_under r.path s.path) (map (change_along above at position) rows)) (map (change_along above at position) rows) (λ r m.
+    of_each (λ s. leads_to r.position s.position ≡ is_under r.path s.path) (map (change_along above at position) rows) (λ s n.
+    let w = of_map (change_along above at position) rows r m in
+    let v = of_map (change_along above at position) rows s n in
+    let rp : r.position ≡ (w.0).position = ap (λ (x : Row). x.position) (sym (w.2)) ∙ position_kept above at position (w.0) in
+    let rq : r.path ≡ (w.0).path = ap (λ (x : Row). x.path) (sym (w.2)) ∙ path_kept above at position (w.0) in
+    let sp : s.position ≡ (v.0).position = ap (λ (x : Row). x.position) (sym (v.2)) ∙ position_kept above at position (v.0) in
+    let sq : s.path ≡ (v.0).path = ap (λ (x : Row). x.path) (sym (v.2)) ∙ path_kept above at position (v.0) in
     (λ i. leads_to (rp i) (sp i)) ∙ agree rows a (w.0) (v.0) (w.1) (v.1) ∙ sym (λ i. is_under (rq i) (sq i))))

@@ -1,4 +1,4 @@
--- A place below child i leads into that child's spots, and a change along it changes those alone.
+-- A position below child i leads into that child's spots, and a change along it changes those alone.
 use Rattle.std.proofs.Common.{◌≡◌, ℕ, zero, suc, ◌+◌, ◌-◌, ◌≤◌, ◌<◌, Bool, true, false, cond, eqb, ◌&&◌, List, [], ◌∷◌, ◌++◌, length, get_or, set, Option, Some, None, refl, sym, ◌∙◌, ap, arith, map, ◌≢◌, subst, take, drop, sum_by, length-append}
 use Rattle.std.proofs.lemmas.Bool.{eq-eqb, ne_eqb}
 use Rattle.std.proofs.lemmas.List.{map-append, length-map, get_or_default, take_all}
@@ -26,7 +26,7 @@ pub sum-set_child : {X : Type 0} (f : X → ℕ) (kids : List X) (i : ℕ) (chil
 sum-set_child f kids i child child' h e = let b = sum_by-set f kids i child' child h in rw (← e) at b
 
 module _ {T : Type 0} where
-  -- the item at a place below child i
+  -- the item at a position below child i
 
   item_at-none_under : (name : List ℕ) (i j : ℕ) (p : List ℕ) (ss rest : List (Spot T)) → j ≢ i → item_at (i ∷ p) (map (under name j) ss ++ rest) ≡ item_at (i ∷ p) rest
   item_at-none_under name i j p [] rest h = refl
@@ -34,7 +34,7 @@ module _ {T : Type 0} where
 
   item_at-under : (name : List ℕ) (i : ℕ) (p : List ℕ) (ss rest : List (Spot T)) → item_at (i ∷ p) rest ≡ None → item_at (i ∷ p) (map (under name i) ss ++ rest) ≡ item_at p ss
   item_at-under name i p [] rest h = h
-  item_at-under name i p (s ∷ ss) rest h = rw (eq-eqb i i refl) (ap (λ o. cond (bytes_eq s.place p) (Some s.item) o) (item_at-under name i p ss rest h))
+  item_at-under name i p (s ∷ ss) rest h = rw (eq-eqb i i refl) (ap (λ o. cond (bytes_eq s.position p) (Some s.item) o) (item_at-under name i p ss rest h))
 
   item_at-none_below : (name : List ℕ) (i j : ℕ) (p : List ℕ) (kids : List (List (Spot T))) → i < j → item_at (i ∷ p) (below name j kids) ≡ None
   item_at-none_below name i j p [] h = refl
@@ -49,13 +49,13 @@ module _ {T : Type 0} where
   item_at-below name i j (suc n) p (k ∷ ks) h =
       item_at-none_under name i j p k (below name (suc j) ks) (λ e. absurd (omega arith)) ∙ item_at-below name i (suc j) n p ks (omega arith)
 
-  -- a change along a place below child i
+  -- a change along a position below child i
 
   change-other_under : (f g : T → T) (name : List ℕ) (i j : ℕ) (p : List ℕ) (ss : List (Spot T)) → j ≢ i → map (change_along f g (i ∷ p)) (map (under name j) ss) ≡ map (under name j) ss
   change-other_under f g name i j p [] h = refl
   change-other_under f g name i j p (s ∷ ss) h = rw (ne_eqb j i h) (ap (λ t. under name j s ∷ t) (change-other_under f g name i j p ss h))
 
-  change-under_spot : (f g : T → T) (name : List ℕ) (i : ℕ) (p : List ℕ) (s : Spot T) (a b : Bool) → eqb i i ≡ true → bytes_eq s.place p ≡ a → leads_to s.place p ≡ b →
+  change-under_spot : (f g : T → T) (name : List ℕ) (i : ℕ) (p : List ℕ) (s : Spot T) (a b : Bool) → eqb i i ≡ true → bytes_eq s.position p ≡ a → leads_to s.position p ≡ b →
       change_along f g (i ∷ p) (under name i s) ≡ under name i (change_along f g p s)
   change-under_spot f g name i p s true b e ea eb = rw (e, ea)
   change-under_spot f g name i p s false true e ea eb = rw (e, ea, eb)

@@ -75,10 +75,10 @@ with_row-entries user v (e ∷ es) =
     put_cases (same_text user e.0) user v e es (insert_entry same_text es user v) (with_row (row_of user v) (rows_of es)) (is_key user e.0) (with_row-entries user v es)
     ∙ ap (λ c. if c then row_of user v ∷ rows_of es else row_of e.0 e.1 ∷ with_row (row_of user v) (rows_of es)) (same_text-is user e.0 ∙ bytes_turned user e.0)
 
-place_same : (user : List ℕ) (es : List (List ℕ × Count)) → position_or_len (same_text user) (keys_of es) ≡ position_or_len (λ u. bytes_eq u.user user) (rows_of es)
-place_same user [] = refl
-place_same user (e ∷ es) =
-    ap (λ c. cond (not c) (1 + position_or_len (same_text user) (keys_of es)) 0) (same_text-is user e.0 ∙ bytes_turned user e.0) ∙ ap (λ n. cond (not (bytes_eq e.0 user)) (1 + n) 0) (place_same user es)
+position_same : (user : List ℕ) (es : List (List ℕ × Count)) → position_or_len (same_text user) (keys_of es) ≡ position_or_len (λ u. bytes_eq u.user user) (rows_of es)
+position_same user [] = refl
+position_same user (e ∷ es) =
+    ap (λ c. cond (not c) (1 + position_or_len (same_text user) (keys_of es)) 0) (same_text-is user e.0 ∙ bytes_turned user e.0) ∙ ap (λ n. cond (not (bytes_eq e.0 user)) (1 + n) 0) (position_same user es)
 
 swapped : (es : List (List ℕ × Count)) (i : ℕ) (e : List ℕ × Count) → rows_of (swap_remove es i e) ≡ swap_remove (rows_of es) i (row_of e.0 e.1)
 swapped es i e =
@@ -97,7 +97,7 @@ removed-entries user (e ∷ es) =
     let n : length (keys_of (e ∷ es)) ≡ length (rows_of (e ∷ es)) = length-map (e ∷ es) (λ x. x.0) ∙ sym (length-map (e ∷ es) (λ x. row_of x.0 x.1)) in
     removed_cases (nat_lt (position_or_len (same_text user) (keys_of (e ∷ es))) (length (keys_of (e ∷ es)))) (e ∷ es) (position_or_len (same_text user) (keys_of (e ∷ es))) e
     ∙ ap (λ l. option_map_or (λ k. swap_remove (rows_of (e ∷ es)) k (row_of e.0 e.1)) (cond (nat_lt (position_or_len (same_text user) (keys_of (e ∷ es))) l) (Some (position_or_len (same_text user) (keys_of (e ∷ es)))) None) (rows_of (e ∷ es))) n
-    ∙ ap (λ i. option_map_or (λ k. swap_remove (rows_of (e ∷ es)) k (row_of e.0 e.1)) (cond (nat_lt i (length (rows_of (e ∷ es)))) (Some i) None) (rows_of (e ∷ es))) (place_same user (e ∷ es))
+    ∙ ap (λ i. option_map_or (λ k. swap_remove (rows_of (e ∷ es)) k (row_of e.0 e.1)) (cond (nat_lt i (length (rows_of (e ∷ es)))) (Some i) None) (rows_of (e ∷ es))) (position_same user (e ∷ es))
 
 -- the entries with a user's count, or without the user, as rows
 

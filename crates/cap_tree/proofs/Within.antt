@@ -9,9 +9,9 @@ use Rattle.cap_model.specs.Amounts.{fits, times}
 use Rattle.cap_model.proofs.uses.Measures.{fits_amounts, amounts_fit}
 use Rattle.cap_tree.specs.Measure.{Measure}
 use Rattle.cap_tree.specs.Count.{use_alone}
-use Rattle.cap_tree.specs.Spot.{along, first_failing, item_at, path_at, IsPlace}
+use Rattle.cap_tree.specs.Spot.{along, first_failing, item_at, path_at, IsPosition}
 use Rattle.cap_tree.specs.Queue.{stays_in_maximum, stays_in_user_limit}
-use Rattle.cap_tree.specs.Rows.{Row, HasRoomAtRoot, PlacesArePaths, root_use}
+use Rattle.cap_tree.specs.Rows.{Row, HasRoomAtRoot, PositionsArePaths, root_use}
 use Rattle.cap_tree.specs.Limits.{broken_level, over_limit}
 use Rattle.cap_tree.specs.declared.limits.OverLimit.TheVariants.{Maximum, User}
 use Rattle.cap_tree.proofs.RowPaths.{along_rows}
@@ -45,17 +45,17 @@ room_applying old new [] h (Measure.uses k) = inr (omega (arith, h k, amount-exc
 room_applying old new (r ∷ rows) h (Measure.uses k) = inr (omega (arith, h k, amount-exchanged old new r.item.used k))
 room_applying old new rows h Measure.active = inl (omega arith)
 
--- what would be passed, by what is on the way to the place
+-- what would be passed, by what is on the way to the position
 
-module _ (K : ℕ) (place user old new : List ℕ) (rows : List Row) (paths : PlacesArePaths rows) (there : IsPlace rows place) where
-  level_is : broken_level (path_at place rows) old new rows ≡ first_failing (stays_in_maximum old new) (along place rows)
-  level_is = ap (first_failing (stays_in_maximum old new)) (sym (along_rows place rows paths there))
+module _ (K : ℕ) (position user old new : List ℕ) (rows : List Row) (paths : PositionsArePaths rows) (there : IsPosition rows position) where
+  level_is : broken_level (path_at position rows) old new rows ≡ first_failing (stays_in_maximum old new) (along position rows)
+  level_is = ap (first_failing (stays_in_maximum old new)) (sym (along_rows position rows paths there))
 
-  pub over_maximum : (level : ℕ) → Some level ≡ first_failing (stays_in_maximum old new) (along place rows) → over_limit K place user old new rows ≡ Some (Maximum level)
+  pub over_maximum : (level : ℕ) → Some level ≡ first_failing (stays_in_maximum old new) (along position rows) → over_limit K position user old new rows ≡ Some (Maximum level)
   over_maximum level e =
-      ap (λ o. option_map_or (λ n. Some (Maximum n)) o (if holds_of (stays_in_user_limit K user old new) (item_at place rows) then None else Some User)) (level_is ∙ sym e)
+      ap (λ o. option_map_or (λ n. Some (Maximum n)) o (if holds_of (stays_in_user_limit K user old new) (item_at position rows) then None else Some User)) (level_is ∙ sym e)
 
-  pub over_user : (b : Bool) → None ≡ first_failing (stays_in_maximum old new) (along place rows) → b ≡ holds_of (stays_in_user_limit K user old new) (item_at place rows) → over_limit K place user old new rows ≡ (if b then None else Some User)
+  pub over_user : (b : Bool) → None ≡ first_failing (stays_in_maximum old new) (along position rows) → b ≡ holds_of (stays_in_user_limit K user old new) (item_at position rows) → over_limit K position user old new rows ≡ (if b then None else Some User)
   over_user b e s =
-      ap (λ o. option_map_or (λ n. Some (Maximum n)) o (if holds_of (stays_in_user_limit K user old new) (item_at place rows) then None else Some User)) (level_is ∙ sym e)
+      ap (λ o. option_map_or (λ n. Some (Maximum n)) o (if holds_of (stays_in_user_limit K user old new) (item_at position rows) then None else Some User)) (level_is ∙ sym e)
       ∙ ap (λ c. if c then None else Some User) (sym s)

@@ -5,9 +5,9 @@ use Rattle.cap_model.specs.Settings.{QueueRow}
 use Rattle.cap_model.specs.Bounds.{HasDistinctPaths, has_path, depth}
 use Rattle.cap_model.specs.Listing.{IsListed}
 use Rattle.cap_model.specs.Members.{IsIn}
-use Rattle.cap_tree.specs.Spot.{last_place}
+use Rattle.cap_tree.specs.Spot.{last_position}
 use Rattle.cap_tree.specs.Queue.{IsUnused}
-use Rattle.cap_tree.specs.Rows.{Row, PlacesArePaths, queues_of}
+use Rattle.cap_tree.specs.Rows.{Row, PositionsArePaths, queues_of}
 
 -- with each path all its beginnings before a dot are there
 abbrev pub IsClosed : List QueueRow → Type 0
@@ -17,10 +17,10 @@ IsClosed qs = All (λ q. (front rest : List ℕ) → q.path ≡ front ++ 46 ∷ 
 pub record IsGrowing (K : ℕ) (rows : List Row) (todo : List QueueRow) : Type 0 where
   pub last : Row
   pub member : IsIn last rows
-  pub last_is : last_place rows ≡ last.place
+  pub last_is : last_position rows ≡ last.position
   pub listed : IsListed last.path todo
   pub distinct : HasDistinctPaths (queues_of rows ++ todo)
   pub closed : IsClosed (queues_of rows)
-  pub paths : PlacesArePaths rows
-  pub depths : All (λ r. length r.place ≡ depth r.path) rows
+  pub paths : PositionsArePaths rows
+  pub depths : All (λ r. length r.position ≡ depth r.path) rows
   pub unused : All (λ r. IsUnused K r.item) rows

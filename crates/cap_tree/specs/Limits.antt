@@ -12,8 +12,8 @@ use Rattle.cap_tree.specs.declared.limits.OverLimit.TheVariants.{Maximum, User}
 abbrev pub broken_level : List ℕ → List ℕ → List ℕ → List Row → Option ℕ
 broken_level path old new rows = first_failing (stays_in_maximum old new) (rows_to path rows)
 
--- the maximum of that level, or else the user limit of the leaf at the place, or none
+-- the maximum of that level, or else the user limit of the leaf at the position, or none
 abbrev pub over_limit : ℕ → List ℕ → List ℕ → List ℕ → List ℕ → List Row → Option OverLimit
-over_limit K place user old new rows =
-    option_map_or (λ level. Some (Maximum level)) (broken_level (path_at place rows) old new rows)
-    (if holds_of (stays_in_user_limit K user old new) (item_at place rows) then None else Some User)
+over_limit K position user old new rows =
+    option_map_or (λ level. Some (Maximum level)) (broken_level (path_at position rows) old new rows)
+    (if holds_of (stays_in_user_limit K user old new) (item_at position rows) then None else Some User)

@@ -9,12 +9,12 @@ use Rattle.cap_model.specs.Listing.{IsListing}
 use Rattle.cap_tree.specs.Finding.{IsStart}
 use Rattle.cap_tree.specs.declared.found.Found.{Found}
 use Rattle.cap_tree.specs.declared.found.Found.TheVariants.{Leaf, Parent, Missing}
-use Rattle.cap_tree.specs.Spot.{Spot, first, first_of, leads_to, item_at, path_at, IsPlace}
+use Rattle.cap_tree.specs.Spot.{Spot, first, first_of, leads_to, item_at, path_at, IsPosition}
 use Rattle.cap_tree.specs.Measure.{Measure, HasRoom, most}
 use Rattle.cap_tree.specs.Count.{Count, of_count, nothing, one_application, use_alone}
 use Rattle.cap_tree.specs.Queue.{Queue, UserRow, of_queue, user_row, moved_above, moved_at, with_running}
 
--- a row: the queue's place, its dotted path, and what it holds
+-- a row: the queue's position, its dotted path, and what it holds
 abbrev pub Row : Type 0
 Row = Spot Queue
 
@@ -25,15 +25,15 @@ settings_of_row r = record { path = r.path; guaranteed = r.item.guaranteed; maxi
 abbrev pub queues_of : List Row → List QueueRow
 queues_of rows = map settings_of_row rows
 
--- a place leads to another exactly where the path is the other's, or begins it before a dot
-abbrev pub PlacesArePaths : List Row → Type 0
-PlacesArePaths rows = All (λ r. All (λ s. leads_to r.place s.place ≡ is_under r.path s.path) rows) rows
+-- a position leads to another exactly where the path is the other's, or begins it before a dot
+abbrev pub PositionsArePaths : List Row → Type 0
+PositionsArePaths rows = All (λ r. All (λ s. leads_to r.position s.position ≡ is_under r.path s.path) rows) rows
 
 -- the rows of a tree: each path once, each queue before those under it, at most 15 levels under the root
 pub record AreRows (rows : List Row) : Type 0 where
   pub listing : IsListing (queues_of rows)
-  pub paths : PlacesArePaths rows
-  pub short : All (λ r. length r.place ≤ 15) rows
+  pub paths : PositionsArePaths rows
+  pub short : All (λ r. length r.position ≤ 15) rows
 
 -- the row after a change at the queue of that path, and at those above it
 abbrev pub changed_at : (Queue → Queue) → (Queue → Queue) → List ℕ → Row → Row
@@ -62,9 +62,9 @@ applied K path user old new = moved K path user (use_alone old) (use_alone new)
 abbrev pub with_state : List ℕ → Bool → Row → Row
 with_state path running r = if bytes_eq r.path path then record r { item = with_running running r.item } else r
 
--- the row of a user in the queue of a place
+-- the row of a user in the queue of a position
 abbrev pub user_row_at : List ℕ → List ℕ → List Row → Option UserRow
-user_row_at place user rows = option_map_or (λ q. user_row user q.users) (item_at place rows) None
+user_row_at position user rows = option_map_or (λ q. user_row user q.users) (item_at position rows) None
 
 -- how many applications are active in all
 abbrev pub active_in : List Row → ℕ
@@ -74,9 +74,9 @@ active_in rows = first_of (λ q. q.active) rows
 abbrev pub HasRoomAtRoot : Count → Count → List Row → Type 0
 HasRoomAtRoot old new rows = (m : Measure) → HasRoom (first_of (λ q. of_queue q m) rows) (of_count old m) (of_count new m) (most m)
 
--- what is used at the queue of a place
+-- what is used at the queue of a position
 abbrev pub used_at : List ℕ → List Row → List ℕ
-used_at place rows = option_map_or (λ q. q.used) (item_at place rows) []
+used_at position rows = option_map_or (λ q. q.used) (item_at position rows) []
 
 -- what is used in all
 abbrev pub root_use : List Row → List ℕ
@@ -94,18 +94,18 @@ is_running rows path = list_all (λ q. q.running) (filter (λ q. is_under q.path
 abbrev pub has_children : List Row → List ℕ → Bool
 has_children rows path = list_any (λ q. starts_with nat_eq q.path (path ++ 46 ∷ [])) (queues_of rows)
 
--- the place is that of the queue with the path
-pub record IsAt (rows : List Row) (path place : List ℕ) : Type 0 where
-  pub present : IsPlace rows place
-  pub path_is : path_at place rows ≡ path
+-- the position is that of the queue with the path
+pub record IsAt (rows : List Row) (path position : List ℕ) : Type 0 where
+  pub present : IsPosition rows position
+  pub path_is : path_at position rows ≡ path
 
--- what is found at a path: the place of its queue, which has children or has none, or nothing
+-- what is found at a path: the position of its queue, which has children or has none, or nothing
 abbrev pub FindsQueue : {A : Type 0} → List ℕ → List Row → Found A → Type 0
-FindsQueue path rows (Leaf place) = IsAt rows path place.items × (has_children rows path ≡ false)
-FindsQueue path rows (Parent place) = IsAt rows path place.items × (has_children rows path ≡ true)
+FindsQueue path rows (Leaf position) = IsAt rows path position.items × (has_children rows path ≡ false)
+FindsQueue path rows (Parent position) = IsAt rows path position.items × (has_children rows path ≡ true)
 FindsQueue path rows Missing = find (λ q. bytes_eq q.path path) (queues_of rows) ≡ None
 
--- a tree of queues, with the place from which a search starts
+-- a tree of queues, with the position from which a search starts
 pub record IsQueueTree (rows : List Row) (start : SmallVec ℕ) : Type 0 where
   pub rows_are : AreRows rows
   pub start_is : IsStart start

@@ -11,21 +11,21 @@ use Rattle.cap_tree.specs.Count.{Count, nothing, is_nothing}
 use Rattle.cap_tree.specs.Queue.{UserRow, user_row, user_count, count_in, with_count, with_row}
 
 -- where a row is
-pub record IsPlacedAt (i : ℕ) (us : List UserRow) (u : UserRow) : Type 0 where
+pub record IsPositionedAt (i : ℕ) (us : List UserRow) (u : UserRow) : Type 0 where
   pub within : i < length us
   pub here : (d : UserRow) → get_or us i d ≡ u
 
-placed_cases : (c : Bool) (t : UserRow → Bool) (x u : UserRow) (us : List UserRow) → cond c (Some x) (find t us) ≡ Some u → (find t us ≡ Some u → IsPlacedAt (position_or_len t us) us u) → IsPlacedAt (cond (not c) (1 + position_or_len t us) 0) (x ∷ us) u
+placed_cases : (c : Bool) (t : UserRow → Bool) (x u : UserRow) (us : List UserRow) → cond c (Some x) (find t us) ≡ Some u → (find t us ≡ Some u → IsPositionedAt (position_or_len t us) us u) → IsPositionedAt (cond (not c) (1 + position_or_len t us) 0) (x ∷ us) u
 placed_cases true t x u us h f = record { within = omega arith; here = λ d. cc }
-placed_cases false t x u us h f = let r = f h in let w = r.within in let z : 1 + position_or_len t us ≡ suc (position_or_len t us) = omega arith in subst (λ i. IsPlacedAt i (x ∷ us) u) (sym z) (record { within = omega arith; here = λ d. r.here d })
+placed_cases false t x u us h f = let r = f h in let w = r.within in let z : 1 + position_or_len t us ≡ suc (position_or_len t us) = omega arith in subst (λ i. IsPositionedAt i (x ∷ us) u) (sym z) (record { within = omega arith; here = λ d. r.here d })
 
-placed : (t : UserRow → Bool) (us : List UserRow) (u : UserRow) → find t us ≡ Some u → IsPlacedAt (position_or_len t us) us u
+placed : (t : UserRow → Bool) (us : List UserRow) (u : UserRow) → find t us ≡ Some u → IsPositionedAt (position_or_len t us) us u
 placed t [] u h = absurd (cc)
 placed t (x ∷ us) u h = placed_cases (t x) t x u us h (placed t us u)
 
 -- sums over the rows
 
-sum-removed_at : (f : UserRow → ℕ) (t : UserRow → Bool) (x u : UserRow) (us : List UserRow) (i : ℕ) → position_or_len t (x ∷ us) ≡ i → IsPlacedAt i (x ∷ us) u → sum_by f (swap_remove_by t (x ∷ us)) + f u ≡ sum_by f (x ∷ us)
+sum-removed_at : (f : UserRow → ℕ) (t : UserRow → Bool) (x u : UserRow) (us : List UserRow) (i : ℕ) → position_or_len t (x ∷ us) ≡ i → IsPositionedAt i (x ∷ us) u → sum_by f (swap_remove_by t (x ∷ us)) + f u ≡ sum_by f (x ∷ us)
 sum-removed_at f t x u us i e p =
     let w = p.within in
     let l : nat_lt i (length (x ∷ us)) ≡ true = grind (arith, nat_tests, w) in
@@ -90,7 +90,7 @@ pub row_counts : (f : UserRow → ℕ) (user : List ℕ) (us : List UserRow) (u 
 row_counts f user [] u h = absurd (cc)
 row_counts f user (x ∷ us) u h = counted_cases (bytes_eq x.user user) f x u us (user_row user us) h (row_counts f user us u)
 
--- a count takes the place of a user's own in what counts nothing where nothing is
+-- a count takes the position of a user's own in what counts nothing where nothing is
 abbrev pub row_for : List ℕ → Count → UserRow
 row_for user c = record { user = user; used = c.used; active = c.active }
 

@@ -2,7 +2,7 @@
 ghost use Rattle.std.specs.Prelude.{◌≡◌, ◌+◌, ◌-◌, ◌≤◌, ◌∷◌, [], ℕ, List, Some, Bool, IfSome, IfOk, OnOk, OnErr, map, length};
 ghost use Rattle.std.specs.List.{All};
 ghost use Rattle.cap_tree.specs.Measure.{Measure, HasRoom, most};
-ghost use Rattle.cap_tree.specs.Spot.{HoldsOfItem, IsAdded, IsPlace, along, change_along, first, first_failing, first_of, has_below, item_at, spots};
+ghost use Rattle.cap_tree.specs.Spot.{HoldsOfItem, IsAdded, IsPosition, along, change_along, first, first_failing, first_of, has_below, item_at, spots};
 ghost use Rattle.cap_tree.specs.Finding.{IsFound, IsStart, is_parent};
 ghost use Rattle.cap_tree.specs.Branch.{IsBranch};
 
@@ -185,7 +185,7 @@ impl<T: Held + Drop, A: Allocator + Copy> Branch<T, A> {
 
     /// The item that the steps lead to.
     pub fn get(&self, steps: &[u32]) -> &T
-        requires { IsPlace self.now steps.now }
+        requires { IsPosition self.now steps.now }
         ensures { item_at steps.now self.now ≡ Some result.now }
     {
         match steps {
@@ -199,7 +199,7 @@ impl<T: Held + Drop, A: Allocator + Copy> Branch<T, A> {
 
     /// The least level on the way that the steps lead, from the root as level 0, whose item does not pass the test.
     pub fn first_failing<C: Test<T>>(&self, steps: &[u32], test: &C) -> Option<usize>
-        requires { IsPlace self.now steps.now }
+        requires { IsPosition self.now steps.now }
         ensures level { result ≡ first_failing (C.passes test.now) (along steps.now self.now) }
         ensures within { IfSome result (λ level. level ≤ length steps.now) }
     {
@@ -229,12 +229,12 @@ impl<T: Held + Drop, A: Allocator + Copy> Branch<T, A> {
         }
     }
 
-    /// Whether the item at the dotted path has children, and its place, in an empty one with all its room. None where no item
+    /// Whether the item at the dotted path has children, and its position, in an empty one with all its room. None where no item
     /// has the path. It takes no memory.
-    pub fn find(&self, path: &[u8], place: &mut Path<A>) -> Option<Kind>
-        requires short { All (λ s. length s.place ≤ 15) self.now }
-        requires start { IsStart place.old }
-        ensures { IsFound path.now self.now place.new result }
+    pub fn find(&self, path: &[u8], position: &mut Path<A>) -> Option<Kind>
+        requires short { All (λ s. length s.position ≤ 15) self.now }
+        requires start { IsStart position.old }
+        ensures { IsFound path.now self.now position.new result }
     {
         let Some(rest) = path.strip_prefix(self.item.name()) else {
             return None;
@@ -250,8 +250,8 @@ impl<T: Held + Drop, A: Allocator + Copy> Branch<T, A> {
         };
         for i in 0..self.children.len() {
             let child = &self.children[i];
-            if let Some(kind) = child.find(below, place) {
-                let Ok(()) = place.insert(0, i as u32) else {
+            if let Some(kind) = child.find(below, position) {
+                let Ok(()) = position.insert(0, i as u32) else {
                     unreachable!()
                 };
                 return Some(kind);

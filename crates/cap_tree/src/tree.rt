@@ -12,7 +12,7 @@ ghost use Rattle.cap_tree.specs.Paths.{TreeFitsInMemory};
 ghost use Rattle.cap_tree.specs.Count.{IsPart};
 ghost use Rattle.cap_tree.specs.Queue.{IsUnused, MayGive, MayLeave, count_in, stays_in_user_limit, use_of};
 ghost use Rattle.cap_tree.specs.Rows.{AreRows, FindsQueue, HasRoomAtRoot, active_in, applied, entered, is_running, left, lowered, moved, queues_of, root_use, used_at, user_row_at, with_state};
-ghost use Rattle.cap_tree.specs.Spot.{HoldsOfItem, IsPlace, item_at, path_at};
+ghost use Rattle.cap_tree.specs.Spot.{HoldsOfItem, IsPosition, item_at, path_at};
 
 use crate::branch::Branch;
 use crate::change::{Move, Running, SetState};
@@ -73,22 +73,22 @@ impl<const K: usize, A: Allocator + Copy> QueueTree<K, A> {
 
     /// What is found at a dotted path. It takes no memory, and looks only at the queues on the way and at their siblings. And what
     /// is true of every tree: each path is there once and each queue before those under it, at most 15 levels under the root, and a
-    /// place leads to another exactly where the path is the other's or begins it before a dot.
+    /// position leads to another exactly where the path is the other's or begins it before a dot.
     pub fn find(&self, path: &[u8]) -> Found<A>
         ensures found { FindsQueue path.now self.now result }
         ensures rows { AreRows self.now }
     {
-        let mut place = SmallVec::new(*self.start.allocator());
-        match self.root.find(path, &mut place) {
+        let mut position = SmallVec::new(*self.start.allocator());
+        match self.root.find(path, &mut position) {
             None => Found::Missing,
-            Some(Kind::Leaf) => Found::Leaf(place),
-            Some(Kind::Parent) => Found::Parent(place),
+            Some(Kind::Leaf) => Found::Leaf(position),
+            Some(Kind::Parent) => Found::Parent(position),
         }
     }
 
     /// Whether the queue and all above it are RUNNING.
     pub fn running(&self, path: &Path<A>) -> bool
-        requires { IsPlace self.now path.now.items }
+        requires { IsPosition self.now path.now.items }
         ensures { result ≡ is_running self.now (path_at path.now.items self.now) }
     {
         self.root.first_failing(path.as_slice(), &Running).is_none()
@@ -96,7 +96,7 @@ impl<const K: usize, A: Allocator + Copy> QueueTree<K, A> {
 
     /// Sets the queue's own state, and nothing else.
     pub fn set_state(&mut self, path: &Path<A>, running: bool)
-        requires { IsPlace self.old path.now.items }
+        requires { IsPosition self.old path.now.items }
         ensures { self.new ≡ map (with_state (path_at path.now.items self.old) running) self.old }
     {
         let change = SetState { running };
@@ -108,7 +108,7 @@ impl<const K: usize, A: Allocator + Copy> QueueTree<K, A> {
     /// Takes an old part away from what is counted of a user in the leaf, of the leaf and of each queue above it, and adds a new
     /// one. `NoMemory` changes nothing, and comes only where the user has no row.
     fn change(&mut self, path: &Path<A>, change: &Move<'_, K>) -> Result<(), NoMemory>
-        requires place { IsPlace self.old path.now.items }
+        requires position { IsPosition self.old path.now.items }
         requires fits { IsPart change.now.old (count_in K (user_row_at path.now.items change.now.user.now self.old)) }
         requires within { HasRoomAtRoot change.now.old change.now.new self.old }
         ensures ok { OnOk result (self.new ≡ map (moved K (path_at path.now.items self.old) change.now.user.now change.now.old change.now.new) self.old) }
@@ -125,7 +125,7 @@ impl<const K: usize, A: Allocator + Copy> QueueTree<K, A> {
     /// One more application of the user becomes active in the leaf: it counts there, at each queue above, and for the user.
     /// `NoMemory` changes nothing, and comes only where the user has no application there yet.
     pub fn enter(&mut self, path: &Path<A>, user: &ShortText) -> Result<(), NoMemory>
-        requires place { IsPlace self.old path.now.items }
+        requires position { IsPosition self.old path.now.items }
         requires few { active_in self.old < number_end }
         ensures ok { OnOk result (self.new ≡ map (entered K (path_at path.now.items self.old) user.now) self.old) }
         ensures err { OnErr result (self.new ≡ self.old) }
@@ -198,7 +198,7 @@ impl<const K: usize, A: Allocator + Copy> QueueTree<K, A> {
         old: &Resource<K>,
         new: &Resource<K>,
     ) -> Result<(), OverLimit>
-        requires { IsPlace self.now path.now.items }
+        requires { IsPosition self.now path.now.items }
         ensures ok { OnOk result (over_limit K path.now.items user.now old.now new.now self.now ≡ None) }
         ensures err { IfErr result (λ e. over_limit K path.now.items user.now old.now new.now self.now ≡ Some e) }
     {
@@ -220,7 +220,7 @@ impl<const K: usize, A: Allocator + Copy> QueueTree<K, A> {
         old: &Resource<K>,
         new: &Resource<K>,
     ) -> bool
-        requires { IsPlace self.now path.now.items }
+        requires { IsPosition self.now path.now.items }
         ensures { result ≡ holds_of (stays_in_user_limit K user.now old.now new.now) (item_at path.now.items self.now) }
     {
         let leaf = self.root.get(path.as_slice());
@@ -243,7 +243,7 @@ impl<const K: usize, A: Allocator + Copy> QueueTree<K, A> {
 
     /// The queue.
     pub fn row(&self, path: &Path<A>) -> &Queue<K, A>
-        requires { IsPlace self.now path.now.items }
+        requires { IsPosition self.now path.now.items }
         ensures { item_at path.now.items self.now ≡ Some result.now }
     {
         self.root.get(path.as_slice())
@@ -251,7 +251,7 @@ impl<const K: usize, A: Allocator + Copy> QueueTree<K, A> {
 
     /// What is used in the queue and under it, in MiB and vcores.
     pub fn use_of(&self, path: &Path<A>) -> Sum<K>
-        requires { IsPlace self.now path.now.items }
+        requires { IsPosition self.now path.now.items }
         ensures { result ≡ used_at path.now.items self.now }
     {
         self.root.get(path.as_slice()).used()
@@ -259,7 +259,7 @@ impl<const K: usize, A: Allocator + Copy> QueueTree<K, A> {
 
     /// What a user uses in the leaf, in MiB and vcores: 0 of each where the user has no row.
     pub fn user_use(&self, path: &Path<A>, user: &ShortText) -> Sum<K>
-        requires { IsPlace self.now path.now.items }
+        requires { IsPosition self.now path.now.items }
         ensures { result ≡ use_of K (user_row_at path.now.items user.now self.now) }
     {
         self.root.get(path.as_slice()).user_use(user)

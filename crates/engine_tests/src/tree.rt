@@ -1,4 +1,4 @@
-ghost use Rattle.cap_tree.specs.Spot.{IsPlace};
+ghost use Rattle.cap_tree.specs.Spot.{IsPosition};
 
 use cap_config::read_config;
 use cap_model::ShortText;
@@ -44,8 +44,8 @@ fn digits(steps: &[u32]) -> usize {
 /// Whether a queue is a leaf, and where it is.
 fn found(tree: &Tree, path: &str) -> Option<(bool, usize)> {
     match tree.find(path.as_bytes()) {
-        Found::Leaf(place) => Some((true, digits(place.as_slice()))),
-        Found::Parent(place) => Some((false, digits(place.as_slice()))),
+        Found::Leaf(position) => Some((true, digits(position.as_slice()))),
+        Found::Parent(position) => Some((false, digits(position.as_slice()))),
         Found::Missing => None,
     }
 }
@@ -71,15 +71,15 @@ fn queues_are_found(rt: HostRuntime) {
     }
 }
 
-fn capacity_at(tree: &Tree, place: &Path<Global>) -> [u64; 2]
-    requires { IsPlace tree.now place.now.items }
+fn capacity_at(tree: &Tree, position: &Path<Global>) -> [u64; 2]
+    requires { IsPosition tree.now position.now.items }
 {
-    tree.row(place).guaranteed().amounts()
+    tree.row(position).guaranteed().amounts()
 }
 
 fn capacity(tree: &Tree, path: &str) -> Option<[u64; 2]> {
     match tree.find(path.as_bytes()) {
-        Found::Leaf(place) | Found::Parent(place) => Some(capacity_at(tree, &place)),
+        Found::Leaf(position) | Found::Parent(position) => Some(capacity_at(tree, &position)),
         Found::Missing => None,
     }
 }
@@ -96,7 +96,7 @@ fn capacities_are_those_of_the_settings(rt: HostRuntime) {
 
 fn set_state(tree: &mut Tree, path: &str, running: bool) {
     match tree.find(path.as_bytes()) {
-        Found::Leaf(place) | Found::Parent(place) => tree.set_state(&place, running),
+        Found::Leaf(position) | Found::Parent(position) => tree.set_state(&position, running),
         Found::Missing => {}
     }
 }
@@ -104,52 +104,52 @@ fn set_state(tree: &mut Tree, path: &str, running: bool) {
 fn enter(tree: &mut Tree, path: &str, user: &str) -> Option<()> {
     let user = ShortText::new(user.as_bytes())?;
     match tree.find(path.as_bytes()) {
-        Found::Leaf(place) if tree.active() < 10 => tree.enter(&place, &user).ok(),
+        Found::Leaf(position) if tree.active() < 10 => tree.enter(&position, &user).ok(),
         _ => None,
     }
 }
 
 /// The user's active applications in a leaf.
-fn active_at(tree: &Tree, place: &Path<Global>, user: &ShortText) -> u64
-    requires { IsPlace tree.now place.now.items }
+fn active_at(tree: &Tree, position: &Path<Global>, user: &ShortText) -> u64
+    requires { IsPosition tree.now position.now.items }
 {
-    tree.row(place).user_active(user)
+    tree.row(position).user_active(user)
 }
 
-fn leave_at(tree: &mut Tree, place: &Path<Global>, user: &ShortText) -> Option<()>
-    requires { IsPlace tree.old place.now.items }
+fn leave_at(tree: &mut Tree, position: &Path<Global>, user: &ShortText) -> Option<()>
+    requires { IsPosition tree.old position.now.items }
 {
-    let active = tree.row(place).user_active(user);
-    let used = tree.user_use(place, user);
+    let active = tree.row(position).user_active(user);
+    let used = tree.user_use(position, user);
     if active == 0 || !used.is_zero() {
         return None;
     }
-    tree.leave(place, user);
+    tree.leave(position, user);
     Some(())
 }
 
 fn leave(tree: &mut Tree, path: &str, user: &str) -> Option<()> {
     let user = ShortText::new(user.as_bytes())?;
     match tree.find(path.as_bytes()) {
-        Found::Leaf(place) => leave_at(tree, &place, &user),
+        Found::Leaf(position) => leave_at(tree, &position, &user),
         _ => None,
     }
 }
 
 fn give_back_at(
     tree: &mut Tree,
-    place: &Path<Global>,
+    position: &Path<Global>,
     user: &ShortText,
     r: &Resource<2>,
 ) -> Option<()>
-    requires { IsPlace tree.old place.now.items }
+    requires { IsPosition tree.old position.now.items }
 {
-    let active = tree.row(place).user_active(user);
-    let used = tree.user_use(place, user);
+    let active = tree.row(position).user_active(user);
+    let used = tree.user_use(position, user);
     if active == 0 || !fits(r, &used) {
         return None;
     }
-    tree.give_back(place, user, r);
+    tree.give_back(position, user, r);
     Some(())
 }
 
@@ -157,28 +157,28 @@ fn give_back(tree: &mut Tree, path: &str, user: &str, r: [u64; 2]) -> Option<()>
     let user = ShortText::new(user.as_bytes())?;
     let r = Resource::new(r)?;
     match tree.find(path.as_bytes()) {
-        Found::Leaf(place) => give_back_at(tree, &place, &user, &r),
+        Found::Leaf(position) => give_back_at(tree, &position, &user, &r),
         _ => None,
     }
 }
 
 fn apply_at(
     tree: &mut Tree,
-    place: &Path<Global>,
+    position: &Path<Global>,
     user: &ShortText,
     old: &Resource<2>,
     new: &Resource<2>,
 ) -> Option<()>
-    requires { IsPlace tree.old place.now.items }
+    requires { IsPosition tree.old position.now.items }
 {
-    let active = tree.row(place).user_active(user);
-    let used = tree.user_use(place, user);
+    let active = tree.row(position).user_active(user);
+    let used = tree.user_use(position, user);
     let all = tree.used();
     if active == 0 || !fits(old, &used) || !fits(old, &all) {
         return None;
     }
     checked_add(&minus(&all, old), new)?;
-    tree.apply(place, user, old, new);
+    tree.apply(position, user, old, new);
     Some(())
 }
 
@@ -186,7 +186,7 @@ fn apply(tree: &mut Tree, path: &str, user: &str, old: [u64; 2], new: [u64; 2]) 
     let user = ShortText::new(user.as_bytes())?;
     let (old, new) = (Resource::new(old)?, Resource::new(new)?);
     match tree.find(path.as_bytes()) {
-        Found::Leaf(place) => apply_at(tree, &place, &user, &old, &new),
+        Found::Leaf(position) => apply_at(tree, &position, &user, &old, &new),
         _ => None,
     }
 }
@@ -212,7 +212,7 @@ fn after(alloc: Global, changes: &[Change]) -> Option<Tree> {
 
 fn runs(tree: &Tree, path: &str) -> Option<bool> {
     match tree.find(path.as_bytes()) {
-        Found::Leaf(place) | Found::Parent(place) => Some(tree.running(&place)),
+        Found::Leaf(position) | Found::Parent(position) => Some(tree.running(&position)),
         Found::Missing => None,
     }
 }
@@ -251,8 +251,8 @@ const ANN_AND_BOB: [Change; 5] = [
 /// How many applications are active in and under a queue, and what they use.
 fn queue_counts(tree: &Tree, path: &str) -> Option<(u64, [u64; 2])> {
     match tree.find(path.as_bytes()) {
-        Found::Leaf(place) | Found::Parent(place) => {
-            Some((tree.row(&place).active(), tree.use_of(&place).amounts()))
+        Found::Leaf(position) | Found::Parent(position) => {
+            Some((tree.row(&position).active(), tree.use_of(&position).amounts()))
         }
         Found::Missing => None,
     }
@@ -287,9 +287,9 @@ fn applications_count_along_the_way(rt: HostRuntime) {
 fn user_counts(tree: &Tree, path: &str, user: &str) -> Option<(u64, [u64; 2])> {
     let user = ShortText::new(user.as_bytes())?;
     match tree.find(path.as_bytes()) {
-        Found::Leaf(place) => Some((
-            active_at(tree, &place, &user),
-            tree.user_use(&place, &user).amounts(),
+        Found::Leaf(position) => Some((
+            active_at(tree, &position, &user),
+            tree.user_use(&position, &user).amounts(),
         )),
         _ => None,
     }
@@ -427,7 +427,7 @@ fn accepts(tree: &Tree, path: &str, old: [u64; 2], new: [u64; 2]) -> Option<Resu
     let user = ShortText::new(b"ann")?;
     let (old, new) = (Resource::new(old)?, Resource::new(new)?);
     match tree.find(path.as_bytes()) {
-        Found::Leaf(place) => Some(tree.accept(&place, &user, &old, &new)),
+        Found::Leaf(position) => Some(tree.accept(&position, &user, &old, &new)),
         _ => None,
     }
 }

@@ -28,7 +28,7 @@ pub fn submit<const K: usize>(
 
 /// Where the leaf queue of this path is; else the first refusal that holds, memory aside.
 fn admit<const K: usize>(cluster: &Cluster<K>, path: &PathText) -> Result<Position, Refusal>
-    ensures place { IfOk result (λ position. IsAt cluster.now.rows path.now position.items) }
+    ensures position { IfOk result (λ position. IsAt cluster.now.rows path.now position.items) }
     ensures ok { IfOk result (λ position. submit_refusal cluster.now.flat path.now ≡ None) }
     ensures err { IfErr result (λ refusal. submit_refusal cluster.now.flat path.now ≡ Some refusal) }
 {

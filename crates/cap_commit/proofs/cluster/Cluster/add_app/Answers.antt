@@ -12,7 +12,7 @@ pub enter-requires : goal.enter-requires
 enter-requires g c =
     let tree = c.deref_mut-tree.ensures.value in
     let few = all_few _ c.self.invariant in
-    let at = rw (← c.self.view_is) at c.requires.place in
+    let at = rw (← c.self.view_is) at c.requires.position in
     (tree_fits _ c.self.invariant.resources, (omega arith, (rw tree at.present, rw tree (omega (arith, few)))))
 
 pub invariant_of-self-in-Err-enter : goal.invariant_of-self-in-Err-enter
@@ -23,7 +23,7 @@ invariant_of-self-in-Err-enter g c =
 pub invariant_of-self-2 : goal.invariant_of-self-2
 invariant_of-self-2 g c =
     let x = c.self.inside in
-    let at = rw (← c.self.view_is) at c.requires.place in
+    let at = rw (← c.self.view_is) at c.requires.position in
     let rows = (rw c.deref_mut-tree.ensures.value at c.in-Ok-enter.ensures.ok) ∙ ap (λ p. map (entered g.row.K p c.args.user.now) x.tree.value) at.path_is in
     let table = c.in-Ok-submit.ensures.table ∙ ap (add_app c.args.path.now c.args.user.now) c.in-Ok.ensures.table in
     let accounts = rw (c.in-Ok.ensures.table, c.in-Ok.ensures.accounts) at c.in-Ok-submit.ensures.accounts in
@@ -33,7 +33,7 @@ invariant_of-self-2 g c =
 pub returns-clause-ok : goal.returns-clause-ok
 returns-clause-ok g c =
     let x = c.self.inside in
-    let at = rw (← c.self.view_is) at c.requires.place in
+    let at = rw (← c.self.view_is) at c.requires.position in
     let rows = (rw c.deref_mut-tree.ensures.value at c.in-Ok-enter.ensures.ok) ∙ ap (λ p. map (entered g.row.K p c.args.user.now) x.tree.value) at.path_is in
     let table = c.in-Ok-submit.ensures.table ∙ ap (add_app c.args.path.now c.args.user.now) c.in-Ok.ensures.table in
     rw (← c.self.view_is) (with_table (record { rows = x.tree.value; limits = x.limits; apps = x.apps; nodes = x.nodes }) c.enter.new.self c.submit.new.self _ (ap queues_of rows ∙ moved_settings g.row.K c.args.path.now c.args.user.now (nothing g.row.K) (one_application g.row.K) x.tree.value) table)

@@ -7,4 +7,4 @@ abbrev pub decreases-find : goal.decreases-find
 decreases-find g l = length l.self.now
 
 abbrev pub invariant-loop-i : goal.invariant-loop-i
-invariant-loop-i g l = record { start : IsStart l.place; none : NoneBefore l.below l.self-inside.children.items l.i }
+invariant-loop-i g l = record { start : IsStart l.position; none : NoneBefore l.below l.self-inside.children.items l.i }

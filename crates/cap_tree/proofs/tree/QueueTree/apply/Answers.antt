@@ -10,10 +10,10 @@ pub change-requires : goal.change-requires
 change-requires g c =
     let rows = c.args.self.now in
     let row = user_row_at c.args.path.now.items c.args.user.now rows in
-    let place = there_holds c.args.user.now c.args.path.now.items rows (MayGive c.args.old.now) (λ h. h) c.requires.may in
+    let position = there_holds c.args.user.now c.args.path.now.items rows (MayGive c.args.old.now) (λ h. h) c.requires.may in
     let fits = subst (λ (part : Count). IsPart part (count_in g.row.K row)) (sym c.use_alone.ensures) (giving_part g.row.K c.args.old.now row c.requires.may) in
     let within : HasRoomAtRoot c.use_alone.result c.use_alone-2.result rows = rw (c.use_alone.ensures, c.use_alone-2.ensures) (room_applying c.args.old.now c.args.new.now rows c.requires.within) in
-    (search rules, (search rules, (search rules, (place, (fits, within)))))
+    (search rules, (search rules, (search rules, (position, (fits, within)))))
 
 pub unreachable-requires : goal.unreachable-requires
 unreachable-requires g c = subst (MayGive c.args.old.now) c.in_default.ensures.absent c.requires.may

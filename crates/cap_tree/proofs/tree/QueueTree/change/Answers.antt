@@ -10,7 +10,7 @@ use Rattle.cap_tree.proofs.tree.QueueTree.change.Goals as goal
 pub change-requires-clause-can : goal.change-requires-clause-can
 change-requires-clause-can g c =
     rw (← c.self.view_is, ← c.as_slice.ensures) at
-    (row_holds c.args.change.now.user.now c.args.path.now.items c.args.self.now (λ row. IsPart c.args.change.now.old (count_in g.row.K row)) c.requires.place c.requires.fits)
+    (row_holds c.args.change.now.user.now c.args.path.now.items c.args.self.now (λ row. IsPart c.args.change.now.old (count_in g.row.K row)) c.requires.position c.requires.fits)
 
 pub change-requires-clause-within : goal.change-requires-clause-within
 change-requires-clause-within g c = rw (← c.self.view_is) at c.requires.within
@@ -29,7 +29,7 @@ returns-clause-ok g c =
     let above = moved_above c.args.change.now.old c.args.change.now.new in
     let at = moved_at g.row.K c.args.change.now.user.now c.args.change.now.old c.args.change.now.new in
     rw (← c.self.view_is, ← c.as_slice.ensures)
-    (c.in-Ok.ensures.changed ∙ changed_rows above at c.as_slice.result.now c.self.inside.root c.self.invariant.rows_are.paths (rw c.as_slice.ensures (rw (← c.self.view_is) at c.requires.place)))
+    (c.in-Ok.ensures.changed ∙ changed_rows above at c.as_slice.result.now c.self.inside.root c.self.invariant.rows_are.paths (rw c.as_slice.ensures (rw (← c.self.view_is) at c.requires.position)))
 
 pub returns-in-Err-clause-absent : goal.returns-in-Err-clause-absent
 returns-in-Err-clause-absent g c =

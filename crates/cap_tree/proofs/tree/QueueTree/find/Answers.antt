@@ -4,7 +4,7 @@ use Rattle.cap_tree.proofs.Finding.{found_at, children_at, missing}
 use Rattle.cap_tree.proofs.tree.QueueTree.find.Goals as goal
 
 pub find-requires : goal.find-requires
-find-requires g c = (search rules, (c.self.invariant.rows_are.short, record { empty = c.new-place.ensures.items; room = c.new-place.ensures.capacity }))
+find-requires g c = (search rules, (c.self.invariant.rows_are.short, record { empty = c.new-position.ensures.items; room = c.new-position.ensures.capacity }))
 
 pub returns-in-None-clause-found : goal.returns-in-None-clause-found
 returns-in-None-clause-found g c = rw (← c.self.view_is) (missing c.self.inside.root c.args.path.now c.in-None.ensures.is)
@@ -24,8 +24,8 @@ returns-in-Some-Parent-clause-found g c =
 pub allocator-requires : goal.allocator-requires
 allocator-requires g c = search rules
 
-pub new-place-requires : goal.new-place-requires
-new-place-requires g c = search rules
+pub new-position-requires : goal.new-position-requires
+new-position-requires g c = search rules
 
 pub returns-in-None-clause-rows : goal.returns-in-None-clause-rows
 returns-in-None-clause-rows g c = rw (← c.self.view_is) c.self.invariant.rows_are

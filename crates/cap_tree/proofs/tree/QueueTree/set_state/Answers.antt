@@ -1,7 +1,7 @@
 use Rattle.std.proofs.Common.{rules, arith, ◌∙◌, sym, subst, inl}
 use Rattle.cap_tree.specs.Queue.{with_running}
 use Rattle.cap_tree.specs.Rows.{AreRows}
-use Rattle.cap_tree.specs.Spot.{path_at, IsPlace}
+use Rattle.cap_tree.specs.Spot.{path_at, IsPosition}
 use Rattle.cap_tree.proofs.Callers.{never_grows}
 use Rattle.cap_tree.proofs.Listings.{state_rows, state_kept}
 use Rattle.cap_tree.proofs.RowPaths.{changed_rows}
@@ -9,12 +9,12 @@ use Rattle.cap_tree.proofs.tree.QueueTree.set_state.Goals as goal
 
 pub invariant_of-self : goal.invariant_of-self
 invariant_of-self g c =
-    let place = c.as_slice.result.now in
-    let there : IsPlace c.self.inside.root place = rw c.as_slice.ensures (rw (← c.self.view_is) at c.requires) in
-    let same = changed_rows (λ x. x) (with_running c.args.running) place c.self.inside.root c.self.invariant.rows_are.paths there in
+    let position = c.as_slice.result.now in
+    let there : IsPosition c.self.inside.root position = rw c.as_slice.ensures (rw (← c.self.view_is) at c.requires) in
+    let same = changed_rows (λ x. x) (with_running c.args.running) position c.self.inside.root c.self.invariant.rows_are.paths there in
     record {
       rows_are = subst AreRows (sym c.in-Ok.ensures.changed)
-          (state_kept c.args.running place (path_at place c.self.inside.root) c.self.inside.root (state_rows c.args.running place (path_at place c.self.inside.root) c.self.inside.root same) c.self.invariant.rows_are);
+          (state_kept c.args.running position (path_at position c.self.inside.root) c.self.inside.root (state_rows c.args.running position (path_at position c.self.inside.root) c.self.inside.root same) c.self.invariant.rows_are);
       start_is = c.self.invariant.start_is;
     }
 
