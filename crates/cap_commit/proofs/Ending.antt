@@ -24,10 +24,10 @@ use Rattle.cap_tree.specs.Measure.{Measure}
 use Rattle.cap_tree.specs.Queue.{MayGive}
 use Rattle.cap_tree.specs.Count.{nothing, use_alone}
 use Rattle.cap_tree.proofs.OneUser.{count_where}
-use Rattle.cap_tree.specs.Rows.{Row, lowered, queues_of, user_row_at}
+use Rattle.cap_tree.specs.Rows.{Row, lowered_row, queues_of, user_row_at}
 use Rattle.cap_asks.specs.Apps.{HeldApps, UsesRoom, live_of, position_of}
 use Rattle.cap_nodes.proofs.Lives.{turned}
-use Rattle.cap_commit.specs.Held.{Parts, IsHeld, IsPlaced, flat_of, of_cluster}
+use Rattle.cap_commit.specs.Held.{Parts, IsHeld, IsInLeaf, flat_of, of_cluster}
 use Rattle.cap_commit.proofs.Counting.{count_positive}
 use Rattle.cap_commit.proofs.Holding.{leaf_same, still_placed}
 use Rattle.cap_commit.proofs.Moving.{HasMoved, gives, may_give, moved_settings, moved_stays, tied_moved}
@@ -98,8 +98,8 @@ module _ {K : ℕ} (p : Parts K) (h : IsHeld p) (number : ℕ) (c : Container) (
         count_positive (of_user_in a.leaf a.user) p.apps.table.active a (found (λ (x : App). x.number == c.app) p.apps.table.active a owner).0
         (rw ((bytes_eq-Decides a.leaf a.leaf).1 refl, (bytes_eq-Decides a.user a.user).1 refl) refl)
 
-    placed : IsPlaced p a
-    placed = each_of (IsPlaced p) p.apps.table.active h.placed a (found (λ (x : App). x.number == c.app) p.apps.table.active a owner).0
+    placed : IsInLeaf p a
+    placed = each_of (IsInLeaf p) p.apps.table.active h.placed a (found (λ (x : App). x.number == c.app) p.apps.table.active a owner).0
 
     abbrev ended : Flat K
     ended = after_ends Cause.Released (c ∷ []) old
@@ -127,9 +127,9 @@ module _ {K : ℕ} (p : Parts K) (h : IsHeld p) (number : ℕ) (c : Container) (
 
     -- after it has ended, and its application is to be told of it
     pub held_ended : (apps' : HeldApps) (nodes' : NodeTable) (n : ℕ) (end : End) → nodes' ≡ complete (c ∷ []) p.nodes → n ≡ c.app → apps'.table ≡ change_app n (λ app. record app { ends = app.ends ++ end ∷ [] }) p.apps.table →
-        UsesRoom n 0 0 1 p.apps.accounts apps'.accounts → IsHeld (record p { rows = map (lowered K a.leaf a.user c.resource) p.rows; apps = apps'; nodes = nodes' })
+        UsesRoom n 0 0 1 p.apps.accounts apps'.accounts → IsHeld (record p { rows = map (lowered_row K a.leaf a.user c.resource) p.rows; apps = apps'; nodes = nodes' })
     held_ended apps' nodes' n end lift same tell room =
-        let q : Parts K = record p { rows = map (lowered K a.leaf a.user c.resource) p.rows; apps = apps'; nodes = nodes' } in
+        let q : Parts K = record p { rows = map (lowered_row K a.leaf a.user c.resource) p.rows; apps = apps'; nodes = nodes' } in
         let f : App → App = λ app. if app.number == n then record app { ends = app.ends ++ end ∷ [] } else app in
         let keeps : KeepsApp f = only_app n (λ app. record app { ends = app.ends ++ end ∷ [] }) (record { number = λ x. refl; leaf = λ x. refl; user = λ x. refl }) in
         let active : apps'.table.active ≡ map f p.apps.table.active = ap (λ (t : AppTable). t.active) tell in
@@ -139,12 +139,12 @@ module _ {K : ℕ} (p : Parts K) (h : IsHeld p) (number : ℕ) (c : Container) (
         record {
           tied = tied_moved old (flat_of q) a.leaf a.user (use_alone c.resource) (nothing K) (less_used (flat_of q) change live (ap (λ (t : NodeTable). t.reserved) lift)) p.rows h.tied;
           placed =
-              of_each (IsPlaced q) apps'.table.active
+              of_each (IsInLeaf q) apps'.table.active
               (λ x m.
               let w = of_map f p.apps.table.active x (subst (λ xs. IsIn x xs) active m) in
               still_placed p q (λ path l. leaf_same old (flat_of q) path settings l)
               (moved_stays K a.leaf a.user (use_alone c.resource) (nothing K) p.rows)
-              x (w.0) (ap (λ (y : App). y.leaf) (sym (w.2)) ∙ keeps.leaf (w.0)) (ap (λ (y : App). y.number) (sym (w.2)) ∙ keeps.number (w.0)) (room.positions (w.0).number) (each_of (IsPlaced p) p.apps.table.active h.placed (w.0) (w.1)));
+              x (w.0) (ap (λ (y : App). y.leaf) (sym (w.2)) ∙ keeps.leaf (w.0)) (ap (λ (y : App). y.number) (sym (w.2)) ∙ keeps.number (w.0)) (room.positions (w.0).number) (each_of (IsInLeaf p) p.apps.table.active h.placed (w.0) (w.1)));
           counted = λ m. (let r = h.counted m in let e = room.live m in let w = count_left nodes' live m in let t : weight (c.app == m) ≡ weight (m == n) = ap weight (turned c.app m) ∙ ap (λ k. weight (m == k)) (sym same) in let z = none_where (m == n) in omega (arith, r, e, w, t, z));
           owned = owned_stands (λ (c : Container). c.app) p.nodes.live nodes'.live old (flat_of q) (change_stands old (flat_of q) change) (λ d i. (of_filter (λ x. not (is_among (c ∷ []) x)) p.nodes.live d (subst (IsIn d) live i)).1) h.owned;
           reserved = owned_stands (λ (r : Reservation). r.app) p.nodes.reserved nodes'.reserved old (flat_of q) (change_stands old (flat_of q) change) (λ r i. subst (IsIn r) (ap (λ (t : NodeTable). t.reserved) lift) i) h.reserved;

@@ -32,11 +32,11 @@ use Rattle.cap_tree.specs.Measure.{Measure}
 use Rattle.cap_tree.specs.Queue.{IsUnused, MayLeave}
 use Rattle.cap_vector.proofs.AmountLemmas.{amount-zeros}
 use Rattle.cap_tree.specs.Count.{nothing, one_application}
-use Rattle.cap_tree.specs.Rows.{Row, IsAt, entered, left, with_state, queues_of, user_row_at}
+use Rattle.cap_tree.specs.Rows.{Row, IsAt, entered_row, left_row, with_state, queues_of, user_row_at}
 use Rattle.cap_tree.proofs.Listings.{any_kept, path_kept, set_running, same_path, state_in_settings}
 use Rattle.cap_asks.specs.Held.{Account, HeldApp}
 use Rattle.cap_asks.specs.Apps.{HeldApps, UsesRoom, IsEntered, IsLeft, account_of, live_of, position_of}
-use Rattle.cap_commit.specs.Held.{Parts, IsHeld, IsPlaced, flat_of, of_cluster}
+use Rattle.cap_commit.specs.Held.{Parts, IsHeld, IsInLeaf, flat_of, of_cluster}
 use Rattle.cap_commit.proofs.Counting.{count_entered, count_without, only_one, unused}
 use Rattle.cap_commit.proofs.Owning.{IsOwned, IsReservedFor, count_for, live_kept, none_left, none_of, none_reserved, owned_after, owned_stands, sites_owned}
 use Rattle.cap_commit.proofs.RowsAt.{row_at, still_at}
@@ -67,7 +67,7 @@ with_table p rows' apps' table e f = λ i. record (flat_of p) { settings = recor
 
 -- an application stays where it is
 pub still_placed : {K : ℕ} (old new : Parts K) → ((path : List ℕ) → IsLeaf (flat_of old) path → IsLeaf (flat_of new) path) → ((path position : List ℕ) → IsAt old.rows path position → IsAt new.rows path position) →
-    (x y : App) → x.leaf ≡ y.leaf → x.number ≡ y.number → position_of y.number new.apps.accounts ≡ position_of y.number old.apps.accounts → IsPlaced old y → IsPlaced new x
+    (x y : App) → x.leaf ≡ y.leaf → x.number ≡ y.number → position_of y.number new.apps.accounts ≡ position_of y.number old.apps.accounts → IsInLeaf old y → IsInLeaf new x
 still_placed old new leaf at x y same number position h = record {
   leaf = rw same (leaf y.leaf h.leaf);
   position = rw (same, number, position) (at y.leaf (position_of y.number old.apps.accounts) h.position);
@@ -80,7 +80,7 @@ module _ {K : ℕ} where
   held_opened p none accounts live reserved first unused l k =
       record {
         tied = unused_tied (flat_of p) p.rows none live reserved unused;
-        placed = of_each (IsPlaced p) p.apps.table.active (λ a m. absurd (subst (λ xs. IsIn a xs) none m));
+        placed = of_each (IsInLeaf p) p.apps.table.active (λ a m. absurd (subst (λ xs. IsIn a xs) none m));
         counted = λ n. ap (live_of n) accounts ∙ sym (ap (count_for n) live);
         owned = of_each (IsOwned (flat_of p)) p.nodes.live (λ c m. absurd (subst (λ xs. IsIn c xs) live m));
         numbers = subst (λ cs. IsRising 1 (numbers_of cs) p.nodes.next_container) (sym live) first;
@@ -104,7 +104,7 @@ module _ {K : ℕ} where
         let q : Parts K = record p { nodes = nodes' } in
         record {
           tied = tied_stays old (flat_of q) (record { counts = λ t. refl; uses = same_use old (flat_of q) (record { live = live; reserved = reserved; apps = λ app node s. refl }) }) p.rows h.tied;
-          placed = of_each (IsPlaced q) p.apps.table.active (λ a m. still_placed p q (λ path l. leaf_same old (flat_of q) path refl l) (λ path at i. i) a a refl refl refl (each_of (IsPlaced p) p.apps.table.active h.placed a m));
+          placed = of_each (IsInLeaf q) p.apps.table.active (λ a m. still_placed p q (λ path l. leaf_same old (flat_of q) path refl l) (λ path at i. i) a a refl refl refl (each_of (IsInLeaf p) p.apps.table.active h.placed a m));
           counted = λ n. h.counted n ∙ sym (ap (count_for n) live);
           owned = owned_stands (λ (c : Container). c.app) p.nodes.live nodes'.live old (flat_of q) (λ n. refl) (λ c i. subst (IsIn c) live i) h.owned;
           reserved = owned_stands (λ (r : Reservation). r.app) p.nodes.reserved nodes'.reserved old (flat_of q) (λ n. refl) (λ r i. subst (IsIn r) reserved i) h.reserved;
@@ -124,11 +124,11 @@ module _ {K : ℕ} where
         record {
           tied = tied_stays old (flat_of q) (record { counts = λ t. ap (count_of t) e ∙ count_changed f k t p.apps.table.active; uses = same_use old (flat_of q) (change_holds old (flat_of q) change refl refl) }) p.rows h.tied;
           placed =
-              of_each (IsPlaced q) apps'.table.active
+              of_each (IsInLeaf q) apps'.table.active
               (λ a m.
               let w = of_map f p.apps.table.active a (subst (λ xs. IsIn a xs) e m) in
               still_placed p q (λ path l. leaf_same old (flat_of q) path refl l) (λ path at i. i) a (w.0) (ap (λ (x : App). x.leaf) (sym (w.2)) ∙ k.leaf (w.0)) (ap (λ (x : App). x.number) (sym (w.2)) ∙ k.number (w.0)) (positions (w.0).number)
-              (each_of (IsPlaced p) p.apps.table.active h.placed (w.0) (w.1)));
+              (each_of (IsInLeaf p) p.apps.table.active h.placed (w.0) (w.1)));
           counted = λ n. live n ∙ h.counted n;
           owned = owned_stands (λ (c : Container). c.app) p.nodes.live p.nodes.live old (flat_of q) (change_stands old (flat_of q) change) (λ c i. i) h.owned;
           reserved = owned_stands (λ (r : Reservation). r.app) p.nodes.reserved p.nodes.reserved old (flat_of q) (change_stands old (flat_of q) change) (λ r i. i) h.reserved;
@@ -163,11 +163,11 @@ module _ {K : ℕ} where
         record {
           tied = tied_stays old (flat_of q) (record { counts = λ t. refl; uses = same_use old (flat_of q) (record { live = refl; reserved = refl; apps = λ app node s. refl }) }) q.rows (tied_state old path running p.rows h.tied);
           placed =
-              of_each (IsPlaced q) p.apps.table.active
+              of_each (IsInLeaf q) p.apps.table.active
               (λ a m.
               still_placed p q (λ x l. leaf_kept (set_running path running) (Rattle.cap_tree.proofs.Listings.same_path path running) old (flat_of q) x (state_in_settings path running p.rows) l)
               (λ x position at. still_at (with_state path running) (λ r. kept_if (bytes_eq r.path path) (λ (x : Row). x.position) _ r refl) (λ r. kept_if (bytes_eq r.path path) (λ (x : Row). x.path) _ r refl) p.rows x position at) a a refl refl refl
-              (each_of (IsPlaced p) p.apps.table.active h.placed a m));
+              (each_of (IsInLeaf p) p.apps.table.active h.placed a m));
           counted = h.counted;
           owned = owned_stands (λ (c : Container). c.app) p.nodes.live p.nodes.live old (flat_of q) (λ n. refl) (λ c i. i) h.owned;
           reserved = owned_stands (λ (r : Reservation). r.app) p.nodes.reserved p.nodes.reserved old (flat_of q) (λ n. refl) (λ r i. i) h.reserved;
@@ -178,11 +178,11 @@ module _ {K : ℕ} where
           resources = h.resources;
         }
 
-    -- after an application has entered
+    -- after an application has entered_row
     pub held_entered : (leaf user position : List ℕ) (apps' : HeldApps) → IsRising 1 (map (λ (x : App). x.number) p.apps.table.active) p.apps.table.next → submit_refusal old leaf ≡ None → IsAt p.rows leaf position → apps'.table ≡ add_app leaf user p.apps.table → IsEntered p.apps.table.next position p.apps.accounts apps'.accounts →
-        IsHeld (record p { rows = map (entered K leaf user) p.rows; apps = apps' })
+        IsHeld (record p { rows = map (entered_row K leaf user) p.rows; apps = apps' })
     held_entered leaf user position apps' rising unrefused at e accounts =
-        let q : Parts K = record p { rows = map (entered K leaf user) p.rows; apps = apps' } in
+        let q : Parts K = record p { rows = map (entered_row K leaf user) p.rows; apps = apps' } in
         let n = p.apps.table.next in
         let a : App = new_app n leaf user in
         let active : apps'.table.active ≡ p.apps.table.active ++ a ∷ [] = ap (λ (t : AppTable). t.active) e in
@@ -194,12 +194,12 @@ module _ {K : ℕ} where
         record {
           tied = tied_moved old (flat_of q) leaf user (nothing K) (one_application K) (enters old (flat_of q) leaf user (record { counts = λ t. ap (count_of t) active ∙ count_entered t p.apps.table.active a; uses = same_use old (flat_of q) (coming_holds old (flat_of q) a active owners refl refl) })) p.rows h.tied;
           placed =
-              of_each (IsPlaced q) apps'.table.active
+              of_each (IsInLeaf q) apps'.table.active
               (λ x m. elim (in_either x p.apps.table.active (a ∷ []) (subst (λ xs. IsIn x xs) active m)) [
                 | inl there ↦
-                    let was = each_of (IsPlaced p) p.apps.table.active h.placed x there in
+                    let was = each_of (IsInLeaf p) p.apps.table.active h.placed x there in
                     still_placed p q (λ path l. leaf_same old (flat_of q) path same l) stays x x refl refl (at_other x there) was
-                | inr (inl is) ↦ subst (IsPlaced q) is (record { leaf = leaf_same old (flat_of q) leaf same (unrefused_leaf old leaf unrefused); position = subst (IsAt q.rows leaf) (sym own) (stays leaf position at) })
+                | inr (inl is) ↦ subst (IsInLeaf q) is (record { leaf = leaf_same old (flat_of q) leaf same (unrefused_leaf old leaf unrefused); position = subst (IsAt q.rows leaf) (sym own) (stays leaf position at) })
                 | inr (inr none) ↦ absurd none
               ]);
           counted = λ m. live_entered (m == n) m refl;
@@ -231,8 +231,8 @@ module _ {K : ℕ} where
             ∙ h.counted next)
 
     -- an application that is active is in a leaf, whose position it knows
-    pub placed_at : (n : ℕ) (a : App) → find (λ (x : App). x.number == n) p.apps.table.active ≡ Some a → IsPlaced p a
-    placed_at n a e = each_of (IsPlaced p) p.apps.table.active h.placed a (found (λ (x : App). x.number == n) p.apps.table.active a e).0
+    pub placed_at : (n : ℕ) (a : App) → find (λ (x : App). x.number == n) p.apps.table.active ≡ Some a → IsInLeaf p a
+    placed_at n a e = each_of (IsInLeaf p) p.apps.table.active h.placed a (found (λ (x : App). x.number == n) p.apps.table.active a e).0
 
     pub position_is : (n : ℕ) (x : HeldApp) → Some x.app ≡ find (λ (y : App). y.number == n) p.apps.table.active → Some x.account ≡ account_of n p.apps.accounts → x.account.position ≡ position_of x.app.number p.apps.accounts
     position_is n x e f =
@@ -286,10 +286,10 @@ module _ {K : ℕ} where
           let at = row_at p.rows a.leaf (position_of a.number p.apps.accounts) (placed_at n a found_it).position in
           may_leave old without_it a.leaf a.user (one_application K) (nothing K) (leaves without_it old a.leaf a.user one_less) some_active p.rows h.tied (position_of a.number p.apps.accounts) at.row at.member at.path_is at.item_is spent
 
-      -- after it has left
-      pub held_left : (apps' : HeldApps) → apps'.table ≡ remove_app n p.apps.table → IsLeft n p.apps.accounts apps'.accounts → IsHeld (record p { rows = map (left K a.leaf a.user) p.rows; apps = apps' })
+      -- after it has left_row
+      pub held_left : (apps' : HeldApps) → apps'.table ≡ remove_app n p.apps.table → IsLeft n p.apps.accounts apps'.accounts → IsHeld (record p { rows = map (left_row K a.leaf a.user) p.rows; apps = apps' })
       held_left apps' e accounts =
-          let q : Parts K = record p { rows = map (left K a.leaf a.user) p.rows; apps = apps' } in
+          let q : Parts K = record p { rows = map (left_row K a.leaf a.user) p.rows; apps = apps' } in
           let active : apps'.table.active ≡ filter (λ (x : App). not (x.number == n)) p.apps.table.active = ap (λ (t : AppTable). t.active) e in
           let same : (flat_of q).settings.queues ≡ old.settings.queues = moved_settings K a.leaf a.user (one_application K) (nothing K) p.rows in
           let remains : (k : ℕ) → k == n ≡ false → IsSome (app_at old k) → IsSome (app_at (flat_of q) k) = λ k other there. subst IsSome (sym (ap (find (λ (x : App). x.number == k)) active ∙ find_others (λ (x : App). x.number) n k (turned k n other) p.apps.table.active)) there in
@@ -297,13 +297,13 @@ module _ {K : ℕ} where
           record {
             tied = tied_stays without_it (flat_of q) (record { counts = λ t. ap (count_of t) active; uses = same_use without_it (flat_of q) stays }) q.rows (tied_moved old without_it a.leaf a.user (one_application K) (nothing K) (leaves without_it old a.leaf a.user one_less) p.rows h.tied);
             placed =
-                of_each (IsPlaced q) apps'.table.active
+                of_each (IsInLeaf q) apps'.table.active
                 (λ x m.
                 let there = of_filter (λ (y : App). not (y.number == n)) p.apps.table.active x (subst (λ xs. IsIn x xs) active m) in
                 still_placed p q (λ path l. leaf_same old (flat_of q) path same l)
                 (moved_stays K a.leaf a.user (one_application K) (nothing K) p.rows) x x refl refl
                 (ap (λ r. option_map_or (λ (c : Account). c.position) r []) (accounts.others x.number (not-true (x.number == n) there.0)))
-                (each_of (IsPlaced p) p.apps.table.active h.placed x there.1));
+                (each_of (IsInLeaf p) p.apps.table.active h.placed x there.1));
             counted = λ m. live_left (m == n) m refl;
             owned = of_each (IsOwned (flat_of q)) p.nodes.live (λ c m. remains c.app (none_of n p.nodes.live none_live c m) (each_of (IsOwned old) p.nodes.live h.owned c m));
             reserved = of_each (IsReservedFor (flat_of q)) p.nodes.reserved (λ r m. remains r.app (none_reserved n p.nodes.reserved bare r m) (each_of (IsReservedFor old) p.nodes.reserved h.reserved r m));

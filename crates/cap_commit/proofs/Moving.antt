@@ -18,7 +18,7 @@ use Rattle.cap_tree.specs.Spot.{item_at}
 use Rattle.cap_tree.specs.Count.{Count, IsPart, count_moved, of_count, nothing, one_application, use_alone}
 use Rattle.cap_tree.specs.Queue.{Queue, UserRow, MayGive, MayLeave, count_in, moved_above, moved_at, of_one, of_user, user_count, user_row}
 use Rattle.cap_tree.specs.QueueLaws.{nothing_counts}
-use Rattle.cap_tree.specs.Rows.{Row, IsAt, moved, queues_of, user_row_at}
+use Rattle.cap_tree.specs.Rows.{Row, IsAt, moved_row, queues_of, user_row_at}
 use Rattle.cap_tree.proofs.Listings.{settings_stay}
 use Rattle.cap_model.proofs.paths.Paths.{under_itself}
 use Rattle.cap_tree.proofs.OneUser.{count_where, moved_own, moved_single, none_there, single_row, some_row}
@@ -38,7 +38,7 @@ pub record HasMoved {K : ℕ} (before after : Flat K) (leaf user : List ℕ) (ol
   pub short : length new.used ≡ K
 
 -- a move keeps the settings
-pub moved_settings : (K : ℕ) (leaf user : List ℕ) (old new : Count) (rows : List Row) → queues_of (map (moved K leaf user old new) rows) ≡ queues_of rows
+pub moved_settings : (K : ℕ) (leaf user : List ℕ) (old new : Count) (rows : List Row) → queues_of (map (moved_row K leaf user old new) rows) ≡ queues_of rows
 moved_settings K leaf user old new rows = settings_stay (moved_above old new) (moved_at K user old new) (λ r. refl) (λ r. refl) leaf rows
 
 -- a leaf is under itself
@@ -105,8 +105,8 @@ module _ {K : ℕ} (before after : Flat K) (leaf user : List ℕ) (old new : Cou
       let own = own_count K user r.item.users m (t.single user) in
       omega (arith, f, o, u, is, own)
 
-  moved_row : (r : Row) → IsRowOf before r → IsRowOf after (moved K leaf user old new r)
-  moved_row r t =
+  row_moves : (r : Row) → IsRowOf before r → IsRowOf after (moved_row K leaf user old new r)
+  row_moves r t =
       changed_row (moved_above old new) (moved_at K user old new) leaf (IsRowOf after) r
       (λ e. record {
         active = ap (λ n. (n - old.active) + new.active) t.active ∙ sym (count_there (in_queue r.path) Measure.active (under_it leaf r.path e));
@@ -127,8 +127,8 @@ module _ {K : ℕ} (before after : Flat K) (leaf user : List ℕ) (old new : Cou
         single = t.single;
       })
 
-  pub tied_moved : (rows : List Row) → All (IsRowOf before) rows → All (IsRowOf after) (map (moved K leaf user old new) rows)
-  tied_moved rows a = changed_rows (moved_above old new) (moved_at K user old new) leaf (IsRowOf before) (IsRowOf after) rows moved_row a
+  pub tied_moved : (rows : List Row) → All (IsRowOf before) rows → All (IsRowOf after) (map (moved_row K leaf user old new) rows)
+  tied_moved rows a = changed_rows (moved_above old new) (moved_at K user old new) leaf (IsRowOf before) (IsRowOf after) rows row_moves a
 
   -- the row of the user, where the user has an application in the leaf
   pub record IsRowOfUser (r : Row) : Type 0 where
@@ -173,9 +173,9 @@ module _ {K : ℕ} (before after : Flat K) (leaf user : List ℕ) (old new : Cou
         subst MayLeave (sym at_position) (omega (arith, a, some), λ one k. it.counts (Measure.uses k) ∙ spent k (sym a ∙ one))
 
 -- each queue is where it was
-pub moved_stays : (K : ℕ) (leaf user : List ℕ) (old new : Count) (rows : List Row) (path position : List ℕ) → IsAt rows path position → IsAt (map (moved K leaf user old new) rows) path position
+pub moved_stays : (K : ℕ) (leaf user : List ℕ) (old new : Count) (rows : List Row) (path position : List ℕ) → IsAt rows path position → IsAt (map (moved_row K leaf user old new) rows) path position
 moved_stays K leaf user old new rows path position at =
-    still_at (moved K leaf user old new) (λ r. changed_position (moved_above old new) (moved_at K user old new) leaf r) (λ r. changed_path (moved_above old new) (moved_at K user old new) leaf r) rows path position at
+    still_at (moved_row K leaf user old new) (λ r. changed_position (moved_above old new) (moved_at K user old new) leaf r) (λ r. changed_path (moved_above old new) (moved_at K user old new) leaf r) rows path position at
 
 -- the second cluster has one application more, of a user in a leaf, and nothing else is counted in another way
 pub record HasOneMore {K : ℕ} (fewer more : Flat K) (leaf user : List ℕ) : Type 0 where

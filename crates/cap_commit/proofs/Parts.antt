@@ -8,7 +8,7 @@ use Rattle.cap_model.specs.Flat.{Flat, App, AppTable, Reservation, queue_at, is_
 use Rattle.cap_model.specs.Uses.{queue_use}
 use Rattle.cap_model.specs.Submit.{has_children, is_running}
 use Rattle.cap_model.specs.QueueCalls.{queue_report}
-use Rattle.cap_model.specs.Asking.{after_ask, rounded, keep_first, put_ask, reservations_left}
+use Rattle.cap_model.specs.Asking.{after_ask, rounded_ask, keep_first, put_ask, reservations_left}
 use Rattle.std.specs.Option.{option_map_or}
 use Rattle.cap_model.specs.Allocate.{after_telling}
 use Rattle.cap_model.specs.Bounds.{IsRising}
@@ -26,8 +26,8 @@ pub report_is : {K : ℕ} (cluster : Flat K) (path : List ℕ) (q : QueueRow) (r
 report_is cluster path q running below guaranteed maximum used applications found a b c d e f = rw (found, a, b, c, d, e, f) refl
 
 -- an ask is put, where the reservations that it does not leave were dropped before
-pub ask_put : {K : ℕ} (old dropped : Flat K) (table' : AppTable) (n : ℕ) (ask kept : Ask) → kept ≡ rounded K old.settings ask → dropped ≡ with_reserved (kept_by_ask n kept old) old →
-    table' ≡ change_app n (λ app. record app { asks = put_ask kept app.asks }) dropped.apps → record dropped { apps = table' } ≡ after_ask n old (rounded K old.settings ask)
+pub ask_put : {K : ℕ} (old dropped : Flat K) (table' : AppTable) (n : ℕ) (ask kept : Ask) → kept ≡ rounded_ask K old.settings ask → dropped ≡ with_reserved (kept_by_ask n kept old) old →
+    table' ≡ change_app n (λ app. record app { asks = put_ask kept app.asks }) dropped.apps → record dropped { apps = table' } ≡ after_ask n old (rounded_ask K old.settings ask)
 ask_put {K} old dropped table' n ask kept is drops put =
     ap (λ t. record dropped { apps = t }) put
     ∙ ap (λ (f : Flat K). record f { apps = change_app n (λ app. record app { asks = put_ask kept app.asks }) f.apps }) drops

@@ -14,9 +14,9 @@ use Rattle.cap_tree.specs.Measure.{Measure}
 use Rattle.cap_tree.specs.Queue.{MayGive}
 use Rattle.cap_tree.specs.Count.{nothing, use_alone}
 use Rattle.cap_tree.proofs.OneUser.{count_where}
-use Rattle.cap_tree.specs.Rows.{Row, lowered, queues_of, user_row_at}
+use Rattle.cap_tree.specs.Rows.{Row, lowered_row, queues_of, user_row_at}
 use Rattle.cap_asks.specs.Apps.{position_of}
-use Rattle.cap_commit.specs.Held.{Parts, IsHeld, IsPlaced, flat_of, of_cluster}
+use Rattle.cap_commit.specs.Held.{Parts, IsHeld, IsInLeaf, flat_of, of_cluster}
 use Rattle.cap_commit.proofs.Counting.{count_positive}
 use Rattle.cap_commit.proofs.Holding.{leaf_same, still_placed}
 use Rattle.cap_commit.proofs.Moving.{HasMoved, gives, may_give, moved_settings, moved_stays, tied_moved}
@@ -60,8 +60,8 @@ module _ {K : ℕ} (p : Parts K) (h : IsHeld p) (i : ℕ) (r : Reservation) (bel
         count_positive (of_user_in a.leaf a.user) p.apps.table.active a (found (λ (x : App). x.number == r.app) p.apps.table.active a owner).0
         (rw ((bytes_eq-Decides a.leaf a.leaf).1 refl, (bytes_eq-Decides a.user a.user).1 refl) refl)
 
-    placed : IsPlaced p a
-    placed = each_of (IsPlaced p) p.apps.table.active h.placed a (found (λ (x : App). x.number == r.app) p.apps.table.active a owner).0
+    placed : IsInLeaf p a
+    placed = each_of (IsInLeaf p) p.apps.table.active h.placed a (found (λ (x : App). x.number == r.app) p.apps.table.active a owner).0
 
     -- what is used after it was dropped, whatever the settings
     less_used : (settings : Settings) → HasMoved old (record dropped { settings = settings }) a.leaf a.user (use_alone r.resource) (nothing K)
@@ -81,11 +81,11 @@ module _ {K : ℕ} (p : Parts K) (h : IsHeld p) (i : ℕ) (r : Reservation) (bel
         may_give old dropped a.leaf a.user (use_alone r.resource) (nothing K) (less_used old.settings) some_active p.rows h.tied (position_of a.number p.apps.accounts) row.row row.member row.path_is row.item_is
 
     -- after it was dropped
-    pub held_dropped : (nodes' : NodeTable) → nodes' ≡ record p.nodes { reserved = remove p.nodes.reserved i } → IsHeld (record p { rows = map (lowered K a.leaf a.user r.resource) p.rows; nodes = nodes' })
-    held_dropped nodes' is = subst (λ (t : NodeTable). IsHeld (record p { rows = map (lowered K a.leaf a.user r.resource) p.rows; nodes = t })) (sym is) here
+    pub held_dropped : (nodes' : NodeTable) → nodes' ≡ record p.nodes { reserved = remove p.nodes.reserved i } → IsHeld (record p { rows = map (lowered_row K a.leaf a.user r.resource) p.rows; nodes = nodes' })
+    held_dropped nodes' is = subst (λ (t : NodeTable). IsHeld (record p { rows = map (lowered_row K a.leaf a.user r.resource) p.rows; nodes = t })) (sym is) here
       where
         q : Parts K
-        q = record p { rows = map (lowered K a.leaf a.user r.resource) p.rows; nodes = record p.nodes { reserved = remove p.nodes.reserved i } }
+        q = record p { rows = map (lowered_row K a.leaf a.user r.resource) p.rows; nodes = record p.nodes { reserved = remove p.nodes.reserved i } }
 
         settings : (flat_of q).settings.queues ≡ old.settings.queues
         settings = moved_settings K a.leaf a.user (use_alone r.resource) (nothing K) p.rows
@@ -94,8 +94,8 @@ module _ {K : ℕ} (p : Parts K) (h : IsHeld p) (i : ℕ) (r : Reservation) (bel
         here = record {
           tied = tied_moved old (flat_of q) a.leaf a.user (use_alone r.resource) (nothing K) (less_used (flat_of q).settings) p.rows h.tied;
           placed =
-              of_each (IsPlaced q) p.apps.table.active
-              (λ x m. still_placed p q (λ path l. leaf_same old (flat_of q) path settings l) (moved_stays K a.leaf a.user (use_alone r.resource) (nothing K) p.rows) x x refl refl refl (each_of (IsPlaced p) p.apps.table.active h.placed x m));
+              of_each (IsInLeaf q) p.apps.table.active
+              (λ x m. still_placed p q (λ path l. leaf_same old (flat_of q) path settings l) (moved_stays K a.leaf a.user (use_alone r.resource) (nothing K) p.rows) x x refl refl refl (each_of (IsInLeaf p) p.apps.table.active h.placed x m));
           counted = h.counted;
           owned = h.owned;
           reserved = owned_stands (λ (x : Reservation). x.app) p.nodes.reserved (remove p.nodes.reserved i) old (flat_of q) (λ n. refl) (λ x m. in_removed p.nodes.reserved i x m) h.reserved;

@@ -62,7 +62,7 @@ module _ {K : ℕ} where
   live_for n cluster = count_by (λ c. c.app == n) cluster.nodes.live
 
   -- an application is in a leaf, whose position it knows
-  pub record IsPlaced (p : Parts K) (app : App) : Type 0 where
+  pub record IsInLeaf (p : Parts K) (app : App) : Type 0 where
     pub leaf : IsLeaf (flat_of p) app.leaf
     pub position : IsAt p.rows app.leaf (position_of app.number p.apps.accounts)
 
@@ -71,7 +71,7 @@ module _ {K : ℕ} where
   -- distinct; no more than allowed of each
   pub record IsHeld (p : Parts K) : Type 0 where
     pub tied : All (IsRowOf (flat_of p)) p.rows
-    pub placed : All (IsPlaced p) p.apps.table.active
+    pub placed : All (IsInLeaf p) p.apps.table.active
     pub counted : (n : ℕ) → live_of n p.apps.accounts ≡ live_for n (flat_of p)
     pub owned : All (λ c. IsSome (app_at (flat_of p) c.app)) p.nodes.live
     pub reserved : All (λ r. IsSome (app_at (flat_of p) r.app)) p.nodes.reserved

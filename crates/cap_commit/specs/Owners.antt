@@ -12,8 +12,8 @@ owns (Node number) = λ c. c.node == number
 
 module _ {K : ℕ} where
   -- an owner's live containers, and those of them that some numbers name, one after the other
-  abbrev pub owned : Owner → Flat K → List Container
-  owned owner cluster = filter (owns owner) cluster.nodes.live
+  abbrev pub containers_owned : Owner → Flat K → List Container
+  containers_owned owner cluster = filter (owns owner) cluster.nodes.live
 
-  abbrev pub named : Owner → List ℕ → Flat K → List Container
-  named owner numbers cluster = named_among numbers (owned owner cluster)
+  abbrev pub containers_named : Owner → List ℕ → Flat K → List Container
+  containers_named owner numbers cluster = named_among numbers (containers_owned owner cluster)

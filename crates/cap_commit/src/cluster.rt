@@ -1,13 +1,13 @@
 ghost use Rattle.std.specs.Prelude.{◌≡◌, ◌≤◌, ◌+◌, ◌==◌, ◌&&◌, ◌∷◌, [], Some, None, IfOk, OnOk, OnErr, IsOk, IfSome, IsSome, is_some, length, find, nat_lt, ◌<◌, option_map, option_and_then};
 ghost use Rattle.std.specs.List.{All, remove};
 ghost use Rattle.cap_model.specs.Limits.{applications_max, resources_max};
-ghost use Rattle.cap_model.specs.Flat.{opened, queue_at, app_at, node_at, with_app, with_node, with_reserved, containers_on, containers_of};
+ghost use Rattle.cap_model.specs.Flat.{opened_cluster, queue_at, app_at, node_at, with_app, with_node, with_reserved, containers_on, containers_of};
 ghost use Rattle.cap_model.specs.Uses.{queue_use};
 ghost use Rattle.cap_model.specs.Submit.{submit_refusal, after_submit};
 ghost use Rattle.cap_model.specs.RegisterNode.{register_node_refusal, after_register_node};
 ghost use Rattle.cap_model.specs.RegisterMaster.{after_register_master};
 ghost use Rattle.cap_model.specs.QueueCalls.{after_set_queue_state, queue_report, root_path};
-ghost use Rattle.cap_model.specs.Asking.{after_ask, rounded};
+ghost use Rattle.cap_model.specs.Asking.{after_ask, rounded_ask};
 ghost use Rattle.cap_model.specs.Allocate.{after_telling};
 ghost use Rattle.cap_model.specs.Ending.{after_ends};
 ghost use Rattle.cap_model.specs.FinishMaster.{after_finish_master};
@@ -20,7 +20,7 @@ ghost use Rattle.cap_asks.specs.Held.{numbers_of};
 ghost use Rattle.cap_nodes.specs.Tables.{beaten};
 ghost use Rattle.cap_commit.specs.Held.{IsRowOf};
 ghost use Rattle.cap_commit.specs.Reservations.{kept_by_ask};
-ghost use Rattle.cap_commit.specs.Owners.{owns, owned, named};
+ghost use Rattle.cap_commit.specs.Owners.{owns, containers_owned, containers_named};
 
 use crate::limits::Limits;
 use crate::owner::Owner;
@@ -58,7 +58,7 @@ impl<const K: usize> Model for Cluster<K> {
 impl<const K: usize> Cluster<K> {
     /// The cluster that settings open: their queues and limits, and nothing else.
     pub fn from_config(alloc: Global, config: &Config<K>) -> Result<Cluster<K>, NoMemory>
-        ensures { IfOk result (λ cluster. cluster.flat ≡ opened config.now) }
+        ensures { IfOk result (λ cluster. cluster.flat ≡ opened_cluster config.now) }
     {
         let application_limit = config.application_limit();
         let tree = match QueueTree::from_config(alloc, config) {
@@ -217,11 +217,11 @@ impl<const K: usize> Cluster<K> {
         self.apps.room(number, asks, grants, ends)
     }
 
-    /// Puts an ask of an active application, rounded, in position of the one of its key; a count of 0 takes the key away. It needs room
+    /// Puts an ask of an active application, rounded_ask, in position of the one of its key; a count of 0 takes the key away. It needs room
     /// that `room` made.
     pub fn put_ask(&mut self, number: u64, ask: &Ask<K>)
         requires { 1 ≤ ask_room number self.old.accounts }
-        ensures flat { self.new.flat ≡ after_ask number self.old.flat (rounded K self.old.flat.settings ask.now) }
+        ensures flat { self.new.flat ≡ after_ask number self.old.flat (rounded_ask K self.old.flat.settings ask.now) }
         ensures room { UsesRoom number 1 0 0 self.old.accounts self.new.accounts }
     {
         let resource = round_up(
@@ -234,7 +234,7 @@ impl<const K: usize> Cluster<K> {
         self.apps.put_ask(number, &ask);
     }
 
-    /// Drops the reservations of its key that an ask of an application, already rounded, does not leave.
+    /// Drops the reservations of its key that an ask of an application, already rounded_ask, does not leave.
     fn drop_unwanted(&mut self, number: u64, ask: &Ask<K>)
         ensures flat { self.new.flat ≡ with_reserved (kept_by_ask number ask.now self.old.flat) self.old.flat }
         ensures accounts { self.new.accounts ≡ self.old.accounts }
@@ -278,9 +278,9 @@ impl<const K: usize> Cluster<K> {
     /// Ends all live containers of an owner, in order of number, for this cause, of which their applications are to be told. The
     /// result is how many ended.
     pub fn end_all(&mut self, owner: Owner, cause: Cause) -> u32
-        ensures count { result ≡ length (owned owner self.old.flat) }
-        ensures ended { self.new.flat ≡ after_ends cause (owned owner self.old.flat) self.old.flat }
-        ensures none { owned owner self.new.flat ≡ [] }
+        ensures count { result ≡ length (containers_owned owner self.old.flat) }
+        ensures ended { self.new.flat ≡ after_ends cause (containers_owned owner self.old.flat) self.old.flat }
+        ensures none { containers_owned owner self.new.flat ≡ [] }
     {
         let _ = &self.nodes;
         let mut ended = 0;
@@ -295,11 +295,11 @@ impl<const K: usize> Cluster<K> {
 
     /// Ends the live containers of an owner that the numbers name, one after the other, for this cause, of which their applications
     /// are to be told. The result is how many of the numbers name none: one that is not live, another owner's, or one that an earlier
-    /// number named.
+    /// number containers_named.
     pub fn end_named(&mut self, owner: Owner, numbers: &[u64], cause: Cause) -> u16
         requires { length numbers.now ≤ 1024 }
-        ensures ended { self.new.flat ≡ after_ends cause (named owner numbers.now self.old.flat) self.old.flat }
-        ensures ignored { result + length (named owner numbers.now self.old.flat) ≡ length numbers.now }
+        ensures ended { self.new.flat ≡ after_ends cause (containers_named owner numbers.now self.old.flat) self.old.flat }
+        ensures ignored { result + length (containers_named owner numbers.now self.old.flat) ≡ length numbers.now }
     {
         let _ = &self.nodes;
         let mut ignored = 0;
@@ -372,7 +372,7 @@ impl<const K: usize> Cluster<K> {
         self.nodes.register(host, rack, total)
     }
 
-    /// A present node has answered a heartbeat, in which so many named containers were not live there, and keeps the reply, which is
+    /// A present node has answered a heartbeat, in which so many containers_named containers were not live there, and keeps the reply, which is
     /// the result.
     pub fn beat(&mut self, number: u64, ignored: u16) -> HeartbeatReply
         requires { IsSome (node_at self.old.flat number) }

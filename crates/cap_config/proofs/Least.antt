@@ -11,7 +11,7 @@ use Rattle.cap_config.specs.Queues.{is_queue, leads_to_root, above, names_below,
 use Rattle.cap_config.specs.Tests.{too_deep_line, level}
 use Rattle.cap_config.specs.Entries.{read_lines}
 use Rattle.cap_config.specs.Bounds.{are_bounded}
-use Rattle.cap_config.specs.Laws.{IsTree}
+use Rattle.cap_config.specs.Laws.{HasListed}
 use Rattle.cap_config.proofs.Above.{parent_is, no_parent}
 use Rattle.cap_config.proofs.Trees.{queue_at_top}
 use Rattle.cap_config.proofs.Kept.{lines_kept}
@@ -61,7 +61,7 @@ unfolding root above
 root_is entries = refl
 
 pub least_tree : (text : List ℕ) (entries : List Entry) → read_lines (lines text) ≡ Ok entries →
-    IsTree entries (is_queue entries) × ((has : List ℕ → Bool) → IsTree entries has → (path : List ℕ) → is_queue entries path ≡ true → has path ≡ true)
+    HasListed entries (is_queue entries) × ((has : List ℕ → Bool) → HasListed entries has → (path : List ℕ) → is_queue entries path ≡ true → has path ≡ true)
 least_tree text entries is =
     let all = lines_kept (lines text) entries is in (
       record { top = root_is entries; below = λ path name h in_list. listed_is entries path name all h in_list },

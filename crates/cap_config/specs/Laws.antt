@@ -16,7 +16,7 @@ abbrev pub HasOneAnswer : Type 0
 HasOneAnswer = (text : List ℕ) → (first_fault text ≡ None) ↔ IsSome (settings_in text)
 
 -- a set of paths has `root`, and the queues that its members list
-pub record IsTree (entries : List Entry) (has : List ℕ → Bool) : Type 0 where
+pub record HasListed (entries : List Entry) (has : List ℕ → Bool) : Type 0 where
   pub top : has root ≡ true
   pub below : (path name : List ℕ) → has path ≡ true → is_among (names_below entries path) name ≡ true → has (child path name) ≡ true
 
@@ -24,7 +24,7 @@ pub record IsTree (entries : List Entry) (has : List ℕ → Bool) : Type 0 wher
 abbrev pub QueuesAreLeast : Type 0
 QueuesAreLeast =
     (text : List ℕ) (entries : List Entry) → read_lines (lines text) ≡ Ok entries →
-    IsTree entries (is_queue entries) × ((has : List ℕ → Bool) → IsTree entries has → (path : List ℕ) → is_queue entries path ≡ true → has path ≡ true)
+    HasListed entries (is_queue entries) × ((has : List ℕ → Bool) → HasListed entries has → (path : List ℕ) → is_queue entries path ≡ true → has path ≡ true)
 
 -- in a text with no fault no queue is below level 16, that of `root` being 1
 abbrev pub QueuesAreNotTooDeep : Type 0

@@ -12,7 +12,7 @@ use Rattle.cap_text.proofs.Digits.{number_digits}
 use Rattle.cap_daemon.specs.declared.command.Command.{Command}
 use Rattle.cap_daemon.specs.declared.command.Command.TheVariants.{Nothing, Conf, Open, Bytes, End}
 use denote.Ref.{Bor}
-use Rattle.cap_daemon.specs.Script.{IsNumber, IsCommand, IsPiece, IsOpeningLine, IsLaterLine, IsStep, MayOpen, MayFollow, MayStep}
+use Rattle.cap_daemon.specs.Script.{IsNumber, IsCommand, IsPiece, IsOpeningLine, IsLaterLine, IsStep, MayOpen, IsStepOrComment, MayStep}
 
 -- digits have no blank
 digits_no_blank : (digits : List ℕ) → list_all is_digit digits ≡ true → lacks 32 digits ≡ true
@@ -96,7 +96,7 @@ step_never_opens line step = no_opening_by line step.0 step.1 (may_step step.0 s
 pub no_opening : (line : List ℕ) (n : ℕ) (piece : Bor (List ℕ)) → IsCommand line (Bytes n piece) → IsOpeningLine line → ⊥
 no_opening line n piece is = no_opening_by line (Bytes n piece) is refl
 
-follows_by : (line : List ℕ) (n : ℕ) (piece : Bor (List ℕ)) → IsCommand line (Bytes n piece) → (command : Command) → IsCommand line command → MayFollow command → IsPiece piece.now
+follows_by : (line : List ℕ) (n : ℕ) (piece : Bor (List ℕ)) → IsCommand line (Bytes n piece) → (command : Command) → IsCommand line command → IsStepOrComment command → IsPiece piece.now
 follows_by line n piece is (Bytes m brought) has may =
     subst IsPiece (sym (one_piece line is.0 piece.now m brought is.1 (number_no_blank is.0 n is.2) has).1) may
 follows_by line n piece is command has may = absurd (omega (arith, one_kind line (Bytes n piece) command is has))
@@ -105,7 +105,7 @@ pub no_later : (line : List ℕ) (n : ℕ) (piece : Bor (List ℕ)) → IsComman
 no_later line n piece is bad later = bad (follows_by line n piece is later.0 later.1 later.2)
 
 -- a property line is no later line
-no_conf : (line : List ℕ) (property : Bor (List ℕ)) → IsCommand line (Conf property) → (command : Command) → IsCommand line command → MayFollow command → ⊥
+no_conf : (line : List ℕ) (property : Bor (List ℕ)) → IsCommand line (Conf property) → (command : Command) → IsCommand line command → IsStepOrComment command → ⊥
 no_conf line property is (Conf given) has may = may
 no_conf line property is command has may = absurd (omega (arith, one_kind line (Conf property) command is has))
 

@@ -8,7 +8,7 @@ use Rattle.cap_text.specs.Pieces.{lacks, IsCut}
 use Rattle.cap_text.proofs.Cuts.{first_line, last_line}
 use Rattle.cap_config.specs.declared.fault.ConfigFault.{ConfigFault}
 use Rattle.cap_daemon.specs.Script.{IsScript, HasBadLine}
-use Rattle.cap_daemon.specs.Settings.{settings_fault, AreReadBefore, HasFault, IsDone}
+use Rattle.cap_daemon.specs.Settings.{settings_fault, AreReadBefore, HasSettingsFault, IsDone}
 use Rattle.cap_daemon.specs.Progress.{Reads, IsPlayed, Stands, StopsAtStep, Begins, FailsToBegin}
 use Rattle.cap_daemon.proofs.Scripts.{at_start, sound_at_end, fault_at_end}
 
@@ -66,7 +66,7 @@ stops_at_line text begun rest front after settings opened p cut clean bad =
     }
 
 -- the line that a line feed ends is the first step, and the settings have a fault
-pub fails_at_line : (text begun rest front after : List ℕ) (settings : Option (List ℕ)) (opened : Bool) (fault : ConfigFault) (ended : Type 0) → (p : IsPlayed text (begun ++ rest) settings opened) → IsCut 10 rest front after → lacks 10 begun ≡ true → StopsAtStep p.done (strip_carriage_return (begun ++ front)) fault → HasFault text ended fault
+pub fails_at_line : (text begun rest front after : List ℕ) (settings : Option (List ℕ)) (opened : Bool) (fault : ConfigFault) (ended : Type 0) → (p : IsPlayed text (begun ++ rest) settings opened) → IsCut 10 rest front after → lacks 10 begun ≡ true → StopsAtStep p.done (strip_carriage_return (begun ++ front)) fault → HasSettingsFault text ended fault
 fails_at_line text begun rest front after settings opened fault ended p cut clean stops =
     let raw = begun ++ front in
     let reads = next_line text p.done (begun ++ rest) raw after p.reads (cut_with begun rest front after cut clean) in
@@ -84,7 +84,7 @@ read_when [] a b f read = f read
 read_when (line ∷ back) a b f read = read
 
 -- a fault at the end, where that is seen otherwise
-pub fault_when : (text : List ℕ) (a b : Type 0) (fault : ConfigFault) → (a → b) → HasFault text a fault → HasFault text b fault
+pub fault_when : (text : List ℕ) (a b : Type 0) (fault : ConfigFault) → (a → b) → HasSettingsFault text a fault → HasSettingsFault text b fault
 fault_when text a b fault f h = record {
   front = h.front;
   back = h.back;
@@ -111,7 +111,7 @@ is_done text done settings settings_then opened opened_then is stands begins = r
   sound = ap settings_fault is ∙ sound_at_end done settings settings_then opened opened_then stands begins;
 }
 
-has_fault : (text : List ℕ) (done : List (List ℕ)) (settings : Option (List ℕ)) (opened : Bool) (fault : ConfigFault) (ended : Type 0) → ended → lines text ≡ done → Stands done settings opened → FailsToBegin settings opened fault → HasFault text ended fault
+has_fault : (text : List ℕ) (done : List (List ℕ)) (settings : Option (List ℕ)) (opened : Bool) (fault : ConfigFault) (ended : Type 0) → ended → lines text ≡ done → Stands done settings opened → FailsToBegin settings opened fault → HasSettingsFault text ended fault
 has_fault text done settings opened fault ended end is stands fails = record {
   front = done;
   back = [];
@@ -127,10 +127,10 @@ ends_done text begun settings settings_then opened opened_then none p begins = i
 pub ends_done_with : (text begun : List ℕ) (old settings settings_then : Option (List ℕ)) (was opened opened_then : Bool) → 0 < length begun → lacks 10 begun ≡ true → (p : IsPlayed text begun old was) → Stands (p.done ++ begun ∷ []) settings opened → Begins settings opened settings_then opened_then → IsDone text
 ends_done_with text begun old settings settings_then was opened opened_then some h p stands begins = is_done text (p.done ++ begun ∷ []) settings settings_then opened opened_then (with_last text p.done begun some h p.reads) stands begins
 
-pub ends_fault : (text begun : List ℕ) (settings : Option (List ℕ)) (opened : Bool) (fault : ConfigFault) (ended : Type 0) → ended → length begun ≡ 0 → IsPlayed text begun settings opened → FailsToBegin settings opened fault → HasFault text ended fault
+pub ends_fault : (text begun : List ℕ) (settings : Option (List ℕ)) (opened : Bool) (fault : ConfigFault) (ended : Type 0) → ended → length begun ≡ 0 → IsPlayed text begun settings opened → FailsToBegin settings opened fault → HasSettingsFault text ended fault
 ends_fault text begun settings opened fault ended end none p fails = has_fault text p.done settings opened fault ended end (no_last text p.done begun none p.reads) p.stands fails
 
-pub ends_fault_with : (text begun : List ℕ) (old settings : Option (List ℕ)) (was opened : Bool) (fault : ConfigFault) (ended : Type 0) → ended → 0 < length begun → lacks 10 begun ≡ true → (p : IsPlayed text begun old was) → Stands (p.done ++ begun ∷ []) settings opened → FailsToBegin settings opened fault → HasFault text ended fault
+pub ends_fault_with : (text begun : List ℕ) (old settings : Option (List ℕ)) (was opened : Bool) (fault : ConfigFault) (ended : Type 0) → ended → 0 < length begun → lacks 10 begun ≡ true → (p : IsPlayed text begun old was) → Stands (p.done ++ begun ∷ []) settings opened → FailsToBegin settings opened fault → HasSettingsFault text ended fault
 ends_fault_with text begun old settings was opened fault ended end some h p stands fails = has_fault text (p.done ++ begun ∷ []) settings opened fault ended end (with_last text p.done begun some h p.reads) stands fails
 
 -- the last line may not stand there
@@ -145,7 +145,7 @@ ends_bad text begun settings opened some h p bad = record {
 }
 
 -- the last line is the first step, and the settings have a fault
-pub ends_at_step : (text begun : List ℕ) (settings : Option (List ℕ)) (opened : Bool) (fault : ConfigFault) (ended : Type 0) → 0 < length begun → lacks 10 begun ≡ true → (p : IsPlayed text begun settings opened) → StopsAtStep p.done begun fault → HasFault text ended fault
+pub ends_at_step : (text begun : List ℕ) (settings : Option (List ℕ)) (opened : Bool) (fault : ConfigFault) (ended : Type 0) → 0 < length begun → lacks 10 begun ≡ true → (p : IsPlayed text begun settings opened) → StopsAtStep p.done begun fault → HasSettingsFault text ended fault
 ends_at_step text begun settings opened fault ended some h p stops = record {
   front = p.done;
   back = begun ∷ [];

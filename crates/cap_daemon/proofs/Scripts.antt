@@ -9,7 +9,7 @@ use Rattle.cap_config.specs.First.{first_fault}
 use denote.Ref.{Bor}
 use Rattle.cap_daemon.specs.declared.command.Command.{Command}
 use Rattle.cap_daemon.specs.declared.command.Command.TheVariants.{Nothing, Conf, Open, Bytes, End}
-use Rattle.cap_daemon.specs.Script.{IsCommand, IsOpeningLine, IsLaterLine, IsStep, IsScript, MayStep, MayFollow}
+use Rattle.cap_daemon.specs.Script.{IsCommand, IsOpeningLine, IsLaterLine, IsStep, IsScript, MayStep, IsStepOrComment}
 use Rattle.cap_daemon.specs.Settings.{property_of, with_line, properties, settings_text, settings_fault}
 use Rattle.cap_daemon.specs.Progress.{Stands, Begins, FailsToBegin}
 use Rattle.cap_daemon.proofs.Commands.{step_never_opens}
@@ -70,7 +70,7 @@ later done line script is = record {
   steps = All-push IsLaterLine script.back line script.steps is;
 }
 
-brings_nothing : (line : List ℕ) → (command : Command) → IsCommand line command → MayFollow command → property_of line ≡ None
+brings_nothing : (line : List ℕ) → (command : Command) → IsCommand line command → IsStepOrComment command → property_of line ≡ None
 brings_nothing line Nothing (inl empty) may = rw empty refl
 brings_nothing line Nothing (inr comment) may = rw (comment.1) refl
 brings_nothing line (Conf property) is may = absurd may

@@ -43,9 +43,9 @@ MayStep (End n) = Unit {0}
 MayStep (Bytes n piece) = IsPiece piece.now
 
 -- from the first step on stand steps, comments and empty lines
-abbrev pub MayFollow : Command → Type 0
-MayFollow Nothing = Unit {0}
-MayFollow command = MayStep command
+abbrev pub IsStepOrComment : Command → Type 0
+IsStepOrComment Nothing = Unit {0}
+IsStepOrComment command = MayStep command
 
 abbrev pub IsOpeningLine : List ℕ → Type 0
 IsOpeningLine line = (command : Command) × IsCommand line command × MayOpen command
@@ -54,7 +54,7 @@ abbrev pub IsStep : List ℕ → Type 0
 IsStep line = (command : Command) × IsCommand line command × MayStep command
 
 abbrev pub IsLaterLine : List ℕ → Type 0
-IsLaterLine line = (command : Command) × IsCommand line command × MayFollow command
+IsLaterLine line = (command : Command) × IsCommand line command × IsStepOrComment command
 
 -- a script: its property lines, and then its steps
 pub record IsScript (script : List (List ℕ)) : Type 0 where

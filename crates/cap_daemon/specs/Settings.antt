@@ -34,7 +34,7 @@ AreReadBefore [] ended = ended
 AreReadBefore (line ∷ back) ended = IsStep line
 
 -- the settings have a fault where they are read
-pub record HasFault (text : List ℕ) (ended : Type 0) (fault : ConfigFault) : Type 0 where
+pub record HasSettingsFault (text : List ℕ) (ended : Type 0) (fault : ConfigFault) : Type 0 where
   pub front : List (List ℕ)
   pub back : List (List ℕ)
   pub lines : lines text ≡ front ++ back

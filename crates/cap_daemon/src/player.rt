@@ -5,7 +5,7 @@ ghost use Rattle.cap_text.specs.Pieces.{lacks};
 ghost use Rattle.cap_config.specs.declared.fault.ConfigFault.{ConfigFault};
 ghost use Rattle.cap_daemon.specs.declared.stop.Stop.TheVariants.{BadLine, Config as bad_config, Input as read_failed};
 ghost use Rattle.cap_daemon.specs.Script.{HasBadLine, IsScript};
-ghost use Rattle.cap_daemon.specs.Settings.{HasFault, IsDone};
+ghost use Rattle.cap_daemon.specs.Settings.{HasSettingsFault, IsDone};
 ghost use Rattle.cap_daemon.specs.Progress.{IsPlayed, Stands, StopsAtStep};
 ghost use Rattle.cap_daemon.specs.Streams.{failures_max, reads_max, input_failures, output_failures, IsOfScript};
 
@@ -35,7 +35,7 @@ pub fn replay<R: Read, W: Write>(
     // It is done only where the input has ended, each of its lines stands where it may, and the settings have no fault.
     ensures done { result ≡ 0 → (text : List ℕ) × Consumes (R.remaining reader.old.inner) (R.remaining reader.new.inner) text × IsAtEnd (R.remaining reader.new.inner) × IsDone text }
     // It answers 2 only where what was read has a line that may not stand there, or settings with a fault.
-    ensures refused { result ≡ 2 → (text : List ℕ) × Consumes (R.remaining reader.old.inner) (R.remaining reader.new.inner) text × (HasBadLine text ⊎ ((fault : ConfigFault) × HasFault text (IsAtEnd (R.remaining reader.new.inner)) fault)) }
+    ensures refused { result ≡ 2 → (text : List ℕ) × Consumes (R.remaining reader.old.inner) (R.remaining reader.new.inner) text × (HasBadLine text ⊎ ((fault : ConfigFault) × HasSettingsFault text (IsAtEnd (R.remaining reader.new.inner)) fault)) }
     // It answers 1 exactly where a read or a write has failed.
     ensures failed { result ≡ 1 ↔ ((reader.old.failures < reader.new.failures) ⊎ (writer.old.failures < writer.new.failures)) }
 {
@@ -57,7 +57,7 @@ fn play_all<R: Read, W: Write>(
     requires world { is_some script.old.world ≡ false }
     ensures done { OnOk result ((text : List ℕ) × Consumes (R.remaining reader.old.inner) (R.remaining reader.new.inner) text × IsAtEnd (R.remaining reader.new.inner) × IsDone text) }
     ensures bad { (n : ℕ) → result ≡ Err (BadLine n) → (text : List ℕ) × Consumes (R.remaining reader.old.inner) (R.remaining reader.new.inner) text × HasBadLine text }
-    ensures fault { (fault : ConfigFault) → result ≡ Err (bad_config fault) → (text : List ℕ) × Consumes (R.remaining reader.old.inner) (R.remaining reader.new.inner) text × HasFault text (IsAtEnd (R.remaining reader.new.inner)) fault }
+    ensures fault { (fault : ConfigFault) → result ≡ Err (bad_config fault) → (text : List ℕ) × Consumes (R.remaining reader.old.inner) (R.remaining reader.new.inner) text × HasSettingsFault text (IsAtEnd (R.remaining reader.new.inner)) fault }
     ensures reads { reader.new.failures ≡ reader.old.failures + input_failures result }
     ensures writes { writer.new.failures ≡ writer.old.failures + output_failures result }
 {
@@ -107,7 +107,7 @@ fn play_lines(bytes: &[u8], begun: &mut Vec<u8>, script: &mut Script) -> Result<
     ensures begun { OnOk result (lacks 10 begun.new.items ≡ true) }
     ensures good { (text : List ℕ) → IsPlayed text begun.old.items script.old.settings (is_some script.old.world) → OnOk result (IsPlayed (text ++ bytes.now) begun.new.items script.new.settings (is_some script.new.world)) }
     ensures bad { (n : ℕ) → result ≡ Err (BadLine n) → (text : List ℕ) → IsPlayed text begun.old.items script.old.settings (is_some script.old.world) → HasBadLine (text ++ bytes.now) }
-    ensures fault { (fault : ConfigFault) → result ≡ Err (bad_config fault) → (text : List ℕ) → IsPlayed text begun.old.items script.old.settings (is_some script.old.world) → HasFault (text ++ bytes.now) ⊥ fault }
+    ensures fault { (fault : ConfigFault) → result ≡ Err (bad_config fault) → (text : List ℕ) → IsPlayed text begun.old.items script.old.settings (is_some script.old.world) → HasSettingsFault (text ++ bytes.now) ⊥ fault }
     ensures only { IfErr result IsOfScript }
 {
     let mut rest = bytes;
@@ -145,7 +145,7 @@ fn play_last(line: &[u8], script: &mut Script) -> Result<(), Stop>
     requires { lacks 10 line.now ≡ true }
     ensures good { (text : List ℕ) → IsPlayed text line.now script.old.settings (is_some script.old.world) → OnOk result (IsDone text) }
     ensures bad { (n : ℕ) → result ≡ Err (BadLine n) → (text : List ℕ) → IsPlayed text line.now script.old.settings (is_some script.old.world) → HasBadLine text }
-    ensures fault { (fault : ConfigFault) → result ≡ Err (bad_config fault) → (text : List ℕ) → IsPlayed text line.now script.old.settings (is_some script.old.world) → HasFault text (Unit {0}) fault }
+    ensures fault { (fault : ConfigFault) → result ≡ Err (bad_config fault) → (text : List ℕ) → IsPlayed text line.now script.old.settings (is_some script.old.world) → HasSettingsFault text (Unit {0}) fault }
     ensures only { IfErr result IsOfScript }
 {
     if line.is_empty() {

@@ -13,7 +13,7 @@ use Rattle.cap_model.specs.declared.refusal.Refusal.{Refusal}
 use Rattle.cap_model.specs.Cascade.{earliest, holds_of}
 use Rattle.cap_model.specs.Flat.{Flat, App, Container, app_at, with_app}
 use Rattle.cap_model.specs.ResponseIds.{is_current, is_repeated, is_bad_id}
-use Rattle.cap_model.specs.Asking.{after_asks, after_ask, rounded, put_ask}
+use Rattle.cap_model.specs.Asking.{after_asks, after_ask, rounded_ask, put_ask}
 use Rattle.cap_model.specs.Ending.{after_ends, with_ends, named_among}
 use Rattle.cap_model.specs.Allocate.{allocate_refusal, is_repeated_allocate, is_too_large, has_too_many_keys, released_by, after_wishes, after_telling, after_allocate, kept_reply}
 use Rattle.cap_model.specs.Replies.{refused_or, reply_to, after_request}
@@ -46,9 +46,9 @@ room_left asks n i room room' a b = let t : n == n ≡ true = grind (arith, nat_
 
 module _ {K : ℕ} where
   -- one more ask is put
-  pub asks_step : (n i : ℕ) (asks : List Ask) (ask : Ask) (old before new : Flat K) → before ≡ after_asks n (take i asks) old → i < length asks → ask ≡ get_or asks i ask → new ≡ after_ask n before (rounded K before.settings ask) → new ≡ after_asks n (take (i + 1) asks) old
+  pub asks_step : (n i : ℕ) (asks : List Ask) (ask : Ask) (old before new : Flat K) → before ≡ after_asks n (take i asks) old → i < length asks → ask ≡ get_or asks i ask → new ≡ after_ask n before (rounded_ask K before.settings ask) → new ≡ after_asks n (take (i + 1) asks) old
   asks_step n i asks ask old before new so_far more item is =
-      let step : Flat K → Ask → Flat K = λ c a. after_ask n c (rounded K c.settings a) in
+      let step : Flat K → Ask → Flat K = λ c a. after_ask n c (rounded_ask K c.settings a) in
       let one : take (i + 1) asks ≡ take i asks ++ ask ∷ [] = take_more asks i ask more ∙ ap (λ a. take i asks ++ a ∷ []) (sym item) in
       is ∙ ap (λ c. step c ask) so_far ∙ sym (ap (λ xs. fold step old xs) one ∙ fold-append step old (take i asks) (ask ∷ []))
 
@@ -56,7 +56,7 @@ module _ {K : ℕ} where
   asks_leave : (n : ℕ) (asks : List Ask) (old : Flat K) (m : ℕ) → option_map (λ (a : App). a.response) (app_at (after_asks n asks old) m) ≡ option_map (λ a. a.response) (app_at old m)
   asks_leave n [] old m = refl
   asks_leave n (ask ∷ asks) old m =
-      let kept = rounded K old.settings ask in
+      let kept = rounded_ask K old.settings ask in
       let f : App → App = λ app. if app.number == n then record app { asks = put_ask kept app.asks } else app in
       asks_leave n asks (after_ask n old kept) m
       ∙ ap (option_map (λ (a : App). a.response)) (find_changed (λ (a : App). a.number) f (λ a. kept_if (a.number == n) (λ (x : App). x.number) (record a { asks = put_ask kept a.asks }) a refl) m old.apps.active)

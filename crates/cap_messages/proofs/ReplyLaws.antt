@@ -16,7 +16,7 @@ use Rattle.cap_model.specs.declared.news.Cause.{Cause}
 use Rattle.cap_model.specs.declared.replies.HeartbeatReply.{HeartbeatReply}
 use Rattle.cap_messages.specs.Texts.{is_place}
 use Rattle.cap_model.specs.Limits.{news_max}
-use Rattle.cap_messages.specs.Spelling.{told, FitsListed, grant, FitsGrant, end, FitsEnd, allocated, FitsAllocated, beat, FitsBeat, text, resource, flag, queue_report, cluster_report, reply_body, IsOfKind, FitsReply, IsReply, fault_reply}
+use Rattle.cap_messages.specs.Spelling.{counted_list, FitsListed, grant, FitsGrant, end, FitsEnd, allocated, FitsAllocated, beat, FitsBeat, text, resource, flag, queue_report, cluster_report, reply_body, IsOfKind, FitsReply, IsReply, fault_reply}
 use Rattle.cap_messages.specs.Fields.{◌>>=◌, byte_at, flag_at, number_at, amounts_at, text_at, pair_at, passing_at, times_at, all_at}
 use Rattle.cap_messages.specs.Reading.{head_at}
 use Rattle.cap_messages.proofs.FieldLaws.{some_is, IsField, is_pair, all_again, is_flag, is_u16, is_u32, is_u64, is_amounts, is_text_passing, is_times, is_made, is_field_of}
@@ -144,7 +144,7 @@ told_at field bytes = do
   n ← byte_at bytes
   times_at n.0 field n.1
 
-told_again : {A : Type 0} (field : List ℕ → Option (A × List ℕ)) (s : A → List ℕ) (F : A → Type 0) → IsField field s F → (xs : List A) (rest : List ℕ) → FitsListed news_max F xs → told_at field (told s xs ++ rest) ≡ Some (xs, rest)
+told_again : {A : Type 0} (field : List ℕ → Option (A × List ℕ)) (s : A → List ℕ) (F : A → Type 0) → IsField field s F → (xs : List A) (rest : List ℕ) → FitsListed news_max F xs → told_at field (counted_list s xs ++ rest) ≡ Some (xs, rest)
 told_again field s F is xs rest fits = (is_times (length xs) field s F is).again xs rest (refl, fits.each)
 
 -- ---- what an Allocate gives
@@ -252,11 +252,11 @@ from_ends response ignored grants o = do
   Some (((response, ignored), (grants, ends.0)), ends.1)
 
 allocated_again : (response ignored : ℕ) (grants : List Grant) (ends : List End) → response < 2 ^ 32 → ignored < 2 ^ 16 → FitsListed news_max FitsGrant grants → FitsListed news_max FitsEnd ends →
-    allocated_at (to_be_bytes w32 response ++ (to_be_bytes w16 ignored ++ (told grant grants ++ told end ends))) ≡ Some (((response, ignored), (grants, ends)), [])
+    allocated_at (to_be_bytes w32 response ++ (to_be_bytes w16 ignored ++ (counted_list grant grants ++ counted_list end ends))) ≡ Some (((response, ignored), (grants, ends)), [])
 allocated_again response ignored grants ends r i g e =
-    ap from_response (is_u32.again response (to_be_bytes w16 ignored ++ (told grant grants ++ told end ends)) r)
-    ∙ ap (from_ignored response) (is_u16.again ignored (told grant grants ++ told end ends) i)
-    ∙ ap (from_grants response ignored) (told_again grant_at grant FitsGrant is_grant grants (told end ends) g)
+    ap from_response (is_u32.again response (to_be_bytes w16 ignored ++ (counted_list grant grants ++ counted_list end ends)) r)
+    ∙ ap (from_ignored response) (is_u16.again ignored (counted_list grant grants ++ counted_list end ends) i)
+    ∙ ap (from_grants response ignored) (told_again grant_at grant FitsGrant is_grant grants (counted_list end ends) g)
     ∙ ap (from_ends response ignored grants) (ap (times_at (length ends) end_at) (sym (append-nil (flat_map end ends))) ∙ ends_again ends [] e.each)
 
 abbrev reply_from : Allocated → Reply 2

@@ -21,7 +21,7 @@ use Rattle.cap_model.specs.declared.news.End.{End}
 use Rattle.cap_model.specs.declared.news.Cause.{Cause}
 use Rattle.cap_model.specs.declared.replies.HeartbeatReply.{HeartbeatReply}
 use Rattle.cap_model.specs.Limits.{news_max}
-use Rattle.cap_messages.specs.Spelling.{listed, FitsListed, ask, FitsAsk, told, grant, FitsGrant, end, FitsEnd, allocated, FitsAllocated, beat, FitsReply, text, resource, flag, limit, queue_report, cluster_report, kind_of, request_body, request_bytes, FitsRequest, reply_body, reply_bytes}
+use Rattle.cap_messages.specs.Spelling.{listed, FitsListed, ask, FitsAsk, counted_list, grant, FitsGrant, end, FitsEnd, allocated, FitsAllocated, beat, FitsReply, text, resource, flag, limit, queue_report, cluster_report, kind_of, request_body, request_bytes, FitsRequest, reply_body, reply_bytes}
 use Rattle.cap_messages.specs.Laws.{IsBytes}
 use Rattle.cap_messages.proofs.RequestLaws.{kind_fits}
 
@@ -120,7 +120,7 @@ an_ask a fits =
     (both (to_be_bytes w32 a.count) (resource a.resource ++ text a.place) (word a.count)
     (both (resource a.resource) (text a.place) (amounts a.resource) (a_text 64 a.place (omega arith) fits.place))))
 
-a_told : {A : Type 0} (spell : A → List ℕ) (F : A → Type 0) → ((x : A) → F x → IsBytes (spell x)) → (xs : List A) → FitsListed news_max F xs → IsBytes (told spell xs)
+a_told : {A : Type 0} (spell : A → List ℕ) (F : A → Type 0) → ((x : A) → F x → IsBytes (spell x)) → (xs : List A) → FitsListed news_max F xs → IsBytes (counted_list spell xs)
 a_told spell F is xs fits = let few : length xs ≤ 64 = fits.few in one (length xs) (flat_map spell xs) (omega (arith, few)) (each_of spell F is xs fits.each)
 
 a_grant : (g : Grant) → FitsGrant g → IsBytes (grant g)
@@ -144,9 +144,9 @@ an_end e fits = both (to_be_bytes w64 e.container) (cause_number e.cause ∷ [])
 an_allocated : (r : AllocateReply) → FitsAllocated r → IsBytes (allocated r)
 unfolding allocated
 an_allocated r fits =
-    both (to_be_bytes w32 r.response) (to_be_bytes w16 r.ignored ++ (told grant r.grants ++ told end r.ends)) (word r.response)
-    (both (to_be_bytes w16 r.ignored) (told grant r.grants ++ told end r.ends) (two r.ignored)
-    (both (told grant r.grants) (told end r.ends) (a_told grant FitsGrant a_grant r.grants fits.grants) (a_told end FitsEnd an_end r.ends fits.ends)))
+    both (to_be_bytes w32 r.response) (to_be_bytes w16 r.ignored ++ (counted_list grant r.grants ++ counted_list end r.ends)) (word r.response)
+    (both (to_be_bytes w16 r.ignored) (counted_list grant r.grants ++ counted_list end r.ends) (two r.ignored)
+    (both (counted_list grant r.grants) (counted_list end r.ends) (a_told grant FitsGrant a_grant r.grants fits.grants) (a_told end FitsEnd an_end r.ends fits.ends)))
 
 a_beat : (r : HeartbeatReply) → IsBytes (beat r)
 unfolding beat

@@ -1,4 +1,4 @@
--- How an ask enters a cluster: rounded, in place of the one of its key, and what that does to reservations.
+-- How an ask enters a cluster: rounded_ask, in place of the one of its key, and what that does to reservations.
 use Rattle.std.specs.Prelude.{ℕ, ◌-◌, Bool, not, ◌&&◌, ◌||◌, List, [], ◌∷◌, filter, ◌==◌, bytes_eq, if◌then◌else◌}
 use Rattle.std.specs.List.{fold}
 use Rattle.std.specs.Option.{option_map_or}
@@ -31,8 +31,8 @@ keep_first test n (x ∷ xs) =
     if test x && n == 0 then rest else x ∷ rest
 
 -- an ask as it is kept
-abbrev pub rounded : ℕ → Settings → Ask → Ask
-rounded K settings ask = record ask { resource = round_up K ask.resource settings.minimum_allocation settings.maximum_allocation }
+abbrev pub rounded_ask : ℕ → Settings → Ask → Ask
+rounded_ask K settings ask = record ask { resource = round_up K ask.resource settings.minimum_allocation settings.maximum_allocation }
 
 -- whether an ask is for another resource or another place than the one that it replaces
 abbrev pub is_changed : Ask → Ask → Bool
@@ -43,7 +43,7 @@ abbrev pub reservations_left : App → Ask → ℕ
 reservations_left app ask = if holds_of (is_changed ask) (ask_at ask.key app.asks) then 0 else ask.count
 
 module _ {K : ℕ} where
-  -- the cluster after an ask of an application, already rounded; of the reservations that go, the newest go first
+  -- the cluster after an ask of an application, already rounded_ask; of the reservations that go, the newest go first
   abbrev pub after_ask : ℕ → Flat K → Ask → Flat K
   after_ask n cluster ask =
       let left = option_map_or (λ app. reservations_left app ask) (app_at cluster n) 0 in
@@ -51,4 +51,4 @@ module _ {K : ℕ} where
 
   -- the cluster after the asks of one request, one after the other
   abbrev pub after_asks : ℕ → List Ask → Flat K → Flat K
-  after_asks n asks cluster = fold (λ c ask. after_ask n c (rounded K c.settings ask)) cluster asks
+  after_asks n asks cluster = fold (λ c ask. after_ask n c (rounded_ask K c.settings ask)) cluster asks

@@ -3,7 +3,7 @@ use Rattle.std.specs.Prelude.{◌≡◌, ◌↔◌, ◌⊎◌, ℕ, ◌+◌, ◌
 use Rattle.std.specs.List.{All, range_with_len}
 use Rattle.cap_model.specs.Texts.{dot}
 use Rattle.cap_model.specs.Asks.{Ask}
-use Rattle.cap_model.specs.Flat.{Flat, App, opened, app_at, node_at, is_under, is_child_of}
+use Rattle.cap_model.specs.Flat.{Flat, App, opened_cluster, app_at, node_at, is_under, is_child_of}
 use Rattle.cap_model.specs.Settings.{Settings, QueueRow}
 use Rattle.cap_vector.specs.Vector.{IsSum}
 use Rattle.cap_model.specs.Uses.{wanted, queue_use}
@@ -76,9 +76,9 @@ ReservationsStayBounded = (K : ℕ) (old new : Flat K) (event : Event K) → IsB
 abbrev pub StepStaysBounded : Type 0
 StepStaysBounded = (K : ℕ) (old new : Flat K) (event : Event K) → IsBounded old → Step old event new → IsBounded new
 
--- a cluster that was opened just now over listed queues is bounded
+-- a cluster that was opened_cluster just now over listed queues is bounded
 abbrev pub OpenedIsBounded : Type 0
-OpenedIsBounded = (K : ℕ) (settings : Settings) → IsListing settings.queues → IsBounded (opened {K = K} settings)
+OpenedIsBounded = (K : ℕ) (settings : Settings) → IsListing settings.queues → IsBounded (opened_cluster {K = K} settings)
 
 -- every state of a run from a bounded cluster is bounded: the one after each beginning of its events, and so the closing one
 abbrev pub RunsStayBounded : Type 0
@@ -99,9 +99,9 @@ RunsStayWithinSizes =
     (K : ℕ) (first rest : List (Event K)) (old new : Flat K) → IsWithinSizes old → Run old (first ++ rest) new →
     (mid : Flat K) × Run old first mid × Run mid rest new × IsWithinSizes mid × IsWithinSizes new
 
--- a cluster that was opened just now is within them
+-- a cluster that was opened_cluster just now is within them
 abbrev pub OpenedIsWithinSizes : Type 0
-OpenedIsWithinSizes = (K : ℕ) (settings : Settings) → IsWithinSizes (opened {K = K} settings)
+OpenedIsWithinSizes = (K : ℕ) (settings : Settings) → IsWithinSizes (opened_cluster {K = K} settings)
 
 -- each queue's use is a sum of use: at most twice what the nodes have together, once for what runs and once for what is reserved
 abbrev pub UsesAreSums : Type 0

@@ -74,8 +74,8 @@ module _ {K : ℕ} where
     pub childless : has_children cluster path ≡ false
 
   -- an application that is active, and a node that is present
-  abbrev pub IsPlaced : Flat K → ℕ → ℕ → Type 0
-  IsPlaced cluster app node = IsSome (app_at cluster app) × IsSome (node_at cluster node)
+  abbrev pub AreThere : Flat K → ℕ → ℕ → Type 0
+  AreThere cluster app node = IsSome (app_at cluster app) × IsSome (node_at cluster node)
 
   -- what holds of every cluster beside its bounds: the queues are a tree, each before those under it, applications are in leaf queues,
   -- applications and nodes have distinct numbers below the next, and each live container and each reservation has its application and its node
@@ -85,8 +85,8 @@ module _ {K : ℕ} where
     pub leaves : All (λ app. IsLeaf cluster app.leaf) cluster.apps.active
     pub apps : IsRising 1 (map (λ app. app.number) cluster.apps.active) cluster.apps.next
     pub nodes : IsRising 1 (map (λ node. node.number) cluster.nodes.present) cluster.nodes.next_node
-    pub live : All (λ c. IsPlaced cluster c.app c.node) cluster.nodes.live
-    pub reserved : All (λ r. IsPlaced cluster r.app r.node) cluster.nodes.reserved
+    pub live : All (λ c. AreThere cluster c.app c.node) cluster.nodes.live
+    pub reserved : All (λ r. AreThere cluster r.app r.node) cluster.nodes.reserved
 
   -- a queue's use is within its maximum, and each user's use there within the user limit
   pub record IsQueueBounded (cluster : Flat K) (q : QueueRow) : Type 0 where

@@ -8,7 +8,7 @@ use Rattle.cap_model.specs.declared.refusal.Refusal.{Refusal}
 use Rattle.cap_model.specs.Refusals.{status_of}
 use Rattle.cap_model.specs.declared.request.Request.{Request}
 use Rattle.cap_model.specs.declared.reply.Reply.{Reply}
-use Rattle.cap_model.specs.Flat.{Flat, opened, app_at, with_app}
+use Rattle.cap_model.specs.Flat.{Flat, opened_cluster, app_at, with_app}
 use Rattle.cap_model.specs.Submit.{new_app}
 use Rattle.cap_model.specs.Replies.{reply_to, after_request}
 use Rattle.cap_model.specs.ExampleClusters.{mb_and_vcores, key, ask_anywhere, two_queues, after_calls, small, asks_of, granted, container}
@@ -129,7 +129,7 @@ KeptAsks =
 -- a second node would bring the sum of the totals over 2^40
 abbrev pub TotalsStayBounded : Type 0
 TotalsStayBounded =
-    let one = after_calls (opened {K = 2} two_queues) (Request.RegisterNode (codes "n1") (codes "/r1") (mb_and_vcores 1099511627776 1) ∷ []) in
+    let one = after_calls (opened_cluster {K = 2} two_queues) (Request.RegisterNode (codes "n1") (codes "/r1") (mb_and_vcores 1099511627776 1) ∷ []) in
     reply_to one (Request.RegisterNode (codes "n2") (codes "/r1") (mb_and_vcores 1 1)) ≡ Reply.Refused Refusal.TotalTooLarge
 
 -- a host is taken while its node is present; a node of nothing is refused
@@ -143,7 +143,7 @@ NodeRefusals =
 -- what an operator sees
 abbrev pub OperatorSees : Type 0
 OperatorSees =
-    (reply_to (opened {K = 2} two_queues) (Request.QueueInfo (codes "root.a"))
+    (reply_to (opened_cluster {K = 2} two_queues) (Request.QueueInfo (codes "root.a"))
     ≡ Reply.QueueInfo (record { running = true; leaf = true; guaranteed = mb_and_vcores 4096 4; maximum = Some (mb_and_vcores 16384 16); used = mb_and_vcores 0 0; applications = 0 }))
     × (reply_to (after_request small (Request.SetQueueState (codes "root") false)) (Request.QueueInfo (codes "root.b"))
     ≡ Reply.QueueInfo (record { running = false; leaf = true; guaranteed = mb_and_vcores 2048 8; maximum = None; used = mb_and_vcores 0 0; applications = 1 }))

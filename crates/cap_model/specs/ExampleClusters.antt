@@ -5,7 +5,7 @@ use Rattle.cap_model.specs.Settings.{Settings, QueueRow}
 use Rattle.cap_model.specs.declared.ask.Key.{Key}
 use Rattle.cap_model.specs.Asks.{Ask}
 use Rattle.cap_model.specs.declared.request.Request.{Request}
-use Rattle.cap_model.specs.Flat.{Flat, Container, opened}
+use Rattle.cap_model.specs.Flat.{Flat, Container, opened_cluster}
 use Rattle.cap_model.specs.Admission.{NodeProposal, ProposalKind}
 use Rattle.cap_model.specs.Replies.{after_request}
 use Rattle.cap_model.specs.Events.{after_grant, after_reserve}
@@ -55,7 +55,7 @@ two_masters =
 
 -- one node of 8192 MiB and 8 vcores, and the two applications
 abbrev pub small : Flat 2
-small = after_calls (opened two_queues) (Request.RegisterNode (codes "n1") (codes "/r1") (mb_and_vcores 8192 8) ∷ two_masters)
+small = after_calls (opened_cluster two_queues) (Request.RegisterNode (codes "n1") (codes "/r1") (mb_and_vcores 8192 8) ∷ two_masters)
 
 -- an allocate with asks alone
 abbrev pub asks_of : ℕ → ℕ → List Ask → Request 2

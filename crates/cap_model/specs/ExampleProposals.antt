@@ -3,7 +3,7 @@ use Rattle.std.specs.Prelude.{◌≡◌, true, false, not, [], ◌∷◌, Some, 
 use Rattle.cap_model.specs.Settings.{Settings}
 use Rattle.cap_model.specs.declared.request.Request.{Request}
 use Rattle.cap_model.specs.declared.reply.Reply.{Reply}
-use Rattle.cap_model.specs.Flat.{Flat, opened}
+use Rattle.cap_model.specs.Flat.{Flat, opened_cluster}
 use Rattle.cap_model.specs.Uses.{queue_use}
 use Rattle.cap_model.specs.Sight.{sight_of}
 use Rattle.cap_model.specs.Admission.{RejectReason, reason_of}
@@ -27,7 +27,7 @@ middle_queue = with_queues (
 abbrev pub under_middle : Flat 2
 under_middle =
     after_calls (granted 2 2 (key 0 0) 1 (mb_and_vcores 1024 1)
-    (after_calls (opened middle_queue) (
+    (after_calls (opened_cluster middle_queue) (
     Request.RegisterNode (codes "n1") (codes "/r1") (mb_and_vcores 8192 8)
     ∷ Request.Submit (codes "root.g.p.l") (codes "u1")
     ∷ Request.Submit (codes "root.g.q.l") (codes "u2")
@@ -84,7 +84,7 @@ abbrev pub two_reservations : Flat 2
 two_reservations =
     reserved 1 (key 3 0) 2 (mb_and_vcores 3072 1) (reserved 1 (key 3 0) 1 (mb_and_vcores 3072 1)
     (after_calls (granted 1 1 (key 0 0) 2 (mb_and_vcores 2048 1) (granted 1 1 (key 0 0) 1 (mb_and_vcores 2048 1)
-    (after_calls (after_calls (opened two_queues) (
+    (after_calls (after_calls (opened_cluster two_queues) (
     Request.RegisterNode (codes "n1") (codes "/r1") (mb_and_vcores 4096 4)
     ∷ Request.RegisterNode (codes "n2") (codes "/r1") (mb_and_vcores 4096 4)
     ∷ []))
@@ -168,7 +168,7 @@ abbrev pub OtherReasons : Type 0
 OtherReasons =
     let sight = sight_of one_asked in
     let placed = sight_of (after_calls small (asks_of 1 0 (record { key = key 1 0; count = 1; resource = mb_and_vcores 1024 1; place = codes "n2" } ∷ []) ∷ [])) in
-    let large = sight_of (after_calls (opened two_queues) (
+    let large = sight_of (after_calls (opened_cluster two_queues) (
     Request.RegisterNode (codes "n1") (codes "/r1") (mb_and_vcores 4096 4)
     ∷ Request.Submit (codes "root.a") (codes "u1")
     ∷ Request.RegisterMaster 1

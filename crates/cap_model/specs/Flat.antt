@@ -118,9 +118,9 @@ abbrev pub change_node : ℕ → (ClusterNode → ClusterNode) → NodeTable →
 change_node n change table = record table { present = map (λ node. if node.number == n then change node else node) table.present }
 
 module _ {K : ℕ} where
-  -- a cluster that was opened just now, with nothing in it
-  abbrev pub opened : Settings → Flat K
-  opened settings = record { settings = settings; apps = no_apps; nodes = no_nodes }
+  -- a cluster that was opened_cluster just now, with nothing in it
+  abbrev pub opened_cluster : Settings → Flat K
+  opened_cluster settings = record { settings = settings; apps = no_apps; nodes = no_nodes }
 
   -- the active application, the present node and the queue of that number or path
   abbrev pub app_at : Flat K → ℕ → Option App

@@ -23,10 +23,10 @@ abbrev pub padded : ℕ → List ℕ → List ℕ
 padded most text = text ++ replicate (most - length text) 0
 
 -- how a text stands in an array of the greatest length
-pub record IsHeld (most len : ℕ) (array : List ℕ) : Type 0 where
+pub record IsStored (most len : ℕ) (array : List ℕ) : Type 0 where
   pub short : len ≤ length array
   pub text : is_text most (take len array) ≡ true
   pub padding : array ≡ padded most (take len array)
 
-pub length_held : (most len : ℕ) (array : List ℕ) → IsHeld most len array → length (take len array) ≡ len
+pub length_held : (most len : ℕ) (array : List ℕ) → IsStored most len array → length (take len array) ≡ len
 length_held most len array held = length-take-le len array held.short

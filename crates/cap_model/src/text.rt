@@ -20,13 +20,13 @@ pub type PathText = Text<255>;
 impl<const MAX: usize> Model for Text<MAX> {
     ghost use Rattle.std.specs.Prelude.{List, ℕ, take, length};
     ghost use Rattle.std.proofs.Common.{sym};
-    ghost use Rattle.cap_model.specs.Texts.{IsHeld, padded, length_held};
+    ghost use Rattle.cap_model.specs.Texts.{IsStored, padded, length_held};
 
     ghost Value = { List ℕ };
 
     ghost view = { λ t. take t.len t.bytes };
 
-    ghost invariant = { λ t. IsHeld MAX t.len t.bytes };
+    ghost invariant = { λ t. IsStored MAX t.len t.bytes };
 
     ghost inverse = { λ text. record { bytes = padded MAX text; len = length text } };
 

@@ -5,7 +5,7 @@ use Rattle.std.proofs.lemmas.Bool.Decides.{nat_tests}
 use Rattle.cap_model.specs.Bounds.{IsRising}
 use Rattle.cap_model.specs.Flat.{Container}
 use Rattle.cap_model.proofs.lists.Numbered.{none_before}
-use Rattle.cap_nodes.specs.Places.{IsIndex, is_of, has, HasMore, HasLess}
+use Rattle.cap_nodes.specs.Places.{IsOwnerIndex, is_of, has_pair, HasMore, HasLess}
 
 find_pushed : (n : ℕ) (cs : List Container) (c : Container) → find (λ x. x.number == c.number) cs ≡ None →
     find (λ x. x.number == n) (cs ++ c ∷ []) ≡ cond (c.number == n) (Some c) (find (λ x. x.number == n) cs)
@@ -37,10 +37,10 @@ find_left n m (c ∷ cs) = by (c.number == n) (c.number == m) (n == m) refl refl
     by false true false h i j same = rw i refl
     by false false f h i j same = rw i (same ∙ ap (λ t. cond t None (find (λ x. x.number == m) cs)) j)
 
-module _ (key : Container → ℕ) (live : List Container) (old : List (ℕ × ℕ)) (index : IsIndex key live old) where
+module _ (key : Container → ℕ) (live : List Container) (old : List (ℕ × ℕ)) (index : IsOwnerIndex key live old) where
   -- one more of the next number
   pub index_pushed : (new : List (ℕ × ℕ)) (c : Container) → find (λ x. x.number == c.number) live ≡ None → HasMore (key c) c.number old new →
-      IsIndex key (live ++ c ∷ []) new
+      IsOwnerIndex key (live ++ c ∷ []) new
   index_pushed new c fresh is o n =
       is o n ∙ ap (λ b. key c == o && c.number == n || b) (index o n)
       ∙ by (c.number == n) refl
@@ -63,10 +63,10 @@ module _ (key : Container → ℕ) (live : List Container) (old : List (ℕ × �
 
   -- one that is taken back
   pub index_back : (more new : List (ℕ × ℕ)) (a m : ℕ) → find (λ x. x.number == m) live ≡ None → HasMore a m old more →
-      HasLess a m more new → IsIndex key live new
+      HasLess a m more new → IsOwnerIndex key live new
   index_back more new a m fresh is back o n = back o n ∙ ap (λ b. not (a == o && m == n) && b) (is o n) ∙ by (a == o) (m == n) refl ∙ index o n
     where
-      by : (b e : Bool) → (m == n) ≡ e → (not (b && e) && (b && e || has old o n)) ≡ has old o n
+      by : (b e : Bool) → (m == n) ≡ e → (not (b && e) && (b && e || has_pair old o n)) ≡ has_pair old o n
       by true true h =
           let same : m ≡ n = grind (arith, nat_tests, h) in
           sym (index o n ∙ ap (λ x. is_of key x o) (subst (λ k. find (λ x. x.number == k) live ≡ None) same fresh))
@@ -75,7 +75,7 @@ module _ (key : Container → ℕ) (live : List Container) (old : List (ℕ × �
 
   -- without one
   pub index_left : (new : List (ℕ × ℕ)) (m : ℕ) (c : Container) → find (λ x. x.number == m) live ≡ Some c → HasLess (key c) m old new →
-      IsIndex key (filter (λ x. not (x.number == m)) live) new
+      IsOwnerIndex key (filter (λ x. not (x.number == m)) live) new
   index_left new m c there is o n =
       is o n ∙ ap (λ b. not (key c == o && m == n) && b) (index o n) ∙ by (key c == o) (m == n) refl refl ∙ ap (λ x. is_of key x o) (sym (find_left m n live))
     where
@@ -89,7 +89,7 @@ module _ (key : Container → ℕ) (live : List Container) (old : List (ℕ × �
       by false false h k = refl
 
 module _ (key : Container → ℕ) (owner after : ℕ) where
-  -- what an owner has later it has
+  -- what an owner has_pair later it has_pair
   later : (c : Container) (cs : List Container) (high m : ℕ) → IsRising (c.number + 1) (map (λ x. x.number) cs) high → is_of key (find (λ x. x.number == m) cs) owner ≡ true →
       is_of key (find (λ x. x.number == m) (c ∷ cs)) owner ≡ true
   later c cs high m r there = by (c.number == m) refl
@@ -144,10 +144,10 @@ module _ (key : Container → ℕ) (owner after : ℕ) where
       by true false i j more = more
       by false f i j more = more
 
-  module _ (live : List Container) (pairs : List (ℕ × ℕ)) (next : ℕ) (index : IsIndex key live pairs) (rising : IsRising 1 (map (λ c. c.number) live) next) where
-    pub first_of : (n : ℕ) → has pairs owner n ≡ true → after < n → ((m : ℕ) → after < m → has pairs owner m ≡ true → n ≤ m) →
+  module _ (live : List Container) (pairs : List (ℕ × ℕ)) (next : ℕ) (index : IsOwnerIndex key live pairs) (rising : IsRising 1 (map (λ c. c.number) live) next) where
+    pub first_of : (n : ℕ) → has_pair pairs owner n ≡ true → after < n → ((m : ℕ) → after < m → has_pair pairs owner m ≡ true → n ≤ m) →
         find (λ c. c.number == n) live ≡ find (λ c. key c == owner && nat_lt after c.number) live
     first_of n there above least = first_is n 1 live next rising above (sym (index owner n) ∙ there) (λ m h t. least m h (index owner m ∙ t))
 
-    pub none_of : ((m : ℕ) → after < m → has pairs owner m ≡ false) → None ≡ find (λ c. key c == owner && nat_lt after c.number) live
+    pub none_of : ((m : ℕ) → after < m → has_pair pairs owner m ≡ false) → None ≡ find (λ c. key c == owner && nat_lt after c.number) live
     none_of none = none_is 1 live next rising (λ m h. sym (index owner m) ∙ none m h)

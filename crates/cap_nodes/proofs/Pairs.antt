@@ -7,7 +7,7 @@ use Rattle.std.specs.declared.cmp.Ordering.TheVariants.{Less, Equal, Greater}
 use Rattle.std.specs.BTreeMap.{is_at}
 use Rattle.std.specs.Cmp.{both_tied, unsigned_ties}
 use Rattle.std.proofs.lemmas.Bool.Decides.{nat_tests}
-use Rattle.cap_nodes.specs.Places.{pair_cmp, has}
+use Rattle.cap_nodes.specs.Places.{pair_cmp, has_pair}
 
 pub same_pair : (a n b m : ℕ) → is_at (pair_cmp (a, n)) (b, m) ≡ (a == b && n == m)
 same_pair a n b m = sym (both_tied (a == b) (n == m) (nat_cmp a b) (nat_cmp n m) (unsigned_ties a b) (unsigned_ties n m))
@@ -58,20 +58,20 @@ later a n m h =
 
 -- the first of the pairs after one, by what a range says of it
 module _ (pairs rest tail : List (ℕ × ℕ)) (owner after of n : ℕ) (steps : rest ≡ (of, n) ∷ tail)
-    (first : (q : ℕ × ℕ) → (pair_cmp (owner, after) q ≡ Less) × ⊤ → IsTrue (has pairs q.0 q.1) → IfSome (slice_get rest 0) (λ k. is_gt (pair_cmp k q) ≡ false)) where
-  no_later : (m : ℕ) → after < m → has pairs owner m ≡ true → is_gt (pair_cmp (of, n) (owner, m)) ≡ false
+    (first : (q : ℕ × ℕ) → (pair_cmp (owner, after) q ≡ Less) × ⊤ → IsTrue (has_pair pairs q.0 q.1) → IfSome (slice_get rest 0) (λ k. is_gt (pair_cmp k q) ≡ false)) where
+  no_later : (m : ℕ) → after < m → has_pair pairs owner m ≡ true → is_gt (pair_cmp (of, n) (owner, m)) ≡ false
   no_later m h there = subst (λ (r : List (ℕ × ℕ)). IfSome (slice_get r 0) (λ k. is_gt (pair_cmp k (owner, m)) ≡ false)) steps (first (owner, m) (later owner after m h, tt) there)
 
-  pub least : of ≡ owner → (m : ℕ) → after < m → has pairs owner m ≡ true → n ≤ m
+  pub least : of ≡ owner → (m : ℕ) → after < m → has_pair pairs owner m ≡ true → n ≤ m
   least same m h there = second_below owner n m (subst (λ o. is_gt (pair_cmp (o, n) (owner, m)) ≡ false) same (no_later m h there))
 
-  pub none_of : (of ≡ owner → ⊥) → IfSome (slice_get rest 0) (λ k. ((pair_cmp (owner, after) k ≡ Less) × ⊤) × IsTrue (has pairs k.0 k.1)) → (m : ℕ) → after < m →
-      has pairs owner m ≡ false
-  none_of other within m h = by (has pairs owner m) refl
+  pub none_of : (of ≡ owner → ⊥) → IfSome (slice_get rest 0) (λ k. ((pair_cmp (owner, after) k ≡ Less) × ⊤) × IsTrue (has_pair pairs k.0 k.1)) → (m : ℕ) → after < m →
+      has_pair pairs owner m ≡ false
+  none_of other within m h = by (has_pair pairs owner m) refl
     where
-      by : (b : Bool) → has pairs owner m ≡ b → b ≡ false
+      by : (b : Bool) → has_pair pairs owner m ≡ b → b ≡ false
       by true there =
-          let in_range = subst (λ (r : List (ℕ × ℕ)). IfSome (slice_get r 0) (λ k. ((pair_cmp (owner, after) k ≡ Less) × ⊤) × IsTrue (has pairs k.0 k.1))) steps within in
+          let in_range = subst (λ (r : List (ℕ × ℕ)). IfSome (slice_get r 0) (λ k. ((pair_cmp (owner, after) k ≡ Less) × ⊤) × IsTrue (has_pair pairs k.0 k.1))) steps within in
           let low = first_above owner after of n in_range.0.0 in
           let high = first_below of n owner m (no_later m h there) in
           absurd (other (omega (arith, low, high)))

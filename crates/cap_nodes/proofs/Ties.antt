@@ -12,7 +12,7 @@ use Rattle.cap_model.specs.Amounts.{sum_where}
 use Rattle.cap_model.specs.Bounds.{IsRising}
 use Rattle.cap_model.specs.Flat.{Container}
 use Rattle.cap_model.proofs.lists.Sums.{one_where}
-use Rattle.cap_nodes.specs.Places.{Place, IsTied, place_at, change_place, held_more, held_less, HasRoom, HasOne}
+use Rattle.cap_nodes.specs.Places.{Place, IsTied, place_at, change_place, held_more, held_less, CanHold, HasOne}
 use Rattle.cap_nodes.proofs.Sums.{where-push-other, where-push-own, where-less-other, where-less-own, where-had, sum-without, count-push}
 
 -- what holds of each holds of the one that is found
@@ -123,7 +123,7 @@ module _ (K : ℕ) (live : List Container) where
   pub room_fits : (r : List ℕ) (p : Place) → IsTied K live p → Fits r (less p.node.total p.held) → Fits (plus p.held r) p.node.total
   room_fits r p tie room k = omega (arith, amount-plus p.held r k, amount-less p.node.total p.held k, room k, tie.fits k)
 
-  pub has_room : (r : List ℕ) (p : Place) → IsTied K live p → Fits r (less p.node.total p.held) → length live < live_max → HasRoom r p
+  pub has_room : (r : List ℕ) (p : Place) → IsTied K live p → Fits r (less p.node.total p.held) → length live < live_max → CanHold r p
   has_room r p tie room few = record {
     within = λ k. omega (arith, room_fits r p tie room k, tie.within k);
     few = omega (arith, tie.count, count_by-le-length (λ (x : Container). x.node == p.node.number) live, few);

@@ -45,7 +45,7 @@ abbrev pub beaten_place : ℕ → Place → Place
 beaten_place ignored p = record p { node = beaten ignored p.live p.node }
 
 -- room for one more container of this resource
-pub record HasRoom (resource : List ℕ) (p : Place) : Type 0 where
+pub record CanHold (resource : List ℕ) (p : Place) : Type 0 where
   pub within : IsWithin amount_max (plus p.held resource)
   pub few : p.live < live_max
 
@@ -74,25 +74,25 @@ pub record AreTied (K : ℕ) (places : List Place) (live : List Container) : Typ
 abbrev pub pair_cmp : ℕ × ℕ → ℕ × ℕ → Ordering
 pair_cmp x y = ordering_then (nat_cmp x.0 y.0) (nat_cmp x.1 y.1)
 
--- whether an owner has the container of a number, by pairs of both
-abbrev pub has : List (ℕ × ℕ) → ℕ → ℕ → Bool
-has pairs owner number = list_any (is_at (pair_cmp (owner, number))) pairs
+-- whether an owner has_pair the container of a number, by pairs of both
+abbrev pub has_pair : List (ℕ × ℕ) → ℕ → ℕ → Bool
+has_pair pairs owner number = list_any (is_at (pair_cmp (owner, number))) pairs
 
 -- the pairs with one more, and without it
 abbrev pub HasMore : ℕ → ℕ → List (ℕ × ℕ) → List (ℕ × ℕ) → Type 0
-HasMore owner number old new = (o n : ℕ) → has new o n ≡ (owner == o && number == n || has old o n)
+HasMore owner number old new = (o n : ℕ) → has_pair new o n ≡ (owner == o && number == n || has_pair old o n)
 
 abbrev pub HasLess : ℕ → ℕ → List (ℕ × ℕ) → List (ℕ × ℕ) → Type 0
-HasLess owner number old new = (o n : ℕ) → has new o n ≡ (not (owner == o && number == n) && has old o n)
+HasLess owner number old new = (o n : ℕ) → has_pair new o n ≡ (not (owner == o && number == n) && has_pair old o n)
 
 -- whether a container is an owner's
 abbrev pub is_of : (Container → ℕ) → Option Container → ℕ → Bool
 is_of key None owner = false
 is_of key (Some c) owner = key c == owner
 
--- each owner has its live containers by the pairs
-abbrev pub IsIndex : (Container → ℕ) → List Container → List (ℕ × ℕ) → Type 0
-IsIndex key live pairs = (owner number : ℕ) → has pairs owner number ≡ is_of key (find (λ c. c.number == number) live) owner
+-- each owner has_pair its live containers by the pairs
+abbrev pub IsOwnerIndex : (Container → ℕ) → List Container → List (ℕ × ℕ) → Type 0
+IsOwnerIndex key live pairs = (owner number : ℕ) → has_pair pairs owner number ≡ is_of key (find (λ c. c.number == number) live) owner
 
 -- the entries are the containers by number, which rise and are few
 abbrev pub IsLive : List (ℕ × Container) → ℕ → Type 0

@@ -21,15 +21,15 @@ pub(crate) struct Live<const K: usize> {
 
 impl<const K: usize> Model for Live<K> {
     ghost use Rattle.std.specs.BTreeMap.{values};
-    ghost use Rattle.cap_nodes.specs.Places.{LiveTable, IsIndex, IsLive};
+    ghost use Rattle.cap_nodes.specs.Places.{LiveTable, IsOwnerIndex, IsLive};
 
     ghost Value = { LiveTable };
 
     ghost view = { λ l. record { live = values l.containers; next = l.next } };
 
     ghost invariant = { λ l. IsLive l.containers.entries l.next
-        × IsIndex (λ c. c.app) (values l.containers) l.of_apps
-        × IsIndex (λ c. c.node) (values l.containers) l.on_nodes };
+        × IsOwnerIndex (λ c. c.app) (values l.containers) l.of_apps
+        × IsOwnerIndex (λ c. c.node) (values l.containers) l.on_nodes };
 }
 
 impl<const K: usize> Live<K> {

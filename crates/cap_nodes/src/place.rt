@@ -1,6 +1,6 @@
 ghost use Rattle.std.specs.Prelude.{◌≡◌, Some, length};
 ghost use Rattle.cap_vector.specs.Vector.{Fits, plus, less};
-ghost use Rattle.cap_nodes.specs.Places.{HasRoom, HasOne, held_more, held_less, beaten_place};
+ghost use Rattle.cap_nodes.specs.Places.{CanHold, HasOne, held_more, held_less, beaten_place};
 
 use crate::node::Node;
 use cap_model::HeartbeatReply;
@@ -57,7 +57,7 @@ impl<const K: usize> Place<K> {
 
     /// One more container of this resource is live on it.
     pub(crate) fn hold(&mut self, resource: &Resource<K>)
-        requires { HasRoom resource.now self.old }
+        requires { CanHold resource.now self.old }
         ensures more { self.new ≡ held_more resource.now self.old }
         ensures count { length (plus self.old.held resource.now) ≡ K }
     {

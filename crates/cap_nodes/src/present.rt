@@ -4,7 +4,7 @@ ghost use Rattle.std.specs.Option.{option_copied};
 ghost use Rattle.cap_vector.specs.Vector.{plus, zeros};
 ghost use Rattle.cap_model.specs.Bounds.{IsRising};
 ghost use Rattle.cap_model.specs.Limits.{nodes_max, number_end};
-ghost use Rattle.cap_nodes.specs.Places.{HasRoom, HasOne, place_at, change_place, held_more, held_less, beaten_place};
+ghost use Rattle.cap_nodes.specs.Places.{CanHold, HasOne, place_at, change_place, held_more, held_less, beaten_place};
 
 use crate::node::Node;
 use crate::place::Place;
@@ -116,7 +116,7 @@ impl<const K: usize> Present<K> {
     /// One more container of this resource is live on a node.
     pub(crate) fn hold(&mut self, number: u64, resource: &Resource<K>)
         requires present { IsSome (place_at self.old.places number) }
-        requires room { IfSome (place_at self.old.places number) (HasRoom resource.now) }
+        requires room { IfSome (place_at self.old.places number) (CanHold resource.now) }
         ensures more { self.new ≡ record self.old { places = change_place number (held_more resource.now) self.old.places } }
         ensures count { IfSome (place_at self.old.places number) (λ p. length (plus p.held resource.now) ≡ K) }
         ensures rising { IsRising 1 (map (λ p. p.node.number) self.old.places) self.old.next }

@@ -22,7 +22,7 @@ use Rattle.cap_tree.specs.Spot.{leads_to, path_at, last_position, IsAddedAt, IsA
 use Rattle.cap_vector.specs.Vector.{amount}
 use Rattle.cap_vector.proofs.AmountLemmas.{amount-zeros}
 use Rattle.cap_tree.specs.Measure.{Measure}
-use Rattle.cap_tree.specs.Queue.{Queue, Shows, IsUnused, of_queue, of_user, of_users}
+use Rattle.cap_tree.specs.Queue.{Queue, HasSettingsOf, IsUnused, of_queue, of_user, of_users}
 use Rattle.cap_tree.specs.Rows.{Row, AreRows, PositionsArePaths, settings_of_row, queues_of}
 use Rattle.cap_tree.specs.Growth.{IsClosed, IsGrowing}
 use Rattle.cap_tree.proofs.RowPaths.{at_position, agree, same_row, leads_itself}
@@ -201,14 +201,14 @@ front_there rows path front rest name c p h e = by (above_child path front name 
     by (inl s) = subst (λ x. has_path (queues_of rows) x ≡ true) (p.path_is ∙ s) (path_of_row rows p.row p.member)
     by (inr (more, s)) = each_of (λ y. (f r : List ℕ) → y.path ≡ f ++ 46 ∷ r → has_path (queues_of rows) f ≡ true) (queues_of rows) c (settings_of_row p.row) (in_map settings_of_row rows p.row p.member) front more (p.path_is ∙ s)
 
-shown : (q : QueueRow) (item : Queue) (position : List ℕ) → Shows q item → settings_of_row (record { position = position; path = q.path; item = item }) ≡ q
+shown : (q : QueueRow) (item : Queue) (position : List ℕ) → HasSettingsOf q item → settings_of_row (record { position = position; path = q.path; item = item }) ≡ q
 shown q item position h = λ i. record { path = q.path; guaranteed = h.guaranteed i; maximum = h.maximum i; factor = h.factor i; running = h.running i }
 
 pub record IsGrown (K : ℕ) (rows rows' : List Row) (q : QueueRow) (todo : List QueueRow) : Type 0 where
   pub growing : IsGrowing K rows' todo
   pub queues : queues_of rows' ≡ queues_of rows ++ q ∷ []
 
-pub grow : (K : ℕ) (rows rows' : List Row) (q : QueueRow) (todo : List QueueRow) (levels : ℕ) (item : Queue) → IsGrowing K rows (q ∷ todo) → levels ≡ depth q.path - 1 → Shows q item → IsUnused K item →
+pub grow : (K : ℕ) (rows rows' : List Row) (q : QueueRow) (todo : List QueueRow) (levels : ℕ) (item : Queue) → IsGrowing K rows (q ∷ todo) → levels ≡ depth q.path - 1 → HasSettingsOf q item → IsUnused K item →
     IsAdded levels item.name item rows rows' → IsGrown K rows rows' q todo
 grow K rows rows' q todo levels item w lv sh un a =
     let f = w.listed.0 in
@@ -274,7 +274,7 @@ has_level before q todo l =
 -- the next of the rows
 
 pub grow_next : (K : ℕ) (rows rows' start : List Row) (qs : List QueueRow) (i levels : ℕ) (q : QueueRow) (item : Queue) → i < length qs → q ≡ get_or qs i q → IsGrowing K rows (drop i qs) → queues_of rows ≡ queues_of start ++ take i qs →
-    levels ≡ depth q.path - 1 → Shows q item → IsUnused K item → IsAdded levels item.name item rows rows' → IsGrown K rows rows' q (drop (i + 1) qs) × (queues_of rows' ≡ queues_of start ++ take (i + 1) qs)
+    levels ≡ depth q.path - 1 → HasSettingsOf q item → IsUnused K item → IsAdded levels item.name item rows rows' → IsGrown K rows rows' q (drop (i + 1) qs) × (queues_of rows' ≡ queues_of start ++ take (i + 1) qs)
 grow_next K rows rows' start qs i levels q item h e w s lv sh un a =
     let d : drop i qs ≡ q ∷ drop (i + 1) qs = drop-cons qs i q h ∙ (let z : suc i ≡ i + 1 = omega arith in ap (λ n. get_or qs i q ∷ drop n qs) z) ∙ ap (λ x. x ∷ drop (i + 1) qs) (sym e) in
     let g = grow K rows rows' q (drop (i + 1) qs) levels item (subst (IsGrowing K rows) d w) lv sh un a in
@@ -287,7 +287,7 @@ next_level K rows qs i q h e w =
 
 -- the root alone
 
-pub start : (K : ℕ) (qs others : List QueueRow) (first : QueueRow) (item : Queue) → qs ≡ first ∷ others → IsListing qs → Shows first item → IsUnused K item →
+pub start : (K : ℕ) (qs others : List QueueRow) (first : QueueRow) (item : Queue) → qs ≡ first ∷ others → IsListing qs → HasSettingsOf first item → IsUnused K item →
     IsGrown K [] (record { position = []; path = item.name; item = item } ∷ []) first others
 start K qs others first item e l sh un =
     let k = subst IsListing e l in

@@ -16,5 +16,5 @@ most (Measure.uses k) = sum_max
 most Measure.active = 18446744073709551615
 
 -- where old goes away and new comes, it grows no more, or stays within the most
-abbrev pub HasRoom : (stored old new bound : ℕ) → Type 0
-HasRoom stored old new bound = (new ≤ old) ⊎ ((stored - old) + new ≤ bound)
+abbrev pub StaysBounded : (stored old new bound : ℕ) → Type 0
+StaysBounded stored old new bound = (new ≤ old) ⊎ ((stored - old) + new ≤ bound)

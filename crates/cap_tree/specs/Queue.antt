@@ -104,7 +104,7 @@ pub record IsUnused (K : ℕ) (q : Queue) : Type 0 where
   pub users : q.users ≡ []
 
 -- a queue has the name and the settings of a row
-pub record Shows (row : QueueRow) (q : Queue) : Type 0 where
+pub record HasSettingsOf (row : QueueRow) (q : Queue) : Type 0 where
   pub name : q.name ≡ name_of row.path
   pub guaranteed : q.guaranteed ≡ row.guaranteed
   pub maximum : q.maximum ≡ row.maximum

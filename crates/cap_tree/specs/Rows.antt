@@ -10,7 +10,7 @@ use Rattle.cap_tree.specs.Finding.{IsStart}
 use Rattle.cap_tree.specs.declared.found.Found.{Found}
 use Rattle.cap_tree.specs.declared.found.Found.TheVariants.{Leaf, Parent, Missing}
 use Rattle.cap_tree.specs.Spot.{Spot, first, first_of, leads_to, item_at, path_at, IsPosition}
-use Rattle.cap_tree.specs.Measure.{Measure, HasRoom, most}
+use Rattle.cap_tree.specs.Measure.{Measure, StaysBounded, most}
 use Rattle.cap_tree.specs.Count.{Count, of_count, nothing, one_application, use_alone}
 use Rattle.cap_tree.specs.Queue.{Queue, UserRow, of_queue, user_row, moved_above, moved_at, with_running}
 
@@ -40,23 +40,23 @@ abbrev pub changed_at : (Queue → Queue) → (Queue → Queue) → List ℕ →
 changed_at above at path r =
     if bytes_eq r.path path then record r { item = at r.item } else (if is_under r.path path then record r { item = above r.item } else r)
 
--- after a part of a user's count in the leaf of that path has moved
-abbrev pub moved : ℕ → List ℕ → List ℕ → Count → Count → Row → Row
-moved K path user old new = changed_at (moved_above old new) (moved_at K user old new) path
+-- after a part of a user's count in the leaf of that path has moved_row
+abbrev pub moved_row : ℕ → List ℕ → List ℕ → Count → Count → Row → Row
+moved_row K path user old new = changed_at (moved_above old new) (moved_at K user old new) path
 
--- after one more application of the user has entered there, after one has left, and after some of the user's use is given back
-abbrev pub entered : ℕ → List ℕ → List ℕ → Row → Row
-entered K path user = moved K path user (nothing K) (one_application K)
+-- after one more application of the user has entered_row there, after one has left_row, and after some of the user's use is given back
+abbrev pub entered_row : ℕ → List ℕ → List ℕ → Row → Row
+entered_row K path user = moved_row K path user (nothing K) (one_application K)
 
-abbrev pub left : ℕ → List ℕ → List ℕ → Row → Row
-left K path user = moved K path user (one_application K) (nothing K)
+abbrev pub left_row : ℕ → List ℕ → List ℕ → Row → Row
+left_row K path user = moved_row K path user (one_application K) (nothing K)
 
-abbrev pub lowered : ℕ → List ℕ → List ℕ → List ℕ → Row → Row
-lowered K path user r = moved K path user (use_alone r) (nothing K)
+abbrev pub lowered_row : ℕ → List ℕ → List ℕ → List ℕ → Row → Row
+lowered_row K path user r = moved_row K path user (use_alone r) (nothing K)
 
 -- after the use of a user there has changed from old to new
-abbrev pub applied : ℕ → List ℕ → List ℕ → List ℕ → List ℕ → Row → Row
-applied K path user old new = moved K path user (use_alone old) (use_alone new)
+abbrev pub applied_row : ℕ → List ℕ → List ℕ → List ℕ → List ℕ → Row → Row
+applied_row K path user old new = moved_row K path user (use_alone old) (use_alone new)
 
 -- with the queue's own state
 abbrev pub with_state : List ℕ → Bool → Row → Row
@@ -72,7 +72,7 @@ active_in rows = first_of (λ q. q.active) rows
 
 -- where a part of what is counted at the root moves, it grows no more, or stays within the most
 abbrev pub HasRoomAtRoot : Count → Count → List Row → Type 0
-HasRoomAtRoot old new rows = (m : Measure) → HasRoom (first_of (λ q. of_queue q m) rows) (of_count old m) (of_count new m) (most m)
+HasRoomAtRoot old new rows = (m : Measure) → StaysBounded (first_of (λ q. of_queue q m) rows) (of_count old m) (of_count new m) (most m)
 
 -- what is used at the queue of a position
 abbrev pub used_at : List ℕ → List Row → List ℕ

@@ -1,7 +1,7 @@
 //! A tree of items, seen as a list of its spots.
 ghost use Rattle.std.specs.Prelude.{◌≡◌, ◌+◌, ◌-◌, ◌≤◌, ◌∷◌, [], ℕ, List, Some, Bool, IfSome, IfOk, OnOk, OnErr, map, length};
 ghost use Rattle.std.specs.List.{All};
-ghost use Rattle.cap_tree.specs.Measure.{Measure, HasRoom, most};
+ghost use Rattle.cap_tree.specs.Measure.{Measure, StaysBounded, most};
 ghost use Rattle.cap_tree.specs.Spot.{HoldsOfItem, IsAdded, IsPosition, along, change_along, first, first_failing, first_of, has_below, item_at, spots};
 ghost use Rattle.cap_tree.specs.Finding.{IsFound, IsStart, is_parent};
 ghost use Rattle.cap_tree.specs.Branch.{IsBranch};
@@ -39,12 +39,12 @@ pub trait Change<T: Held> {
 
     fn change_above(&self, item: &mut T)
         requires fits { (m : Measure) → old self.now m ≤ T.stored item.old m }
-        requires within { (m : Measure) → HasRoom (T.stored item.old m) (old self.now m) (new self.now m) (most m) }
+        requires within { (m : Measure) → StaysBounded (T.stored item.old m) (old self.now m) (new self.now m) (most m) }
         ensures { item.new ≡ above self.now item.old };
 
     fn change_at(&self, item: &mut T) -> Result<(), NoMemory>
         requires can { can self.now item.old }
-        requires within { (m : Measure) → HasRoom (T.stored item.old m) (old self.now m) (new self.now m) (most m) }
+        requires within { (m : Measure) → StaysBounded (T.stored item.old m) (old self.now m) (new self.now m) (most m) }
         requires sums { (m : Measure) → T.own item.old m ≤ T.stored item.old m }
         ensures ok { OnOk result (item.new ≡ at self.now item.old) }
         ensures err { OnErr result (item.new ≡ item.old) }
@@ -154,7 +154,7 @@ impl<T: Held + Drop, A: Allocator + Copy> Branch<T, A> {
     /// item grows.
     pub fn change<C: Change<T>>(&mut self, steps: &[u32], change: &C) -> Result<(), NoMemory>
         requires can { HoldsOfItem (C.can change.now) (item_at steps.now self.old) }
-        requires within { (m : Measure) → HasRoom (first_of (λ x. T.stored x m) self.old) (C.old change.now m) (C.new change.now m) (most m) }
+        requires within { (m : Measure) → StaysBounded (first_of (λ x. T.stored x m) self.old) (C.old change.now m) (C.new change.now m) (most m) }
         ensures changed { OnOk result (self.new ≡ map (change_along (C.above change.now) (C.at change.now) steps.now) self.old) }
         ensures unchanged { OnErr result (self.new ≡ self.old) }
         ensures grows { OnErr result (HoldsOfItem (C.grows change.now) (item_at steps.now self.old)) }

@@ -4,7 +4,7 @@ ghost use Rattle.std.specs.List.{list_any};
 ghost use Rattle.cap_model.specs.Flat.{name_of};
 ghost use Rattle.cap_tree.specs.Count.{IsPart, MayMove, of_count};
 ghost use Rattle.cap_tree.specs.Measure.{Measure};
-ghost use Rattle.cap_tree.specs.Queue.{IsUnused, Shows, count_in, moved_above, moved_at, of_queue, of_users, queue_count, stays_in_maximum, stays_in_user_limit, use_of, user_row, with_count, with_running};
+ghost use Rattle.cap_tree.specs.Queue.{IsUnused, HasSettingsOf, count_in, moved_above, moved_at, of_queue, of_users, queue_count, stays_in_maximum, stays_in_user_limit, use_of, user_row, with_count, with_running};
 
 use crate::branch::Held;
 use crate::count::{Part, Total, moved};
@@ -58,7 +58,7 @@ impl<const K: usize, A: Allocator + Copy> Queue<K, A> {
     /// The queue of a row of the settings, with nothing in it.
     pub(crate) fn new(alloc: A, path: &PathText, row: &QueueRow<K>) -> Result<Queue<K, A>, NoMemory>
         requires { path.now ≡ row.now.path }
-        ensures { IfOk result (λ q. Shows row.now q × IsUnused K q) }
+        ensures { IfOk result (λ q. HasSettingsOf row.now q × IsUnused K q) }
     {
         let Ok(name) = Vec::from_slice(alloc, last_name(path.as_bytes())) else {
             return Err(NoMemory);

@@ -11,7 +11,7 @@ ghost use Rattle.cap_tree.specs.Limits.{over_limit};
 ghost use Rattle.cap_tree.specs.Paths.{TreeFitsInMemory};
 ghost use Rattle.cap_tree.specs.Count.{IsPart};
 ghost use Rattle.cap_tree.specs.Queue.{IsUnused, MayGive, MayLeave, count_in, stays_in_user_limit, use_of};
-ghost use Rattle.cap_tree.specs.Rows.{AreRows, FindsQueue, HasRoomAtRoot, active_in, applied, entered, is_running, left, lowered, moved, queues_of, root_use, used_at, user_row_at, with_state};
+ghost use Rattle.cap_tree.specs.Rows.{AreRows, FindsQueue, HasRoomAtRoot, active_in, applied_row, entered_row, is_running, left_row, lowered_row, moved_row, queues_of, root_use, used_at, user_row_at, with_state};
 ghost use Rattle.cap_tree.specs.Spot.{HoldsOfItem, IsPosition, item_at, path_at};
 
 use crate::branch::Branch;
@@ -111,7 +111,7 @@ impl<const K: usize, A: Allocator + Copy> QueueTree<K, A> {
         requires position { IsPosition self.old path.now.items }
         requires fits { IsPart change.now.old (count_in K (user_row_at path.now.items change.now.user.now self.old)) }
         requires within { HasRoomAtRoot change.now.old change.now.new self.old }
-        ensures ok { OnOk result (self.new ≡ map (moved K (path_at path.now.items self.old) change.now.user.now change.now.old change.now.new) self.old) }
+        ensures ok { OnOk result (self.new ≡ map (moved_row K (path_at path.now.items self.old) change.now.user.now change.now.old change.now.new) self.old) }
         ensures err { OnErr result (self.new ≡ self.old) }
         ensures absent { OnErr result (user_row_at path.now.items change.now.user.now self.old ≡ None) }
     {
@@ -127,7 +127,7 @@ impl<const K: usize, A: Allocator + Copy> QueueTree<K, A> {
     pub fn enter(&mut self, path: &Path<A>, user: &ShortText) -> Result<(), NoMemory>
         requires position { IsPosition self.old path.now.items }
         requires few { active_in self.old < number_end }
-        ensures ok { OnOk result (self.new ≡ map (entered K (path_at path.now.items self.old) user.now) self.old) }
+        ensures ok { OnOk result (self.new ≡ map (entered_row K (path_at path.now.items self.old) user.now) self.old) }
         ensures err { OnErr result (self.new ≡ self.old) }
         ensures absent { OnErr result (user_row_at path.now.items user.now self.old ≡ None) }
     {
@@ -143,7 +143,7 @@ impl<const K: usize, A: Allocator + Copy> QueueTree<K, A> {
     /// who has no row any more after the last.
     pub fn leave(&mut self, path: &Path<A>, user: &ShortText)
         requires { MayLeave (user_row_at path.now.items user.now self.old) }
-        ensures { self.new ≡ map (left K (path_at path.now.items self.old) user.now) self.old }
+        ensures { self.new ≡ map (left_row K (path_at path.now.items self.old) user.now) self.old }
     {
         let change = Move {
             user,
@@ -159,7 +159,7 @@ impl<const K: usize, A: Allocator + Copy> QueueTree<K, A> {
     /// the user falls by it.
     pub fn give_back(&mut self, path: &Path<A>, user: &ShortText, r: &Resource<K>)
         requires { MayGive r.now (user_row_at path.now.items user.now self.old) }
-        ensures { self.new ≡ map (lowered K (path_at path.now.items self.old) user.now r.now) self.old }
+        ensures { self.new ≡ map (lowered_row K (path_at path.now.items self.old) user.now r.now) self.old }
     {
         let change = Move {
             user,
@@ -176,7 +176,7 @@ impl<const K: usize, A: Allocator + Copy> QueueTree<K, A> {
     pub fn apply(&mut self, path: &Path<A>, user: &ShortText, old: &Resource<K>, new: &Resource<K>)
         requires may { MayGive old.now (user_row_at path.now.items user.now self.old) }
         requires within { IsWithin sum_max (exchanged old.now new.now (root_use self.old)) }
-        ensures { self.new ≡ map (applied K (path_at path.now.items self.old) user.now old.now new.now) self.old }
+        ensures { self.new ≡ map (applied_row K (path_at path.now.items self.old) user.now old.now new.now) self.old }
     {
         let change = Move {
             user,

@@ -16,9 +16,9 @@ use Rattle.cap_world.specs.declared.step.Step.TheVariants as steps
 use Rattle.cap_world.specs.declared.step.Did.{Did}
 use Rattle.cap_world.specs.declared.step.Did.TheVariants as dids
 use Rattle.cap_world.specs.Answers.{Call}
-use Rattle.cap_world.specs.Connection.{Connection, fresh, is_open_standing, AnswersAs, AnswersSome, HasAnswers}
+use Rattle.cap_world.specs.Connection.{Connection, new_connection, is_open_standing, AnswersAs, AnswersSome, HasAnswers}
 use Rattle.cap_world.specs.Serving.{Feeds, StandsAfter}
-use Rattle.cap_world.specs.World.{Sight, connection_at, is_open, is_open_connection, output_of, output_from, Changes, HasAnswersAt}
+use Rattle.cap_world.specs.World.{WorldState, connection_at, is_open, is_open_connection, output_of, output_from, Changes, HasAnswersAt}
 use Rattle.cap_world.specs.Steps.{Outcome, Starves}
 use Rattle.cap_world.specs.Hearing.{Hearing, unopened, live, over, opened, ended, HearsPiece, HearsStep, Hears, IsHeard, IsCutShort, IsHeardBefore}
 
@@ -63,7 +63,7 @@ no_piece piece (live taken) (Some is) closed a = let lives : true ≡ false = rw
 no_piece piece (over taken) o closed a = refl
 
 -- a connection opens
-opens : (heard : Hearing) (o : Option Connection) → o ≡ None → Agrees heard o → Next (λ next. next ≡ opened heard) (Some fresh)
+opens : (heard : Hearing) (o : Option Connection) → o ≡ None → Agrees heard o → Next (λ next. next ≡ opened heard) (Some new_connection)
 opens unopened o e a = (live [], refl, (refl, refl))
 opens (live taken) o e a = absurd (rw e at a)
 opens (over taken) o e a = absurd (rw e at a)
@@ -120,9 +120,9 @@ same_match : (b : Bool) (P Q : Type 0) → (b ≡ true → P) → Q → MatchBoo
 same_match true P Q p q = p refl
 same_match false P Q p q = q
 
-pub hears_done : (c : ℕ) (step : Step) (did : Did) (old new : Sight) (before after : List (Event 2)) (heard : Hearing) → Outcome step (Ok did) old new before after → Agrees heard (connection_at c old.connections) → Next (HearsStep c step heard) (connection_at c new.connections)
+pub hears_done : (c : ℕ) (step : Step) (did : Did) (old new : WorldState) (before after : List (Event 2)) (heard : Hearing) → Outcome step (Ok did) old new before after → Agrees heard (connection_at c old.connections) → Next (HearsStep c step heard) (connection_at c new.connections)
 hears_done c (steps.Open d) dids.Done old new before after heard o a =
-    chosen (d == c) (opened heard) heard (own_or_other c d fresh old.connections new.connections heard (λ next. next ≡ opened heard) o.1 a
+    chosen (d == c) (opened heard) heard (own_or_other c d new_connection old.connections new.connections heard (λ next. next ≡ opened heard) o.1 a
     (λ same. opens heard (connection_at c old.connections) (rw same o.0) a))
 hears_done c (steps.End d) dids.Done old new before after heard o a =
     let e = o.0 in
@@ -135,17 +135,17 @@ hears_done c (steps.Bytes d piece) dids.Done old new before after heard o a =
 hears_done c (steps.Open d) dids.Idle old new before after heard o a = (
   heard,
   same_choice (d == c) (opened heard) heard (λ t. no_open heard (connection_at c old.connections) (subst (λ (x : ℕ). IsSome (connection_at x old.connections)) (eqb-true d c t) o.0) a),
-  subst (λ (x : Sight). Agrees heard (connection_at c x.connections)) (sym o.1) a,
+  subst (λ (x : WorldState). Agrees heard (connection_at c x.connections)) (sym o.1) a,
 )
 hears_done c (steps.End d) dids.Idle old new before after heard o a = (
   heard,
   same_choice (d == c) (ended heard) heard (λ t. no_end heard (connection_at c old.connections) (subst (λ (x : ℕ). is_open x old ≡ false) (eqb-true d c t) o.0) a),
-  subst (λ (x : Sight). Agrees heard (connection_at c x.connections)) (sym o.1) a,
+  subst (λ (x : WorldState). Agrees heard (connection_at c x.connections)) (sym o.1) a,
 )
 hears_done c (steps.Bytes d piece) dids.Idle old new before after heard o a = (
   heard,
   same_match (d == c) (HearsPiece piece.now heard heard) (heard ≡ heard) (λ t. no_piece piece.now heard (connection_at c old.connections) (subst (λ (x : ℕ). is_open x old ≡ false) (eqb-true d c t) o.0) a) refl,
-  subst (λ (x : Sight). Agrees heard (connection_at c x.connections)) (sym o.1) a,
+  subst (λ (x : WorldState). Agrees heard (connection_at c x.connections)) (sym o.1) a,
 )
 
 -- ---- what was answered for what was heard
@@ -195,10 +195,10 @@ cut_short by piece from to before after (live taken) calls was is lives a starve
     ] in
     (subst (λ (x : List ℕ). AnswersSome (x ++ piece) calls is.output) a.1 all, ap is_open_standing starved)
 
-pub heard_starved : (c : ℕ) (step : Step) (old new : Sight) (before after : List (Event 2)) (heard : Hearing) (calls : List Call) → Starves step old new before after → Agrees heard (connection_at c old.connections) → HasAnswersAt calls (connection_at c new.connections)
+pub heard_starved : (c : ℕ) (step : Step) (old new : WorldState) (before after : List (Event 2)) (heard : Hearing) (calls : List Call) → Starves step old new before after → Agrees heard (connection_at c old.connections) → HasAnswersAt calls (connection_at c new.connections)
     → IsHeardBefore (Some step) c heard calls (output_of c new) (is_open c new)
 heard_starved c (steps.Open d) old new before after heard calls s a has =
-    is_heard heard calls (connection_at c new.connections) (subst (λ (x : Sight). Agrees heard (connection_at c x.connections)) (sym s.0) a) has
+    is_heard heard calls (connection_at c new.connections) (subst (λ (x : WorldState). Agrees heard (connection_at c x.connections)) (sym s.0) a) has
 heard_starved c (steps.End d) old new before after heard calls s a has = absurd s
 heard_starved c (steps.Bytes d piece) old new before after heard calls s a has =
     elim (cases_Bool (d == c)) [
@@ -218,10 +218,10 @@ hears_more : (c : ℕ) (made : List Step) (step : Step) (first second third : He
 hears_more c [] step first second third e h = (third, subst (λ (x : Hearing). HearsStep c step x third) (sym e) h, refl)
 hears_more c (s ∷ made) step first second third e h = (e.0, e.1, hears_more c made step e.0 second third e.2 h)
 
-abbrev pub HeardSoFar : List Step → Sight → Type 0
+abbrev pub HeardSoFar : List Step → WorldState → Type 0
 HeardSoFar made sight = (c : ℕ) → (heard : Hearing) × Hears c made unopened heard × Agrees heard (connection_at c sight.connections)
 
-pub heard_next : (all : List Step) (i : ℕ) (d : Step) (did : Did) (old new : Sight) (before after : List (Event 2)) → i < length all → HeardSoFar (take i all) old → Outcome (get_or all i d) (Ok did) old new before after → HeardSoFar (take (i + 1) all) new
+pub heard_next : (all : List Step) (i : ℕ) (d : Step) (did : Did) (old new : WorldState) (before after : List (Event 2)) → i < length all → HeardSoFar (take i all) old → Outcome (get_or all i d) (Ok did) old new before after → HeardSoFar (take (i + 1) all) new
 heard_next all i d did old new before after below so_far o c =
     let was = so_far c in
     let next = hears_done c (get_or all i d) did old new before after was.0 o was.2 in

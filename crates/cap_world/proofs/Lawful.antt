@@ -15,15 +15,15 @@ use Rattle.cap_world.specs.declared.step.Did.{Did}
 use Rattle.cap_world.specs.declared.step.Did.TheVariants as dids
 use Rattle.cap_model.specs.declared.no_memory.NoMemory.{NoMemory}
 use Rattle.cap_world.specs.Answers.{nothing, Call, call_by, calls_by, as_events}
-use Rattle.cap_world.specs.Connection.{Connection, fresh, AnswersAs, HasAnswers}
+use Rattle.cap_world.specs.Connection.{Connection, new_connection, AnswersAs, HasAnswers}
 use Rattle.cap_world.specs.Serving.{Feeds}
-use Rattle.cap_world.specs.World.{Sight, connection_at, Changes, HasAnswersAt, IsLawful}
+use Rattle.cap_world.specs.World.{WorldState, connection_at, Changes, HasAnswersAt, IsLawful}
 use Rattle.cap_world.specs.Steps.{Fed, Outcome}
 use Rattle.cap_world.proofs.Served.{run_more}
 use Rattle.cap_world.proofs.Feeding.{answered_more}
 
 -- Whatever run has led to old, with what a step adds leads to new.
-abbrev pub Goes : Sight → Sight → List (Event 2) → List (Event 2) → Type 0
+abbrev pub Goes : WorldState → WorldState → List (Event 2) → List (Event 2) → Type 0
 Goes old new before after = (more : List (Event 2)) × (after ≡ before ++ more) × ((opening : Flat 2) (events : List (Event 2)) → IsLawful opening events old → IsLawful opening (events ++ more) new)
 
 -- ---- what a connection sees of more events
@@ -41,7 +41,7 @@ calls_more c events more = filter_map-append (call_by c) events more
 
 -- ---- steps that add nothing
 
-keeps : (old new : Sight) → new.cluster ≡ old.cluster
+keeps : (old new : WorldState) → new.cluster ≡ old.cluster
     → ((c : ℕ) (calls : List Call) → HasAnswersAt calls (connection_at c old.connections) → HasAnswersAt calls (connection_at c new.connections))
     → (opening : Flat 2) (events : List (Event 2)) → IsLawful opening events old → IsLawful opening (events ++ []) new
 keeps old new e each opening events w = record {
@@ -61,7 +61,7 @@ keeps_one c old new is change one d calls a =
       | inr f ↦ rw (change d, f) a
     ]
 
-opens : (calls : List Call) → calls ≡ [] → HasAnswers calls fresh
+opens : (calls : List Call) → calls ≡ [] → HasAnswers calls new_connection
 opens calls e =
     let empty : IsStream [] [] (rest []) = written_is_read [] (All-nil IsPayload) (All-nil IsBytes) in
     ([], ([], empty, ([], rw e nothing, refl)))
@@ -76,7 +76,7 @@ fed_own : (c : ℕ) (piece : List ℕ) (old new : List (ℕ × Connection)) (fro
 fed_own c piece old new from to before after was is at live change f calls a =
     rw (change c, eq-eqb c c refl) (answered_more c piece calls from to before after was is live (rw at at a) f)
 
-fed_goes : (c : ℕ) (piece : List ℕ) (old new : Sight) (before after : List (Event 2)) (was is : Connection) → connection_at c old.connections ≡ Some was → was.standing ≡ standings.Open → Changes c is old.connections new.connections → (f : Feeds c piece old.cluster new.cluster before after was is)
+fed_goes : (c : ℕ) (piece : List ℕ) (old new : WorldState) (before after : List (Event 2)) (was is : Connection) → connection_at c old.connections ≡ Some was → was.standing ≡ standings.Open → Changes c is old.connections new.connections → (f : Feeds c piece old.cluster new.cluster before after was is)
     → (opening : Flat 2) (events : List (Event 2)) → IsLawful opening events old → IsLawful opening (events ++ as_events c f.serves.calls) new
 fed_goes c piece old new before after was is at live change f opening events w = record {
   run = run_more events (as_events c f.serves.calls) opening old.cluster new.cluster w.run f.serves.run;
@@ -92,21 +92,21 @@ fed_goes c piece old new before after was is at live change f opening events w =
 
 -- ---- any step
 
-quiet : (old new : Sight) (before after : List (Event 2)) → after ≡ before → ((opening : Flat 2) (events : List (Event 2)) → IsLawful opening events old → IsLawful opening (events ++ []) new) → Goes old new before after
+quiet : (old new : WorldState) (before after : List (Event 2)) → after ≡ before → ((opening : Flat 2) (events : List (Event 2)) → IsLawful opening events old → IsLawful opening (events ++ []) new) → Goes old new before after
 quiet old new before after e keep = ([], e ∙ sym (append-nil before), keep)
 
-same_goes : (old new : Sight) (before after : List (Event 2)) → after ≡ before → new ≡ old → Goes old new before after
+same_goes : (old new : WorldState) (before after : List (Event 2)) → after ≡ before → new ≡ old → Goes old new before after
 same_goes old new before after e s =
-    quiet old new before after e (keeps old new (ap (λ (x : Sight). x.cluster) s) (λ c calls a. subst (λ (x : Sight). HasAnswersAt calls (connection_at c x.connections)) (sym s) a))
+    quiet old new before after e (keeps old new (ap (λ (x : WorldState). x.cluster) s) (λ c calls a. subst (λ (x : WorldState). HasAnswersAt calls (connection_at c x.connections)) (sym s) a))
 
-fed_at_goes : (c : ℕ) (piece : List ℕ) (standing : Standing) (old new : Sight) (before after : List (Event 2)) → Fed c piece standing old.connections new.connections old.cluster new.cluster before after → Goes old new before after
+fed_at_goes : (c : ℕ) (piece : List ℕ) (standing : Standing) (old new : WorldState) (before after : List (Event 2)) → Fed c piece standing old.connections new.connections old.cluster new.cluster before after → Goes old new before after
 fed_at_goes c piece standing old new before after x =
     let f = x.5 in
     (as_events c f.serves.calls, f.serves.events, fed_goes c piece old new before after x.0 x.1 x.2 x.3 x.4 f)
 
-pub outcome_goes : (step : Step) (result : Result Did NoMemory) (old new : Sight) (before after : List (Event 2)) → Outcome step result old new before after → Goes old new before after
+pub outcome_goes : (step : Step) (result : Result Did NoMemory) (old new : WorldState) (before after : List (Event 2)) → Outcome step result old new before after → Goes old new before after
 outcome_goes (steps.Open c) (Ok dids.Done) old new before after o =
-    quiet old new before after o.3 (keeps old new o.2 (keeps_one c old.connections new.connections fresh o.1 (λ calls a. opens calls (rw o.0 at a))))
+    quiet old new before after o.3 (keeps old new o.2 (keeps_one c old.connections new.connections new_connection o.1 (λ calls a. opens calls (rw o.0 at a))))
 outcome_goes (steps.End c) (Ok dids.Done) old new before after o =
     let ended = o.0 in
     quiet old new before after o.2 (keeps old new o.1 (keeps_one c old.connections new.connections (record ended.0 { standing = standings.Ended }) ended.3 (λ calls a. ends_so ended.0 ended.2 calls (rw ended.1 at a))))

@@ -13,8 +13,8 @@ pub record Connection : Type 0 where
   pub output : List ℕ
 
 -- a connection that was opened just now
-abbrev pub fresh : Connection
-fresh = record { standing = standings.Open; taken = []; output = [] }
+abbrev pub new_connection : Connection
+new_connection = record { standing = standings.Open; taken = []; output = [] }
 
 abbrev pub is_open_standing : Standing → Bool
 is_open_standing standings.Open = true

@@ -8,7 +8,7 @@ use Rattle.cap_world.specs.declared.step.Step.{Step}
 use Rattle.cap_world.specs.declared.step.Step.TheVariants as steps
 use Rattle.cap_world.specs.Answers.{Call, calls_by}
 use Rattle.cap_world.specs.Connection.{AnswersAll, AnswersSome}
-use Rattle.cap_world.specs.World.{Sight, is_open, output_of}
+use Rattle.cap_world.specs.World.{WorldState, is_open, output_of}
 
 -- a connection after some steps: never opened, or open or no longer open with the pieces that found it open, joined
 pub data Hearing : Type 0 where
@@ -21,8 +21,8 @@ abbrev pub GoesOn : List ℕ → Type 0
 GoesOn bytes = (payloads : List (List ℕ)) × (left : List ℕ) × IsStream bytes payloads (rest left)
 
 -- the bytes come to a length that no frame has
-abbrev pub HasFault : List ℕ → Type 0
-HasFault bytes = (payloads : List (List ℕ)) × (after : List ℕ) × IsStream bytes payloads (fault after)
+abbrev pub HasBadLength : List ℕ → Type 0
+HasBadLength bytes = (payloads : List (List ℕ)) × (after : List ℕ) × IsStream bytes payloads (fault after)
 
 -- a number is opened once
 abbrev pub opened : Hearing → Hearing
@@ -40,7 +40,7 @@ ended (over taken) = over taken
 abbrev pub HearsPiece : List ℕ → Hearing → Hearing → Type 0
 HearsPiece piece unopened new = new ≡ unopened
 HearsPiece piece (over taken) new = new ≡ over taken
-HearsPiece piece (live taken) new = (GoesOn (taken ++ piece) × (new ≡ live (taken ++ piece))) ⊎ (HasFault (taken ++ piece) × (new ≡ over (taken ++ piece)))
+HearsPiece piece (live taken) new = (GoesOn (taken ++ piece) × (new ≡ live (taken ++ piece))) ⊎ (HasBadLength (taken ++ piece) × (new ≡ over (taken ++ piece)))
 
 -- connection c hears a step: its own alone
 abbrev pub HearsStep : ℕ → Step → Hearing → Hearing → Type 0
@@ -75,6 +75,6 @@ IsHeardBefore (Some (steps.Bytes d piece)) c heard calls output is_open = MatchB
 -- The headline. Whatever the steps, the events are one run of the flat cluster from the opening to the world's cluster; and each connection's
 -- output answers, by its calls among the events, the payloads and the tail of the pieces that found it open, joined. Where a piece was
 -- refused memory, which ends the run of the steps, it answers a beginning of the payloads and no tail.
-pub record IsHeadline (opening : Flat 2) (steps : List Step) (done : ℕ) (events : List (Event 2)) (sight : Sight) : Type 0 where
+pub record IsHeadline (opening : Flat 2) (steps : List Step) (done : ℕ) (events : List (Event 2)) (sight : WorldState) : Type 0 where
   pub run : Run opening events sight.cluster
   pub each : (c : ℕ) → (heard : Hearing) × Hears c (take done steps) unopened heard × IsHeardBefore (slice_get steps done) c heard (calls_by c events) (output_of c sight) (is_open c sight)

@@ -6,17 +6,17 @@ use Rattle.std.specs.Global.{Vec}
 use Rattle.cap_model.specs.declared.event.Event.{Event}
 use Rattle.cap_model.specs.Settings.{Settings}
 use Rattle.cap_commit.specs.Held.{Held}
-use Rattle.cap_model.specs.Flat.{Flat, opened}
+use Rattle.cap_model.specs.Flat.{Flat, opened_cluster}
 use Rattle.cap_model.specs.Events.{Run}
 use Rattle.cap_world.specs.Answers.{Call, calls_by}
 use Rattle.cap_world.specs.Connection.{Connection, HasAnswers, is_open_standing}
 
--- what is seen of a world: the cluster, and the connections that were ever opened, by number
-pub record Sight : Type 0 where
+-- what is seen of a world: the cluster, and the connections that were ever opened_cluster, by number
+pub record WorldState : Type 0 where
   pub cluster : Flat 2
   pub connections : List (ℕ × Connection)
 
--- the connection of a number, if it was ever opened
+-- the connection of a number, if it was ever opened_cluster
 abbrev pub connection_at : ℕ → List (ℕ × Connection) → Option Connection
 connection_at c connections = lookup (nat_eq c) connections
 
@@ -24,7 +24,7 @@ abbrev pub is_open_connection : Option Connection → Bool
 is_open_connection None = false
 is_open_connection (Some connection) = is_open_standing connection.standing
 
-abbrev pub is_open : ℕ → Sight → Bool
+abbrev pub is_open : ℕ → WorldState → Bool
 is_open c sight = is_open_connection (connection_at c sight.connections)
 
 abbrev pub output_from : Option Connection → List ℕ
@@ -32,21 +32,21 @@ output_from None = []
 output_from (Some connection) = connection.output
 
 -- all bytes that the connection was ever answered
-abbrev pub output_of : ℕ → Sight → List ℕ
+abbrev pub output_of : ℕ → WorldState → List ℕ
 output_of c sight = output_from (connection_at c sight.connections)
 
 -- one connection is this now, and each other is what it was
 abbrev pub Changes : ℕ → Connection → List (ℕ × Connection) → List (ℕ × Connection) → Type 0
 Changes c connection old new = (d : ℕ) → connection_at d new ≡ (if c == d then Some connection else connection_at d old)
 
--- what the calls of a connection answered it, if it was ever opened; else it has none
+-- what the calls of a connection answered it, if it was ever opened_cluster; else it has none
 abbrev pub HasAnswersAt : List Call → Option Connection → Type 0
 HasAnswersAt calls None = calls ≡ []
 HasAnswersAt calls (Some connection) = HasAnswers calls connection
 
 -- The events are a run of the flat cluster from the opening to the cluster, and each connection was answered for the bytes that it took
 -- by its calls among them.
-pub record IsLawful (opening : Flat 2) (events : List (Event 2)) (sight : Sight) : Type 0 where
+pub record IsLawful (opening : Flat 2) (events : List (Event 2)) (sight : WorldState) : Type 0 where
   pub run : Run opening events sight.cluster
   pub each : (c : ℕ) → HasAnswersAt (calls_by c events) (connection_at c sight.connections)
 
@@ -54,7 +54,7 @@ pub record IsLawful (opening : Flat 2) (events : List (Event 2)) (sight : Sight)
 pub record Known : Type 0 where
   pub opening : Flat 2
   pub events : List (Event 2)
-  pub sight : Sight
+  pub sight : WorldState
 
 abbrev pub IsWorld : Known → Type 0
 IsWorld world = IsLawful world.opening world.events world.sight
@@ -79,5 +79,5 @@ nothing = record { queues = []; minimum_allocation = []; maximum_allocation = []
 
 -- the first entry is the opening
 abbrev pub opening_of : List (Held 2 × ℕ) → Flat 2
-opening_of [] = opened nothing
+opening_of [] = opened_cluster nothing
 opening_of (x ∷ xs) = x.0.flat

@@ -1,5 +1,5 @@
 ghost use Rattle.std.specs.Prelude.{◌≡◌, [], ◌++◌, IfOk, OnOk, OnErr, false};
-ghost use Rattle.cap_world.specs.Connection.{Connection, fresh, is_open_standing};
+ghost use Rattle.cap_world.specs.Connection.{Connection, new_connection, is_open_standing};
 ghost use Rattle.cap_world.specs.Serving.{Feeds};
 
 use crate::service::serve;
@@ -43,7 +43,7 @@ impl Model for Session {
 impl Session {
     /// A connection that was told nothing. Without memory there is none.
     pub(crate) fn open(alloc: Global) -> Result<Session, NoMemory>
-        ensures { IfOk result (λ session. session ≡ fresh) }
+        ensures { IfOk result (λ session. session ≡ new_connection) }
     {
         Ok(Session {
             standing: Standing::Open,

@@ -5,11 +5,11 @@ use Rattle.std.specs.List.{All}
 use Rattle.std.proofs.lemmas.Bool.{cases_lt}
 use Rattle.cap_model.specs.Settings.{Settings}
 use Rattle.cap_model.specs.Amounts.{fits, times}
-use Rattle.cap_model.specs.Flat.{Flat, App, Container, Reservation, opened, is_under}
+use Rattle.cap_model.specs.Flat.{Flat, App, Container, Reservation, opened_cluster, is_under}
 use Rattle.cap_model.specs.Uses.{use_of, queue_use}
 use Rattle.cap_model.specs.declared.event.Event.{Event}
 use Rattle.cap_model.specs.Events.{Step, Run}
-use Rattle.cap_model.specs.Bounds.{FitsMaximum, IsLeaf, IsPlaced, IsQueueBounded, IsNodeBounded, IsReservationBounded, IsWellFormed, IsBounded}
+use Rattle.cap_model.specs.Bounds.{FitsMaximum, IsLeaf, AreThere, IsQueueBounded, IsNodeBounded, IsReservationBounded, IsWellFormed, IsBounded}
 use Rattle.cap_model.specs.Listing.{IsListing}
 use Rattle.cap_model.specs.BoundLaws.{StepStaysBounded, RunsStayBounded, OpenedIsBounded}
 use Rattle.cap_model.proofs.lists.Members.{of_each}
@@ -46,42 +46,42 @@ module _ {K : ℕ} where
 
 module _ (K : ℕ) where
   -- in an empty cluster nothing is used
-  nothing_used : (settings : Settings) (test : List ℕ → List ℕ → Rattle.std.specs.Prelude.Bool) (most : List ℕ) → fits (use_of (opened {K = K} settings) (λ a. test a.leaf a.user)) most ≡ true
+  nothing_used : (settings : Settings) (test : List ℕ → List ℕ → Rattle.std.specs.Prelude.Bool) (most : List ℕ) → fits (use_of (opened_cluster {K = K} settings) (λ a. test a.leaf a.user)) most ≡ true
   nothing_used settings test most =
-      amounts_fit (use_of (opened {K = K} settings) (λ a. test a.leaf a.user)) most
+      amounts_fit (use_of (opened_cluster {K = K} settings) (λ a. test a.leaf a.user)) most
       (λ k. elim (cases_lt k K) [
-        | inl h ↦ omega (arith, use_amount (opened {K = K} settings) test k h)
-        | inr p ↦ omega (arith, use_past (opened {K = K} settings) test k p)
+        | inl h ↦ omega (arith, use_amount (opened_cluster {K = K} settings) test k h)
+        | inr p ↦ omega (arith, use_past (opened_cluster {K = K} settings) test k p)
       ])
 
-  empty_in_maximum : (settings : Settings) (path : List ℕ) (most : Option (List ℕ)) → FitsMaximum (queue_use (opened {K = K} settings) path) most
+  empty_in_maximum : (settings : Settings) (path : List ℕ) (most : Option (List ℕ)) → FitsMaximum (queue_use (opened_cluster {K = K} settings) path) most
   empty_in_maximum settings path None = tt
   empty_in_maximum settings path (Some m) = nothing_used settings (λ leaf user. is_under path leaf) m
 
-  empty_formed : (settings : Settings) → IsListing settings.queues → IsWellFormed (opened {K = K} settings)
+  empty_formed : (settings : Settings) → IsListing settings.queues → IsWellFormed (opened_cluster {K = K} settings)
   empty_formed settings t = record {
     tree = t.tree;
     order = listings_stand_below settings.queues t;
-    leaves = of_each (λ (app : App). IsLeaf (opened {K = K} settings) app.leaf) [] (λ app m. absurd m);
+    leaves = of_each (λ (app : App). IsLeaf (opened_cluster {K = K} settings) app.leaf) [] (λ app m. absurd m);
     apps = omega arith;
     nodes = omega arith;
-    live = of_each (λ (c : Container). IsPlaced (opened {K = K} settings) c.app c.node) [] (λ c m. absurd m);
-    reserved = of_each (λ (r : Reservation). IsPlaced (opened {K = K} settings) r.app r.node) [] (λ r m. absurd m);
+    live = of_each (λ (c : Container). AreThere (opened_cluster {K = K} settings) c.app c.node) [] (λ c m. absurd m);
+    reserved = of_each (λ (r : Reservation). AreThere (opened_cluster {K = K} settings) r.app r.node) [] (λ r m. absurd m);
   }
 
-  empty_bounded : (settings : Settings) → IsListing settings.queues → IsBounded (opened {K = K} settings)
+  empty_bounded : (settings : Settings) → IsListing settings.queues → IsBounded (opened_cluster {K = K} settings)
   empty_bounded settings t =
       let w = empty_formed settings t in
       record {
         formed = w;
-        queues = of_each (IsQueueBounded (opened {K = K} settings)) settings.queues
+        queues = of_each (IsQueueBounded (opened_cluster {K = K} settings)) settings.queues
             (λ q m. record {
               maximum = empty_in_maximum settings q.path q.maximum;
               users = λ user. nothing_used settings (λ leaf u. bytes_eq q.path leaf && bytes_eq user u) (times q.factor q.guaranteed);
             });
-        parents = trees_add_up K (opened {K = K} settings) w;
-        nodes = of_each (IsNodeBounded (opened {K = K} settings)) [] (λ node m. absurd m);
-        reservations = of_each (IsReservationBounded (opened {K = K} settings)) [] (λ r m. absurd m);
+        parents = trees_add_up K (opened_cluster {K = K} settings) w;
+        nodes = of_each (IsNodeBounded (opened_cluster {K = K} settings)) [] (λ node m. absurd m);
+        reservations = of_each (IsReservationBounded (opened_cluster {K = K} settings)) [] (λ r m. absurd m);
         apart = tt;
         numbers = omega arith;
       }

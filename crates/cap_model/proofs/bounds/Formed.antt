@@ -17,7 +17,7 @@ use Rattle.cap_model.specs.declared.event.Event.{Event}
 use Rattle.cap_model.specs.Events.{Step, after_grant, after_reserve, grant_proposal, reserve_proposal}
 use Rattle.cap_model.specs.Sight.{sight_of}
 use Rattle.cap_model.specs.Admission.{NodeProposal, IsAdmissible}
-use Rattle.cap_model.specs.Bounds.{IsRising, HasDistinctPaths, IsTree, StandBelow, IsLeaf, IsPlaced, IsWellFormed}
+use Rattle.cap_model.specs.Bounds.{IsRising, HasDistinctPaths, IsTree, StandBelow, IsLeaf, AreThere, IsWellFormed}
 use Rattle.cap_model.specs.BoundLaws.{StepStaysWellFormed}
 use Rattle.cap_model.proofs.lists.Members.{IsIn, of_filter, in_either, each_of, of_each, of_map}
 use Rattle.cap_model.proofs.choice.Reasons.{none_holds}
@@ -199,15 +199,15 @@ module _ {K : ℕ} where
   -- places
   pub places_of : (cluster : Flat K) → IsWellFormed cluster → HasPlaces cluster
   places_of cluster w app node (inl (c, m, a, e)) =
-      subst (λ n. IsPlaced cluster n node) a (subst (λ n. IsPlaced cluster c.app n) e (each_of (λ (x : Container). IsPlaced cluster x.app x.node) cluster.nodes.live w.live c m))
+      subst (λ n. AreThere cluster n node) a (subst (λ n. AreThere cluster c.app n) e (each_of (λ (x : Container). AreThere cluster x.app x.node) cluster.nodes.live w.live c m))
   places_of cluster w app node (inr (r, m, a, e)) =
-      subst (λ n. IsPlaced cluster n node) a (subst (λ n. IsPlaced cluster r.app n) e (each_of (λ (x : Reservation). IsPlaced cluster x.app x.node) cluster.nodes.reserved w.reserved r m))
+      subst (λ n. AreThere cluster n node) a (subst (λ n. AreThere cluster r.app n) e (each_of (λ (x : Reservation). AreThere cluster x.app x.node) cluster.nodes.reserved w.reserved r m))
 
-  live_placed : (cluster : Flat K) → HasPlaces cluster → All (λ c. IsPlaced cluster c.app c.node) cluster.nodes.live
-  live_placed cluster h = of_each (λ (c : Container). IsPlaced cluster c.app c.node) cluster.nodes.live (λ c m. h c.app c.node (inl (c, m, refl, refl)))
+  live_placed : (cluster : Flat K) → HasPlaces cluster → All (λ c. AreThere cluster c.app c.node) cluster.nodes.live
+  live_placed cluster h = of_each (λ (c : Container). AreThere cluster c.app c.node) cluster.nodes.live (λ c m. h c.app c.node (inl (c, m, refl, refl)))
 
-  reserved_placed : (cluster : Flat K) → HasPlaces cluster → All (λ r. IsPlaced cluster r.app r.node) cluster.nodes.reserved
-  reserved_placed cluster h = of_each (λ (r : Reservation). IsPlaced cluster r.app r.node) cluster.nodes.reserved (λ r m. h r.app r.node (inr (r, m, refl, refl)))
+  reserved_placed : (cluster : Flat K) → HasPlaces cluster → All (λ r. AreThere cluster r.app r.node) cluster.nodes.reserved
+  reserved_placed cluster h = of_each (λ (r : Reservation). AreThere cluster r.app r.node) cluster.nodes.reserved (λ r m. h r.app r.node (inr (r, m, refl, refl)))
 
   -- the parts together
   formed : (old new : Flat K) → IsWellFormed old → HasSameQueues old new → AppsMove old new → HasNodeNumbers new → HasPlaces new → IsWellFormed new
@@ -237,34 +237,34 @@ module _ {K : ℕ} where
       (places_stay old (granted_cluster old request) (lessened old (places_of old w) request) (places_of old w))
 
   -- the application and the node of an admissible proposal
-  pub its_place : (old : Flat K) (p : NodeProposal) → IsWellFormed old → IsAdmissible (sight_of old) p → IsPlaced old p.app p.node
+  pub its_place : (old : Flat K) (p : NodeProposal) → IsWellFormed old → IsAdmissible (sight_of old) p → AreThere old p.app p.node
   its_place old p w a =
       let s = seen_is old w.apps p.app (a.0).registered in
       let n = node_seen old p.node (a.0).present in
       (ap is_some s.at, ap is_some n.at)
 
-  grant_places : (old : Flat K) (c : Container) → HasPlaces old → IsPlaced old c.app c.node → HasPlaces (after_grant old c)
+  grant_places : (old : Flat K) (c : Container) → HasPlaces old → AreThere old c.app c.node → HasPlaces (after_grant old c)
   grant_places old c h at app node s = (some_kept (λ (a : App). (a.leaf, a.user)) (app_at (after_grant old c) app) (app_at old app) (change_stands old (after_grant old c) (grant_change old c) app) (before s).0, (before s).1)
     where
-      before : IsSite (after_grant old c) app node → IsPlaced old app node
+      before : IsSite (after_grant old c) app node → AreThere old app node
       before (inl (x, m, a, e)) = elim (in_either x old.nodes.live (c ∷ []) m) [
         | inl g ↦ h app node (inl (x, g, a, e))
         | inr (inl g) ↦
             let app_is : c.app ≡ app = ap (λ (y : Container). y.app) g ∙ a in
             let node_is : c.node ≡ node = ap (λ (y : Container). y.node) g ∙ e in
-            subst (λ n. IsPlaced old n node) app_is (subst (λ n. IsPlaced old c.app n) node_is at)
+            subst (λ n. AreThere old n node) app_is (subst (λ n. AreThere old c.app n) node_is at)
         | inr (inr g) ↦ absurd g
       ]
       before (inr (r, m, a, e)) = h app node (inr (r, (of_filter (λ (x : Reservation). not (x.node == c.node)) old.nodes.reserved r m).1, a, e))
 
-  reserve_places : (old : Flat K) (r : Reservation) → HasPlaces old → IsPlaced old r.app r.node → HasPlaces (after_reserve old r)
+  reserve_places : (old : Flat K) (r : Reservation) → HasPlaces old → AreThere old r.app r.node → HasPlaces (after_reserve old r)
   reserve_places old r h at app node (inl s) = h app node (inl s)
   reserve_places old r h at app node (inr (x, m, a, e)) = elim (in_either x old.nodes.reserved (r ∷ []) m) [
     | inl g ↦ h app node (inr (x, g, a, e))
     | inr (inl g) ↦
         let app_is : r.app ≡ app = ap (λ (y : Reservation). y.app) g ∙ a in
         let node_is : r.node ≡ node = ap (λ (y : Reservation). y.node) g ∙ e in
-        subst (λ n. IsPlaced old n node) app_is (subst (λ n. IsPlaced old r.app n) node_is at)
+        subst (λ n. AreThere old n node) app_is (subst (λ n. AreThere old r.app n) node_is at)
     | inr (inr g) ↦ absurd g
   ]
 

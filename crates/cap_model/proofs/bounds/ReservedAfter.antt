@@ -13,7 +13,7 @@ use Rattle.cap_model.specs.Asks.{same_key, Ask}
 use Rattle.cap_model.specs.Flat.{Flat, App, ClusterNode, Container, Reservation, app_at, node_at, is_for, ask_at, reservation_on}
 use Rattle.cap_model.specs.Sight.{NodeSight, sight_of, node_sight, seen_node}
 use Rattle.cap_model.specs.Admission.{NodeProposal, is_wanted, is_reserved_for, node_reservation, fits_total}
-use Rattle.cap_model.specs.Bounds.{AreApart, reservations_for, IsPlaced}
+use Rattle.cap_model.specs.Bounds.{AreApart, reservations_for, AreThere}
 use Rattle.cap_model.specs.Events.{after_grant, after_reserve, take_one, news_of, grant_proposal, reserve_proposal}
 use Rattle.cap_model.proofs.lists.Members.{IsIn, found, of_filter, in_filter, in_either}
 use Rattle.std.proofs.lemmas.Bool.{or_from, and_from, cases_Bool}
@@ -31,7 +31,7 @@ is_for_itself r = and_from (r.app == r.app) (same_key r.key r.key) (grind (arith
 same_some : {A : Type 0} (o : Option A) (x y : A) → o ≡ Some x → o ≡ Some y → x ≡ y
 same_some o x y e f = ap (λ p. unwrap_or p x) (sym e ∙ f)
 
-module _ {K : ℕ} (old : Flat K) (apart : AreApart old.nodes.reserved) (placed : (r : Reservation) → IsIn r old.nodes.reserved → IsPlaced old r.app r.node) (bounded : AreBounded old) where
+module _ {K : ℕ} (old : Flat K) (apart : AreApart old.nodes.reserved) (placed : (r : Reservation) → IsIn r old.nodes.reserved → AreThere old r.app r.node) (bounded : AreBounded old) where
   module _ (r : Reservation) (seen : IsSeen old r.app) (wanted : is_wanted (sight_of old) (reserve_proposal r) ≡ true) (fits_there : fits_total (sight_of old) (reserve_proposal r) ≡ true) where
     reserved_after : (n : ℕ) (k : Key) → reservations_for (after_reserve old r) n k ≡ reservations_for old n k + one_where (is_for n k r)
     reserved_after n k =

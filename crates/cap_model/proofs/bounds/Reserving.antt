@@ -10,7 +10,7 @@ use Rattle.cap_model.specs.Amounts.{fits}
 use Rattle.cap_model.specs.declared.ask.Key.{Key}
 use Rattle.cap_model.specs.Asks.{same_key, Ask}
 use Rattle.cap_model.specs.Flat.{Flat, App, ClusterNode, Reservation, app_at, node_at, is_for, ask_at}
-use Rattle.cap_model.specs.Asking.{after_ask, after_asks, rounded, put_ask, reservations_left, is_changed}
+use Rattle.cap_model.specs.Asking.{after_ask, after_asks, rounded_ask, put_ask, reservations_left, is_changed}
 use Rattle.cap_model.specs.Bounds.{IsReservationBounded, reservations_for}
 use Rattle.cap_model.proofs.lists.Members.{IsIn, found}
 use Rattle.std.proofs.lemmas.Bool.{and_parts, cases_Bool}
@@ -203,4 +203,4 @@ module _ {K : ℕ} where
 
   pub asks_keep : (n : ℕ) (asks : List Ask) (old : Flat K) → AreBounded old → AreBounded (after_asks n asks old)
   asks_keep n [] old b = b
-  asks_keep n (ask ∷ asks) old b = asks_keep n asks (after_ask n old (rounded K old.settings ask)) (ask_keeps n old (rounded K old.settings ask) b)
+  asks_keep n (ask ∷ asks) old b = asks_keep n asks (after_ask n old (rounded_ask K old.settings ask)) (ask_keeps n old (rounded_ask K old.settings ask) b)

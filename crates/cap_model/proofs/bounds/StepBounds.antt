@@ -17,7 +17,7 @@ use Rattle.cap_model.specs.Heartbeat.{after_processed_heartbeat, is_repeated_hea
 use Rattle.cap_model.specs.Replies.{granted_cluster}
 use Rattle.cap_model.specs.declared.event.Event.{Event}
 use Rattle.cap_model.specs.Events.{Step, after_grant, after_reserve, grant_proposal, reserve_proposal}
-use Rattle.cap_model.specs.Bounds.{FitsMaximum, AreApart, IsQueueBounded, IsNodeBounded, IsReservationBounded, IsBounded, IsPlaced}
+use Rattle.cap_model.specs.Bounds.{FitsMaximum, AreApart, IsQueueBounded, IsNodeBounded, IsReservationBounded, IsBounded, AreThere}
 use Rattle.cap_model.specs.BoundLaws.{QueuesStayBounded, NodesStayBounded, ReservationsStayApart, ReservationsStayBounded}
 use Rattle.cap_model.proofs.lists.Members.{IsIn, each_of, of_each, of_map}
 use Rattle.cap_model.proofs.lists.Parts.{part_itself, part_filter}
@@ -148,8 +148,8 @@ module _ {K : ℕ} where
   pub step_bounds_reservations : (old new : Flat K) (event : Event K) → IsBounded old → Step old event new → All (IsReservationBounded new) new.nodes.reserved
   step_bounds_reservations old new event b s = of_each (IsReservationBounded new) new.nodes.reserved (by event s)
     where
-      placed : (r : Reservation) → IsIn r old.nodes.reserved → IsPlaced old r.app r.node
-      placed = each_of (λ (r : Reservation). IsPlaced old r.app r.node) old.nodes.reserved b.formed.reserved
+      placed : (r : Reservation) → IsIn r old.nodes.reserved → AreThere old r.app r.node
+      placed = each_of (λ (r : Reservation). AreThere old r.app r.node) old.nodes.reserved b.formed.reserved
 
       by : (event : Event K) → Step old event new → AreBounded new
       by (Event.Call who request reply) s = after_call AreBounded old (each_bounded old b) (λ request e. call_bounds_reservations old (places_of old b.formed) (each_bounded old b) request) new request reply s

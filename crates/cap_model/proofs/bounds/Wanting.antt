@@ -9,7 +9,7 @@ use Rattle.cap_model.specs.Asks.{same_key, Ask}
 use Rattle.cap_model.specs.Flat.{Flat, App, ClusterNode, Reservation, node_at, is_for, ask_at, reservation_on}
 use Rattle.cap_model.specs.Sight.{Sight, NodeSight, AppSight, sight_of, node_sight, app_sight, seen_app, still_wanted}
 use Rattle.cap_model.specs.Admission.{NodeProposal, is_wanted}
-use Rattle.cap_model.specs.Bounds.{IsRising, AreApart, reservations_for, IsPlaced}
+use Rattle.cap_model.specs.Bounds.{IsRising, AreApart, reservations_for, AreThere}
 use Rattle.cap_model.specs.EngineLaws.{ReasonsAreInOrder}
 use Rattle.cap_model.specs.BoundLaws.{WantedIsSeen}
 use Rattle.cap_model.proofs.lists.Members.{IsIn, found, each_of}
@@ -68,7 +68,7 @@ pub record IsWanted {K : ℕ} (old : Flat K) (p : NodeProposal) (app : App) : Ty
   pub found : ask_at p.key app.asks ≡ Some ask
   pub count : reservations_for old p.app p.key + 1 ≤ ask.count
 
-module _ {K : ℕ} (old : Flat K) (apart : AreApart old.nodes.reserved) (placed : (r : Reservation) → IsIn r old.nodes.reserved → IsPlaced old r.app r.node) where
+module _ {K : ℕ} (old : Flat K) (apart : AreApart old.nodes.reserved) (placed : (r : Reservation) → IsIn r old.nodes.reserved → AreThere old r.app r.node) where
   node_of : (r : Reservation) → IsIn r old.nodes.reserved → (x : ClusterNode) × IsIn x old.nodes.present × (x.number ≡ r.node)
   node_of r m =
       let v = value_of (node_at old r.node) (placed r m).1 in
@@ -148,7 +148,7 @@ pub wanted_is_seen : WantedIsSeen
 wanted_is_seen K old app ask b =
     let seen : count_by (λ (x : NodeSight). holds_of (is_for app ask.key) x.reservation) (map (node_sight old) old.nodes.present) ≡ count_by (λ (x : ClusterNode). holds_of (is_for app ask.key) (reservation_on old x.number)) old.nodes.present =
     sum_by_map (node_sight old) (λ (x : NodeSight). cond (holds_of (is_for app ask.key) x.reservation) 1 0) old.nodes.present in
-    let few = on_nodes (is_for app ask.key) old.nodes.present old.nodes.reserved b.apart (node_of old b.apart (each_of (λ (r : Reservation). IsPlaced old r.app r.node) old.nodes.reserved b.formed.reserved)) in
+    let few = on_nodes (is_for app ask.key) old.nodes.present old.nodes.reserved b.apart (node_of old b.apart (each_of (λ (r : Reservation). AreThere old r.app r.node) old.nodes.reserved b.formed.reserved)) in
     let many = nodes_on (is_for app ask.key) old.nodes.present old.nodes.next_node old.nodes.reserved b.formed.nodes b.apart in
     omega (arith, seen, few, many)
 

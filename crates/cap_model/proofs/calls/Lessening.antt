@@ -7,7 +7,7 @@ use Rattle.cap_model.specs.Asks.{Ask}
 use Rattle.cap_model.specs.declared.request.Request.{Request}
 use Rattle.cap_model.specs.declared.news.Cause.{Cause}
 use Rattle.cap_model.specs.Flat.{Flat, App, ClusterNode, Container, Reservation, app_at, node_at, is_for, containers_on}
-use Rattle.cap_model.specs.Asking.{after_asks, after_ask, rounded, keep_first}
+use Rattle.cap_model.specs.Asking.{after_asks, after_ask, rounded_ask, keep_first}
 use Rattle.cap_model.specs.Ending.{is_among}
 use Rattle.cap_model.specs.Submit.{new_app}
 use Rattle.cap_model.specs.RegisterNode.{new_node}
@@ -78,7 +78,7 @@ module _ {K : ℕ} where
   pub asked : (n : ℕ) (asks : List Ask) (old : Flat K) → IsAsked old (after_asks n asks old)
   asked n [] old = record { settings = refl; present = refl; next_node = refl; reserved = part_itself old.nodes.reserved }
   asked n (ask ∷ asks) old =
-      let mid = after_ask n old (rounded K old.settings ask) in
+      let mid = after_ask n old (rounded_ask K old.settings ask) in
       let r = asked n asks mid in
       record {
         settings = r.settings;

@@ -8,7 +8,7 @@ use Rattle.cap_model.specs.declared.request.Request.{Request}
 use Rattle.cap_model.specs.declared.reply.Reply.{Reply}
 use Rattle.cap_model.specs.declared.refusal.Refusal.{Refusal}
 use Rattle.cap_model.specs.Flat.{Flat, App, Container, with_app, containers_on}
-use Rattle.cap_model.specs.Asking.{after_asks, after_ask, rounded, put_ask}
+use Rattle.cap_model.specs.Asking.{after_asks, after_ask, rounded_ask, put_ask}
 use Rattle.cap_model.specs.Ending.{with_ends}
 use Rattle.cap_model.specs.Submit.{new_app, submit_refusal}
 use Rattle.cap_model.specs.Allocate.{after_telling, after_wishes, after_processed_allocate, is_repeated_allocate, released_by}
@@ -81,14 +81,14 @@ module _ {K : ℕ} where
   pub asks_change : (n : ℕ) (asks : List Ask) (old : Flat K) → AppsChange old (after_asks n asks old)
   asks_change n [] old = no_change old old refl refl
   asks_change n (ask ∷ asks) old =
-      two_changes old (after_ask n old (rounded K old.settings ask)) (after_asks n asks (after_ask n old (rounded K old.settings ask)))
+      two_changes old (after_ask n old (rounded_ask K old.settings ask)) (after_asks n asks (after_ask n old (rounded_ask K old.settings ask)))
       (record {
-        change = λ app. if app.number == n then record app { asks = put_ask (rounded K old.settings ask) app.asks } else app;
-        keeps = only_app n (λ app. record app { asks = put_ask (rounded K old.settings ask) app.asks }) (record { number = λ a. refl; leaf = λ a. refl; user = λ a. refl });
+        change = λ app. if app.number == n then record app { asks = put_ask (rounded_ask K old.settings ask) app.asks } else app;
+        keeps = only_app n (λ app. record app { asks = put_ask (rounded_ask K old.settings ask) app.asks }) (record { number = λ a. refl; leaf = λ a. refl; user = λ a. refl });
         active = refl;
         next = refl;
       })
-      (asks_change n asks (after_ask n old (rounded K old.settings ask)))
+      (asks_change n asks (after_ask n old (rounded_ask K old.settings ask)))
 
   pub ends_change : (cause : Cause) (gone : List Container) (old new : Flat K) → new.apps.active ≡ map (with_ends cause gone) old.apps.active → new.apps.next ≡ old.apps.next → AppsChange old new
   ends_change cause gone old new e n = record { change = with_ends cause gone; keeps = record { number = λ a. refl; leaf = λ a. refl; user = λ a. refl }; active = e; next = n }

@@ -4,7 +4,7 @@ use Rattle.std.specs.Prelude.{replicate}
 use Rattle.std.proofs.lemmas.Bool.{cases_lt}
 use Rattle.std.proofs.lemmas.List.{ext_get_or, get_or-append_right, get_or_append_left, get_or-replicate, length-append, length-replicate, take_at}
 use Rattle.std.proofs.lemmas.Bool.Decides.{nat_tests}
-use Rattle.cap_model.specs.Texts.{is_text, padded, IsHeld}
+use Rattle.cap_model.specs.Texts.{is_text, padded, IsStored}
 
 -- how far a text was copied into an array of zeros
 pub record IsCopied (n : ℕ) (text array : List ℕ) : Type 0 where
@@ -24,7 +24,7 @@ padded_is most text array long short is =
     ])
 
 -- the array holds the text
-pub held : (most : ℕ) (text array : List ℕ) → length array ≡ most → length text ≤ most → is_text most text ≡ true → IsCopied (length text) text array → IsHeld most (length text) array × (take (length text) array ≡ text)
+pub held : (most : ℕ) (text array : List ℕ) → length array ≡ most → length text ≤ most → is_text most text ≡ true → IsCopied (length text) text array → IsStored most (length text) array × (take (length text) array ≡ text)
 held most text array long short good is =
     let whole = padded_is most text array long short is in
     let same : take (length text) array ≡ text = ap (take (length text)) whole ∙ take_at text (replicate (most - length text) 0) (length text) refl in (

@@ -6,7 +6,7 @@ use Rattle.cap_model.specs.declared.request.Request.{Request}
 use Rattle.cap_model.specs.declared.reply.Reply.{Reply}
 use Rattle.cap_model.specs.declared.refusal.Refusal.{Refusal}
 use Rattle.cap_model.specs.Flat.{Flat, Container, containers_on, containers_of}
-use Rattle.cap_model.specs.Asking.{after_asks, after_ask, rounded}
+use Rattle.cap_model.specs.Asking.{after_asks, after_ask, rounded_ask}
 use Rattle.cap_model.specs.Ending.{is_among}
 use Rattle.cap_model.specs.Allocate.{after_processed_allocate, is_repeated_allocate, released_by}
 use Rattle.cap_model.specs.Heartbeat.{after_processed_heartbeat, is_repeated_heartbeat, ended_by}
@@ -36,7 +36,7 @@ module _ {K : ℕ} where
   pub asks_keep : (n : ℕ) (asks : List Ask) (cluster : Flat K) → HasSameContainers cluster (after_asks n asks cluster)
   asks_keep n [] cluster = record { live = refl; next = refl }
   asks_keep n (ask ∷ asks) cluster =
-      let r = asks_keep n asks (after_ask n cluster (rounded K cluster.settings ask)) in record { live = r.live; next = r.next }
+      let r = asks_keep n asks (after_ask n cluster (rounded_ask K cluster.settings ask)) in record { live = r.live; next = r.next }
 
   either : (b : Bool) (old new : Flat K) → IsThinned old new → IsThinned old (cond b old new)
   either true old new t = thinned_same old old (record { live = refl; next = refl })

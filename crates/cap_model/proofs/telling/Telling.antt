@@ -1,4 +1,4 @@
--- Grants and ends are told in order, each once.
+-- Grants and ends are news_report in order, each once.
 use Rattle.std.proofs.Common.{◌≡◌, ℕ, Bool, true, false, List, [], ◌∷◌, ◌++◌, refl, sym, ◌∙◌, ap, subst, inl, inr, arith}
 use Rattle.std.specs.Prelude.{Option, Some, None, IsSome, cond, not, ◌&&◌, ◌==◌, length, ◌-◌, find, map, filter, unwrap_or, option_map, option_and_then, if◌then◌else◌}
 use Rattle.std.specs.Option.{option_map_or, option_or}
@@ -14,11 +14,11 @@ use Rattle.cap_model.specs.declared.request.Request.{Request}
 use Rattle.cap_model.specs.declared.reply.Reply.{Reply}
 use Rattle.cap_model.specs.declared.refusal.Refusal.{Refusal}
 use Rattle.cap_model.specs.Flat.{Flat, App, Container, app_at, containers_on}
-use Rattle.cap_model.specs.Asking.{after_asks, after_ask, rounded, put_ask}
+use Rattle.cap_model.specs.Asking.{after_asks, after_ask, rounded_ask, put_ask}
 use Rattle.cap_model.specs.Ending.{with_ends}
 use Rattle.cap_model.specs.Submit.{new_app}
 use Rattle.cap_model.specs.Limits.{news_max}
-use Rattle.cap_model.specs.Allocate.{nothing_told, told, after_telling, after_processed_allocate, kept_reply, is_repeated_allocate, released_by}
+use Rattle.cap_model.specs.Allocate.{nothing_told, news_report, after_telling, after_processed_allocate, kept_reply, is_repeated_allocate, released_by}
 use Rattle.cap_model.specs.Heartbeat.{after_processed_heartbeat, is_repeated_heartbeat, ended_by}
 use Rattle.cap_model.specs.Replies.{refused_or, refusal_of, granted_reply, granted_cluster, reply_to}
 use Rattle.cap_model.specs.declared.event.Event.{Event}
@@ -48,7 +48,7 @@ module _ {N : Type 0} (of : App → List N) (n : ℕ) where
   abbrev in_app : Option App → List N
   in_app o = option_map_or of o []
 
-  -- what is told of the changed one, and what is left, is what there was and what was added
+  -- what is news_report of the changed one, and what is left, is what there was and what was added
   changed : (f : App → App) → ((a : App) → (f a).number ≡ a.number) → (xs : List App) (telling : Option App → List N) (added : List N) →
       ((a : App) → a.number ≡ n → telling (Some (f a)) ++ of (f a) ≡ of a ++ added) → IsSome (find (λ a. a.number == n) (map f xs)) →
       telling (find (λ a. a.number == n) (map f xs)) ++ in_app (find (λ a. a.number == n) (map f xs)) ≡ in_app (find (λ a. a.number == n) xs) ++ added
@@ -83,9 +83,9 @@ module _ {N : Type 0} (of : App → List N) (n : ℕ) where
       by None false = refl
       by (Some x) b = refl
 
--- a kind of news: what applications keep of it until they are told, what a reply tells of it, and what ends of containers add to it
+-- a kind of news: what applications keep of it until they are news_report, what a reply tells of it, and what ends of containers add to it
 record IsNews {N : Type 0} (of : App → List N) (from : AllocateReply → List N) (ends : Cause → ℕ → List Container → List N) : Type 0 where
-  pub telling : (id ignored : ℕ) (a : App) → from (told id ignored a) ++ of (after_telling id ignored a) ≡ of a
+  pub telling : (id ignored : ℕ) (a : App) → from (news_report id ignored a) ++ of (after_telling id ignored a) ≡ of a
   pub asking : (asks : List Ask) (a : App) → of (record a { asks = asks }) ≡ of a
   pub ending : (cause : Cause) (gone : List Container) (a : App) → of (with_ends cause gone a) ≡ of a ++ ends cause a.number gone
 
@@ -106,10 +106,10 @@ module _ {N : Type 0} (of : App → List N) (from : AllocateReply → List N) (e
     asks_keep : (m : ℕ) (asks : List Ask) (c : Flat K) → untold (after_asks m asks c) ≡ untold c
     asks_keep m [] c = refl
     asks_keep m (ask ∷ asks) c =
-        asks_keep m asks (after_ask m c (rounded K c.settings ask))
-        ∙ kept of n (λ a. if a.number == m then record a { asks = put_ask (rounded K c.settings ask) a.asks } else a)
-        (λ a. kept_if (a.number == m) (λ (x : App). x.number) (record a { asks = put_ask (rounded K c.settings ask) a.asks }) a refl)
-        (λ a. kept_if (a.number == m) of (record a { asks = put_ask (rounded K c.settings ask) a.asks }) a (k.asking (put_ask (rounded K c.settings ask) a.asks) a)) c.apps.active
+        asks_keep m asks (after_ask m c (rounded_ask K c.settings ask))
+        ∙ kept of n (λ a. if a.number == m then record a { asks = put_ask (rounded_ask K c.settings ask) a.asks } else a)
+        (λ a. kept_if (a.number == m) (λ (x : App). x.number) (record a { asks = put_ask (rounded_ask K c.settings ask) a.asks }) a refl)
+        (λ a. kept_if (a.number == m) of (record a { asks = put_ask (rounded_ask K c.settings ask) a.asks }) a (k.asking (put_ask (rounded_ask K c.settings ask) a.asks) a)) c.apps.active
 
     -- containers end, unless a heartbeat is repeated
     ends_tell : (cause : Cause) (gone : List Container) (old new : Flat K) → new.apps.active ≡ map (with_ends cause gone) old.apps.active → (b : Bool) → IsSome (app_at (cond b old new) n) →
@@ -176,7 +176,7 @@ module _ {K : ℕ} (old : Flat K) (n : ℕ) where
       IsSome (app_at new n) →
       (told_grants old n event ++ untold_grants new n ≡ untold_grants old n ++ new_grants old n event) × (told_ends old n event ++ untold_ends new n ≡ untold_ends old n ++ new_ends old n event)
 
-  -- nothing told and nothing added
+  -- nothing news_report and nothing added
   as_before : {xs : List Grant} {ys : List End} → xs ≡ untold_grants old n → ys ≡ untold_ends old n → (xs ≡ untold_grants old n ++ []) × (ys ≡ untold_ends old n ++ [])
   as_before e f = (e ∙ sym (append-nil (untold_grants old n)), f ∙ sym (append-nil (untold_ends old n)))
 

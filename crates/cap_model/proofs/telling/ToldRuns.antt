@@ -19,7 +19,7 @@ use Rattle.cap_model.specs.Heartbeat.{is_repeated_heartbeat, ended_by}
 use Rattle.cap_model.specs.Replies.{refused_or, granted_reply, reply_to}
 use Rattle.cap_model.specs.declared.event.Event.{Event}
 use Rattle.cap_model.specs.Events.{Step, Run, after_event, news_of, granted_by, ever_granted}
-use Rattle.cap_model.specs.Bounds.{IsPlaced, IsWellFormed}
+use Rattle.cap_model.specs.Bounds.{AreThere, IsWellFormed}
 use Rattle.cap_model.specs.EngineLaws.{numbers_of, HasAppNumbers}
 use Rattle.cap_model.specs.NewsLaws.{untold_grants, told_grants, new_grants, ever_told_grants, ever_new_grants, GrantsAreToldOverRuns, NewGrantsAreOfTheGranted, untold_ends, told_ends, new_ends, ends_of, ever_told_ends, ever_new_ends, EndsAreToldOverRuns}
 use Rattle.cap_model.proofs.lists.Members.{IsIn, found, of_filter, each_of}
@@ -184,7 +184,7 @@ module _ {K : ℕ} (old : Flat K) (n : ℕ) (missing : app_at old n ≡ None) wh
         by : (b : Bool) → c.app == n ≡ b → b ≡ false
         by true e =
             let same : c.app ≡ n = grind (arith, nat_tests, e) in
-            absurd (not_none (app_at old c.app) (ap (app_at old) same ∙ missing) (each_of (λ (x : Container). IsPlaced old x.app x.node) old.nodes.live w.live c m).0)
+            absurd (not_none (app_at old c.app) (ap (app_at old) same ∙ missing) (each_of (λ (x : Container). AreThere old x.app x.node) old.nodes.live w.live c m).0)
         by false e = refl
 
     on_node : (node : ℕ) (c : Container) → IsIn c (containers_on old.nodes node) → c.app == n ≡ false

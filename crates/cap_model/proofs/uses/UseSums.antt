@@ -12,7 +12,7 @@ use Rattle.cap_model.specs.Amounts.{fits, part}
 use Rattle.cap_model.specs.Flat.{Flat, App, ClusterNode, Container, Reservation, app_at, node_at, is_under}
 use Rattle.cap_model.specs.Uses.{Holding, holdings, use_of, node_held}
 use Rattle.cap_model.specs.RegisterNode.{total_of_nodes}
-use Rattle.cap_model.specs.Bounds.{AreApart, IsNodeBounded, IsReservationBounded, IsPlaced, IsBounded}
+use Rattle.cap_model.specs.Bounds.{AreApart, IsNodeBounded, IsReservationBounded, AreThere, IsBounded}
 use Rattle.cap_model.specs.BoundLaws.{UsesAreSums}
 use Rattle.cap_model.proofs.lists.Members.{IsIn, found, each_of}
 use Rattle.cap_model.proofs.lists.Numbered.{found_by_number}
@@ -99,7 +99,7 @@ module _ {K : ℕ} (cluster : Flat K) (b : IsBounded cluster) where
 
   live_within : (k : ℕ) → k < K → sum_by (λ (c : Container). amount c.resource k) cluster.nodes.live ≤ amount (total_of_nodes cluster) k
   live_within k h =
-      let placed = each_of (λ (c : Container). IsPlaced cluster c.app c.node) cluster.nodes.live b.formed.live in
+      let placed = each_of (λ (c : Container). AreThere cluster c.app c.node) cluster.nodes.live b.formed.live in
       let spread = on_some_node k cluster.nodes.present cluster.nodes.live (λ c m. node_is c.node (placed c m).1) in
       let each = sum_below (λ (x : ClusterNode). sum_by (λ (c : Container). if c.node == x.number then amount c.resource k else 0) cluster.nodes.live) (λ x. amount x.total k) cluster.nodes.present
       (λ x m.
@@ -111,7 +111,7 @@ module _ {K : ℕ} (cluster : Flat K) (b : IsBounded cluster) where
 
   reserved_within : (k : ℕ) → k < K → sum_by (λ (r : Reservation). amount r.resource k) cluster.nodes.reserved ≤ amount (total_of_nodes cluster) k
   reserved_within k h =
-      let placed = each_of (λ (r : Reservation). IsPlaced cluster r.app r.node) cluster.nodes.reserved b.formed.reserved in
+      let placed = each_of (λ (r : Reservation). AreThere cluster r.app r.node) cluster.nodes.reserved b.formed.reserved in
       let spread = reserved_on_nodes k cluster.nodes.present cluster.nodes.reserved b.apart (λ r m. node_is r.node (placed r m).1) in
       let each = sum_below (λ (x : ClusterNode). taken k (find (λ (r : Reservation). r.node == x.number) cluster.nodes.reserved)) (λ x. amount x.total k) cluster.nodes.present
       (λ x m. takes_less k x m (find (λ (r : Reservation). r.node == x.number) cluster.nodes.reserved) refl) in

@@ -1,6 +1,6 @@
 use Rattle.std.proofs.Common.{ap, ◌∙◌, map, arith}
 use Rattle.cap_model.specs.Submit.{add_app}
-use Rattle.cap_tree.specs.Rows.{queues_of, entered}
+use Rattle.cap_tree.specs.Rows.{queues_of, entered_row}
 use Rattle.cap_commit.proofs.Holding.{held_entered, held_same, with_table}
 use Rattle.cap_commit.proofs.Moving.{moved_settings}
 use Rattle.cap_tree.specs.Count.{nothing, one_application}
@@ -24,7 +24,7 @@ pub invariant_of-self-2 : goal.invariant_of-self-2
 invariant_of-self-2 g c =
     let x = c.self.inside in
     let at = rw (← c.self.view_is) at c.requires.position in
-    let rows = (rw c.deref_mut-tree.ensures.value at c.in-Ok-enter.ensures.ok) ∙ ap (λ p. map (entered g.row.K p c.args.user.now) x.tree.value) at.path_is in
+    let rows = (rw c.deref_mut-tree.ensures.value at c.in-Ok-enter.ensures.ok) ∙ ap (λ p. map (entered_row g.row.K p c.args.user.now) x.tree.value) at.path_is in
     let table = c.in-Ok-submit.ensures.table ∙ ap (add_app c.args.path.now c.args.user.now) c.in-Ok.ensures.table in
     let accounts = rw (c.in-Ok.ensures.table, c.in-Ok.ensures.accounts) at c.in-Ok-submit.ensures.accounts in
     let rising = rw c.in-Ok.ensures.table at c.in-Ok-submit.ensures.rising in
@@ -34,6 +34,6 @@ pub returns-clause-ok : goal.returns-clause-ok
 returns-clause-ok g c =
     let x = c.self.inside in
     let at = rw (← c.self.view_is) at c.requires.position in
-    let rows = (rw c.deref_mut-tree.ensures.value at c.in-Ok-enter.ensures.ok) ∙ ap (λ p. map (entered g.row.K p c.args.user.now) x.tree.value) at.path_is in
+    let rows = (rw c.deref_mut-tree.ensures.value at c.in-Ok-enter.ensures.ok) ∙ ap (λ p. map (entered_row g.row.K p c.args.user.now) x.tree.value) at.path_is in
     let table = c.in-Ok-submit.ensures.table ∙ ap (add_app c.args.path.now c.args.user.now) c.in-Ok.ensures.table in
     rw (← c.self.view_is) (with_table (record { rows = x.tree.value; limits = x.limits; apps = x.apps; nodes = x.nodes }) c.enter.new.self c.submit.new.self _ (ap queues_of rows ∙ moved_settings g.row.K c.args.path.now c.args.user.now (nothing g.row.K) (one_application g.row.K) x.tree.value) table)

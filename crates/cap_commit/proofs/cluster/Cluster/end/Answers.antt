@@ -1,5 +1,5 @@
 use Rattle.std.proofs.Common.{[], ◌∷◌, ◌++◌, ap, sym, ◌∙◌, map, arith}
-use Rattle.cap_tree.specs.Rows.{queues_of, lowered}
+use Rattle.cap_tree.specs.Rows.{queues_of, lowered_row}
 use Rattle.cap_tree.specs.Spot.{path_at}
 use Rattle.cap_model.specs.Flat.{change_app}
 use Rattle.cap_commit.proofs.Ending.{has_owner, some_live, may_give_back, held_ended, ended_is}
@@ -45,7 +45,7 @@ invariant_of-self g c =
     let count = c.resource.ensures.vector.count in
     let position = c.position.ensures ∙ position_is _ c.self.invariant c.app.result c.in-Some.app.now c.in-Some.ensures.found c.in-Some.ensures.account in
     let path = ap (λ q. path_at q x.tree.value) position ∙ (placed_at _ c.self.invariant c.app.result app (sym c.in-Some.ensures.found)).position.path_is in
-    let rows = (rw c.deref_mut-tree.ensures.value at c.give_back.ensures) ∙ (λ i. map (lowered g.row.K (path i) (c.user.ensures i) (c.resource.ensures.value i)) x.tree.value) in
+    let rows = (rw c.deref_mut-tree.ensures.value at c.give_back.ensures) ∙ (λ i. map (lowered_row g.row.K (path i) (c.user.ensures i) (c.resource.ensures.value i)) x.tree.value) in
     let owner = sym (rw c.app.ensures at c.in-Some.ensures.found) in
     rw rows
     (held_ended _ c.self.invariant one.number one (rw (← c.self.view_is) at c.requires) app owner (omega (arith, count)) c.add_end.new.self c.lift.new.self c.app-3.result _ c.lift.ensures c.app-3.ensures c.add_end.ensures.table c.add_end.ensures.accounts)

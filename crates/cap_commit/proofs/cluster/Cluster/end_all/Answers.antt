@@ -3,7 +3,7 @@ use Rattle.cap_model.specs.Flat.{Flat}
 use Rattle.cap_model.specs.EngineLaws.{HasDistinctNumbers}
 use Rattle.cap_model.specs.Limits.{live_max}
 use Rattle.cap_commit.specs.Held.{Held}
-use Rattle.cap_commit.specs.Owners.{owns, owned}
+use Rattle.cap_commit.specs.Owners.{owns, containers_owned}
 use Rattle.cap_model.proofs.ending.Drains.{none_gone, next_found, one_gone, gone_and_left, few_gone, all_gone, none_passes}
 use Rattle.cap_commit.proofs.Sizes.{cluster_fits}
 use Rattle.cap_commit.proofs.cluster.Cluster.end_all.Goals as goal
@@ -56,4 +56,4 @@ pub returns-clause-none : goal.returns-clause-none
 returns-clause-none g c =
     let now = c.loop-container in
     let gone = (all_gone c.args.cause (owns c.args.owner) c.args.self.now.flat now.self.flat now.ended now.after now.invariant (sym c.next_of.ensures ∙ c.in_default.is)).0 in
-    ap (λ (x : Flat g.row.K). owned c.args.owner x) gone ∙ none_passes (owns c.args.owner) c.args.self.now.flat (subst HasDistinctNumbers (ap (λ (h : Held g.row.K). h.flat) c.self.view_is) c.self.invariant.numbers)
+    ap (λ (x : Flat g.row.K). containers_owned c.args.owner x) gone ∙ none_passes (owns c.args.owner) c.args.self.now.flat (subst HasDistinctNumbers (ap (λ (h : Held g.row.K). h.flat) c.self.view_is) c.self.invariant.numbers)

@@ -3,7 +3,7 @@ use Rattle.std.specs.Prelude.{IsSome, is_some, filter, ◌==◌, ◌≡◌, []}
 use Rattle.cap_model.specs.declared.news.Cause.TheVariants.{Released}
 use Rattle.cap_model.specs.Flat.{Flat, Reservation, app_at, containers_of, with_reserved}
 use Rattle.cap_model.specs.FinishMaster.{remove_app}
-use Rattle.cap_tree.specs.Rows.{queues_of, left}
+use Rattle.cap_tree.specs.Rows.{queues_of, left_row}
 use Rattle.cap_tree.specs.Spot.{path_at}
 use Rattle.cap_commit.specs.Held.{Held, Parts, flat_of}
 use Rattle.cap_commit.proofs.Holding.{finished_is, held_left, may_go, placed_at, position_is, with_table}
@@ -50,7 +50,7 @@ invariant_of-self g c =
     let app = c.in-Some.app.now.app in
     let position = c.position.ensures ∙ position_is _ c.self.invariant c.args.number c.in-Some.app.now c.in-Some.ensures.found c.in-Some.ensures.account in
     let path = ap (λ q. path_at q x.tree.value) position ∙ (placed_at _ c.self.invariant c.args.number app (sym c.in-Some.ensures.found)).position.path_is in
-    let rows = (rw c.deref_mut-tree.ensures.value at c.leave.ensures) ∙ (λ i. map (left g.row.K (path i) (c.user.ensures i)) x.tree.value) in
+    let rows = (rw c.deref_mut-tree.ensures.value at c.leave.ensures) ∙ (λ i. map (left_row g.row.K (path i) (c.user.ensures i)) x.tree.value) in
     rw rows (held_left _ c.self.invariant c.args.number app c.in-Some.ensures.rising (sym c.in-Some.ensures.found) none bare c.finish.new.self c.finish.ensures.table c.finish.ensures.accounts)
 
 pub returns-clause-finished : goal.returns-clause-finished

@@ -1,5 +1,5 @@
 use Rattle.std.proofs.Common.{ap, sym, ◌∙◌, get_or, map, arith}
-use Rattle.cap_tree.specs.Rows.{queues_of, lowered}
+use Rattle.cap_tree.specs.Rows.{queues_of, lowered_row}
 use Rattle.cap_tree.specs.Spot.{path_at}
 use Rattle.cap_commit.proofs.Unreserving.{has_holder, may_give_reserved, held_dropped, dropped_is}
 use Rattle.cap_commit.proofs.Holding.{placed_at, position_is}
@@ -42,7 +42,7 @@ invariant_of-self g c =
     let count = c.resource.ensures.vector.count in
     let position = c.position.ensures ∙ position_is _ c.self.invariant c.app.result c.in-Some.app.now c.in-Some.ensures.found c.in-Some.ensures.account in
     let path = ap (λ q. path_at q x.tree.value) position ∙ (placed_at _ c.self.invariant c.app.result app (sym c.in-Some.ensures.found)).position.path_is in
-    let rows = (rw c.deref_mut-tree.ensures.value at c.give_back.ensures) ∙ (λ i. map (lowered g.row.K (path i) (c.user.ensures i) (c.resource.ensures.value i)) x.tree.value) in
+    let rows = (rw c.deref_mut-tree.ensures.value at c.give_back.ensures) ∙ (λ i. map (lowered_row g.row.K (path i) (c.user.ensures i) (c.resource.ensures.value i)) x.tree.value) in
     let owner = sym (rw c.app.ensures at c.in-Some.ensures.found) in
     rw rows
     (held_dropped _ c.self.invariant c.args.index one (rw (← c.self.view_is) at c.requires) at app owner (omega (arith, count)) c.unreserve.new.self c.unreserve.ensures)

@@ -2,7 +2,7 @@ use Rattle.std.proofs.Common.{◌+◌, ◌<◌, ap, sym, subst, refl, List, leng
 use Rattle.std.specs.Map.{values_of}
 use Rattle.cap_model.specs.Limits.{live_max}
 use Rattle.cap_model.specs.Flat.{Container}
-use Rattle.cap_nodes.specs.Places.{LiveTable, IsIndex}
+use Rattle.cap_nodes.specs.Places.{LiveTable, IsOwnerIndex}
 use Rattle.cap_nodes.proofs.Lives.{pushed, fresh}
 use Rattle.cap_nodes.proofs.Owned.{index_pushed, index_back}
 use Rattle.cap_nodes.proofs.live.Live.push.Goals as goal
@@ -32,9 +32,9 @@ invariant_of-self-2 g c =
     let now = pushed c.self.inside.containers.entries c.insert-3.new.self.entries c.self.inside.next container c.self.invariant.0 few refl c.in-Ok-insert.ensures.entries in
     let none = fresh c.self.inside.containers.entries c.self.inside.next c.self.invariant.0 in (
       now.live,
-      subst (λ (cs : List Container). IsIndex (λ x. x.app) cs c.insert.new.self) (sym now.values)
+      subst (λ (cs : List Container). IsOwnerIndex (λ x. x.app) cs c.insert.new.self) (sym now.values)
           (index_pushed (λ (x : Container). x.app) (values_of c.self.inside.containers.entries) c.self.inside.of_apps c.self.invariant.1 c.insert.new.self container none c.in_ok-insert.ensures.ok),
-      subst (λ (cs : List Container). IsIndex (λ x. x.node) cs c.insert-2.new.self) (sym now.values)
+      subst (λ (cs : List Container). IsOwnerIndex (λ x. x.node) cs c.insert-2.new.self) (sym now.values)
           (index_pushed (λ (x : Container). x.node) (values_of c.self.inside.containers.entries) c.self.inside.on_nodes c.self.invariant.2 c.insert-2.new.self container none c.in-Ok.ensures.ok),
     )
 

@@ -2,7 +2,7 @@ use Rattle.std.proofs.Common.{◌≡◌, ◌∙◌, ap, sym, subst, List, Some}
 use Rattle.std.specs.Prelude.{find, ◌==◌}
 use Rattle.std.specs.Map.{values_of}
 use Rattle.cap_model.specs.Flat.{Container}
-use Rattle.cap_nodes.specs.Places.{LiveTable, IsIndex}
+use Rattle.cap_nodes.specs.Places.{LiveTable, IsOwnerIndex}
 use Rattle.cap_nodes.proofs.Lives.{removed, found}
 use Rattle.cap_nodes.proofs.Owned.{index_left}
 use Rattle.cap_nodes.proofs.live.Live.remove.Goals as goal
@@ -13,9 +13,9 @@ invariant_of-self g c =
     let at = sym (found c.self.inside.containers.entries c.self.inside.next c.args.number c.self.invariant.0) ∙ sym c.in-Some.ensures.value in
     let there = subst (λ (x : Container). find (λ y. y.number == c.args.number) (values_of c.self.inside.containers.entries) ≡ Some x) (sym c.container.view_is) at in (
       now.live,
-      subst (λ (cs : List Container). IsIndex (λ x. x.app) cs c.remove-in-Some.new.self) (sym now.values)
+      subst (λ (cs : List Container). IsOwnerIndex (λ x. x.app) cs c.remove-in-Some.new.self) (sym now.values)
           (index_left (λ (x : Container). x.app) (values_of c.self.inside.containers.entries) c.self.inside.of_apps c.self.invariant.1 c.remove-in-Some.new.self c.args.number _ there c.remove-in-Some.ensures),
-      subst (λ (cs : List Container). IsIndex (λ x. x.node) cs c.remove-in-Some-2.new.self) (sym now.values)
+      subst (λ (cs : List Container). IsOwnerIndex (λ x. x.node) cs c.remove-in-Some-2.new.self) (sym now.values)
           (index_left (λ (x : Container). x.node) (values_of c.self.inside.containers.entries) c.self.inside.on_nodes c.self.invariant.2 c.remove-in-Some-2.new.self c.args.number _ there c.remove-in-Some-2.ensures),
     )
 

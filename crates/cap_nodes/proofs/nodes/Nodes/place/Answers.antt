@@ -2,7 +2,7 @@ use Rattle.std.proofs.Common.{◌≡◌, ◌∙◌, ◌+◌, ◌++◌, ◌∷◌
 use Rattle.cap_vector.specs.Vector.{plus, less, Fits}
 use Rattle.cap_model.specs.Flat.{ClusterNode, Container, NodeTable}
 use Rattle.cap_model.specs.RegisterNode.{sum_of_totals}
-use Rattle.cap_nodes.specs.Places.{Place, held_more, HasRoom}
+use Rattle.cap_nodes.specs.Places.{Place, held_more, CanHold}
 use Rattle.cap_nodes.proofs.Ties.{has_room}
 use Rattle.cap_nodes.proofs.Presents.{of_found, if_found}
 use Rattle.cap_nodes.proofs.Changes.{place_of_node, is_at, tie_of, free_is, with_one, same_nodes}
@@ -18,7 +18,7 @@ hold-requires g c =
         omega arith,
         (
           is_at c.self.inside.present.places c.args.node at.place at.at,
-          if_found (HasRoom c.args.resource.now) _ at.place at.at (has_room g.row.K c.self.inside.live.live c.args.resource.now at.place tie room (rw (← c.self.view_is) at c.requires.few)),
+          if_found (CanHold c.args.resource.now) _ at.place at.at (has_room g.row.K c.self.inside.live.live c.args.resource.now at.place tie room (rw (← c.self.view_is) at c.requires.few)),
         ),
       ),
     )

@@ -1,7 +1,7 @@
 use Rattle.std.proofs.Common.{◌≡◌, ◌∙◌, ap, sym, List, refl, Some, None, length, arith}
 use Rattle.std.specs.Map.{values_of}
 use Rattle.cap_vector.specs.Vector.{plus}
-use Rattle.cap_nodes.specs.Places.{Place, PlaceTable, HasRoom, place_at, held_more}
+use Rattle.cap_nodes.specs.Places.{Place, PlaceTable, CanHold, place_at, held_more}
 use Rattle.cap_nodes.proofs.Presents.{changed, found, not_none, of_found, if_found}
 use Rattle.cap_nodes.proofs.present.Present.hold.Goals as goal
 
@@ -25,7 +25,7 @@ returns-clause-more g c =
 pub hold-requires : goal.hold-requires
 hold-requires g c =
     let there : place_at (values_of c.self.inside.places.entries) c.args.number ≡ Some c.in-Some.place.now = sym (found c.self.inside.places.entries c.self.inside.next c.args.number c.self.invariant) ∙ sym c.in-Some.ensures.value in
-    (omega arith, (omega arith, of_found (HasRoom c.args.resource.now) _ c.in-Some.place.now there (rw (← c.self.view_is) at c.requires.room)))
+    (omega arith, (omega arith, of_found (CanHold c.args.resource.now) _ c.in-Some.place.now there (rw (← c.self.view_is) at c.requires.room)))
 
 pub returns-clause-count : goal.returns-clause-count
 returns-clause-count g c =

@@ -1,13 +1,13 @@
 use Rattle.std.proofs.Common.{ap, refl, length, List}
 use Rattle.cap_model.specs.declared.event.Event.{Event}
-use Rattle.cap_world.specs.World.{Known, Sight, opening_of}
+use Rattle.cap_world.specs.World.{Known, WorldState, opening_of}
 use Rattle.cap_world.proofs.Keeping.{lawful_kept, adds_kept}
 use Rattle.cap_world.proofs.world.World.step.Goals as goal
 
 pub invariant_of-self : goal.invariant_of-self
 invariant_of-self c =
-    let old : Sight = record { cluster = c.self.inside.cluster.flat; connections = c.self.inside.connections.entries } in
-    let new : Sight = record { cluster = c.act-result.new.cluster.flat; connections = c.act-result.new.connections.entries } in
+    let old : WorldState = record { cluster = c.self.inside.cluster.flat; connections = c.self.inside.connections.entries } in
+    let new : WorldState = record { cluster = c.act-result.new.cluster.flat; connections = c.act-result.new.connections.entries } in
     lawful_kept (opening_of c.self.inside.opening.items) c.args.step c.act-result.result old new c.self.inside.events.items c.and-self-inside.result.items c.act-result.new.events (length c.as_slice.result.now) c.args.events.now.items (ap (λ (es : List (Event 2)). length es) c.as_slice.ensures.value) c.and-self-inside.ensures c.act-result.ensures c.self.invariant
 
 pub returns-clause-headline : goal.returns-clause-headline
@@ -15,6 +15,6 @@ returns-clause-headline c = invariant_of-self c
 
 pub returns-clause-adds : goal.returns-clause-adds
 returns-clause-adds c =
-    let old : Sight = record { cluster = c.self.inside.cluster.flat; connections = c.self.inside.connections.entries } in
-    let new : Sight = record { cluster = c.act-result.new.cluster.flat; connections = c.act-result.new.connections.entries } in
+    let old : WorldState = record { cluster = c.self.inside.cluster.flat; connections = c.self.inside.connections.entries } in
+    let new : WorldState = record { cluster = c.act-result.new.cluster.flat; connections = c.act-result.new.connections.entries } in
     adds_kept c.args.self.now _ c.args.step c.act-result.result old new c.self.inside.events.items c.and-self-inside.result.items c.act-result.new.events (length c.as_slice.result.now) c.args.events.now.items (ap (λ (es : List (Event 2)). length es) c.as_slice.ensures.value) c.and-self-inside.ensures c.act-result.ensures (ap (λ (w : Known). w.events) c.self.view_is) refl (ap (λ (w : Known). w.opening) c.self.view_is)
