@@ -178,7 +178,7 @@ module _ {K : ℕ} where
           resources = h.resources;
         }
 
-    -- after an application has entered_row
+    -- after an application has entered
     pub held_entered : (leaf user position : List ℕ) (apps' : HeldApps) → IsRising 1 (map (λ (x : App). x.number) p.apps.table.active) p.apps.table.next → submit_refusal old leaf ≡ None → IsAt p.rows leaf position → apps'.table ≡ add_app leaf user p.apps.table → IsEntered p.apps.table.next position p.apps.accounts apps'.accounts →
         IsHeld (record p { rows = map (entered_row K leaf user) p.rows; apps = apps' })
     held_entered leaf user position apps' rising unrefused at e accounts =
@@ -286,7 +286,7 @@ module _ {K : ℕ} where
           let at = row_at p.rows a.leaf (position_of a.number p.apps.accounts) (placed_at n a found_it).position in
           may_leave old without_it a.leaf a.user (one_application K) (nothing K) (leaves without_it old a.leaf a.user one_less) some_active p.rows h.tied (position_of a.number p.apps.accounts) at.row at.member at.path_is at.item_is spent
 
-      -- after it has left_row
+      -- after it has left
       pub held_left : (apps' : HeldApps) → apps'.table ≡ remove_app n p.apps.table → IsLeft n p.apps.accounts apps'.accounts → IsHeld (record p { rows = map (left_row K a.leaf a.user) p.rows; apps = apps' })
       held_left apps' e accounts =
           let q : Parts K = record p { rows = map (left_row K a.leaf a.user) p.rows; apps = apps' } in

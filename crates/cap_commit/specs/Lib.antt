@@ -1,4 +1,3 @@
-pub mod Changes
 pub mod Held
 pub mod Owners
 pub mod Reservations

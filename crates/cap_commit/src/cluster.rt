@@ -13,11 +13,11 @@ ghost use Rattle.cap_model.specs.Ending.{after_ends};
 ghost use Rattle.cap_model.specs.FinishMaster.{after_finish_master};
 ghost use Rattle.cap_model.specs.EngineLaws.{HasDistinctNumbers};
 ghost use Rattle.cap_model.specs.NodeGone.{without_node};
+ghost use Rattle.cap_model.specs.Heartbeat.{after_beat};
 ghost use Rattle.cap_tree.specs.Rows.{IsAt, queues_of};
 ghost use Rattle.cap_tree.specs.Spot.{IsPosition, path_at};
 ghost use Rattle.cap_asks.specs.Apps.{kept_of, ask_room, HasRooms, UsesRoom};
 ghost use Rattle.cap_asks.specs.Held.{numbers_of};
-ghost use Rattle.cap_nodes.specs.Tables.{beaten};
 ghost use Rattle.cap_commit.specs.Held.{IsRowOf};
 ghost use Rattle.cap_commit.specs.Reservations.{kept_by_ask};
 ghost use Rattle.cap_commit.specs.Owners.{owns, containers_owned, containers_named};
@@ -217,7 +217,7 @@ impl<const K: usize> Cluster<K> {
         self.apps.room(number, asks, grants, ends)
     }
 
-    /// Puts an ask of an active application, rounded_ask, in position of the one of its key; a count of 0 takes the key away. It needs room
+    /// Puts an ask of an active application, rounded, in place of the one of its key; a count of 0 takes the key away. It needs room
     /// that `room` made.
     pub fn put_ask(&mut self, number: u64, ask: &Ask<K>)
         requires { 1 ≤ ask_room number self.old.accounts }
@@ -234,7 +234,7 @@ impl<const K: usize> Cluster<K> {
         self.apps.put_ask(number, &ask);
     }
 
-    /// Drops the reservations of its key that an ask of an application, already rounded_ask, does not leave.
+    /// Drops the reservations of its key that an ask of an application, already rounded, does not leave.
     fn drop_unwanted(&mut self, number: u64, ask: &Ask<K>)
         ensures flat { self.new.flat ≡ with_reserved (kept_by_ask number ask.now self.old.flat) self.old.flat }
         ensures accounts { self.new.accounts ≡ self.old.accounts }
@@ -295,7 +295,7 @@ impl<const K: usize> Cluster<K> {
 
     /// Ends the live containers of an owner that the numbers name, one after the other, for this cause, of which their applications
     /// are to be told. The result is how many of the numbers name none: one that is not live, another owner's, or one that an earlier
-    /// number containers_named.
+    /// number named.
     pub fn end_named(&mut self, owner: Owner, numbers: &[u64], cause: Cause) -> u16
         requires { length numbers.now ≤ 1024 }
         ensures ended { self.new.flat ≡ after_ends cause (containers_named owner numbers.now self.old.flat) self.old.flat }
@@ -372,11 +372,11 @@ impl<const K: usize> Cluster<K> {
         self.nodes.register(host, rack, total)
     }
 
-    /// A present node has answered a heartbeat, in which so many containers_named containers were not live there, and keeps the reply, which is
+    /// A present node has answered a heartbeat, in which so many named containers were not live there, and keeps the reply, which is
     /// the result.
     pub fn beat(&mut self, number: u64, ignored: u16) -> HeartbeatReply
         requires { IsSome (node_at self.old.flat number) }
-        ensures flat { self.new.flat ≡ with_node number (beaten ignored (length (containers_on self.old.flat.nodes number))) self.old.flat }
+        ensures flat { self.new.flat ≡ with_node number (after_beat ignored (length (containers_on self.old.flat.nodes number))) self.old.flat }
         ensures accounts { self.new.accounts ≡ self.old.accounts }
         ensures reply { option_and_then (λ node. node.kept) (node_at self.new.flat number) ≡ Some result }
     {

@@ -15,7 +15,7 @@ use Rattle.cap_model.specs.Flat.{Flat, App, Container, app_at, with_app}
 use Rattle.cap_model.specs.ResponseIds.{is_current, is_repeated, is_bad_id}
 use Rattle.cap_model.specs.Asking.{after_asks, after_ask, rounded_ask, put_ask}
 use Rattle.cap_model.specs.Ending.{after_ends, with_ends, named_among}
-use Rattle.cap_model.specs.Allocate.{allocate_refusal, is_repeated_allocate, is_too_large, has_too_many_keys, released_by, after_wishes, after_telling, after_allocate, kept_reply}
+use Rattle.cap_model.specs.Allocate.{allocate_refusal, is_repeated_allocate, is_too_large, has_too_many_keys, released_by, after_wishes, after_telling, after_allocate, kept_reply, after_processed_allocate}
 use Rattle.cap_model.specs.Replies.{refused_or, reply_to, after_request}
 use Rattle.cap_model.specs.Replies as flat_replies
 use Rattle.cap_model.proofs.lists.Numbered.{find_changed}
@@ -23,9 +23,8 @@ use Rattle.cap_model.proofs.numbers.ContainerNumbers.{asks_keep}
 use Rattle.cap_model.proofs.lists.Tests.{first_holds, kept_if}
 use Rattle.cap_asks.specs.declared.app.Reported.{Reported}
 use Rattle.cap_asks.specs.Held.{numbers_of, repeated_numbers}
-use Rattle.cap_commit.specs.Changes.{IsAt}
 use Rattle.cap_masters.proofs.Refused.{repeats_it, repeats_none}
-use Rattle.cap_masters.specs.Processed.{after_processed}
+use Rattle.cap_masters.specs.Processed.{HasResponse}
 
 kept_by : (f : App → App) → ((a : App) → (f a).response ≡ a.response) → (o : Option App) → option_map (λ (a : App). a.response) (option_map f o) ≡ option_map (λ a. a.response) o
 kept_by f r None = refl
@@ -68,25 +67,25 @@ module _ {K : ℕ} where
       ∙ kept_by (with_ends cause gone) (λ a. refl) (app_at old m)
 
   -- the application is there, with the same response id, before it is told
-  still_at : (old new : Flat K) (n id : ℕ) → option_map (λ (a : App). a.response) (app_at new n) ≡ option_map (λ a. a.response) (app_at old n) → IsAt old n id → IsAt new n id
+  still_at : (old new : Flat K) (n id : ℕ) → option_map (λ (a : App). a.response) (app_at new n) ≡ option_map (λ a. a.response) (app_at old n) → HasResponse old n id → HasResponse new n id
   still_at old new n id e (a, f, r) = by (app_at new n) refl
     where
-      by : (o : Option App) → app_at new n ≡ o → IsAt new n id
+      by : (o : Option App) → app_at new n ≡ o → HasResponse new n id
       by (Some b) g = (b, g, (let same : Some b.response ≡ Some a.response = sym (ap (option_map (λ (x : App). x.response)) g) ∙ e ∙ ap (option_map (λ (x : App). x.response)) f in cc (same, r)))
       by None g = let none : None ≡ Some a.response = sym (ap (option_map (λ (x : App). x.response)) g) ∙ e ∙ ap (option_map (λ (x : App). x.response)) f in absurd (cc none)
 
-  pub ended_at : (old asked ended : Flat K) (n id : ℕ) (asks : List Ask) (releases : List ℕ) → IsAt old n id → asked ≡ after_asks n asks old → ended ≡ after_ends Cause.Released (released_by asked n releases) asked → IsAt ended n id
+  pub ended_at : (old asked ended : Flat K) (n id : ℕ) (asks : List Ask) (releases : List ℕ) → HasResponse old n id → asked ≡ after_asks n asks old → ended ≡ after_ends Cause.Released (released_by asked n releases) asked → HasResponse ended n id
   ended_at old asked ended n id asks releases at a e =
       still_at old ended n id
       (ap (λ (c : Flat K). option_map (λ (x : App). x.response) (app_at c n)) e ∙ ends_leave Cause.Released (released_by asked n releases) asked n
       ∙ ap (λ (c : Flat K). option_map (λ (x : App). x.response) (app_at c n)) a ∙ asks_leave n asks old n) at
 
-  pub is_there : (cluster : Flat K) (n id : ℕ) → IsAt cluster n id → IsSome (app_at cluster n)
+  pub is_there : (cluster : Flat K) (n id : ℕ) → HasResponse cluster n id → IsSome (app_at cluster n)
   is_there cluster n id (a, f, r) = subst IsSome (sym f) refl
 
   -- after asks, releases and the telling
-  pub processed : (old asked ended told : Flat K) (n id ignored : ℕ) (asks : List Ask) (releases : List ℕ) → IsAt old n id → asked ≡ after_asks n asks old → ended ≡ after_ends Cause.Released (released_by asked n releases) asked →
-      ignored + length (released_by asked n releases) ≡ length releases → IfSome (app_at ended n) (λ app. told ≡ with_app n (after_telling app.response ignored) ended) → told ≡ after_processed n id asks releases old
+  pub processed : (old asked ended told : Flat K) (n id ignored : ℕ) (asks : List Ask) (releases : List ℕ) → HasResponse old n id → asked ≡ after_asks n asks old → ended ≡ after_ends Cause.Released (released_by asked n releases) asked →
+      ignored + length (released_by asked n releases) ≡ length releases → IfSome (app_at ended n) (λ app. told ≡ with_app n (after_telling app.response ignored) ended) → told ≡ after_processed_allocate old n id asks releases
   processed old asked ended told n id ignored asks releases at a e i t =
       let live : asked.nodes.live ≡ old.nodes.live = ap (λ (c : Flat K). c.nodes.live) a ∙ (asks_keep n asks old).live in
       let named : released_by asked n releases ≡ released_by old n releases = ap (λ cs. named_among releases (filter (λ (c : Container). c.app == n) cs)) live in
@@ -109,10 +108,10 @@ module _ {K : ℕ} where
       Refusal.UnknownApplication Refusal.NotRegistered Refusal.BadResponseId Refusal.AskTooLarge Refusal.TooManyAsks e
 
   -- one that repeats nothing has the id that was given last
-  pub fresh_at : (cluster : Flat K) (n id : ℕ) (asks : List Ask) → allocate_refusal cluster n id asks ≡ None → is_repeated_allocate cluster n id ≡ false → IsAt cluster n id
+  pub fresh_at : (cluster : Flat K) (n id : ℕ) (asks : List Ask) → allocate_refusal cluster n id asks ≡ None → is_repeated_allocate cluster n id ≡ false → HasResponse cluster n id
   fresh_at cluster n id asks e f = by (app_at cluster n) refl ((unrefused cluster n id asks e).0) ((unrefused cluster n id asks e).1) f
     where
-      by : (o : Option App) → app_at cluster n ≡ o → is_none o ≡ false → holds_of (λ (a : App). is_bad_id a.response a.kept id) o ≡ false → holds_of (λ (a : App). is_repeated a.response a.kept id) o ≡ false → IsAt cluster n id
+      by : (o : Option App) → app_at cluster n ≡ o → is_none o ≡ false → holds_of (λ (a : App). is_bad_id a.response a.kept id) o ≡ false → holds_of (λ (a : App). is_repeated a.response a.kept id) o ≡ false → HasResponse cluster n id
       by None g a b c = absurd (cc a)
       by (Some x) g a b c = (x, g, (let same = first_holds (is_current x.response id) (is_repeated x.response x.kept id) b c in grind (arith, nat_tests, same)))
 
@@ -127,10 +126,10 @@ module _ {K : ℕ} where
 
   -- where it repeats the last one nothing changes, else it is processed
   pub repeated_same : (old : Flat K) (n id : ℕ) (asks : List Ask) (releases : List ℕ) → is_repeated_allocate old n id ≡ true → old ≡ after_allocate old n id asks releases
-  repeated_same old n id asks releases e = sym (ap (λ b. if b then old else after_processed n id asks releases old) e)
+  repeated_same old n id asks releases e = sym (ap (λ b. if b then old else after_processed_allocate old n id asks releases) e)
 
-  pub fresh_processed : (old new : Flat K) (n id : ℕ) (asks : List Ask) (releases : List ℕ) → is_repeated_allocate old n id ≡ false → new ≡ after_processed n id asks releases old → new ≡ after_allocate old n id asks releases
-  fresh_processed old new n id asks releases e is = is ∙ sym (ap (λ b. if b then old else after_processed n id asks releases old) e)
+  pub fresh_processed : (old new : Flat K) (n id : ℕ) (asks : List Ask) (releases : List ℕ) → is_repeated_allocate old n id ≡ false → new ≡ after_processed_allocate old n id asks releases → new ≡ after_allocate old n id asks releases
+  fresh_processed old new n id asks releases e is = is ∙ sym (ap (λ b. if b then old else after_processed_allocate old n id asks releases) e)
 
   -- the numbers of the kept reply are given where the request repeats the last one, and only there
   pub repeated_is : (cluster : Flat K) (n id : ℕ) (reported : Reported) → Some reported ≡ option_and_then (λ app. repeated_numbers app id) (app_at cluster n) →

@@ -1,9 +1,7 @@
--- The parts of a processed allocate.
-use Rattle.std.specs.Prelude.{ℕ, ◌-◌, List, length}
-use Rattle.cap_model.specs.Asks.{Ask}
-use Rattle.cap_model.specs.Flat.{Flat, with_app}
-use Rattle.cap_model.specs.Allocate.{after_telling, after_wishes, released_by}
+-- Before an allocate is processed.
+use Rattle.std.specs.Prelude.{◌≡◌, ℕ, Some}
+use Rattle.cap_model.specs.Flat.{Flat, App, app_at}
 
--- the cluster after the asks and the releases, where the application was told the news in answer to a request of this response id
-abbrev pub after_processed : {K : ℕ} → ℕ → ℕ → List Ask → List ℕ → Flat K → Flat K
-after_processed n id asks releases cluster = with_app n (after_telling id (length releases - length (released_by cluster n releases))) (after_wishes cluster n asks releases)
+-- an application is active, and this is the response id that it was given last
+abbrev pub HasResponse : {K : ℕ} → Flat K → ℕ → ℕ → Type 0
+HasResponse cluster n id = (app : App) × (app_at cluster n ≡ Some app) × (app.response ≡ id)

@@ -7,23 +7,23 @@ use cap_model::{AllocateReply, End, Grant, HeartbeatReply};
 
 // One grant.
 #[tactic(auto, unfolding(crate::specs::Spelling::grant))]
-fn put_grant(counted_list: &Grant<2>, out: &mut Out)
+fn put_grant(told: &Grant<2>, out: &mut Out)
     requires { 109 ≤ out.old.spare }
     ensures appends { out.new.items ≡ out.old.items ++ grant counted_list.now }
     ensures spare { out.new.spare + length (grant counted_list.now) ≡ out.old.spare }
     ensures len { length (grant counted_list.now) ≤ 109 }
     ensures fits { FitsGrant counted_list.now }
 {
-    let key = counted_list.key();
-    let host = counted_list.host();
-    out.extend_reserved(&counted_list.container().to_be_bytes());
+    let key = told.key();
+    let host = told.host();
+    out.extend_reserved(&told.container().to_be_bytes());
     out.extend_reserved(&key.priority.to_be_bytes());
     out.extend_reserved(&key.request.to_be_bytes());
-    out.extend_reserved(&counted_list.node().to_be_bytes());
+    out.extend_reserved(&told.node().to_be_bytes());
     let host = host.as_bytes();
     out.extend_reserved(&[host.len() as u8]);
     out.extend_reserved(host);
-    put_amounts(&counted_list.resource(), out);
+    put_amounts(&told.resource(), out);
 }
 
 // Grants, one after the other.
@@ -34,22 +34,22 @@ fn put_grants(grants: &[Grant<2>], out: &mut Out)
     ensures len { length (flat_map grant grants.now) ≤ 109 * length grants.now }
     ensures fits { AllByRecursion FitsGrant grants.now }
 {
-    for counted_list in grants {
-        put_grant(counted_list, out);
+    for told in grants {
+        put_grant(told, out);
     }
 }
 
 // One end.
 #[tactic(auto, unfolding(crate::specs::Spelling::end))]
-fn put_end(counted_list: &End, out: &mut Out)
+fn put_end(told: &End, out: &mut Out)
     requires { 9 ≤ out.old.spare }
     ensures appends { out.new.items ≡ out.old.items ++ end counted_list.now }
     ensures spare { out.new.spare + length (end counted_list.now) ≡ out.old.spare }
     ensures len { length (end counted_list.now) ≤ 9 }
     ensures fits { FitsEnd counted_list.now }
 {
-    out.extend_reserved(&counted_list.container.to_be_bytes());
-    out.extend_reserved(&[counted_list.cause.number()]);
+    out.extend_reserved(&told.container.to_be_bytes());
+    out.extend_reserved(&[told.cause.number()]);
 }
 
 // Ends, one after the other.
@@ -60,8 +60,8 @@ fn put_ends(ends: &[End], out: &mut Out)
     ensures len { length (flat_map end ends.now) ≤ 9 * length ends.now }
     ensures fits { AllByRecursion FitsEnd ends.now }
 {
-    for counted_list in ends {
-        put_end(counted_list, out);
+    for told in ends {
+        put_end(told, out);
     }
 }
 

@@ -1,4 +1,4 @@
--- Allocate: a master asks for containers, releases some, and is news_report the news of its application.
+-- Allocate: a master asks for containers, releases some, and is told the news of its application.
 use Rattle.std.specs.Prelude.{ℕ, ◌-◌, Bool, not, ◌&&◌, List, [], ◌∷◌, Option, Some, length, is_none, take, drop, unwrap_or, option_and_then, if◌then◌else◌, nat_lt, nat_le}
 use Rattle.std.specs.List.{fold, list_any}
 use Rattle.cap_model.specs.Cascade.{earliest, holds_of}
@@ -22,7 +22,7 @@ nothing_told = record { response = 0; ignored = 0; grants = []; ends = [] }
 abbrev pub has_too_many_keys : App → List Ask → Bool
 has_too_many_keys app asks = nat_lt keys_max (length (fold (λ kept ask. put_ask ask kept) app.asks asks))
 
--- what an application is news_report: the oldest grants and the oldest ends of those not yet news_report
+-- what an application is told: the oldest grants and the oldest ends of those not yet told
 abbrev pub news_report : ℕ → ℕ → App → AllocateReply
 news_report id ignored app = record {
   response = next_response id;
@@ -31,7 +31,7 @@ news_report id ignored app = record {
   ends = take news_max app.ends;
 }
 
--- the application after it was news_report: the rest waits, and the reply is kept
+-- the application after it was told: the rest waits, and the reply is kept
 abbrev pub after_telling : ℕ → ℕ → App → App
 after_telling id ignored app = record app {
   response = next_response id;

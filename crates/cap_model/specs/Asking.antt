@@ -1,4 +1,4 @@
--- How an ask enters a cluster: rounded_ask, in place of the one of its key, and what that does to reservations.
+-- How an ask enters a cluster: rounded, in place of the one of its key, and what that does to reservations.
 use Rattle.std.specs.Prelude.{ℕ, ◌-◌, Bool, not, ◌&&◌, ◌||◌, List, [], ◌∷◌, filter, ◌==◌, bytes_eq, if◌then◌else◌}
 use Rattle.std.specs.List.{fold}
 use Rattle.std.specs.Option.{option_map_or}
@@ -43,7 +43,7 @@ abbrev pub reservations_left : App → Ask → ℕ
 reservations_left app ask = if holds_of (is_changed ask) (ask_at ask.key app.asks) then 0 else ask.count
 
 module _ {K : ℕ} where
-  -- the cluster after an ask of an application, already rounded_ask; of the reservations that go, the newest go first
+  -- the cluster after an ask of an application, already rounded; of the reservations that go, the newest go first
   abbrev pub after_ask : ℕ → Flat K → Ask → Flat K
   after_ask n cluster ask =
       let left = option_map_or (λ app. reservations_left app ask) (app_at cluster n) 0 in

@@ -76,7 +76,7 @@ ReservationsStayBounded = (K : ℕ) (old new : Flat K) (event : Event K) → IsB
 abbrev pub StepStaysBounded : Type 0
 StepStaysBounded = (K : ℕ) (old new : Flat K) (event : Event K) → IsBounded old → Step old event new → IsBounded new
 
--- a cluster that was opened_cluster just now over listed queues is bounded
+-- a cluster that was opened just now over listed queues is bounded
 abbrev pub OpenedIsBounded : Type 0
 OpenedIsBounded = (K : ℕ) (settings : Settings) → IsListing settings.queues → IsBounded (opened_cluster {K = K} settings)
 
@@ -99,7 +99,7 @@ RunsStayWithinSizes =
     (K : ℕ) (first rest : List (Event K)) (old new : Flat K) → IsWithinSizes old → Run old (first ++ rest) new →
     (mid : Flat K) × Run old first mid × Run mid rest new × IsWithinSizes mid × IsWithinSizes new
 
--- a cluster that was opened_cluster just now is within them
+-- a cluster that was opened just now is within them
 abbrev pub OpenedIsWithinSizes : Type 0
 OpenedIsWithinSizes = (K : ℕ) (settings : Settings) → IsWithinSizes (opened_cluster {K = K} settings)
 

@@ -118,7 +118,7 @@ abbrev pub change_node : ℕ → (ClusterNode → ClusterNode) → NodeTable →
 change_node n change table = record table { present = map (λ node. if node.number == n then change node else node) table.present }
 
 module _ {K : ℕ} where
-  -- a cluster that was opened_cluster just now, with nothing in it
+  -- a cluster that was opened just now, with nothing in it
   abbrev pub opened_cluster : Settings → Flat K
   opened_cluster settings = record { settings = settings; apps = no_apps; nodes = no_nodes }
 

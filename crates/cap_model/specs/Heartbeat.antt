@@ -5,13 +5,20 @@ use Rattle.cap_model.specs.declared.news.Cause.{Cause}
 use Rattle.cap_model.specs.declared.replies.HeartbeatReply.{HeartbeatReply}
 use Rattle.cap_model.specs.declared.refusal.Refusal.{Refusal}
 use Rattle.cap_model.specs.declared.reply.Reply.{Reply}
-use Rattle.cap_model.specs.Flat.{Flat, Container, node_at, containers_on, with_node}
+use Rattle.cap_model.specs.Flat.{Flat, ClusterNode, Container, node_at, containers_on, with_node}
 use Rattle.cap_model.specs.ResponseIds.{next_response, is_repeated, is_bad_id}
 use Rattle.cap_model.specs.Ending.{named_among, after_ends}
 
 -- the reply before there is one
 abbrev pub no_beat : HeartbeatReply
 no_beat = record { response = 0; ignored = 0; live = 0 }
+
+-- a node that has answered one more heartbeat, of which so many ends named no container there, with so many live there now
+abbrev pub after_beat : ℕ → ℕ → ClusterNode → ClusterNode
+after_beat ignored live node = record node {
+  response = next_response node.response;
+  kept = Some (record { response = next_response node.response; ignored = ignored; live = live });
+}
 
 module _ {K : ℕ} where
   -- why a heartbeat is refused

@@ -14,7 +14,8 @@ use Rattle.cap_model.specs.Bounds.{IsRising}
 use Rattle.cap_model.specs.declared.replies.HeartbeatReply.{HeartbeatReply}
 use Rattle.cap_model.specs.Flat.{ClusterNode, Container}
 use Rattle.cap_model.specs.RegisterNode.{sum_of_totals}
-use Rattle.cap_nodes.specs.Tables.{left_of, beaten}
+use Rattle.cap_model.specs.Heartbeat.{after_beat}
+use Rattle.cap_nodes.specs.Tables.{left_of}
 use Rattle.cap_nodes.specs.Places.{Place, IsTied, AreTied, place_at, change_place, held_more, held_less, beaten_place, HasOne}
 use Rattle.cap_nodes.proofs.Numbered.{none_at_end}
 use Rattle.cap_nodes.proofs.Sums.{where-none, filter-none, none-filter, zeros-fit, where-less-own, where-had, sum-without, length-where, amount-where}
@@ -238,13 +239,13 @@ changed n change nodes = map (λ node. cond (node.number == n) (change node) nod
 
 -- the nodes after a heartbeat
 pub nodes_beaten : (K n ignored : ℕ) (live : List Container) (places : List Place) → AllByRecursion (IsTied K live) places →
-    nodes_of (change_place n (beaten_place ignored) places) ≡ changed n (beaten ignored (length (filter (λ c. c.node == n) live))) (nodes_of places)
+    nodes_of (change_place n (beaten_place ignored) places) ≡ changed n (after_beat ignored (length (filter (λ c. c.node == n) live))) (nodes_of places)
 nodes_beaten K n ignored live [] all = refl
 nodes_beaten K n ignored live (p ∷ places) all = by (p.node.number == n) refl (nodes_beaten K n ignored live places all.1)
   where
-    by : (b : Bool) → (p.node.number == n) ≡ b → nodes_of (change_place n (beaten_place ignored) places) ≡ changed n (beaten ignored (length (filter (λ c. c.node == n) live))) (nodes_of places) →
+    by : (b : Bool) → (p.node.number == n) ≡ b → nodes_of (change_place n (beaten_place ignored) places) ≡ changed n (after_beat ignored (length (filter (λ c. c.node == n) live))) (nodes_of places) →
         (cond b (beaten_place ignored p) p).node ∷ nodes_of (change_place n (beaten_place ignored) places)
-        ≡ cond b (beaten ignored (length (filter (λ c. c.node == n) live)) p.node) p.node ∷ changed n (beaten ignored (length (filter (λ c. c.node == n) live))) (nodes_of places)
+        ≡ cond b (after_beat ignored (length (filter (λ c. c.node == n) live)) p.node) p.node ∷ changed n (after_beat ignored (length (filter (λ c. c.node == n) live))) (nodes_of places)
     by true e more =
         let same : p.live ≡ length (filter (λ (c : Container). c.node == n) live) = all.0.count ∙ ap (λ m. count_by (λ (c : Container). c.node == m) live) (eqb-true p.node.number n e) ∙ sym (length-filter (λ (c : Container). c.node == n) live) in
         rw (same, more) refl

@@ -89,7 +89,7 @@ module _ (key : Container → ℕ) (live : List Container) (old : List (ℕ × �
       by false false h k = refl
 
 module _ (key : Container → ℕ) (owner after : ℕ) where
-  -- what an owner has_pair later it has_pair
+  -- what an owner has later it has
   later : (c : Container) (cs : List Container) (high m : ℕ) → IsRising (c.number + 1) (map (λ x. x.number) cs) high → is_of key (find (λ x. x.number == m) cs) owner ≡ true →
       is_of key (find (λ x. x.number == m) (c ∷ cs)) owner ≡ true
   later c cs high m r there = by (c.number == m) refl

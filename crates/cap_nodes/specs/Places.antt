@@ -10,7 +10,7 @@ use Rattle.cap_model.specs.Limits.{live_max}
 use Rattle.cap_model.specs.Amounts.{sum_where}
 use Rattle.cap_model.specs.Bounds.{IsRising}
 use Rattle.cap_model.specs.Flat.{ClusterNode, Container}
-use Rattle.cap_nodes.specs.Tables.{beaten}
+use Rattle.cap_model.specs.Heartbeat.{after_beat}
 
 -- a node, what its live containers hold, and how many they are
 pub record Place : Type 0 where
@@ -42,7 +42,7 @@ abbrev pub held_less : List ℕ → Place → Place
 held_less resource p = record p { held = less p.held resource; live = p.live - 1 }
 
 abbrev pub beaten_place : ℕ → Place → Place
-beaten_place ignored p = record p { node = beaten ignored p.live p.node }
+beaten_place ignored p = record p { node = after_beat ignored p.live p.node }
 
 -- room for one more container of this resource
 pub record CanHold (resource : List ℕ) (p : Place) : Type 0 where
@@ -74,7 +74,7 @@ pub record AreTied (K : ℕ) (places : List Place) (live : List Container) : Typ
 abbrev pub pair_cmp : ℕ × ℕ → ℕ × ℕ → Ordering
 pair_cmp x y = ordering_then (nat_cmp x.0 y.0) (nat_cmp x.1 y.1)
 
--- whether an owner has_pair the container of a number, by pairs of both
+-- whether an owner has the container of a number, by pairs of both
 abbrev pub has_pair : List (ℕ × ℕ) → ℕ → ℕ → Bool
 has_pair pairs owner number = list_any (is_at (pair_cmp (owner, number))) pairs
 
@@ -90,7 +90,7 @@ abbrev pub is_of : (Container → ℕ) → Option Container → ℕ → Bool
 is_of key None owner = false
 is_of key (Some c) owner = key c == owner
 
--- each owner has_pair its live containers by the pairs
+-- each owner has its live containers by the pairs
 abbrev pub IsOwnerIndex : (Container → ℕ) → List Container → List (ℕ × ℕ) → Type 0
 IsOwnerIndex key live pairs = (owner number : ℕ) → has_pair pairs owner number ≡ is_of key (find (λ c. c.number == number) live) owner
 

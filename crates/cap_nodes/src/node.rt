@@ -1,7 +1,7 @@
 ghost use Rattle.std.specs.Prelude.{◌≡◌, ◌<◌, Some, None, if◌then◌else◌};
 ghost use Rattle.cap_vector.specs.Vector.{IsResource};
 ghost use Rattle.cap_model.specs.ResponseIds.{is_repeated, is_bad_id};
-ghost use Rattle.cap_nodes.specs.Tables.{beaten};
+ghost use Rattle.cap_model.specs.Heartbeat.{after_beat};
 
 use cap_model::{HeartbeatReply, ShortText, is_bad, next_response, repeats};
 use cap_vector::Resource;
@@ -121,7 +121,7 @@ impl<const K: usize> Node<K> {
     /// One more heartbeat is answered, of which so many ends named no container that was live there, and so many are live there now:
     /// the response id moves on, and the reply, which is the result, is kept.
     pub(crate) fn beat(&mut self, ignored: u16, live: u32) -> HeartbeatReply
-        ensures node { self.new ≡ beaten ignored live self.old }
+        ensures node { self.new ≡ after_beat ignored live self.old }
         ensures kept { self.new.kept ≡ Some result }
     {
         let reply = HeartbeatReply {

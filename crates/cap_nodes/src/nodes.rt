@@ -11,7 +11,8 @@ ghost use Rattle.cap_model.specs.Events.{add_reservation, launch};
 ghost use Rattle.cap_model.specs.Ending.{complete};
 ghost use Rattle.cap_model.specs.NodeGone.{remove_node};
 ghost use Rattle.cap_model.specs.Uses.{held_on};
-ghost use Rattle.cap_nodes.specs.Tables.{free_on, beaten};
+ghost use Rattle.cap_model.specs.Heartbeat.{after_beat};
+ghost use Rattle.cap_nodes.specs.Tables.{free_on};
 
 use crate::live::Live;
 use crate::node::Node;
@@ -249,7 +250,7 @@ impl<const K: usize> Nodes<K> {
     /// id moves on, and the reply, which is the result, is kept. It tells how many are live there now.
     pub fn beat(&mut self, number: u64, ignored: u16) -> HeartbeatReply
         requires { IsSome (node_in self.old number) }
-        ensures table { self.new ≡ change_node number (beaten ignored (length (containers_on self.old number))) self.old }
+        ensures table { self.new ≡ change_node number (after_beat ignored (length (containers_on self.old number))) self.old }
         ensures kept { option_and_then (λ node. node.kept) (node_in self.new number) ≡ Some result }
     {
         self.present.beat(number, ignored)

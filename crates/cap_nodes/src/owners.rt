@@ -7,7 +7,7 @@ use std::collections::BTreeSet;
 use std::marker::Model;
 use std::ops::Bound;
 
-/// Which owner has_pair which containers, in pairs of an owner and the number of a container. An owner is an application, or a node.
+/// Which owner has which containers, in pairs of an owner and the number of a container. An owner is an application, or a node.
 #[derive(Drop)]
 pub(crate) struct Owners {
     pairs: BTreeSet<(u64, u64)>,
@@ -22,7 +22,7 @@ impl Model for Owners {
 }
 
 impl Owners {
-    /// No owner has_pair any. It takes no memory.
+    /// No owner has any. It takes no memory.
     pub(crate) fn new(alloc: Global) -> Owners
         ensures { result ≡ [] }
     {
@@ -31,7 +31,7 @@ impl Owners {
         }
     }
 
-    /// An owner has_pair one container more. `NoMemory` changes nothing.
+    /// An owner has one container more. `NoMemory` changes nothing.
     pub(crate) fn insert(&mut self, owner: u64, number: u64) -> Result<(), NoMemory>
         ensures ok { OnOk result (HasMore owner number self.old self.new) }
         ensures err { OnErr result (self.new ≡ self.old) }
@@ -43,16 +43,16 @@ impl Owners {
         Ok(())
     }
 
-    /// An owner has_pair a container no longer.
+    /// An owner has a container no longer.
     pub(crate) fn remove(&mut self, owner: u64, number: u64)
         ensures { HasLess owner number self.old self.new }
     {
         self.pairs.remove(&(owner, number));
     }
 
-    /// The least number above `after` of a container that an owner has_pair, none where it has_pair none.
+    /// The least number above `after` of a container that an owner has, none where it has none.
     pub(crate) fn next(&self, owner: u64, after: u64) -> Option<u64>
-        ensures has_pair { IfSome result (λ n. has_pair self.now owner n ≡ true) }
+        ensures has { IfSome result (λ n. has_pair self.now owner n ≡ true) }
         ensures above { IfSome result (λ n. after < n) }
         ensures least { IfSome result (λ n. (m : ℕ) → after < m → has_pair self.now owner m ≡ true → n ≤ m) }
         ensures none { IfNone result ((m : ℕ) → after < m → has_pair self.now owner m ≡ false) }

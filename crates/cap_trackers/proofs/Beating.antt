@@ -14,7 +14,7 @@ use Rattle.cap_model.specs.Bounds.{IsRising}
 use Rattle.cap_model.specs.Cascade.{earliest}
 use Rattle.cap_model.specs.ResponseIds.{next_response, is_current, is_repeated, is_bad_id}
 use Rattle.cap_model.specs.Ending.{is_among, after_ends}
-use Rattle.cap_model.specs.Heartbeat.{heartbeat_refusal, is_repeated_heartbeat, ended_by, beat_of, after_processed_heartbeat, after_heartbeat, no_beat}
+use Rattle.cap_model.specs.Heartbeat.{heartbeat_refusal, is_repeated_heartbeat, ended_by, beat_of, after_processed_heartbeat, after_heartbeat, no_beat, after_beat}
 use Rattle.cap_model.specs.EngineLaws.{HasDistinctNumbers}
 use Rattle.cap_model.specs.Replies.{reply_to, after_request}
 use Rattle.cap_model.proofs.lists.Members.{IsIn, found}
@@ -26,13 +26,6 @@ use Rattle.cap_model.proofs.lists.Tests.{and_true, first_holds}
 use Rattle.cap_trackers.specs.Beats.{IsKept, kept_beat}
 use Rattle.cap_nodes.specs.Tables.{node_in}
 use Rattle.cap_trackers.proofs.Answering.{granted_is, refused_is}
-
--- a node that answered one more heartbeat
-abbrev beaten : ℕ → ℕ → ClusterNode → ClusterNode
-beaten ignored live node = record node {
-  response = next_response node.response;
-  kept = Some (record { response = next_response node.response; ignored = ignored; live = live });
-}
 
 turn : (a b : Bool) → cond (not a) b false ≡ cond b (not a) false
 turn true true = refl
@@ -126,11 +119,11 @@ module _ {K : ℕ} (cluster : Flat K) (n id : ℕ) where
     -- where nodes have distinct numbers, a heartbeat that is processed is answered by the next id
     pub processed : IsRising 1 (map (λ node. node.number) cluster.nodes.present) cluster.nodes.next_node → HasDistinctNumbers cluster → heartbeat_refusal cluster n id ≡ None → is_repeated_heartbeat cluster n id ≡ false →
         (left new : Flat K) (ignored : ℕ) → left ≡ heard → ignored + length (ended_by cluster n ended) ≡ length ended →
-        new ≡ with_node n (beaten ignored (length (containers_on left.nodes n))) left → new ≡ after_processed_heartbeat cluster n id ended
+        new ≡ with_node n (after_beat ignored (length (containers_on left.nodes n))) left → new ≡ after_processed_heartbeat cluster n id ended
     processed nodes rising none fresh left new ignored left_is count is =
         is
-        ∙ ap (λ x. with_node n (beaten ignored (length (containers_on x.nodes n))) x) left_is
-        ∙ ap (λ ps. record heard { nodes = record heard.nodes { present = ps } }) (map_same (change (beaten ignored (length (containers_on heard.nodes n)))) (change (λ node. record node { response = next_response id; kept = Some (beat_of cluster n id ended) })) cluster.nodes.present (λ x m. by x m (x.number == n) refl))
+        ∙ ap (λ x. with_node n (after_beat ignored (length (containers_on x.nodes n))) x) left_is
+        ∙ ap (λ ps. record heard { nodes = record heard.nodes { present = ps } }) (map_same (change (after_beat ignored (length (containers_on heard.nodes n)))) (change (λ node. record node { response = next_response id; kept = Some (beat_of cluster n id ended) })) cluster.nodes.present (λ x m. by x m (x.number == n) refl))
       where
         change : (ClusterNode → ClusterNode) → ClusterNode → ClusterNode
         change f node = if node.number == n then f node else node
@@ -142,7 +135,7 @@ module _ {K : ℕ} (cluster : Flat K) (n id : ℕ) where
         live_is = let l = left_there rising in omega (arith, l)
 
         by : (x : ClusterNode) → IsIn x cluster.nodes.present → (b : Bool) → x.number == n ≡ b →
-            (if b then beaten ignored (length (containers_on heard.nodes n)) x else x) ≡ (if b then record x { response = next_response id; kept = Some (beat_of cluster n id ended) } else x)
+            (if b then after_beat ignored (length (containers_on heard.nodes n)) x else x) ≡ (if b then record x { response = next_response id; kept = Some (beat_of cluster n id ended) } else x)
         by x m true e =
             let same : x.number ≡ n = grind (arith, nat_tests, e) in
             let there : node_at cluster n ≡ Some x = subst (λ k. find (λ (y : ClusterNode). y.number == k) cluster.nodes.present ≡ Some x) same (found_by_number (λ (y : ClusterNode). y.number) 1 cluster.nodes.present cluster.nodes.next_node x nodes m) in

@@ -51,7 +51,7 @@ of_one user f us = sum_by (λ u. if bytes_eq u.user user then f u else 0) us
 abbrev pub user_row : List ℕ → List UserRow → Option UserRow
 user_row user us = find (λ u. bytes_eq u.user user) us
 
--- the users with that row, in position of the user's own or as one more
+-- the users with that row, in place of the user's own or as one more
 abbrev pub with_row : UserRow → List UserRow → List UserRow
 with_row row [] = row ∷ []
 with_row row (u ∷ us) = if bytes_eq u.user row.user then row ∷ us else u ∷ with_row row us

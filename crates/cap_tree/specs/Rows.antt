@@ -40,11 +40,11 @@ abbrev pub changed_at : (Queue → Queue) → (Queue → Queue) → List ℕ →
 changed_at above at path r =
     if bytes_eq r.path path then record r { item = at r.item } else (if is_under r.path path then record r { item = above r.item } else r)
 
--- after a part of a user's count in the leaf of that path has moved_row
+-- after a part of a user's count in the leaf of that path has moved
 abbrev pub moved_row : ℕ → List ℕ → List ℕ → Count → Count → Row → Row
 moved_row K path user old new = changed_at (moved_above old new) (moved_at K user old new) path
 
--- after one more application of the user has entered_row there, after one has left_row, and after some of the user's use is given back
+-- after one more application of the user has entered there, after one has left, and after some of the user's use is given back
 abbrev pub entered_row : ℕ → List ℕ → List ℕ → Row → Row
 entered_row K path user = moved_row K path user (nothing K) (one_application K)
 

@@ -11,12 +11,12 @@ use Rattle.cap_model.specs.Events.{Run}
 use Rattle.cap_world.specs.Answers.{Call, calls_by}
 use Rattle.cap_world.specs.Connection.{Connection, HasAnswers, is_open_standing}
 
--- what is seen of a world: the cluster, and the connections that were ever opened_cluster, by number
+-- what is seen of a world: the cluster, and the connections that were ever opened, by number
 pub record WorldState : Type 0 where
   pub cluster : Flat 2
   pub connections : List (ℕ × Connection)
 
--- the connection of a number, if it was ever opened_cluster
+-- the connection of a number, if it was ever opened
 abbrev pub connection_at : ℕ → List (ℕ × Connection) → Option Connection
 connection_at c connections = lookup (nat_eq c) connections
 
@@ -39,7 +39,7 @@ output_of c sight = output_from (connection_at c sight.connections)
 abbrev pub Changes : ℕ → Connection → List (ℕ × Connection) → List (ℕ × Connection) → Type 0
 Changes c connection old new = (d : ℕ) → connection_at d new ≡ (if c == d then Some connection else connection_at d old)
 
--- what the calls of a connection answered it, if it was ever opened_cluster; else it has none
+-- what the calls of a connection answered it, if it was ever opened; else it has none
 abbrev pub HasAnswersAt : List Call → Option Connection → Type 0
 HasAnswersAt calls None = calls ≡ []
 HasAnswersAt calls (Some connection) = HasAnswers calls connection

@@ -326,3 +326,44 @@ fn a_lost_node_takes_its_total_along(rt: HostRuntime) {
     let counts = counts(rt.alloc(), &ANOTHER_SECOND);
     assert!(rt; counts == Some((2, 0, 4, 1)));
 }
+
+/// The nodes for which rooms of 1,024 MiB and 1 vcore are kept, in order: those of the nodes 2, 1 and 2 with the one at the index
+/// dropped, and what the node 1 has left.
+fn reserved_without(alloc: Global, index: usize) -> Option<(u64, u64, usize, [u64; 2])> {
+    let mut nodes = after(alloc, &THREE_CONTAINERS)?;
+    let resource = Resource::new([1024, 1])?;
+    let key = Key {
+        priority: 1,
+        request: 0,
+    };
+    for node in [2, 1, 2] {
+        nodes.reserve(7, &key, node, &resource).ok()?;
+    }
+    if index < nodes.reservations().len() {
+        nodes.unreserve(index);
+    }
+    let first = nodes.reservations().first()?.node();
+    let last = nodes.reservations().last()?.node();
+    let _node = nodes.node(1)?;
+    Some((
+        first,
+        last,
+        nodes.reservations().len(),
+        nodes.free_of(1).amounts(),
+    ))
+}
+
+#[test]
+fn reservations_stand_in_order_of_making(rt: HostRuntime) {
+    for (index, answer) in [
+        (0, (1, 2, 2, [4096, 5])),
+        (1, (2, 2, 2, [4096, 5])),
+        (2, (2, 1, 2, [4096, 5])),
+        (3, (2, 2, 3, [4096, 5])),
+    ] {
+        assert!(rt;
+            reserved_without(rt.alloc(), index) == Some(answer),
+            "{index}"
+        );
+    }
+}

@@ -252,7 +252,10 @@ const ANN_AND_BOB: [Change; 5] = [
 fn queue_counts(tree: &Tree, path: &str) -> Option<(u64, [u64; 2])> {
     match tree.find(path.as_bytes()) {
         Found::Leaf(position) | Found::Parent(position) => {
-            Some((tree.row(&position).active(), tree.use_of(&position).amounts()))
+            Some((
+                tree.row(&position).active(),
+                tree.use_of(&position).amounts(),
+            ))
         }
         Found::Missing => None,
     }

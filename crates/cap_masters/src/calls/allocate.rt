@@ -6,10 +6,9 @@ ghost use Rattle.cap_model.specs.Asking.{after_asks};
 ghost use Rattle.cap_model.specs.Flat.{app_at};
 ghost use Rattle.cap_asks.specs.Held.{numbers_of, repeated_numbers};
 ghost use Rattle.cap_asks.specs.Apps.{kept_of, ask_room};
-ghost use Rattle.cap_model.specs.Allocate.{allocate_refusal, is_too_large, kept_reply};
+ghost use Rattle.cap_model.specs.Allocate.{allocate_refusal, is_too_large, kept_reply, after_processed_allocate};
 ghost use Rattle.cap_model.specs.Replies.{Replies};
-ghost use Rattle.cap_commit.specs.Changes.{IsAt};
-ghost use Rattle.cap_masters.specs.Processed.{after_processed};
+ghost use Rattle.cap_masters.specs.Processed.{HasResponse};
 
 use cap_commit::{Cluster, Owner, Reported};
 use cap_model::{Ask, Asks, Cause, NoMemory, Numbers, Refusal, Reply};
@@ -99,8 +98,8 @@ fn process<const K: usize>(
     asks: &Asks<K>,
     releases: &Numbers,
 ) -> Result<Reported, NoMemory>
-    requires { IsAt cluster.old.flat application response }
-    ensures ok { OnOk result (cluster.new.flat ≡ after_processed application response asks.now releases.now cluster.old.flat) }
+    requires { HasResponse cluster.old.flat application response }
+    ensures ok { OnOk result (cluster.new.flat ≡ after_processed_allocate cluster.old.flat application response asks.now releases.now) }
     ensures told { IfOk result (λ reported. option_map numbers_of (kept_of application cluster.new.flat.apps) ≡ Some reported) }
     ensures err { OnErr result (cluster.new.flat ≡ cluster.old.flat) }
 {

@@ -1,4 +1,4 @@
--- Grants and ends are news_report in order, each once.
+-- Grants and ends are told in order, each once.
 use Rattle.std.proofs.Common.{◌≡◌, ℕ, Bool, true, false, List, [], ◌∷◌, ◌++◌, refl, sym, ◌∙◌, ap, subst, inl, inr, arith}
 use Rattle.std.specs.Prelude.{Option, Some, None, IsSome, cond, not, ◌&&◌, ◌==◌, length, ◌-◌, find, map, filter, unwrap_or, option_map, option_and_then, if◌then◌else◌}
 use Rattle.std.specs.Option.{option_map_or, option_or}
@@ -48,7 +48,7 @@ module _ {N : Type 0} (of : App → List N) (n : ℕ) where
   abbrev in_app : Option App → List N
   in_app o = option_map_or of o []
 
-  -- what is news_report of the changed one, and what is left, is what there was and what was added
+  -- what is told of the changed one, and what is left, is what there was and what was added
   changed : (f : App → App) → ((a : App) → (f a).number ≡ a.number) → (xs : List App) (telling : Option App → List N) (added : List N) →
       ((a : App) → a.number ≡ n → telling (Some (f a)) ++ of (f a) ≡ of a ++ added) → IsSome (find (λ a. a.number == n) (map f xs)) →
       telling (find (λ a. a.number == n) (map f xs)) ++ in_app (find (λ a. a.number == n) (map f xs)) ≡ in_app (find (λ a. a.number == n) xs) ++ added
@@ -83,7 +83,7 @@ module _ {N : Type 0} (of : App → List N) (n : ℕ) where
       by None false = refl
       by (Some x) b = refl
 
--- a kind of news: what applications keep of it until they are news_report, what a reply tells of it, and what ends of containers add to it
+-- a kind of news: what applications keep of it until they are told, what a reply tells of it, and what ends of containers add to it
 record IsNews {N : Type 0} (of : App → List N) (from : AllocateReply → List N) (ends : Cause → ℕ → List Container → List N) : Type 0 where
   pub telling : (id ignored : ℕ) (a : App) → from (news_report id ignored a) ++ of (after_telling id ignored a) ≡ of a
   pub asking : (asks : List Ask) (a : App) → of (record a { asks = asks }) ≡ of a
@@ -176,7 +176,7 @@ module _ {K : ℕ} (old : Flat K) (n : ℕ) where
       IsSome (app_at new n) →
       (told_grants old n event ++ untold_grants new n ≡ untold_grants old n ++ new_grants old n event) × (told_ends old n event ++ untold_ends new n ≡ untold_ends old n ++ new_ends old n event)
 
-  -- nothing news_report and nothing added
+  -- nothing told and nothing added
   as_before : {xs : List Grant} {ys : List End} → xs ≡ untold_grants old n → ys ≡ untold_ends old n → (xs ≡ untold_grants old n ++ []) × (ys ≡ untold_ends old n ++ [])
   as_before e f = (e ∙ sym (append-nil (untold_grants old n)), f ∙ sym (append-nil (untold_ends old n)))
 
