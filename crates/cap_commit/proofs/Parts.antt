@@ -14,7 +14,6 @@ use Rattle.cap_model.specs.Allocate.{after_telling}
 use Rattle.cap_model.specs.Bounds.{IsRising}
 use Rattle.cap_model.proofs.lists.Members.{IsIn}
 use Rattle.cap_model.proofs.lists.Numbered.{found_by_number}
-use Rattle.cap_asks.specs.Apps.{with_app}
 use Rattle.cap_commit.specs.Held.{Parts, flat_of}
 use Rattle.cap_commit.specs.Reservations.{kept_by_ask}
 

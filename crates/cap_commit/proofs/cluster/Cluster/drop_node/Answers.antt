@@ -18,9 +18,12 @@ pub invariant_of-self : goal.invariant_of-self
 invariant_of-self g c =
     held_nodes _ c.self.invariant c.gone.new.self (ap (λ (t : NodeTable). t.live) c.gone.ensures) (ap (λ (t : NodeTable). t.reserved) c.gone.ensures) (ap (λ (t : NodeTable). t.next_container) c.gone.ensures)
 
-pub returns : goal.returns
-returns g c =
+pub returns-clause-flat : goal.returns-clause-flat
+returns-clause-flat g c =
     let start = c.args.self.now.flat in
     let dropped = ap (λ (h : Held g.row.K). h.flat) c.self.view_is ∙ c.keep_first.ensures.flat ∙ ap (λ rs. with_reserved rs start) (keep_none (λ r. r.node == c.args.number) start.nodes.reserved) in
     let p : Parts g.row.K = record { rows = c.self.inside.tree.value; limits = c.self.inside.limits; apps = c.self.inside.apps; nodes = c.self.inside.nodes } in
     ap (λ (t : NodeTable). record (flat_of p) { nodes = t }) c.gone.ensures ∙ ap (λ (f : Flat g.row.K). record f { nodes = remove_node c.args.number f.nodes }) dropped
+
+pub returns-clause-accounts : goal.returns-clause-accounts
+returns-clause-accounts g c = ap (λ (h : Held g.row.K). h.accounts) c.self.view_is ∙ c.keep_first.ensures.accounts
