@@ -23,8 +23,6 @@ use Rattle.cap_model.proofs.lists.Filters.{filter_same, filter_twice, filter_who
 use Rattle.cap_model.proofs.numbers.Balance.{among_itself}
 use Rattle.cap_model.proofs.ending.NamedEnds.{is_named, count_named, among_named}
 use Rattle.cap_model.proofs.lists.Tests.{and_true, first_holds}
-use Rattle.cap_trackers.specs.Beats.{IsKept, kept_beat}
-use Rattle.cap_nodes.specs.Tables.{node_in}
 use Rattle.cap_trackers.proofs.Answering.{granted_is, refused_is}
 
 turn : (a b : Bool) → cond (not a) b false ≡ cond b (not a) false
