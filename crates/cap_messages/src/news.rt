@@ -9,10 +9,10 @@ use cap_model::{AllocateReply, End, Grant, HeartbeatReply};
 #[tactic(auto, unfolding(crate::specs::Spelling::grant))]
 fn put_grant(told: &Grant<2>, out: &mut Out)
     requires { 109 ≤ out.old.spare }
-    ensures appends { out.new.items ≡ out.old.items ++ grant counted_list.now }
-    ensures spare { out.new.spare + length (grant counted_list.now) ≡ out.old.spare }
-    ensures len { length (grant counted_list.now) ≤ 109 }
-    ensures fits { FitsGrant counted_list.now }
+    ensures appends { out.new.items ≡ out.old.items ++ grant told.now }
+    ensures spare { out.new.spare + length (grant told.now) ≡ out.old.spare }
+    ensures len { length (grant told.now) ≤ 109 }
+    ensures fits { FitsGrant told.now }
 {
     let key = told.key();
     let host = told.host();
@@ -43,10 +43,10 @@ fn put_grants(grants: &[Grant<2>], out: &mut Out)
 #[tactic(auto, unfolding(crate::specs::Spelling::end))]
 fn put_end(told: &End, out: &mut Out)
     requires { 9 ≤ out.old.spare }
-    ensures appends { out.new.items ≡ out.old.items ++ end counted_list.now }
-    ensures spare { out.new.spare + length (end counted_list.now) ≡ out.old.spare }
-    ensures len { length (end counted_list.now) ≤ 9 }
-    ensures fits { FitsEnd counted_list.now }
+    ensures appends { out.new.items ≡ out.old.items ++ end told.now }
+    ensures spare { out.new.spare + length (end told.now) ≡ out.old.spare }
+    ensures len { length (end told.now) ≤ 9 }
+    ensures fits { FitsEnd told.now }
 {
     out.extend_reserved(&told.container.to_be_bytes());
     out.extend_reserved(&[told.cause.number()]);

@@ -17,7 +17,7 @@ ghost use Rattle.cap_nodes.specs.Tables.{free_on};
 use crate::live::Live;
 use crate::node::Node;
 use crate::present::Present;
-use cap_model::{Container, Key, NoMemory, Reservation, ShortText, HeartbeatReply};
+use cap_model::{Container, HeartbeatReply, Key, NoMemory, Reservation, ShortText};
 use cap_vector::{Resource, checked_add, minus};
 use std::alloc::Global;
 use std::marker::Model;

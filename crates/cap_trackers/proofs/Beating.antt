@@ -34,7 +34,6 @@ turn false false = refl
 counted : (xs : List Container) → length xs ≡ count_by (λ c. true) xs
 counted xs = ap length (sym (filter_whole (λ c. true) xs (λ c m. refl))) ∙ length-filter (λ c. true) xs
 
-
 is_not_bad : (b : Bool) → earliest ((b, Refusal.BadResponseId) ∷ (false, Refusal.UnknownNode) ∷ []) ≡ None → b ≡ false
 is_not_bad true e = absurd (cc e)
 is_not_bad false e = refl
