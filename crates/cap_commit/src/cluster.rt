@@ -217,8 +217,9 @@ impl<const K: usize> Cluster<K> {
         self.apps.room(number, asks, grants, ends)
     }
 
-    /// Puts an ask of an active application, rounded, in place of the one of its key; a count of 0 takes the key away. It needs room
-    /// that `room` made.
+    /// Puts an ask of an active application, rounded, in place of the one of its key; a count of 0 takes the key away. Where the
+    /// resource or the place changes, all reservations of the key are dropped, else the newest that are more than it counts. It
+    /// needs room that `room` made.
     pub fn put_ask(&mut self, number: u64, ask: &Ask<K>)
         requires { 1 ≤ ask_room number self.old.accounts }
         ensures flat { self.new.flat ≡ after_ask number self.old.flat (rounded_ask K self.old.flat.settings ask.now) }
@@ -257,8 +258,8 @@ impl<const K: usize> Cluster<K> {
         self.apps.tell(number, ignored)
     }
 
-    /// An active application ends with all that it has: its containers, its asks and what it was not told. The result is how many
-    /// containers ended.
+    /// An active application ends with all that it has: its containers, its reservations, its asks and what it was not told. The
+    /// result is how many containers ended.
     pub fn finish(&mut self, number: u64) -> u32
         requires { IsSome (app_at self.old.flat number) }
         ensures ended { result ≡ length (containers_of self.old.flat.nodes number) }
