@@ -8,8 +8,9 @@ use Rattle.cap_vector.specs.Vector.{IsResource, IsSum, amount, amount_max, sum_m
 use Rattle.cap_model.specs.Refusals.{status_of}
 use Rattle.cap_model.specs.declared.refusal.Refusal.{Refusal}
 use Rattle.cap_model.specs.declared.refusal.Refusal.TheVariants.{UnknownQueue, NotLeaf, QueueStopped, TooManyApplications, UnknownApplication, AlreadyRegistered, NotRegistered, BadResponseId, AskTooLarge, TooManyAsks, UnknownNode, HostTaken, TotalTooLarge, TooManyNodes, ZeroResource, NumbersSpent, NoMemory}
-use Rattle.cap_model.specs.declared.reply.Reply.{Reply}
-use Rattle.cap_model.specs.declared.reply.Reply.TheVariants.{Refused, Submit, RegisterMaster, Allocate, FinishMaster, RegisterNode, Heartbeat, NodeGone, QueueInfo, SetQueueState, ClusterInfo}
+use Rattle.cap_model.specs.declared.reply.ReplyWith.TheVariants as Reply
+use Rattle.cap_model.specs.News.{Reply}
+use Rattle.cap_model.specs.declared.reply.ReplyWith.TheVariants.{Refused, Submit, RegisterMaster, Allocate, FinishMaster, RegisterNode, Heartbeat, NodeGone, QueueInfo, SetQueueState, ClusterInfo}
 use Rattle.cap_model.specs.News.{Grant, AllocateReply, cause_number}
 use Rattle.cap_model.specs.declared.news.End.{End}
 use Rattle.cap_model.specs.declared.news.Cause.{Cause}

@@ -11,7 +11,8 @@ use Rattle.cap_model.specs.Texts.{is_graphic, is_text}
 use Rattle.cap_model.specs.Refusals.{status_of}
 use Rattle.cap_model.specs.declared.refusal.Refusal.{Refusal}
 use Rattle.cap_model.specs.declared.request.Request.{Request}
-use Rattle.cap_model.specs.declared.reply.Reply.{Reply}
+use Rattle.cap_model.specs.declared.reply.ReplyWith.TheVariants as Reply
+use Rattle.cap_model.specs.News.{Reply}
 use Rattle.cap_messages.specs.Texts.{is_host, is_rack}
 use Rattle.cap_model.specs.Asks.{Ask}
 use Rattle.cap_model.specs.News.{Grant, AllocateReply, cause_number}

@@ -1,7 +1,7 @@
 -- Each request and each reply has exactly one spelling.
 use Rattle.std.specs.Prelude.{◌≡◌, ℕ, ◌<◌, ◌^◌, ◌⊎◌, List, All}
 use Rattle.cap_model.specs.declared.request.Request.{Request}
-use Rattle.cap_model.specs.declared.reply.Reply.{Reply}
+use Rattle.cap_model.specs.News.{Reply}
 use Rattle.cap_messages.specs.Spelling.{FitsRequest, IsRequest, IsOfKind, FitsReply, IsReply, fault_reply}
 
 abbrev pub IsBytes : List ℕ → Type 0

@@ -2,3 +2,4 @@
 pub mod EndsOfEnded
 pub mod Telling
 pub mod ToldRuns
+pub mod Replying

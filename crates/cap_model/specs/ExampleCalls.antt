@@ -7,7 +7,8 @@ use Rattle.cap_model.specs.News.{Grant}
 use Rattle.cap_model.specs.declared.refusal.Refusal.{Refusal}
 use Rattle.cap_model.specs.Refusals.{status_of}
 use Rattle.cap_model.specs.declared.request.Request.{Request}
-use Rattle.cap_model.specs.declared.reply.Reply.{Reply}
+use Rattle.cap_model.specs.declared.reply.ReplyWith.TheVariants as Reply
+use Rattle.cap_model.specs.News.{Reply}
 use Rattle.cap_model.specs.Flat.{Flat, opened_cluster, app_at, with_app}
 use Rattle.cap_model.specs.Submit.{new_app}
 use Rattle.cap_model.specs.Replies.{reply_to, after_request}

@@ -2,7 +2,7 @@
 use Rattle.std.specs.Prelude.{◌≡◌, true, false, not, [], ◌∷◌, Some, None, filter, bytes_eq, codes}
 use Rattle.cap_model.specs.Settings.{Settings}
 use Rattle.cap_model.specs.declared.request.Request.{Request}
-use Rattle.cap_model.specs.declared.reply.Reply.{Reply}
+use Rattle.cap_model.specs.declared.reply.ReplyWith.TheVariants as Reply
 use Rattle.cap_model.specs.Flat.{Flat, opened_cluster}
 use Rattle.cap_model.specs.Uses.{queue_use}
 use Rattle.cap_model.specs.Sight.{sight_of}

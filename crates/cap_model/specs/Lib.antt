@@ -27,6 +27,7 @@ pub mod Heartbeat
 pub mod NodeGone
 pub mod QueueCalls
 pub mod Replies
+pub mod Reporting
 pub mod Events
 pub mod Bounds
 pub mod ExampleClusters

@@ -3,6 +3,7 @@ use Rattle.std.specs.Prelude.{ℕ, List}
 use Rattle.cap_model.specs.declared.ask.Key.{Key}
 use Rattle.cap_model.specs.declared.news.Cause.{Cause}
 use Rattle.cap_model.specs.declared.news.End.{End}
+use Rattle.cap_model.specs.declared.reply.ReplyWith.{ReplyWith}
 
 -- the number of a cause in messages
 abbrev pub cause_number : Cause → ℕ
@@ -24,3 +25,7 @@ pub record AllocateReply : Type 0 where
   pub ignored : ℕ
   pub grants : List Grant
   pub ends : List End
+
+-- the answer to a request, whether its grants and ends are lent or owned
+abbrev pub Reply : ℕ → Type 0
+Reply K = ReplyWith K AllocateReply

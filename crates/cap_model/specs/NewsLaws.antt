@@ -5,7 +5,7 @@ use Rattle.cap_model.specs.declared.news.Cause.{Cause}
 use Rattle.cap_model.specs.News.{Grant}
 use Rattle.cap_model.specs.declared.news.End.{End}
 use Rattle.cap_model.specs.declared.request.Request.{Request}
-use Rattle.cap_model.specs.declared.reply.Reply.{Reply}
+use Rattle.cap_model.specs.declared.reply.ReplyWith.TheVariants as Reply
 use Rattle.cap_model.specs.Allocate.{is_repeated_allocate, released_by}
 use Rattle.cap_model.specs.Heartbeat.{is_repeated_heartbeat, ended_by}
 use Rattle.cap_model.specs.Flat.{Flat, Container, app_at, containers_on}

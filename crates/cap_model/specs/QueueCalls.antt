@@ -6,7 +6,8 @@ use Rattle.cap_model.specs.Cascade.{earliest}
 use Rattle.cap_model.specs.declared.report.QueueReport.{QueueReport}
 use Rattle.cap_model.specs.declared.report.ClusterReport.{ClusterReport}
 use Rattle.cap_model.specs.declared.refusal.Refusal.{Refusal}
-use Rattle.cap_model.specs.declared.reply.Reply.{Reply}
+use Rattle.cap_model.specs.declared.reply.ReplyWith.TheVariants as Reply
+use Rattle.cap_model.specs.News.{Reply}
 use Rattle.cap_model.specs.Flat.{Flat, is_under, queue_at}
 use Rattle.cap_model.specs.Uses.{queue_use}
 use Rattle.cap_model.specs.Submit.{has_children, is_running}

@@ -2,7 +2,8 @@
 use Rattle.std.specs.Prelude.{ℕ, Bool, [], ◌∷◌, Option, is_none}
 use Rattle.cap_model.specs.Cascade.{earliest, holds_of}
 use Rattle.cap_model.specs.declared.refusal.Refusal.{Refusal}
-use Rattle.cap_model.specs.declared.reply.Reply.{Reply}
+use Rattle.cap_model.specs.declared.reply.ReplyWith.TheVariants as Reply
+use Rattle.cap_model.specs.News.{Reply}
 use Rattle.cap_model.specs.Flat.{Flat, app_at, with_app}
 
 module _ {K : ℕ} where

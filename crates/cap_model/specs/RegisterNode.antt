@@ -6,7 +6,8 @@ use Rattle.cap_model.specs.Limits.{number_end, nodes_max}
 use Rattle.cap_model.specs.Cascade.{earliest}
 use Rattle.cap_model.specs.Amounts.{sum_where}
 use Rattle.cap_model.specs.declared.refusal.Refusal.{Refusal}
-use Rattle.cap_model.specs.declared.reply.Reply.{Reply}
+use Rattle.cap_model.specs.declared.reply.ReplyWith.TheVariants as Reply
+use Rattle.cap_model.specs.News.{Reply}
 use Rattle.cap_model.specs.Flat.{Flat, ClusterNode, NodeTable}
 
 -- what the nodes have together, of k resources

@@ -5,7 +5,8 @@ use Rattle.cap_model.specs.Texts.{dot}
 use Rattle.cap_model.specs.Limits.{number_end}
 use Rattle.cap_model.specs.Cascade.{earliest}
 use Rattle.cap_model.specs.declared.refusal.Refusal.{Refusal}
-use Rattle.cap_model.specs.declared.reply.Reply.{Reply}
+use Rattle.cap_model.specs.declared.reply.ReplyWith.TheVariants as Reply
+use Rattle.cap_model.specs.News.{Reply}
 use Rattle.cap_model.specs.Flat.{Flat, App, AppTable, is_under, queue_at}
 
 -- an application that enters, of this number, not yet registered

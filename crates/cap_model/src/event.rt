@@ -1,15 +1,15 @@
 use crate::container::{Container, Reservation};
-use crate::reply::Reply;
+use crate::reply::OwnedReply;
 use crate::request::Request;
 
 /// One step of the cluster.
-#[derive(Debug, Drop)]
+#[derive(Drop)]
 pub enum Event<const K: usize> {
     /// A call and its reply; `by` is the connection that made it.
     Call {
         by: u32,
         request: Request<K>,
-        reply: Reply<K>,
+        reply: OwnedReply<K>,
     },
     /// A container was granted, and is live from then on.
     Grant {

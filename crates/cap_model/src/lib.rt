@@ -11,6 +11,7 @@ pub mod laws;
 mod list;
 mod news;
 mod no_memory;
+mod owned;
 mod refusal;
 mod replies;
 mod reply;
@@ -26,8 +27,11 @@ pub use list::{Asks, List, Numbers};
 pub use news::{Cause, End, Grant};
 pub use no_memory::NoMemory;
 pub use refusal::{Refusal, first_refusal};
-pub use replies::{AllocateReply, HeartbeatReply, NEWS_MAX};
-pub use reply::Reply;
+pub use owned::ReplyRoom;
+pub use replies::{
+    AllocateNumbers, AllocateReply, AllocateView, HeartbeatReply, NEWS_MAX, Reported,
+};
+pub use reply::{OwnedReply, Reply, ReplyView, ReplyWith};
 pub use report::{ClusterReport, QueueReport};
 pub use request::Request;
 pub use response_ids::{is_bad, next_response, repeats};

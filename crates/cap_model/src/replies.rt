@@ -1,21 +1,61 @@
 use crate::news::{End, Grant};
-use arrayvec::ArrayVec;
 use std::marker::Model;
 
 /// The most grants, and the most ends, that one reply reports.
 pub const NEWS_MAX: usize = 64;
 
-/// The answer to a processed allocate. It lies in the value itself and takes no memory. Contracts see its grants and ends as lists.
-#[derive(Debug, PartialEq, Eq, Drop)]
+/// The answer to a processed allocate without its grants and ends, but how many they are.
+#[derive(Clone, Copy, Debug, PartialEq, Eq)]
+pub struct Reported {
+    /// The new response id.
+    pub response: u32,
+    /// How many releases named no live container of the application.
+    pub ignored: u16,
+    /// How many grants it reports.
+    pub grants: usize,
+    /// How many ends it reports.
+    pub ends: usize,
+}
+
+/// The answer to a processed allocate, with the application that keeps its grants and ends.
+#[derive(Clone, Copy, Debug, PartialEq, Eq)]
+pub struct AllocateNumbers {
+    /// The number of the application.
+    pub app: u64,
+    pub reported: Reported,
+}
+
+/// The answer to a processed allocate, its grants and ends lent.
+pub struct AllocateView<'a, const K: usize> {
+    /// The new response id.
+    pub response: u32,
+    /// How many releases named no live container of the application.
+    pub ignored: u16,
+    /// The oldest grants that were not reported before.
+    pub grants: &'a [Grant<K>],
+    /// The oldest ends that were not reported before.
+    pub ends: &'a [End],
+}
+
+impl<'a, const K: usize> Model for AllocateView<'a, K> {
+    ghost use Rattle.cap_model.specs.News.{AllocateReply as Told};
+
+    ghost Value = { Told };
+
+    ghost view = { λ r. record { response = r.response; ignored = r.ignored; grants = r.grants.now; ends = r.ends.now } };
+}
+
+/// The answer to a processed allocate, owned.
+#[derive(Drop)]
 pub struct AllocateReply<const K: usize> {
     /// The new response id.
     pub response: u32,
     /// How many releases named no live container of the application.
     pub ignored: u16,
     /// The oldest grants that were not reported before.
-    pub grants: ArrayVec<Grant<K>, NEWS_MAX>,
+    pub grants: Vec<Grant<K>>,
     /// The oldest ends that were not reported before.
-    pub ends: ArrayVec<End, NEWS_MAX>,
+    pub ends: Vec<End>,
 }
 
 impl<const K: usize> Model for AllocateReply<K> {
@@ -24,8 +64,6 @@ impl<const K: usize> Model for AllocateReply<K> {
     ghost Value = { Told };
 
     ghost view = { λ r. record { response = r.response; ignored = r.ignored; grants = r.grants.items; ends = r.ends.items } };
-
-    ghost inverse = { λ r. record { response = r.response; ignored = r.ignored; grants = record { items = r.grants }; ends = record { items = r.ends } } };
 }
 
 /// The answer to a processed heartbeat.

@@ -1,11 +1,15 @@
+ghost use Rattle.std.specs.Prelude.{◌≡◌};
+ghost use Rattle.cap_model.specs.Reporting.{map_reply, IfAllocate};
+
 use crate::refusal::Refusal;
-use crate::replies::{AllocateReply, HeartbeatReply};
+use crate::replies::{AllocateNumbers, AllocateReply, AllocateView, HeartbeatReply};
 use crate::report::{ClusterReport, QueueReport};
 use cap_vector::Resource;
 
-/// The answer to a request: a refusal, or what the call of that name gives.
-#[derive(Debug, PartialEq, Eq, Drop)]
-pub enum Reply<const K: usize> {
+/// The answer to a request: a refusal, or what the call of that name gives. `A` is what an Allocate is answered: its numbers, or
+/// its grants and ends with them, lent or owned.
+#[derive(Clone, Copy, Debug, PartialEq, Eq, Drop)]
+pub enum ReplyWith<const K: usize, A> {
     Refused(Refusal),
     Submit {
         application: u64,
@@ -16,7 +20,7 @@ pub enum Reply<const K: usize> {
         maximum: Resource<K>,
     },
     Allocate {
-        reply: AllocateReply<K>,
+        reply: A,
     },
     /// How many of its containers have ended with it.
     FinishMaster {
@@ -40,3 +44,40 @@ pub enum Reply<const K: usize> {
         report: ClusterReport<K>,
     },
 }
+
+impl<const K: usize, A> ReplyWith<K, A> {
+    /// The same reply, which isn't the answer to a processed allocate.
+    pub fn other<B>(&self) -> ReplyWith<K, B>
+        requires { IfAllocate (λ _. ⊥) self.now }
+        ensures { (f : A → B) → result ≡ map_reply f self.now }
+    {
+        match self {
+            ReplyWith::Refused(refusal) => ReplyWith::Refused(*refusal),
+            ReplyWith::Submit { application } => ReplyWith::Submit {
+                application: *application,
+            },
+            ReplyWith::RegisterMaster { minimum, maximum } => ReplyWith::RegisterMaster {
+                minimum: *minimum,
+                maximum: *maximum,
+            },
+            ReplyWith::Allocate { .. } => unreachable!(),
+            ReplyWith::FinishMaster { ended } => ReplyWith::FinishMaster { ended: *ended },
+            ReplyWith::RegisterNode { node } => ReplyWith::RegisterNode { node: *node },
+            ReplyWith::Heartbeat { reply } => ReplyWith::Heartbeat { reply: *reply },
+            ReplyWith::NodeGone { ended } => ReplyWith::NodeGone { ended: *ended },
+            ReplyWith::QueueInfo { report } => ReplyWith::QueueInfo { report: *report },
+            ReplyWith::SetQueueState => ReplyWith::SetQueueState,
+            ReplyWith::ClusterInfo { report } => ReplyWith::ClusterInfo { report: *report },
+        }
+    }
+}
+
+/// What a call gives: plain data of a fixed size, whatever it reports. The grants and ends of an Allocate lie with its application,
+/// and `Cluster::view` lends them.
+pub type Reply<const K: usize> = ReplyWith<K, AllocateNumbers>;
+
+/// A reply whose grants and ends are lent from where they lie.
+pub type ReplyView<'a, const K: usize> = ReplyWith<K, AllocateView<'a, K>>;
+
+/// A reply that owns its grants and ends.
+pub type OwnedReply<const K: usize> = ReplyWith<K, AllocateReply<K>>;

@@ -2,7 +2,7 @@
 use Rattle.std.proofs.Common.{◌≡◌, ℕ, false, Result, Ok, Err, OnOk, List, [], ◌∷◌, ◌++◌, refl, sym, ap, subst, ◌∙◌, append_assoc, append-nil}
 use Rattle.std.proofs.lemmas.List.{map-append}
 use Rattle.cap_model.specs.declared.request.Request.{Request}
-use Rattle.cap_model.specs.declared.reply.Reply.{Reply}
+use Rattle.cap_model.specs.News.{Reply}
 use Rattle.cap_model.specs.declared.event.Event.{Event}
 use Rattle.cap_model.specs.Flat.{Flat}
 use Rattle.cap_model.specs.Replies.{Replies}

@@ -1,5 +1,5 @@
 ghost use Rattle.std.specs.Prelude.{◌≡◌, ◌≤◌, ◌+◌, ◌<◌, [], ◌∷◌, ◌++◌, ℕ, List, OnOk, OnErr, length, vec_len, vec_capacity, false};
-ghost use Rattle.cap_model.specs.declared.reply.Reply.{Reply};
+ghost use Rattle.cap_model.specs.News.{Reply};
 ghost use Rattle.cap_model.specs.Replies.{Replies};
 ghost use Rattle.cap_frames.specs.Stream.{frame_of};
 ghost use Rattle.cap_messages.specs.Spelling.{kind_of, reply_bytes, fault_reply};

@@ -6,7 +6,7 @@ use Rattle.std.proofs.lemmas.List.{append_assoc, append-nil}
 use Rattle.std.proofs.lemmas.List.Elements.{filter-append}
 use Rattle.std.proofs.lemmas.List.Folds.{list_any-append}
 use Rattle.cap_model.specs.declared.request.Request.{Request}
-use Rattle.cap_model.specs.declared.reply.Reply.{Reply}
+use Rattle.cap_model.specs.declared.reply.ReplyWith.TheVariants as Reply
 use Rattle.cap_model.specs.declared.refusal.Refusal.{Refusal}
 use Rattle.cap_model.specs.Flat.{Flat, Container}
 use Rattle.cap_model.specs.Ending.{is_among}

@@ -11,7 +11,7 @@ use Rattle.cap_model.specs.declared.news.Cause.{Cause}
 use Rattle.cap_model.specs.declared.news.End.{End}
 use Rattle.cap_model.specs.News.{Grant, AllocateReply}
 use Rattle.cap_model.specs.declared.request.Request.{Request}
-use Rattle.cap_model.specs.declared.reply.Reply.{Reply}
+use Rattle.cap_model.specs.declared.reply.ReplyWith.TheVariants as Reply
 use Rattle.cap_model.specs.declared.refusal.Refusal.{Refusal}
 use Rattle.cap_model.specs.Flat.{Flat, App, Container, app_at, containers_on}
 use Rattle.cap_model.specs.Asking.{after_asks, after_ask, rounded_ask, put_ask}
@@ -30,10 +30,10 @@ use Rattle.cap_model.proofs.lists.Numbered.{find_changed, find_others, find_gone
 use Rattle.cap_model.proofs.lists.Tests.{and_true, and_false, kept_if, not_none}
 
 -- the application that is found by a number has it, and so the test on another number is that of the two
-its_number : (n : ℕ) (xs : List App) (a : App) → find (λ x. x.number == n) xs ≡ Some a → a.number ≡ n
+pub its_number : (n : ℕ) (xs : List App) (a : App) → find (λ x. x.number == n) xs ≡ Some a → a.number ≡ n
 its_number n xs a e = let same = (found (λ (x : App). x.number == n) xs a e).1 in grind (arith, nat_tests, same)
 
-its_test : (m n : ℕ) (a : App) → a.number ≡ n → (a.number == m) ≡ (m == n)
+pub its_test : (m n : ℕ) (a : App) → a.number ≡ n → (a.number == m) ≡ (m == n)
 its_test m n a e = grind (arith, nat_tests, e)
 
 nothing_where : {A : Type 0} (b : Bool) (xs : List A) → cond (b && false) xs [] ≡ []
@@ -84,15 +84,15 @@ module _ {N : Type 0} (of : App → List N) (n : ℕ) where
       by (Some x) b = refl
 
 -- a kind of news: what applications keep of it until they are told, what a reply tells of it, and what ends of containers add to it
-record IsNews {N : Type 0} (of : App → List N) (from : AllocateReply → List N) (ends : Cause → ℕ → List Container → List N) : Type 0 where
+pub record IsNews {N : Type 0} (of : App → List N) (from : AllocateReply → List N) (ends : Cause → ℕ → List Container → List N) : Type 0 where
   pub telling : (id ignored : ℕ) (a : App) → from (news_report id ignored a) ++ of (after_telling id ignored a) ≡ of a
   pub asking : (asks : List Ask) (a : App) → of (record a { asks = asks }) ≡ of a
   pub ending : (cause : Cause) (gone : List Container) (a : App) → of (with_ends cause gone a) ≡ of a ++ ends cause a.number gone
 
-grants_are : IsNews (λ a. a.grants) (λ r. r.grants) (λ cause n gone. [])
+pub grants_are : IsNews (λ a. a.grants) (λ r. r.grants) (λ cause n gone. [])
 grants_are = record { telling = λ id ignored a. take-append-drop news_max a.grants; asking = λ asks a. refl; ending = λ cause gone a. sym (append-nil a.grants) }
 
-ends_are : IsNews (λ a. a.ends) (λ r. r.ends) ends_of
+pub ends_are : IsNews (λ a. a.ends) (λ r. r.ends) ends_of
 ends_are = record { telling = λ id ignored a. take-append-drop news_max a.ends; asking = λ asks a. refl; ending = λ cause gone a. refl }
 
 module _ {N : Type 0} (of : App → List N) (from : AllocateReply → List N) (ends : Cause → ℕ → List Container → List N) (k : IsNews of from ends) (n : ℕ) where
@@ -100,7 +100,7 @@ module _ {N : Type 0} (of : App → List N) (from : AllocateReply → List N) (e
   ended cause gone a e = k.ending cause gone a ∙ ap (λ m. of a ++ ends cause m gone) e
 
   module _ {K : ℕ} where
-    abbrev untold : Flat K → List N
+    abbrev pub untold : Flat K → List N
     untold c = option_map_or of (app_at c n) []
 
     asks_keep : (m : ℕ) (asks : List Ask) (c : Flat K) → untold (after_asks m asks c) ≡ untold c
@@ -120,7 +120,7 @@ module _ {N : Type 0} (of : App → List N) (from : AllocateReply → List N) (e
         ∙ changed of n (with_ends cause gone) (λ a. refl) old.apps.active (λ o. []) (ends cause n gone) (ended cause gone) (subst (λ xs. IsSome (find (λ (a : App). a.number == n) xs)) e h)
 
     -- an allocate tells its own application, and nobody else
-    allocate_tells : (m id : ℕ) (asks : List Ask) (releases : List ℕ) (old : Flat K) (b : Bool) → IsSome (app_at (cond b old (after_processed_allocate old m id asks releases)) n) →
+    pub allocate_tells : (m id : ℕ) (asks : List Ask) (releases : List ℕ) (old : Flat K) (b : Bool) → IsSome (app_at (cond b old (after_processed_allocate old m id asks releases)) n) →
         (if m == n && not b then from (kept_reply (cond b old (after_processed_allocate old m id asks releases)) m) else []) ++ untold (cond b old (after_processed_allocate old m id asks releases))
         ≡ untold old ++ (if b then [] else ends Cause.Released n (released_by old m releases))
     allocate_tells m id asks releases old true h = ap (λ xs. xs ++ untold old) (nothing_where (m == n) (from (kept_reply old m))) ∙ sym (append-nil (untold old))

@@ -10,7 +10,8 @@ use Rattle.cap_model.specs.Asks.{Ask}
 use Rattle.cap_model.specs.News.{Grant}
 use Rattle.cap_model.specs.declared.news.Cause.{Cause}
 use Rattle.cap_model.specs.declared.request.Request.{Request}
-use Rattle.cap_model.specs.declared.reply.Reply.{Reply}
+use Rattle.cap_model.specs.declared.reply.ReplyWith.TheVariants as Reply
+use Rattle.cap_model.specs.News.{Reply}
 use Rattle.cap_model.specs.declared.refusal.Refusal.{Refusal}
 use Rattle.cap_model.specs.Flat.{Flat, App, Container, app_at, containers_on}
 use Rattle.cap_model.specs.Ending.{named_among}

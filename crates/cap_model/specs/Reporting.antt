@@ -1,0 +1,88 @@
+-- The reply that a call gives, in numbers; the reply in full, whose grants and ends lie with its application; and room to own them.
+use Rattle.std.specs.Prelude.{◌≡◌, ℕ, ◌≤◌, ◌+◌, min, Some, length, option_map, option_and_then, if◌then◌else◌}
+use Rattle.std.specs.Option.{option_map_or}
+use Rattle.cap_model.specs.Limits.{news_max}
+use Rattle.cap_model.specs.ResponseIds.{is_repeated}
+use Rattle.cap_model.specs.declared.request.Request.{Request}
+use Rattle.cap_model.specs.declared.replies.Reported.{Reported}
+use Rattle.cap_model.specs.declared.replies.AllocateNumbers.{AllocateNumbers}
+use Rattle.cap_model.specs.declared.reply.ReplyWith.{ReplyWith}
+use Rattle.cap_model.specs.declared.reply.ReplyWith.TheVariants as Reply
+use Rattle.cap_model.specs.News.{AllocateReply, Reply}
+use Rattle.cap_model.specs.Flat.{Flat, App, app_at}
+use Rattle.cap_model.specs.Allocate.{kept_reply}
+use Rattle.cap_model.specs.Replies.{Replies}
+
+-- the numbers of the answer to an allocate
+abbrev pub reported_of : AllocateReply → Reported
+reported_of reply = record { response = reply.response; ignored = reply.ignored; grants = length reply.grants; ends = length reply.ends }
+
+-- for how many grants and ends there is room
+pub record NewsRoom : Type 0 where
+  pub grants : ℕ
+  pub ends : ℕ
+
+-- how many grants and ends an application is told at most by an allocate of this response id with so many releases
+abbrev pub news_most : App → ℕ → ℕ → NewsRoom
+news_most app id releases =
+    if is_repeated app.response app.kept id
+    then option_map_or (λ kept. record { grants = length kept.grants; ends = length kept.ends }) app.kept (record { grants = 0; ends = 0 })
+    else record { grants = min news_max (length app.grants); ends = min news_max (length app.ends + releases) }
+
+module _ {K : ℕ} where
+  -- the same reply, where what an allocate is answered is taken from what it was
+  abbrev pub map_reply : {A B : Type 0} → (A → B) → ReplyWith K A → ReplyWith K B
+  map_reply f (Reply.Refused refusal) = Reply.Refused refusal
+  map_reply f (Reply.Submit application) = Reply.Submit application
+  map_reply f (Reply.RegisterMaster minimum maximum) = Reply.RegisterMaster minimum maximum
+  map_reply f (Reply.Allocate reply) = Reply.Allocate (f reply)
+  map_reply f (Reply.FinishMaster ended) = Reply.FinishMaster ended
+  map_reply f (Reply.RegisterNode node) = Reply.RegisterNode node
+  map_reply f (Reply.Heartbeat reply) = Reply.Heartbeat reply
+  map_reply f (Reply.NodeGone ended) = Reply.NodeGone ended
+  map_reply f (Reply.QueueInfo report) = Reply.QueueInfo report
+  map_reply f Reply.SetQueueState = Reply.SetQueueState
+  map_reply f (Reply.ClusterInfo report) = Reply.ClusterInfo report
+
+  -- what holds of the answer to an allocate, where the reply is one
+  abbrev pub IfAllocate : {A : Type 0} → (A → Type 0) → ReplyWith K A → Type 0
+  IfAllocate P (Reply.Refused refusal) = Unit {0}
+  IfAllocate P (Reply.Submit application) = Unit {0}
+  IfAllocate P (Reply.RegisterMaster minimum maximum) = Unit {0}
+  IfAllocate P (Reply.Allocate reply) = P reply
+  IfAllocate P (Reply.FinishMaster ended) = Unit {0}
+  IfAllocate P (Reply.RegisterNode node) = Unit {0}
+  IfAllocate P (Reply.Heartbeat reply) = Unit {0}
+  IfAllocate P (Reply.NodeGone ended) = Unit {0}
+  IfAllocate P (Reply.QueueInfo report) = Unit {0}
+  IfAllocate P Reply.SetQueueState = Unit {0}
+  IfAllocate P (Reply.ClusterInfo report) = Unit {0}
+
+  -- the reply in full
+  abbrev pub full_reply : Flat K → ReplyWith K AllocateNumbers → Reply K
+  full_reply cluster reply = map_reply (λ n. kept_reply cluster n.app) reply
+
+  -- the numbers of a reply are those of the one that its application keeps
+  abbrev pub HasNumbers : Flat K → ReplyWith K AllocateNumbers → Type 0
+  HasNumbers cluster reply = IfAllocate (λ n. option_map reported_of (option_and_then (λ app. app.kept) (app_at cluster n.app)) ≡ Some n.reported) reply
+
+  -- the grants and ends of a reply have room
+  abbrev pub HasRoomFor : Reply K → NewsRoom → Type 0
+  HasRoomFor reply room = IfAllocate (λ r. (length r.grants ≤ room.grants) × (length r.ends ≤ room.ends)) reply
+
+  -- a call that isn't an allocate
+  abbrev pub IsNoAllocate : Request K → Type 0
+  IsNoAllocate (Request.Submit path user) = Unit {0}
+  IsNoAllocate (Request.RegisterMaster app) = Unit {0}
+  IsNoAllocate (Request.Allocate app id asks releases) = ⊥
+  IsNoAllocate (Request.FinishMaster app) = Unit {0}
+  IsNoAllocate (Request.RegisterNode host rack total) = Unit {0}
+  IsNoAllocate (Request.Heartbeat node id ended) = Unit {0}
+  IsNoAllocate (Request.NodeGone node) = Unit {0}
+  IsNoAllocate (Request.QueueInfo path) = Unit {0}
+  IsNoAllocate (Request.SetQueueState path running) = Unit {0}
+  IsNoAllocate Request.ClusterInfo = Unit {0}
+
+  -- whatever the call is answered, its grants and ends have room
+  abbrev pub HasRoomForReplies : Flat K → Request K → NewsRoom → Type 0
+  HasRoomForReplies old request room = (reply : Reply K) (new : Flat K) → Replies old request reply new → HasRoomFor reply room
