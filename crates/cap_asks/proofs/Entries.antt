@@ -7,10 +7,11 @@ use Rattle.std.proofs.lemmas.Bool.Decides.{nat_tests}
 use Rattle.cap_model.specs.Flat.{App}
 use Rattle.cap_model.specs.Bounds.{IsRising}
 use Rattle.cap_model.specs.FinishMaster.{remove_app}
-use Rattle.cap_asks.specs.Held.{Account, HeldApp, TakesRoom, HasRoom, numbers_of}
+use Rattle.cap_asks.specs.Held.{Account, HeldApp, TakesRoom, HasRoom}
+use Rattle.cap_model.specs.Reporting.{reported_of}
 use Rattle.cap_asks.specs.Apps.{AreNumbered, UsesRoom, HasRooms, IsEntered, IsLeft, account_of, new_account}
 use Rattle.cap_model.specs.News.{AllocateReply}
-use Rattle.cap_asks.specs.declared.app.Reported.{Reported}
+use Rattle.cap_model.specs.declared.replies.Reported.{Reported}
 
 abbrev pub apps_of : List (ℕ × HeldApp) → List App
 apps_of es = map (λ e. e.1.app) es
@@ -158,30 +159,30 @@ had_room n a g e es old found has =
     record { asks = rw there at has.asks; grants = rw there at has.grants; ends = rw there at has.ends }
 
 -- the numbers of the reply that an application keeps, and the reply of these numbers
-pub kept_now : (low n next : ℕ) (es : List (ℕ × HeldApp)) (now : HeldApp) (reported : Reported) → AreNumbered low es next → lookup (nat_eq n) es ≡ Some now → option_map numbers_of now.app.kept ≡ Some reported
-    → option_map numbers_of (option_and_then (λ (a : App). a.kept) (find (λ (app : App). app.number == n) (apps_of es))) ≡ Some reported
+pub kept_now : (low n next : ℕ) (es : List (ℕ × HeldApp)) (now : HeldApp) (reported : Reported) → AreNumbered low es next → lookup (nat_eq n) es ≡ Some now → option_map reported_of now.app.kept ≡ Some reported
+    → option_map reported_of (option_and_then (λ (a : App). a.kept) (find (λ (app : App). app.number == n) (apps_of es))) ≡ Some reported
 kept_now low n next es now reported h found kept =
-    ap (λ o. option_map numbers_of (option_and_then (λ (a : App). a.kept) o)) (app_found low n next es h ∙ ap (option_map (λ (x : HeldApp). x.app)) found) ∙ kept
+    ap (λ o. option_map reported_of (option_and_then (λ (a : App). a.kept) o)) (app_found low n next es h ∙ ap (option_map (λ (x : HeldApp). x.app)) found) ∙ kept
 
 pub reply_is : (kept : Option AllocateReply) (reported : Reported) (reply : AllocateReply) → IfSome kept (λ k. reply ≡ record k { response = reported.response; ignored = reported.ignored })
-    → option_map numbers_of kept ≡ Some reported → kept ≡ Some reply
+    → option_map reported_of kept ≡ Some reported → kept ≡ Some reply
 reply_is None reported reply is numbers = absurd (cc numbers)
 reply_is (Some k) reported reply is numbers =
-    let same : numbers_of k ≡ reported = cc numbers in
+    let same : reported_of k ≡ reported = cc numbers in
     ap Some (ap (λ (r : Reported). record k { response = r.response; ignored = r.ignored }) same ∙ sym is)
 
 pub replied : (low n next : ℕ) (es : List (ℕ × HeldApp)) (now : HeldApp) (reported : Reported) (reply : AllocateReply) → AreNumbered low es next → lookup (nat_eq n) es ≡ Some now
     → IfSome now.app.kept (λ k. reply ≡ record k { response = reported.response; ignored = reported.ignored })
-    → option_map numbers_of (option_and_then (λ (a : App). a.kept) (find (λ (app : App). app.number == n) (apps_of es))) ≡ Some reported
+    → option_map reported_of (option_and_then (λ (a : App). a.kept) (find (λ (app : App). app.number == n) (apps_of es))) ≡ Some reported
     → option_and_then (λ (a : App). a.kept) (find (λ (app : App). app.number == n) (apps_of es)) ≡ Some reply
 replied low n next es now reported reply h found is numbers =
     let there = ap (option_and_then (λ (a : App). a.kept)) (app_found low n next es h ∙ ap (option_map (λ (x : HeldApp). x.app)) found) in
-    there ∙ reply_is now.app.kept reported reply is (ap (option_map numbers_of) (sym there) ∙ numbers)
+    there ∙ reply_is now.app.kept reported reply is (ap (option_map reported_of) (sym there) ∙ numbers)
 
 pub unreplied : {A : Type 0} (low n next : ℕ) (es : List (ℕ × HeldApp)) (reported : Reported) → AreNumbered low es next → lookup (nat_eq n) es ≡ None
-    → option_map numbers_of (option_and_then (λ (a : App). a.kept) (find (λ (app : App). app.number == n) (apps_of es))) ≡ Some reported → A
+    → option_map reported_of (option_and_then (λ (a : App). a.kept) (find (λ (app : App). app.number == n) (apps_of es))) ≡ Some reported → A
 unreplied low n next es reported h none numbers =
-    let missing = ap (λ o. option_map numbers_of (option_and_then (λ (a : App). a.kept) o)) (app_found low n next es h ∙ ap (option_map (λ (x : HeldApp). x.app)) none) in
+    let missing = ap (λ o. option_map reported_of (option_and_then (λ (a : App). a.kept) o)) (app_found low n next es h ∙ ap (option_map (λ (x : HeldApp). x.app)) none) in
     absurd (cc (sym missing ∙ numbers))
 
 pub missing_app : {A : Type 0} (low n next : ℕ) (es : List (ℕ × HeldApp)) → AreNumbered low es next → lookup (nat_eq n) es ≡ None → IsSome (find (λ (app : App). app.number == n) (apps_of es)) → A

@@ -6,7 +6,8 @@ use Rattle.cap_model.specs.Asks.{ask_key_cmp, Ask}
 use Rattle.cap_model.specs.Flat.{App, ask_at}
 use Rattle.cap_model.specs.News.{AllocateReply}
 use Rattle.cap_model.specs.ResponseIds.{is_repeated}
-use Rattle.cap_asks.specs.declared.app.Reported.{Reported}
+use Rattle.cap_model.specs.Reporting.{reported_of}
+use Rattle.cap_model.specs.declared.replies.Reported.{Reported}
 
 -- asks in order of key, and how many more keys fit with no memory
 pub record HeldAsks : Type 0 where
@@ -71,10 +72,6 @@ pub record HasRoom (more_asks more_grants more_ends : ℕ) (account : Account) :
   pub grants : more_grants ≤ account.grants
   pub ends : more_ends ≤ account.ends
 
--- the numbers of a reply
-abbrev pub numbers_of : AllocateReply → Reported
-numbers_of reply = record { response = reply.response; ignored = reply.ignored }
-
 -- those of the reply that an application keeps, where a request of a response id repeats the last processed one
 abbrev pub repeated_numbers : App → ℕ → Option Reported
-repeated_numbers app id = if is_repeated app.response app.kept id then option_map numbers_of app.kept else None
+repeated_numbers app id = if is_repeated app.response app.kept id then option_map reported_of app.kept else None

@@ -1,4 +1,4 @@
-ghost use Rattle.std.specs.Prelude.{◌≡◌, ◌+◌, ◌<◌, ◌≤◌, [], ◌∷◌, ◌++◌, true, false, Some, is_some, option_map, IfSome, OnOk, IsOk};
+ghost use Rattle.std.specs.Prelude.{◌≡◌, ◌+◌, ◌<◌, ◌≤◌, [], ◌∷◌, ◌++◌, true, false, Some, is_some, length, option_map, IfSome, IfOk, OnOk, IsOk};
 ghost use Rattle.cap_model.specs.Flat.{ask_at};
 ghost use Rattle.cap_model.specs.Limits.{live_max};
 ghost use Rattle.cap_model.specs.Asking.{put_ask, reservations_left};
@@ -6,14 +6,15 @@ ghost use Rattle.cap_model.specs.Allocate.{has_too_many_keys, after_telling};
 ghost use Rattle.cap_model.specs.Events.{take_one};
 ghost use Rattle.cap_model.specs.ResponseIds.{is_repeated, is_bad_id};
 ghost use Rattle.cap_model.specs.Submit.{new_app};
-ghost use Rattle.cap_asks.specs.Held.{TakesRoom, HasRoom, numbers_of, repeated_numbers};
+ghost use Rattle.cap_asks.specs.Held.{TakesRoom, HasRoom, repeated_numbers};
+ghost use Rattle.cap_model.specs.Reporting.{reported_of, news_most};
 ghost use Rattle.cap_asks.specs.Apps.{new_account};
 
 use crate::asks::Asks;
 use crate::news::News;
 use cap_model::{
-    AllocateReply, Ask, End, Grant, Key, NoMemory, PathText, ShortText, is_bad, next_response,
-    repeats,
+    AllocateView, Ask, End, Grant, Key, NEWS_MAX, NoMemory, PathText, ReplyRoom, Reported,
+    ShortText, is_bad, next_response, repeats,
 };
 use smallvec::SmallVec;
 use std::alloc::Global;
@@ -21,15 +22,6 @@ use std::marker::Model;
 
 /// Where a queue is in the tree: the child indexes that lead to it from the root. It takes no memory.
 pub type Position = SmallVec<u32, 16, Global>;
-
-/// The numbers of a reply to an allocate. Its grants and ends lie in the application.
-#[derive(Clone, Copy, Debug, PartialEq, Eq)]
-pub struct Reported {
-    /// The new response id.
-    pub response: u32,
-    /// How many releases named no live container of the application.
-    pub ignored: u16,
-}
 
 /// An active application: its number, leaf queue and user, its standing with its master, its asks and the news not yet told.
 /// The reply that was told last is kept. Contracts see its row in the flat cluster, and its account.
@@ -190,21 +182,52 @@ impl<const K: usize> App<K> {
         if !repeats(self.response, true, id) {
             return None;
         }
-        Some(Reported {
-            response: self.response,
-            ignored,
-        })
+        Some(self.reported(ignored))
     }
 
     /// The reply of these numbers, with the grants and ends that were told last.
-    pub(crate) fn reply(&self, reported: &Reported) -> AllocateReply<K>
+    pub(crate) fn reply(&self, reported: &Reported) -> AllocateView<'_, K>
         ensures { IfSome self.now.app.kept (λ kept. result ≡ record kept { response = reported.now.response; ignored = reported.now.ignored }) }
     {
-        AllocateReply {
+        AllocateView {
             response: reported.response,
             ignored: reported.ignored,
             grants: self.grants.told(),
             ends: self.ends.told(),
+        }
+    }
+
+    /// Room for the grants and ends that its master is told at most by an allocate of this response id with so many releases. If an
+    /// allocation fails there is none.
+    pub fn reply_room(
+        &self,
+        alloc: Global,
+        id: u32,
+        releases: usize,
+    ) -> Result<ReplyRoom<K>, NoMemory>
+        ensures { IfOk result (λ room. room ≡ news_most self.now.app id releases) }
+    {
+        match self.repeated(id) {
+            Some(reported) => ReplyRoom::new(alloc, reported.grants, reported.ends),
+            None => {
+                let grants = self.grants.waiting();
+                let ends = self.ends.waiting().saturating_add(releases);
+                ReplyRoom::new(alloc, grants.min(NEWS_MAX), ends.min(NEWS_MAX))
+            }
+        }
+    }
+
+    /// The numbers of the reply that is kept, in which so many releases were ignored.
+    fn reported(&self, ignored: u16) -> Reported
+        ensures response { result.response ≡ self.now.app.response }
+        ensures ignored { result.ignored ≡ ignored }
+        ensures kept { IfSome self.now.app.kept (λ kept. (result.grants ≡ length kept.grants) × (result.ends ≡ length kept.ends)) }
+    {
+        Reported {
+            response: self.response,
+            ignored,
+            grants: self.grants.told().len(),
+            ends: self.ends.told().len(),
         }
     }
 
@@ -291,13 +314,13 @@ impl<const K: usize> App<K> {
     pub(crate) fn tell(&mut self, ignored: u16) -> Reported
         ensures app { self.new.app ≡ after_telling self.old.app.response ignored self.old.app }
         ensures account { TakesRoom 0 0 0 self.old.account self.new.account }
-        ensures told { option_map numbers_of self.new.app.kept ≡ Some result }
+        ensures told { option_map reported_of self.new.app.kept ≡ Some result }
     {
         let response = next_response(self.response);
         self.response = response;
         self.ignored = Some(ignored);
         self.grants.tell();
         self.ends.tell();
-        Reported { response, ignored }
+        self.reported(ignored)
     }
 }

@@ -9,11 +9,12 @@ ghost use Rattle.cap_model.specs.Submit.{add_app};
 ghost use Rattle.cap_model.specs.FinishMaster.{remove_app};
 ghost use Rattle.cap_model.specs.Flat.{change_app, no_apps, app_in};
 ghost use Rattle.cap_asks.specs.Apps.{IsEntered, IsLeft, account_of, ask_room, live_of, UsesRoom, HasRooms, kept_of};
-ghost use Rattle.cap_asks.specs.Held.{numbers_of};
+ghost use Rattle.cap_model.specs.Reporting.{reported_of};
 
-use crate::app::{App, Position, Reported};
-use arrayvec::ArrayVec;
-use cap_model::{AllocateReply, Ask, End, Grant, Key, NoMemory, PathText, ShortText};
+use crate::app::{App, Position};
+use cap_model::{
+    AllocateView, Ask, End, Grant, Key, NoMemory, PathText, Reported, ShortText,
+};
 use indexmap::IndexMap;
 use std::alloc::Global;
 use std::marker::Model;
@@ -219,12 +220,14 @@ impl<const K: usize> Apps<K> {
         ensures rising { IsRising 1 (map (λ app. app.number) self.old.table.active) self.old.table.next }
         ensures table { self.new.table ≡ change_app n (λ app. after_telling app.response ignored app) self.old.table }
         ensures accounts { UsesRoom n 0 0 0 self.old.accounts self.new.accounts }
-        ensures told { IsSome (app_in self.old.table n) → option_map numbers_of (kept_of n self.new.table) ≡ Some result }
+        ensures told { IsSome (app_in self.old.table n) → option_map reported_of (kept_of n self.new.table) ≡ Some result }
     {
         let Some(app) = self.active.get_mut(&n) else {
             return Reported {
                 response: 0,
                 ignored: 0,
+                grants: 0,
+                ends: 0,
             };
         };
         app.tell(ignored)
@@ -232,16 +235,16 @@ impl<const K: usize> Apps<K> {
 
     /// The reply of these numbers to the master of an application, with the grants and ends that it was told last. Where none of
     /// this number is active, there are none.
-    pub fn reply(&self, n: u64, reported: &Reported) -> AllocateReply<K>
-        ensures { option_map numbers_of (kept_of n self.now.table) ≡ Some reported.now → kept_of n self.now.table ≡ Some result }
+    pub fn reply(&self, n: u64, reported: &Reported) -> AllocateView<'_, K>
+        ensures { option_map reported_of (kept_of n self.now.table) ≡ Some reported.now → kept_of n self.now.table ≡ Some result }
     {
         match self.active.get(&n) {
             Some(app) => app.reply(reported),
-            None => AllocateReply {
+            None => AllocateView {
                 response: reported.response,
                 ignored: reported.ignored,
-                grants: ArrayVec::new(),
-                ends: ArrayVec::new(),
+                grants: &[],
+                ends: &[],
             },
         }
     }

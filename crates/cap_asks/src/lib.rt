@@ -6,5 +6,5 @@ mod apps;
 mod asks;
 mod news;
 
-pub use app::{App, Position, Reported};
+pub use app::{App, Position};
 pub use apps::Apps;

@@ -1,7 +1,6 @@
-ghost use Rattle.std.specs.Prelude.{◌≡◌, ◌+◌, ◌≤◌, [], ◌∷◌, ◌++◌, take, drop, OnOk, IsOk};
+ghost use Rattle.std.specs.Prelude.{◌≡◌, ◌+◌, ◌≤◌, [], ◌∷◌, ◌++◌, take, drop, length, OnOk, IsOk};
 ghost use Rattle.cap_model.specs.Limits.{news_max};
 
-use arrayvec::ArrayVec;
 use cap_model::{NEWS_MAX, NoMemory};
 use std::alloc::Global;
 use std::marker::Model;
@@ -74,17 +73,18 @@ impl<T: Copy> News<T> {
         self.items.truncate(waiting);
         self.told = waiting.min(NEWS_MAX);
     }
-}
 
-impl<T: Copy + Default> News<T> {
     /// Those that were told last.
-    pub(crate) fn told(&self) -> ArrayVec<T, NEWS_MAX>
-        ensures { result.items ≡ self.now.told }
+    pub(crate) fn told(&self) -> &[T]
+        ensures { result.now ≡ self.now.told }
     {
-        let mut told = ArrayVec::new();
-        for item in &self.items[..self.told] {
-            told.push(*item);
-        }
-        told
+        &self.items[..self.told]
+    }
+
+    /// How many wait.
+    pub(crate) fn waiting(&self) -> usize
+        ensures { result ≡ length self.now.waiting }
+    {
+        self.items.len() - self.told
     }
 }

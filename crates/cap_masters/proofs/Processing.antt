@@ -22,8 +22,9 @@ use Rattle.cap_model.specs.Replies as flat_replies
 use Rattle.cap_model.proofs.lists.Numbered.{find_changed}
 use Rattle.cap_model.proofs.numbers.ContainerNumbers.{asks_keep}
 use Rattle.cap_model.proofs.lists.Tests.{first_holds, kept_if}
-use Rattle.cap_asks.specs.declared.app.Reported.{Reported}
-use Rattle.cap_asks.specs.Held.{numbers_of, repeated_numbers}
+use Rattle.cap_model.specs.declared.replies.Reported.{Reported}
+use Rattle.cap_asks.specs.Held.{repeated_numbers}
+use Rattle.cap_model.specs.Reporting.{reported_of}
 use Rattle.cap_masters.proofs.Refused.{repeats_it, repeats_none}
 use Rattle.cap_masters.specs.Processed.{HasResponse}
 
@@ -134,11 +135,11 @@ module _ {K : ℕ} where
 
   -- the numbers of the kept reply are given where the request repeats the last one, and only there
   pub repeated_is : (cluster : Flat K) (n id : ℕ) (reported : Reported) → Some reported ≡ option_and_then (λ app. repeated_numbers app id) (app_at cluster n) →
-      (is_repeated_allocate cluster n id ≡ true) × (option_map numbers_of (option_and_then (λ app. app.kept) (app_at cluster n)) ≡ Some reported)
+      (is_repeated_allocate cluster n id ≡ true) × (option_map reported_of (option_and_then (λ app. app.kept) (app_at cluster n)) ≡ Some reported)
   repeated_is cluster n id reported e = by (app_at cluster n) e
     where
       by : (o : Option App) → Some reported ≡ option_and_then (λ app. repeated_numbers app id) o →
-          (holds_of (λ (a : App). is_repeated a.response a.kept id) o ≡ true) × (option_map numbers_of (option_and_then (λ (a : App). a.kept) o) ≡ Some reported)
+          (holds_of (λ (a : App). is_repeated a.response a.kept id) o ≡ true) × (option_map reported_of (option_and_then (λ (a : App). a.kept) o) ≡ Some reported)
       by None h = absurd (cc h)
       by (Some a) h = repeats_it a id reported h
 

@@ -13,8 +13,9 @@ use Rattle.cap_model.specs.Allocate.{allocate_refusal, has_too_many_keys, is_too
 use Rattle.cap_model.specs.FinishMaster.{finish_master_refusal}
 use Rattle.cap_model.proofs.uses.Measures.{fits_amounts, amounts_fit}
 use Rattle.cap_model.specs.News.{AllocateReply}
-use Rattle.cap_asks.specs.declared.app.Reported.{Reported}
-use Rattle.cap_asks.specs.Held.{numbers_of, repeated_numbers}
+use Rattle.cap_model.specs.declared.replies.Reported.{Reported}
+use Rattle.cap_asks.specs.Held.{repeated_numbers}
+use Rattle.cap_model.specs.Reporting.{reported_of}
 
 -- the first test says that there is one
 pub is_there : {A B : Type 0} (o : Option A) (x : B) (rest : List (Bool × B)) → earliest ((is_none o, x) ∷ rest) ≡ None → IsSome o
@@ -49,10 +50,10 @@ pub app_missing : {K : ℕ} (cluster : Flat K) (table : AppTable) (n : ℕ) → 
 app_missing cluster table n is missing = ap (λ (t : AppTable). find (λ (a : App). a.number == n) t.active) (sym is) ∙ sym missing
 
 -- the kept reply, where the request repeats the last one
-pub repeats_it : (app : App) (id : ℕ) (reported : Reported) → Some reported ≡ repeated_numbers app id → (is_repeated app.response app.kept id ≡ true) × (option_map numbers_of app.kept ≡ Some reported)
+pub repeats_it : (app : App) (id : ℕ) (reported : Reported) → Some reported ≡ repeated_numbers app id → (is_repeated app.response app.kept id ≡ true) × (option_map reported_of app.kept ≡ Some reported)
 repeats_it app id reported e = by (is_repeated app.response app.kept id) refl e
   where
-    by : (b : Bool) → is_repeated app.response app.kept id ≡ b → Some reported ≡ (if b then option_map numbers_of app.kept else None) → (is_repeated app.response app.kept id ≡ true) × (option_map numbers_of app.kept ≡ Some reported)
+    by : (b : Bool) → is_repeated app.response app.kept id ≡ b → Some reported ≡ (if b then option_map reported_of app.kept else None) → (is_repeated app.response app.kept id ≡ true) × (option_map reported_of app.kept ≡ Some reported)
     by true f h = (f, sym h)
     by false f h = absurd (cc h)
 
@@ -60,7 +61,7 @@ repeats_it app id reported e = by (is_repeated app.response app.kept id) refl e
 pub repeats_none : (app : App) (id : ℕ) → None ≡ repeated_numbers app id → is_repeated app.response app.kept id ≡ false
 repeats_none app id e = by app.kept refl (is_repeated app.response app.kept id) refl e
   where
-    by : (o : Option AllocateReply) → app.kept ≡ o → (b : Bool) → is_repeated app.response app.kept id ≡ b → None ≡ (if b then option_map numbers_of app.kept else None) → is_repeated app.response app.kept id ≡ false
+    by : (o : Option AllocateReply) → app.kept ≡ o → (b : Bool) → is_repeated app.response app.kept id ≡ b → None ≡ (if b then option_map reported_of app.kept else None) → is_repeated app.response app.kept id ≡ false
     by None f b g h = ap (λ k. is_repeated app.response k id) f
-    by (Some r) f true g h = absurd (cc (h ∙ ap (option_map numbers_of) f))
+    by (Some r) f true g h = absurd (cc (h ∙ ap (option_map reported_of) f))
     by (Some r) f false g h = g

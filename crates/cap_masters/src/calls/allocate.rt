@@ -4,7 +4,8 @@ ghost use Rattle.cap_model.specs.declared.request.Request.TheVariants.{Allocate}
 ghost use Rattle.cap_model.specs.Limits.{resources_max};
 ghost use Rattle.cap_model.specs.Asking.{after_asks};
 ghost use Rattle.cap_model.specs.Flat.{app_at};
-ghost use Rattle.cap_asks.specs.Held.{numbers_of, repeated_numbers};
+ghost use Rattle.cap_asks.specs.Held.{repeated_numbers};
+ghost use Rattle.cap_model.specs.Reporting.{reported_of};
 ghost use Rattle.cap_asks.specs.Apps.{kept_of, ask_room};
 ghost use Rattle.cap_model.specs.Allocate.{allocate_refusal, is_too_large, kept_reply, after_processed_allocate};
 ghost use Rattle.cap_model.specs.Replies.{Replies};
@@ -100,7 +101,7 @@ fn process<const K: usize>(
 ) -> Result<Reported, NoMemory>
     requires { HasResponse cluster.old.flat application response }
     ensures ok { OnOk result (cluster.new.flat ≡ after_processed_allocate cluster.old.flat application response asks.now releases.now) }
-    ensures told { IfOk result (λ reported. option_map numbers_of (kept_of application cluster.new.flat.apps) ≡ Some reported) }
+    ensures told { IfOk result (λ reported. option_map reported_of (kept_of application cluster.new.flat.apps) ≡ Some reported) }
     ensures err { OnErr result (cluster.new.flat ≡ cluster.old.flat) }
 {
     match cluster.room(application, asks.as_slice().len(), 0, 0) {
@@ -128,7 +129,7 @@ fn put_asks<const K: usize>(cluster: &mut Cluster<K>, application: u64, asks: &[
 
 /// The reply of these numbers, with the news that the application was told last.
 fn reply_of<const K: usize>(cluster: &Cluster<K>, application: u64, reported: &Reported) -> Reply<K>
-    requires { option_map numbers_of (kept_of application cluster.now.flat.apps) ≡ Some reported.now }
+    requires { option_map reported_of (kept_of application cluster.now.flat.apps) ≡ Some reported.now }
     ensures { result ≡ Reply.Allocate (kept_reply cluster.now.flat application) }
 {
     Reply::Allocate {
