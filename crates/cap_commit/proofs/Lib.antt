@@ -12,3 +12,4 @@ pub mod Unreserving
 pub mod Dropping
 pub mod Reporting
 pub mod Naming
+pub mod Viewing

@@ -26,9 +26,11 @@ use crate::limits::Limits;
 use crate::owner::Owner;
 use crate::report::report_of;
 use crate::reservations::{Reserved, keep_first};
-use cap_asks::{Apps, Position, Reported};
+use cap_asks::{Apps, Position};
 use cap_config::Config;
-use cap_model::{Ask, Cause, End, HeartbeatReply, NoMemory, PathText, QueueReport, ShortText};
+use cap_model::{
+    Ask, Cause, End, HeartbeatReply, NoMemory, PathText, QueueReport, Reported, ShortText,
+};
 use cap_nodes::{Container, Nodes};
 use cap_tree::{Found, QueueTree};
 use cap_vector::{Resource, Sum, round_up};

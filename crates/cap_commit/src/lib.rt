@@ -4,11 +4,14 @@
 mod cluster;
 mod limits;
 mod owner;
+mod replies;
 mod report;
 mod reservations;
 
-pub use cap_asks::{App, Apps, Position, Reported};
-pub use cap_model::{AllocateReply, Event, HeartbeatReply, QueueReport, Reply, Request};
+pub use cap_asks::{App, Apps, Position};
+pub use cap_model::{
+    AllocateReply, Event, HeartbeatReply, QueueReport, Reply, ReplyView, Reported, Request,
+};
 pub use cap_nodes::{Container, Node, Nodes};
 pub use cap_tree::{Found, QueueTree};
 pub use cluster::Cluster;

@@ -1,11 +1,11 @@
 -- A reply in full is what it was, and its grants and ends have room.
 use Rattle.std.proofs.Common.{◌≡◌, ℕ, ◌≤◌, ◌+◌, Bool, true, false, List, [], ◌∷◌, ◌++◌, refl, sym, ◌∙◌, ap, subst, inl, inr, arith}
-use Rattle.std.specs.Prelude.{Option, is_none, Some, None, IsSome, cond, not, ◌&&◌, ◌-◌, min, length, find, map, filter, ◌==◌, unwrap_or, option_map, option_and_then, if◌then◌else◌}
+use Rattle.std.specs.Prelude.{Option, Some, None, IsSome, cond, not, ◌&&◌, ◌-◌, min, length, find, map, filter, ◌==◌, unwrap_or, option_map, option_and_then, if◌then◌else◌}
 use Rattle.std.specs.Option.{option_map_or}
 use Rattle.std.proofs.lemmas.List.{length-take, length-append, length-map}
 use Rattle.std.proofs.lemmas.List.Sums.{length-filter, count_by-le-length}
 use Rattle.std.proofs.lemmas.Bool.Decides.{nat_tests}
-use Rattle.std.specs.List.{cons_option, list_any}
+use Rattle.std.specs.List.{cons_option}
 use Rattle.cap_model.specs.Asks.{Ask}
 use Rattle.cap_model.specs.News.{Grant, AllocateReply, Reply}
 use Rattle.cap_model.specs.declared.news.End.{End}
@@ -17,13 +17,13 @@ use Rattle.cap_model.specs.declared.reply.ReplyWith.{ReplyWith}
 use Rattle.cap_model.specs.declared.reply.ReplyWith.TheVariants as Reply
 use Rattle.cap_model.specs.Limits.{news_max}
 use Rattle.cap_model.specs.Flat.{Flat, App, Container, app_at}
-use Rattle.cap_model.specs.Allocate.{nothing_told, after_telling, after_processed_allocate, after_wishes, kept_reply, is_repeated_allocate, released_by, is_too_large, has_too_many_keys}
+use Rattle.cap_model.specs.Allocate.{nothing_told, after_telling, after_processed_allocate, after_wishes, kept_reply, is_repeated_allocate, released_by}
 use Rattle.cap_model.specs.Replies.{Replies, refused_or, refusal_of, granted_reply, reply_to, after_request}
 use Rattle.cap_model.specs.Reporting.{NewsRoom, map_reply, news_most, HasRoomFor, IsNoAllocate}
 use Rattle.cap_model.specs.Ending.{named_among}
 use Rattle.cap_model.specs.Flat.{containers_of}
-use Rattle.cap_model.specs.Cascade.{earliest, holds_of}
-use Rattle.cap_model.specs.ResponseIds.{is_repeated, is_bad_id}
+use Rattle.cap_model.specs.Cascade.{holds_of}
+use Rattle.cap_model.specs.ResponseIds.{is_repeated}
 use Rattle.cap_model.specs.NewsLaws.{ends_of}
 use Rattle.cap_model.proofs.lists.Numbered.{find_changed}
 use Rattle.cap_model.proofs.lists.Tests.{kept_if}
@@ -163,22 +163,6 @@ module _ {K : ℕ} (old : Flat K) (n id : ℕ) (asks : List Ask) (releases : Lis
       by : (o : Option Refusal) → HasRoomFor (refused_or o (λ refusal. Reply.Refused refusal) (granted_reply old (Request.Allocate n id asks releases))) (news_most app id (length releases))
       by (Some refusal) = tt
       by None = allocate_room app there (is_repeated_allocate old n id) (sym (ap (λ (o : Option App). holds_of (λ (a : App). is_repeated a.response a.kept id) o) there))
-
-  -- where there is no such application it is refused
-  pub no_room : (room : NewsRoom) → app_at old n ≡ None → (reply : Reply K) (new : Flat K) → Replies old (Request.Allocate n id asks releases) reply new → HasRoomFor reply room
-  no_room room missing reply new (inr r) = subst (λ x. HasRoomFor x room) (sym r.0.reply_is) tt
-  no_room room missing reply new (inl r) =
-      subst (λ x. HasRoomFor x room) (sym r.0) (subst (λ o. HasRoomFor (refused_or o (λ refusal. Reply.Refused refusal) (granted_reply old (Request.Allocate n id asks releases))) room) (sym refused) tt)
-    where
-      refused : refusal_of old (Request.Allocate n id asks releases) ≡ Some Refusal.UnknownApplication
-      refused =
-          ap (λ (o : Option App). earliest (
-          (is_none o, Refusal.UnknownApplication)
-          ∷ (not (holds_of (λ (a : App). a.registered) (app_at old n)), Refusal.NotRegistered)
-          ∷ (holds_of (λ (a : App). is_bad_id a.response a.kept id) (app_at old n), Refusal.BadResponseId)
-          ∷ (not (is_repeated_allocate old n id) && list_any (is_too_large old) asks, Refusal.AskTooLarge)
-          ∷ (not (is_repeated_allocate old n id) && holds_of (λ (a : App). has_too_many_keys a asks) (app_at old n), Refusal.TooManyAsks)
-          ∷ [])) missing
 
 -- the other calls report no grants and no ends
 pub other_room : {K : ℕ} (old : Flat K) (request : Request K) (room : NewsRoom) → IsNoAllocate request → (reply : Reply K) (new : Flat K) → Replies old request reply new → HasRoomFor reply room

@@ -1,0 +1,43 @@
+-- The reply in full, and room for it.
+use Rattle.std.proofs.Common.{◌≡◌, ℕ, List, refl, sym, ap, subst, ◌∙◌}
+use Rattle.std.specs.Prelude.{Some, length, unwrap_or, option_map}
+use Rattle.cap_model.specs.Asks.{Ask}
+use Rattle.cap_model.specs.News.{AllocateReply, Reply}
+use Rattle.cap_model.specs.declared.replies.AllocateNumbers.{AllocateNumbers}
+use Rattle.cap_model.specs.declared.request.Request.{Request}
+use Rattle.cap_model.specs.declared.reply.ReplyWith.{ReplyWith}
+use Rattle.cap_model.specs.declared.reply.ReplyWith.TheVariants as Reply
+use Rattle.cap_model.specs.Flat.{Flat, App, AppTable, app_at, app_in}
+use Rattle.cap_model.specs.Allocate.{nothing_told}
+use Rattle.cap_model.specs.Reporting.{NewsRoom, reported_of, full_reply, HasNumbers, HasRoomForReplies, news_most, IsNoAllocate}
+use Rattle.cap_model.proofs.telling.Replying.{some_room, other_room}
+use Rattle.cap_asks.specs.Apps.{kept_of}
+
+module _ {K : ℕ} (flat : Flat K) where
+  pub viewed : (numbers : AllocateNumbers) (reply : ReplyWith K AllocateNumbers) (table : AppTable) (result : AllocateReply) → reply ≡ Reply.Allocate numbers → table ≡ flat.apps → HasNumbers flat reply
+      → (option_map reported_of (kept_of numbers.app table) ≡ Some numbers.reported → kept_of numbers.app table ≡ Some result) → Reply.Allocate result ≡ full_reply flat reply
+  viewed numbers reply table result is same has gives =
+      let numbered : HasNumbers flat (Reply.Allocate numbers) = subst (λ r. HasNumbers flat r) is has in
+      let kept = gives (ap (λ (t : AppTable). option_map reported_of (kept_of numbers.app t)) same ∙ numbered) in
+      ap (λ r. Reply.Allocate (unwrap_or r nothing_told)) (sym kept ∙ ap (kept_of numbers.app) same) ∙ ap (full_reply flat) (sym is)
+
+  pub has_some : (n id : ℕ) (asks : List Ask) (releases : List ℕ) (table : AppTable) (app : App) (room : NewsRoom) (request : Request K) → request ≡ Request.Allocate n id asks releases → table ≡ flat.apps
+      → app_in table n ≡ Some app → room ≡ news_most app id (length releases) → HasRoomForReplies flat request room
+  has_some n id asks releases table app room request is same there most =
+      subst (λ q. HasRoomForReplies flat q room) (sym is)
+      (subst (λ m. HasRoomForReplies flat (Request.Allocate n id asks releases) m) (sym most) (some_room flat n id asks releases app (ap (λ (t : AppTable). app_in t n) (sym same) ∙ there)))
+
+  no_allocate : (request : Request K) → ((n id : ℕ) (asks : List Ask) (releases : List ℕ) → request ≡ Request.Allocate n id asks releases → ⊥) → IsNoAllocate request
+  no_allocate (Request.Submit path user) none = tt
+  no_allocate (Request.RegisterMaster app) none = tt
+  no_allocate (Request.Allocate app id asks releases) none = none app id asks releases refl
+  no_allocate (Request.FinishMaster app) none = tt
+  no_allocate (Request.RegisterNode host rack total) none = tt
+  no_allocate (Request.Heartbeat node id ended) none = tt
+  no_allocate (Request.NodeGone node) none = tt
+  no_allocate (Request.QueueInfo path) none = tt
+  no_allocate (Request.SetQueueState path running) none = tt
+  no_allocate Request.ClusterInfo none = tt
+
+  pub has_other : (request : Request K) (room : NewsRoom) → ((n id : ℕ) (asks : List Ask) (releases : List ℕ) → request ≡ Request.Allocate n id asks releases → ⊥) → HasRoomForReplies flat request room
+  has_other request room none = other_room flat request room (no_allocate request none)
