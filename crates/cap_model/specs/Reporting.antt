@@ -11,7 +11,7 @@ use Rattle.cap_model.specs.declared.reply.ReplyWith.TheVariants as Reply
 use Rattle.cap_model.specs.News.{AllocateReply, Reply}
 use Rattle.cap_model.specs.Flat.{Flat, App, app_at}
 use Rattle.cap_model.specs.Allocate.{kept_reply}
-use Rattle.cap_model.specs.Replies.{Replies}
+use Rattle.cap_model.specs.Replies.{Replies, RepliesAlways}
 
 -- the numbers of the answer to an allocate
 abbrev pub reported_of : AllocateReply → Reported
@@ -65,6 +65,13 @@ module _ {K : ℕ} where
   -- the numbers of a reply are those of the one that its application keeps
   abbrev pub HasNumbers : Flat K → ReplyWith K AllocateNumbers → Type 0
   HasNumbers cluster reply = IfAllocate (λ n. option_map reported_of (option_and_then (λ app. app.kept) (app_at cluster n.app)) ≡ Some n.reported) reply
+
+  -- the reply function's reply is the one that was given, in full
+  abbrev pub RepliesInFull : Flat K → Request K → ReplyWith K AllocateNumbers → Flat K → Type 0
+  RepliesInFull old request reply new = Replies old request (full_reply new reply) new
+
+  abbrev pub RepliesInFullAlways : Flat K → Request K → ReplyWith K AllocateNumbers → Flat K → Type 0
+  RepliesInFullAlways old request reply new = RepliesAlways old request (full_reply new reply) new
 
   -- the grants and ends of a reply have room
   abbrev pub HasRoomFor : Reply K → NewsRoom → Type 0

@@ -1,18 +1,18 @@
 ghost use Rattle.std.specs.Prelude.{◌≡◌, ◌≤◌, ◌+◌, Some, None, option_map, option_and_then, IfOk, IfErr, OnOk, OnErr, length, true};
 ghost use Rattle.std.specs.List.{list_any};
 ghost use Rattle.cap_model.specs.declared.request.Request.TheVariants.{Allocate};
+ghost use Rattle.cap_model.specs.Reporting.{HasNumbers, RepliesInFull, reported_of};
+ghost use Rattle.cap_model.specs.declared.reply.ReplyWith.TheVariants as Reply;
 ghost use Rattle.cap_model.specs.Limits.{resources_max};
 ghost use Rattle.cap_model.specs.Asking.{after_asks};
 ghost use Rattle.cap_model.specs.Flat.{app_at};
 ghost use Rattle.cap_asks.specs.Held.{repeated_numbers};
-ghost use Rattle.cap_model.specs.Reporting.{reported_of};
 ghost use Rattle.cap_asks.specs.Apps.{kept_of, ask_room};
-ghost use Rattle.cap_model.specs.Allocate.{allocate_refusal, is_too_large, kept_reply, after_processed_allocate};
-ghost use Rattle.cap_model.specs.Replies.{Replies};
+ghost use Rattle.cap_model.specs.Allocate.{allocate_refusal, is_too_large, after_processed_allocate};
 ghost use Rattle.cap_masters.specs.Processed.{HasResponse};
 
 use cap_commit::{Cluster, Owner, Reported};
-use cap_model::{Ask, Asks, Cause, NoMemory, Numbers, Refusal, Reply};
+use cap_model::{AllocateNumbers, Ask, Asks, Cause, NoMemory, Numbers, Refusal, Reply};
 use cap_vector::fits;
 
 /// A master asks for containers, in MiB and vcores, releases some, and is told the oldest 64 grants and 64 ends that it was not
@@ -29,17 +29,18 @@ pub fn allocate<const K: usize>(
     asks: &Asks<K>,
     releases: &Numbers,
 ) -> Reply<K>
-    ensures { Replies cluster.old.flat (Allocate application response asks.now releases.now) result cluster.new.flat }
+    ensures replies { RepliesInFull cluster.old.flat (Allocate application response asks.now releases.now) result cluster.new.flat }
+    ensures numbers { HasNumbers cluster.new.flat result }
 {
     let repeated = match admit(cluster, application, response, asks.as_slice()) {
         Ok(repeated) => repeated,
         Err(refusal) => return Reply::Refused(refusal),
     };
     if let Some(reported) = repeated {
-        return reply_of(cluster, application, &reported);
+        return reply_of(application, reported);
     }
     match process(cluster, application, response, asks, releases) {
-        Ok(reported) => reply_of(cluster, application, &reported),
+        Ok(reported) => reply_of(application, reported),
         Err(NoMemory) => Reply::Refused(Refusal::NoMemory),
     }
 }
@@ -127,12 +128,11 @@ fn put_asks<const K: usize>(cluster: &mut Cluster<K>, application: u64, asks: &[
     }
 }
 
-/// The reply of these numbers, with the news that the application was told last.
-fn reply_of<const K: usize>(cluster: &Cluster<K>, application: u64, reported: &Reported) -> Reply<K>
-    requires { option_map reported_of (kept_of application cluster.now.flat.apps) ≡ Some reported.now }
-    ensures { result ≡ Reply.Allocate (kept_reply cluster.now.flat application) }
+/// The reply of these numbers to an application.
+fn reply_of<const K: usize>(app: u64, reported: Reported) -> Reply<K>
+    ensures { result ≡ Reply.Allocate (record { app = app; reported = reported }) }
 {
     Reply::Allocate {
-        reply: cluster.apps().reply(application, reported),
+        reply: AllocateNumbers { app, reported },
     }
 }

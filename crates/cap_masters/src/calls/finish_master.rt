@@ -1,8 +1,8 @@
 ghost use Rattle.std.specs.Prelude.{◌≡◌, ◌≤◌};
 ghost use Rattle.cap_model.specs.declared.request.Request.TheVariants.{FinishMaster};
+ghost use Rattle.cap_model.specs.Reporting.{HasNumbers, RepliesInFullAlways};
 ghost use Rattle.cap_model.specs.Limits.{resources_max};
 ghost use Rattle.cap_model.specs.FinishMaster.{finish_master_refusal};
-ghost use Rattle.cap_model.specs.Replies.{RepliesAlways};
 
 use cap_commit::Cluster;
 use cap_model::{Refusal, Reply};
@@ -11,7 +11,8 @@ use cap_model::{Refusal, Reply};
 /// unknown from then on. The reply gives how many containers ended. Refused with `UnknownApplication` or `NotRegistered`, which
 /// changes nothing. It takes no memory.
 pub fn finish_master<const K: usize>(cluster: &mut Cluster<K>, application: u64) -> Reply<K>
-    ensures { RepliesAlways cluster.old.flat (FinishMaster application) result cluster.new.flat }
+    ensures replies { RepliesInFullAlways cluster.old.flat (FinishMaster application) result cluster.new.flat }
+    ensures numbers { HasNumbers cluster.new.flat result }
 {
     match refusal(cluster, application) {
         Some(refusal) => Reply::Refused(refusal),

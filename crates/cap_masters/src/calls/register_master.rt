@@ -1,7 +1,7 @@
 ghost use Rattle.std.specs.Prelude.{◌≡◌};
 ghost use Rattle.cap_model.specs.declared.request.Request.TheVariants.{RegisterMaster};
+ghost use Rattle.cap_model.specs.Reporting.{HasNumbers, RepliesInFullAlways};
 ghost use Rattle.cap_model.specs.RegisterMaster.{register_master_refusal};
-ghost use Rattle.cap_model.specs.Replies.{RepliesAlways};
 
 use cap_commit::Cluster;
 use cap_model::{Refusal, Reply};
@@ -10,7 +10,8 @@ use cap_model::{Refusal, Reply};
 /// container may have, in MiB and vcores. Refused with `UnknownApplication` or `AlreadyRegistered`, which changes nothing. It
 /// takes no memory.
 pub fn register_master<const K: usize>(cluster: &mut Cluster<K>, application: u64) -> Reply<K>
-    ensures { RepliesAlways cluster.old.flat (RegisterMaster application) result cluster.new.flat }
+    ensures replies { RepliesInFullAlways cluster.old.flat (RegisterMaster application) result cluster.new.flat }
+    ensures numbers { HasNumbers cluster.new.flat result }
 {
     match refusal(cluster, application) {
         Some(refusal) => Reply::Refused(refusal),

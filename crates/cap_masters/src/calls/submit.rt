@@ -1,7 +1,7 @@
 ghost use Rattle.std.specs.Prelude.{◌≡◌, None, Some, IfOk, IfErr};
 ghost use Rattle.cap_model.specs.declared.request.Request.TheVariants.{Submit};
+ghost use Rattle.cap_model.specs.Reporting.{HasNumbers, RepliesInFull};
 ghost use Rattle.cap_model.specs.Submit.{submit_refusal};
-ghost use Rattle.cap_model.specs.Replies.{Replies};
 ghost use Rattle.cap_tree.specs.Rows.{IsAt};
 
 use cap_commit::{Cluster, Found, Position};
@@ -15,7 +15,8 @@ pub fn submit<const K: usize>(
     path: &PathText,
     user: &ShortText,
 ) -> Reply<K>
-    ensures { Replies cluster.old.flat (Submit path.now user.now) result cluster.new.flat }
+    ensures replies { RepliesInFull cluster.old.flat (Submit path.now user.now) result cluster.new.flat }
+    ensures numbers { HasNumbers cluster.new.flat result }
 {
     match admit(cluster, path) {
         Err(refusal) => Reply::Refused(refusal),

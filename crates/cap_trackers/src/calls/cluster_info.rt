@@ -1,5 +1,5 @@
 ghost use Rattle.cap_model.specs.declared.request.Request.TheVariants.{ClusterInfo};
-ghost use Rattle.cap_model.specs.Replies.{RepliesAlways};
+ghost use Rattle.cap_model.specs.Reporting.{HasNumbers, RepliesInFullAlways};
 
 use cap_commit::Cluster;
 use cap_model::{ClusterReport, Reply};
@@ -7,7 +7,8 @@ use cap_model::{ClusterReport, Reply};
 /// What an operator sees of the cluster: how many nodes are present, applications active and containers live, what all
 /// nodes have, and what `root` uses, in MiB and vcores. It is never refused, changes nothing and takes no memory.
 pub fn cluster_info<const K: usize>(cluster: &Cluster<K>) -> Reply<K>
-    ensures { RepliesAlways cluster.now.flat ClusterInfo result cluster.now.flat }
+    ensures replies { RepliesInFullAlways cluster.now.flat ClusterInfo result cluster.now.flat }
+    ensures numbers { HasNumbers cluster.now.flat result }
 {
     let nodes = cluster.nodes();
     Reply::ClusterInfo {

@@ -1,5 +1,5 @@
 ghost use Rattle.cap_model.specs.declared.request.Request.TheVariants.{Heartbeat};
-ghost use Rattle.cap_model.specs.Replies.{RepliesAlways};
+ghost use Rattle.cap_model.specs.Reporting.{HasNumbers, RepliesInFullAlways};
 
 use cap_commit::{Cluster, Owner};
 use cap_model::{Cause, Numbers, Refusal, Reply};
@@ -15,7 +15,8 @@ pub fn heartbeat<const K: usize>(
     response: u32,
     ended: &Numbers,
 ) -> Reply<K>
-    ensures { RepliesAlways cluster.old.flat (Heartbeat node response ended.now) result cluster.new.flat }
+    ensures replies { RepliesInFullAlways cluster.old.flat (Heartbeat node response ended.now) result cluster.new.flat }
+    ensures numbers { HasNumbers cluster.new.flat result }
 {
     let Some(found) = cluster.nodes().node(node) else {
         return Reply::Refused(Refusal::UnknownNode);

@@ -1,5 +1,5 @@
 ghost use Rattle.cap_model.specs.declared.request.Request.TheVariants.{NodeGone};
-ghost use Rattle.cap_model.specs.Replies.{RepliesAlways};
+ghost use Rattle.cap_model.specs.Reporting.{HasNumbers, RepliesInFullAlways};
 
 use cap_commit::{Cluster, Owner};
 use cap_model::{Cause, Refusal, Reply};
@@ -8,7 +8,8 @@ use cap_model::{Cause, Refusal, Reply};
 /// number is unknown from then on, and its host is free again. The reply gives how many containers ended. Refused with
 /// `UnknownNode`, which changes nothing. It takes no memory.
 pub fn node_gone<const K: usize>(cluster: &mut Cluster<K>, node: u64) -> Reply<K>
-    ensures { RepliesAlways cluster.old.flat (NodeGone node) result cluster.new.flat }
+    ensures replies { RepliesInFullAlways cluster.old.flat (NodeGone node) result cluster.new.flat }
+    ensures numbers { HasNumbers cluster.new.flat result }
 {
     if cluster.nodes().node(node).is_none() {
         return Reply::Refused(Refusal::UnknownNode);

@@ -1,7 +1,7 @@
 ghost use Rattle.std.specs.Prelude.{◌≡◌};
 ghost use Rattle.cap_model.specs.declared.request.Request.TheVariants.{RegisterNode};
+ghost use Rattle.cap_model.specs.Reporting.{HasNumbers, RepliesInFull};
 ghost use Rattle.cap_model.specs.RegisterNode.{register_node_refusal};
-ghost use Rattle.cap_model.specs.Replies.{Replies};
 
 use cap_commit::Cluster;
 use cap_model::{NODES_MAX, NUMBER_END, NoMemory, Refusal, Reply, ShortText, first_refusal};
@@ -16,7 +16,8 @@ pub fn register_node<const K: usize>(
     rack: &ShortText,
     total: &Resource<K>,
 ) -> Reply<K>
-    ensures { Replies cluster.old.flat (RegisterNode host.now rack.now total.now) result cluster.new.flat }
+    ensures replies { RepliesInFull cluster.old.flat (RegisterNode host.now rack.now total.now) result cluster.new.flat }
+    ensures numbers { HasNumbers cluster.new.flat result }
 {
     match refusal(cluster, host, total) {
         Some(refusal) => Reply::Refused(refusal),

@@ -1,5 +1,5 @@
 ghost use Rattle.cap_model.specs.declared.request.Request.TheVariants.{SetQueueState};
-ghost use Rattle.cap_model.specs.Replies.{RepliesAlways};
+ghost use Rattle.cap_model.specs.Reporting.{HasNumbers, RepliesInFullAlways};
 
 use cap_commit::{Cluster, Found};
 use cap_model::{PathText, Refusal, Reply};
@@ -12,7 +12,8 @@ pub fn set_queue_state<const K: usize>(
     path: &PathText,
     running: bool,
 ) -> Reply<K>
-    ensures { RepliesAlways cluster.old.flat (SetQueueState path.now running) result cluster.new.flat }
+    ensures replies { RepliesInFullAlways cluster.old.flat (SetQueueState path.now running) result cluster.new.flat }
+    ensures numbers { HasNumbers cluster.new.flat result }
 {
     let position = match cluster.tree().find(path.as_bytes()) {
         Found::Leaf(position) => position,

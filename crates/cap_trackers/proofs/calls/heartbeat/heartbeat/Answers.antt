@@ -6,11 +6,11 @@ use Rattle.cap_model.specs.Heartbeat.{after_processed_heartbeat}
 use Rattle.cap_trackers.proofs.Beating.{node_shown, node_missing, unrefused, is_again, repeats_it, repeats_none, bad_refused, unknown_refused, processed, told_is}
 use Rattle.cap_trackers.proofs.calls.heartbeat.heartbeat.Goals as goal
 
-pub returns-in_default : goal.returns-in_default
-returns-in_default g c = unknown_refused c.args.cluster.now.flat c.args.node c.args.response c.args.ended.now (node_missing c.args.cluster.now.flat c.nodes.result.now c.args.node c.nodes.ensures.value c.in_default.ensures.found)
+pub returns-in_default-clause-replies : goal.returns-in_default-clause-replies
+returns-in_default-clause-replies g c = unknown_refused c.args.cluster.now.flat c.args.node c.args.response c.args.ended.now (node_missing c.args.cluster.now.flat c.nodes.result.now c.args.node c.nodes.ensures.value c.in_default.ensures.found)
 
-pub returns-then-is_bad_id : goal.returns-then-is_bad_id
-returns-then-is_bad_id g c =
+pub returns-then-is_bad_id-clause-replies : goal.returns-then-is_bad_id-clause-replies
+returns-then-is_bad_id-clause-replies g c =
     let there = node_shown c.args.cluster.now.flat c.nodes.result.now c.args.node c.in-Some.found.now c.nodes.ensures.value c.in-Some.ensures.found in
     bad_refused c.args.cluster.now.flat c.args.node c.args.response c.args.ended.now c.in-Some.found.now there (sym c.is_bad_id.ensures ∙ c.if-is_bad_id.true)
 
@@ -20,8 +20,8 @@ beat-reply-requires g c =
     let there = node_shown c.args.cluster.now.flat c.nodes.result.now c.args.node c.in-Some.found.now c.nodes.ensures.value c.in-Some.ensures.found in
     (omega (arith, kinds), rw (c.end_named-ignored.ensures.ended, there) refl)
 
-pub returns-in-Some-repeated : goal.returns-in-Some-repeated
-returns-in-Some-repeated g c =
+pub returns-in-Some-repeated-clause-replies : goal.returns-in-Some-repeated-clause-replies
+returns-in-Some-repeated-clause-replies g c =
     let old = c.args.cluster.now.flat in
     let there = node_shown old c.nodes.result.now c.args.node c.in-Some.found.now c.nodes.ensures.value c.in-Some.ensures.found in
     let none = unrefused old c.args.node c.args.response c.in-Some.found.now there (sym c.is_bad_id.ensures ∙ c.if-is_bad_id.false) in
@@ -30,8 +30,8 @@ returns-in-Some-repeated g c =
     told_is old c.args.node c.args.response c.args.ended.now old c.in-Some-repeated.reply none (ap (option_and_then (λ (x : ClusterNode). x.kept)) there ∙ repeats.1)
     (ap (λ b. if b then old else after_processed_heartbeat old c.args.node c.args.response c.args.ended.now) (sym again))
 
-pub returns : goal.returns
-returns g c =
+pub returns-clause-replies : goal.returns-clause-replies
+returns-clause-replies g c =
     let old = c.args.cluster.now.flat in
     let x = c.in-Some.found.now in
     let there = node_shown old c.nodes.result.now c.args.node x c.nodes.ensures.value c.in-Some.ensures.found in

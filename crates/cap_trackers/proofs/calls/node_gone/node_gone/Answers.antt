@@ -2,8 +2,8 @@ use Rattle.std.proofs.Common.{arith}
 use Rattle.cap_trackers.proofs.Answering.{none_seen, some_seen, gone_refused, gone_is}
 use Rattle.cap_trackers.proofs.calls.node_gone.node_gone.Goals as goal
 
-pub returns-then-is_none : goal.returns-then-is_none
-returns-then-is_none g c = gone_refused c.args.cluster.now.flat c.args.node (none_seen c.args.cluster.now.flat c.nodes.result.now c.args.node c.node.result c.nodes.ensures.value c.node.ensures.found c.if-is_none.ensures)
+pub returns-then-is_none-clause-replies : goal.returns-then-is_none-clause-replies
+returns-then-is_none-clause-replies g c = gone_refused c.args.cluster.now.flat c.args.node (none_seen c.args.cluster.now.flat c.nodes.result.now c.args.node c.node.result c.nodes.ensures.value c.node.ensures.found c.if-is_none.ensures)
 
 pub drop_node-requires : goal.drop_node-requires
 drop_node-requires g c =
@@ -11,7 +11,7 @@ drop_node-requires g c =
     let there = some_seen c.args.cluster.now.flat c.nodes.result.now c.args.node c.node.result c.nodes.ensures.value c.node.ensures.found c.if-is_none.ensures in
     (omega (arith, kinds), (rw c.end_all-ended.ensures.ended there, c.end_all-ended.ensures.none))
 
-pub returns : goal.returns
-returns g c =
+pub returns-clause-replies : goal.returns-clause-replies
+returns-clause-replies g c =
     let there = some_seen c.args.cluster.now.flat c.nodes.result.now c.args.node c.node.result c.nodes.ensures.value c.node.ensures.found c.if-is_none.ensures in
     gone_is c.args.cluster.now.flat c.args.node c.end_all-ended.new.self.flat c.drop_node.new.self.flat c.end_all-ended.result there c.end_all-ended.ensures.count c.end_all-ended.ensures.ended c.drop_node.ensures.flat

@@ -12,8 +12,8 @@ set_state-requires g c =
     ] in
     (cluster_fits _ c.tree.ensures.resources, (rw c.tree.ensures.rows at at).present)
 
-pub returns : goal.returns
-returns g c =
+pub returns-clause-replies : goal.returns-clause-replies
+returns-clause-replies g c =
     let at : IsAt c.tree.result.now c.as_bytes.result.now c.match-find.position.items = elim c.match-find.branch [
       | in-Leaf w ↦ rw w.position-is w.in-Leaf.ensures.found.0
       | in-Parent w ↦ rw w.position-is w.in-Parent.ensures.found.0
