@@ -76,7 +76,8 @@ impl<T: Copy> News<T> {
 
     /// Those that were told last.
     pub(crate) fn told(&self) -> &[T]
-        ensures { result.now ≡ self.now.told }
+        ensures value { result.now ≡ self.now.told }
+        ensures few { length result.now ≤ news_max }
     {
         &self.items[..self.told]
     }

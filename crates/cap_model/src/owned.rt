@@ -50,8 +50,8 @@ impl<const K: usize> ReplyRoom<K> {
         };
         let ReplyRoom { mut grants, mut ends } = self;
         let (Ok(()), Ok(())) = (
-            grants.extend_from_slice(reply.grants),
-            ends.extend_from_slice(reply.ends),
+            grants.extend_from_slice(reply.grants()),
+            ends.extend_from_slice(reply.ends()),
         ) else {
             unreachable!()
         };

@@ -1,3 +1,6 @@
+ghost use Rattle.std.specs.Prelude.{◌≡◌, ◌≤◌, length};
+ghost use Rattle.cap_model.specs.Limits.{news_max};
+
 use crate::news::{End, Grant};
 use std::marker::Model;
 
@@ -25,7 +28,7 @@ pub struct AllocateNumbers {
     pub reported: Reported,
 }
 
-/// The answer to a processed allocate, its grants and ends lent.
+/// The answer to a processed allocate, its grants and ends lent: at most `NEWS_MAX` of each.
 pub struct AllocateView<'a, const K: usize> {
     /// The new response id.
     pub response: u32,
@@ -38,11 +41,33 @@ pub struct AllocateView<'a, const K: usize> {
 }
 
 impl<'a, const K: usize> Model for AllocateView<'a, K> {
+    ghost use Rattle.std.specs.Prelude.{◌≤◌, length};
+    ghost use Rattle.cap_model.specs.Limits.{news_max};
     ghost use Rattle.cap_model.specs.News.{AllocateReply as Told};
 
     ghost Value = { Told };
 
     ghost view = { λ r. record { response = r.response; ignored = r.ignored; grants = r.grants.now; ends = r.ends.now } };
+
+    ghost invariant = { λ r. (length r.grants.now ≤ news_max) × (length r.ends.now ≤ news_max) };
+}
+
+impl<'a, const K: usize> AllocateView<'a, K> {
+    /// The oldest grants that were not reported before.
+    pub fn grants(&self) -> &[Grant<K>]
+        ensures value { result.now ≡ self.now.grants }
+        ensures few { length result.now ≤ news_max }
+    {
+        self.grants
+    }
+
+    /// The oldest ends that were not reported before.
+    pub fn ends(&self) -> &[End]
+        ensures value { result.now ≡ self.now.ends }
+        ensures few { length result.now ≤ news_max }
+    {
+        self.ends
+    }
 }
 
 /// The answer to a processed allocate, owned.
