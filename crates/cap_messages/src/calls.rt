@@ -1,4 +1,4 @@
-ghost use Rattle.cap_model.specs.Replies.{Replies};
+ghost use Rattle.cap_model.specs.Reporting.{HasNumbers, RepliesInFull, full_reply};
 ghost use Rattle.cap_messages.specs.Spelling.{IsOfKind, kind_of};
 
 use cap_commit::Cluster;
@@ -9,10 +9,12 @@ use cap_trackers::{
 };
 use std::alloc::Global;
 
-/// Makes the call that the request names, and answers it. A refusal changes nothing, and neither does want of memory.
+/// Makes the call that the request names, and answers it; `Cluster::view` lends the reply in full. A refusal changes nothing, and
+/// neither does a failed allocation.
 pub fn dispatch(_alloc: Global, cluster: &mut Cluster<2>, request: &Request<2>) -> Reply<2>
-    ensures replies { Replies cluster.old.flat request.now result cluster.new.flat }
-    ensures kind { IsOfKind (kind_of request.now) result }
+    ensures replies { RepliesInFull cluster.old.flat request.now result cluster.new.flat }
+    ensures numbers { HasNumbers cluster.new.flat result }
+    ensures kind { IsOfKind (kind_of request.now) (full_reply cluster.new.flat result) }
 {
     match request {
         Request::Submit { path, user } => submit(cluster, path, user),

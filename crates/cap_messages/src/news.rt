@@ -3,7 +3,7 @@ ghost use Rattle.std.specs.List.{flat_map, AllByRecursion};
 ghost use Rattle.cap_messages.specs.Spelling.{grant, end, counted_list, allocated, beat, FitsGrant, FitsEnd, FitsAllocated, FitsBeat};
 
 use crate::output::{Out, put_amounts};
-use cap_model::{AllocateReply, End, Grant, HeartbeatReply};
+use cap_model::{AllocateView, End, Grant, HeartbeatReply};
 
 // One grant.
 #[tactic(auto, unfolding(crate::specs::Spelling::grant))]
@@ -67,7 +67,7 @@ fn put_ends(ends: &[End], out: &mut Out)
 
 // What an Allocate gives.
 #[tactic(auto, unfolding(crate::specs::Spelling::allocated))]
-pub(crate) fn put_allocated(reply: &AllocateReply<2>, out: &mut Out)
+pub(crate) fn put_allocated(reply: &AllocateView<'_, 2>, out: &mut Out)
     requires { 7560 ≤ out.old.spare }
     ensures appends { out.new.items ≡ out.old.items ++ allocated reply.now }
     ensures spare { out.new.spare + length (allocated reply.now) ≡ out.old.spare }
@@ -76,10 +76,12 @@ pub(crate) fn put_allocated(reply: &AllocateReply<2>, out: &mut Out)
 {
     out.extend_reserved(&reply.response.to_be_bytes());
     out.extend_reserved(&reply.ignored.to_be_bytes());
-    out.extend_reserved(&[reply.grants.len() as u8]);
-    put_grants(&reply.grants, out);
-    out.extend_reserved(&[reply.ends.len() as u8]);
-    put_ends(&reply.ends, out);
+    let grants = reply.grants();
+    out.extend_reserved(&[grants.len() as u8]);
+    put_grants(grants, out);
+    let ends = reply.ends();
+    out.extend_reserved(&[ends.len() as u8]);
+    put_ends(ends, out);
 }
 
 // What a Heartbeat gives.

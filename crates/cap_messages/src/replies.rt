@@ -6,10 +6,10 @@ use crate::cluster_info::put_cluster_report;
 use crate::news::{put_allocated, put_beat};
 use crate::output::{Out, REPLY_ROOM, put_amounts};
 use crate::queue_calls::put_queue_report;
-use cap_model::Reply;
+use cap_model::{ReplyView, ReplyWith};
 
 // The status and what follows it, after the 10 bytes of a frame's length and a reply's head.
-fn put_reply_body(reply: &Reply<2>, out: &mut Out)
+fn put_reply_body(reply: &ReplyView<'_, 2>, out: &mut Out)
     requires { REPLY_ROOM ≤ out.old.spare + 10 }
     ensures appends { out.new.items ≡ out.old.items ++ reply_body reply.now }
     ensures spare { out.new.spare + length (reply_body reply.now) ≡ out.old.spare }
@@ -17,30 +17,30 @@ fn put_reply_body(reply: &Reply<2>, out: &mut Out)
     ensures fits { FitsReply reply.now }
 {
     match reply {
-        Reply::Refused(refusal) => out.extend_reserved(&[refusal.status()]),
-        Reply::Submit { application } => put_number(*application, out),
-        Reply::RegisterMaster { minimum, maximum } => {
+        ReplyWith::Refused(refusal) => out.extend_reserved(&[refusal.status()]),
+        ReplyWith::Submit { application } => put_number(*application, out),
+        ReplyWith::RegisterMaster { minimum, maximum } => {
             out.extend_reserved(&[0]);
             put_amounts(minimum, out);
             put_amounts(maximum, out);
         }
-        Reply::Allocate { reply } => {
+        ReplyWith::Allocate { reply } => {
             out.extend_reserved(&[0]);
             put_allocated(reply, out);
         }
-        Reply::FinishMaster { ended } => put_count(*ended, out),
-        Reply::RegisterNode { node } => put_number(*node, out),
-        Reply::Heartbeat { reply } => {
+        ReplyWith::FinishMaster { ended } => put_count(*ended, out),
+        ReplyWith::RegisterNode { node } => put_number(*node, out),
+        ReplyWith::Heartbeat { reply } => {
             out.extend_reserved(&[0]);
             put_beat(reply, out);
         }
-        Reply::NodeGone { ended } => put_count(*ended, out),
-        Reply::QueueInfo { report } => {
+        ReplyWith::NodeGone { ended } => put_count(*ended, out),
+        ReplyWith::QueueInfo { report } => {
             out.extend_reserved(&[0]);
             put_queue_report(report, out);
         }
-        Reply::SetQueueState => out.extend_reserved(&[0]),
-        Reply::ClusterInfo { report } => {
+        ReplyWith::SetQueueState => out.extend_reserved(&[0]),
+        ReplyWith::ClusterInfo { report } => {
             out.extend_reserved(&[0]);
             put_cluster_report(report, out);
         }
@@ -69,7 +69,7 @@ fn put_count(count: u32, out: &mut Out)
 
 /// Appends the one spelling of a reply to a request of this call id and kind: the reply is a refusal or one of the
 /// kind, and `REPLY_ROOM` bytes of `out` are free. It takes no memory and cannot fail; what `out` held stays.
-pub fn write_reply(call_id: u32, kind: u8, reply: &Reply<2>, out: &mut Out)
+pub fn write_reply(call_id: u32, kind: u8, reply: &ReplyView<'_, 2>, out: &mut Out)
     requires kind { IsOfKind kind reply.now }
     requires room { REPLY_ROOM ≤ out.old.spare }
     ensures appends { out.new.items ≡ out.old.items ++ reply_bytes call_id kind reply.now }
