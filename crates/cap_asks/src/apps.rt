@@ -12,9 +12,7 @@ ghost use Rattle.cap_asks.specs.Apps.{IsEntered, IsLeft, account_of, ask_room, l
 ghost use Rattle.cap_model.specs.Reporting.{reported_of};
 
 use crate::app::{App, Position};
-use cap_model::{
-    AllocateView, Ask, End, Grant, Key, NoMemory, PathText, Reported, ShortText,
-};
+use cap_model::{AllocateView, Ask, End, Grant, Key, NoMemory, PathText, Reported, ShortText};
 use indexmap::IndexMap;
 use std::alloc::Global;
 use std::marker::Model;

@@ -21,11 +21,7 @@ impl<const K: usize> Cluster<K> {
     }
 
     /// Room for the grants and ends of the reply to a request, whatever it is answered now. If an allocation fails there is none.
-    pub fn reply_room(
-        &self,
-        alloc: Global,
-        request: &Request<K>,
-    ) -> Result<ReplyRoom<K>, NoMemory>
+    pub fn reply_room(&self, alloc: Global, request: &Request<K>) -> Result<ReplyRoom<K>, NoMemory>
         ensures { IfOk result (λ room. HasRoomForReplies self.now.flat request.now room) }
     {
         let Request::Allocate {

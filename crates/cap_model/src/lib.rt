@@ -26,8 +26,8 @@ pub use event::Event;
 pub use list::{Asks, List, Numbers};
 pub use news::{Cause, End, Grant};
 pub use no_memory::NoMemory;
-pub use refusal::{Refusal, first_refusal};
 pub use owned::ReplyRoom;
+pub use refusal::{Refusal, first_refusal};
 pub use replies::{
     AllocateNumbers, AllocateReply, AllocateView, HeartbeatReply, NEWS_MAX, Reported,
 };

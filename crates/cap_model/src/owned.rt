@@ -48,7 +48,10 @@ impl<const K: usize> ReplyRoom<K> {
         let ReplyWith::Allocate { reply } = reply else {
             return reply.other();
         };
-        let ReplyRoom { mut grants, mut ends } = self;
+        let ReplyRoom {
+            mut grants,
+            mut ends,
+        } = self;
         let (Ok(()), Ok(())) = (
             grants.extend_from_slice(reply.grants()),
             ends.extend_from_slice(reply.ends()),

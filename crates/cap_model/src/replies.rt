@@ -29,6 +29,7 @@ pub struct AllocateNumbers {
 }
 
 /// The answer to a processed allocate, its grants and ends lent: at most `NEWS_MAX` of each.
+#[derive(Drop)]
 pub struct AllocateView<'a, const K: usize> {
     /// The new response id.
     pub response: u32,

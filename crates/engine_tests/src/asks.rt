@@ -1,5 +1,5 @@
-use cap_asks::{Apps, Position, Reported};
-use cap_model::{Ask, Cause, End, Grant, Key, NUMBER_END, PathText, ShortText};
+use cap_asks::{Apps, Position};
+use cap_model::{Ask, Cause, End, Grant, Key, NUMBER_END, PathText, Reported, ShortText};
 use cap_testing::first;
 use cap_vector::Resource;
 use std::alloc::Global;
@@ -263,16 +263,17 @@ fn reported(apps: &Apps<2>) -> Option<Reported> {
     app.repeated(app.response().checked_sub(1)?)
 }
 
-/// The last reply: its response id, how many releases were ignored, and how many grants and ends it has.
+/// The last reply: its response id, how many releases were ignored, and how many grants and ends it has; none where these are not
+/// as many as its numbers say.
 fn reply(alloc: Global, changes: &[Change]) -> Option<(u32, u16, usize, usize)> {
     let apps = after(alloc, changes)?;
-    let reply = apps.reply(1, &reported(&apps)?);
-    Some((
-        reply.response,
-        reply.ignored,
-        reply.grants.len(),
-        reply.ends.len(),
-    ))
+    let reported = reported(&apps)?;
+    let reply = apps.reply(1, &reported);
+    let (grants, ends) = (reply.grants().len(), reply.ends().len());
+    if (reported.grants, reported.ends) != (grants, ends) {
+        return None;
+    }
+    Some((reply.response, reply.ignored, grants, ends))
 }
 
 /// How many containers of application 1 are live.
@@ -293,7 +294,7 @@ fn granted_containers_are_live_until_they_end(rt: HostRuntime) {
 fn granted(alloc: Global, changes: &[Change]) -> Option<(u64, u64)> {
     let apps = after(alloc, changes)?;
     let reply = apps.reply(1, &reported(&apps)?);
-    let (begin, end) = (reply.grants.first()?, reply.grants.last()?);
+    let (begin, end) = (reply.grants().first()?, reply.grants().last()?);
     Some((begin.container(), end.container()))
 }
 

@@ -37,7 +37,7 @@ fn allocated(alloc: Global, cluster: &mut Cluster<2>, memory: u64) -> Option<u32
     let asks = ask_for(alloc, memory)?;
     let releases: Numbers = List::of(Vec::new(alloc));
     match allocate(cluster, 1, 0, &asks, &releases) {
-        Reply::Allocate { reply } => Some(reply.response),
+        Reply::Allocate { reply } => Some(reply.reported.response),
         _ => None,
     }
 }

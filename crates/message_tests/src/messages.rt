@@ -1,13 +1,12 @@
 ghost use Rattle.cap_messages.specs.Spelling.{IsOfKind};
 
-use arrayvec::ArrayVec;
 use cap_messages::{
     MessageFault, Out, REPLY_ROOM, kind, read_request, replies_have_one_spelling,
     requests_have_one_spelling, write_fault, write_reply,
 };
 use cap_model::{
-    AllocateReply, ClusterReport, Grant, HeartbeatReply, Key, QueueReport, Refusal, Reply, Request,
-    ShortText,
+    AllocateView, ClusterReport, Grant, HeartbeatReply, Key, QueueReport, Refusal, ReplyView,
+    ReplyWith, Request, ShortText,
 };
 use cap_testing::{Call, frame};
 use cap_vector::{Resource, Sum};
@@ -332,25 +331,25 @@ fn paths_have_bounds(rt: HostRuntime) {
 }
 
 /// The kind of the request that a reply answers; of a refusal, which answers any, 1.
-fn kind_of(reply: &Reply<2>) -> u8
+fn kind_of(reply: &ReplyView<'_, 2>) -> u8
     ensures { IsOfKind result reply.now }
 {
     match reply {
-        Reply::Refused(_) | Reply::Submit { .. } => 1,
-        Reply::RegisterMaster { .. } => 2,
-        Reply::Allocate { .. } => 3,
-        Reply::FinishMaster { .. } => 4,
-        Reply::RegisterNode { .. } => 5,
-        Reply::Heartbeat { .. } => 6,
-        Reply::NodeGone { .. } => 7,
-        Reply::QueueInfo { .. } => 8,
-        Reply::SetQueueState => 9,
-        Reply::ClusterInfo { .. } => 10,
+        ReplyWith::Refused(_) | ReplyWith::Submit { .. } => 1,
+        ReplyWith::RegisterMaster { .. } => 2,
+        ReplyWith::Allocate { .. } => 3,
+        ReplyWith::FinishMaster { .. } => 4,
+        ReplyWith::RegisterNode { .. } => 5,
+        ReplyWith::Heartbeat { .. } => 6,
+        ReplyWith::NodeGone { .. } => 7,
+        ReplyWith::QueueInfo { .. } => 8,
+        ReplyWith::SetQueueState => 9,
+        ReplyWith::ClusterInfo { .. } => 10,
     }
 }
 
 /// Whether these bytes are what is written of a reply.
-fn is_written(alloc: Global, call_id: u32, reply: Option<Reply<2>>, bytes: &[u8]) -> bool {
+fn is_written(alloc: Global, call_id: u32, reply: Option<ReplyView<'_, 2>>, bytes: &[u8]) -> bool {
     let (Some(reply), Ok(mut out)) = (reply, Out::with_capacity(alloc, REPLY_ROOM)) else {
         return false;
     };
@@ -360,31 +359,31 @@ fn is_written(alloc: Global, call_id: u32, reply: Option<Reply<2>>, bytes: &[u8]
 
 #[test]
 fn replies_of_a_number_are_written(rt: HostRuntime) {
-    let cases: [(u32, Reply<2>, &[u8]); 6] = [
+    let cases: [(u32, ReplyView<'_, 2>, &[u8]); 6] = [
         (
             1,
-            Reply::Submit { application: 1 },
+            ReplyWith::Submit { application: 1 },
             &[1, 1, 0, 0, 0, 1, 0, 0, 0, 0, 0, 0, 0, 0, 1],
         ),
         (
             2,
-            Reply::RegisterNode { node: 1 },
+            ReplyWith::RegisterNode { node: 1 },
             &[1, 5, 0, 0, 0, 2, 0, 0, 0, 0, 0, 0, 0, 0, 1],
         ),
         (
             1,
-            Reply::FinishMaster { ended: 2 },
+            ReplyWith::FinishMaster { ended: 2 },
             &[1, 4, 0, 0, 0, 1, 0, 0, 0, 0, 2],
         ),
         (
             1,
-            Reply::NodeGone { ended: 3 },
+            ReplyWith::NodeGone { ended: 3 },
             &[1, 7, 0, 0, 0, 1, 0, 0, 0, 0, 3],
         ),
-        (1, Reply::SetQueueState, &[1, 9, 0, 0, 0, 1, 0]),
+        (1, ReplyWith::SetQueueState, &[1, 9, 0, 0, 0, 1, 0]),
         (
             1,
-            Reply::Heartbeat {
+            ReplyWith::Heartbeat {
                 reply: HeartbeatReply {
                     response: 1,
                     ignored: 2,
@@ -407,7 +406,7 @@ fn is_refused(alloc: Global, call_id: u8, kind: u8, refusal: Refusal, status: u8
     let Ok(mut out) = Out::with_capacity(alloc, REPLY_ROOM) else {
         return false;
     };
-    write_reply(call_id as u32, kind, &Reply::Refused(refusal), &mut out);
+    write_reply(call_id as u32, kind, &ReplyWith::Refused(refusal), &mut out);
     out.as_slice() == [1, kind, 0, 0, 0, call_id, status].as_slice()
 }
 
@@ -427,8 +426,8 @@ fn refusals_are_written(rt: HostRuntime) {
 }
 
 /// The reply to a ClusterInfo of a cluster with one node.
-fn cluster_info() -> Option<Reply<2>> {
-    Some(Reply::ClusterInfo {
+fn cluster_info() -> Option<ReplyView<'static, 2>> {
+    Some(ReplyWith::ClusterInfo {
         report: ClusterReport {
             nodes: 1,
             applications: 0,
@@ -440,8 +439,8 @@ fn cluster_info() -> Option<Reply<2>> {
 }
 
 /// The reply to a QueueInfo of a running leaf of (4096, 4) up to (16384, 16).
-fn leaf_info() -> Option<Reply<2>> {
-    Some(Reply::QueueInfo {
+fn leaf_info() -> Option<ReplyView<'static, 2>> {
+    Some(ReplyWith::QueueInfo {
         report: QueueReport {
             running: true,
             leaf: true,
@@ -454,8 +453,8 @@ fn leaf_info() -> Option<Reply<2>> {
 }
 
 /// The reply to a QueueInfo of a stopped parent with this maximum, which uses (3072, 2) and has 5 applications.
-fn parent_info(maximum: Option<Resource<2>>) -> Option<Reply<2>> {
-    Some(Reply::QueueInfo {
+fn parent_info(maximum: Option<Resource<2>>) -> Option<ReplyView<'static, 2>> {
+    Some(ReplyWith::QueueInfo {
         report: QueueReport {
             running: false,
             leaf: false,
@@ -468,38 +467,32 @@ fn parent_info(maximum: Option<Resource<2>>) -> Option<Reply<2>> {
 }
 
 /// The reply to a RegisterMaster.
-fn allocations() -> Option<Reply<2>> {
-    Some(Reply::RegisterMaster {
+fn allocations() -> Option<ReplyView<'static, 2>> {
+    Some(ReplyWith::RegisterMaster {
         minimum: Resource::new([1024, 1])?,
         maximum: Resource::new([8192, 4])?,
     })
 }
 
-/// The reply to an Allocate that grants container 1, with response id 2.
-fn granted() -> Option<Reply<2>> {
-    let host = ShortText::new(b"n1")?;
-    let resource = Resource::new([1024, 1])?;
-    let mut grants = ArrayVec::new();
-    grants
-        .try_push(Grant::new(
-            1,
-            &Key {
-                priority: 1,
-                request: 0,
-            },
-            1,
-            &host,
-            &resource,
-        ))
-        .ok()?;
-    Some(Reply::Allocate {
-        reply: AllocateReply {
+/// Whether the reply to an Allocate that grants container 1, with response id 2, is written as these bytes.
+fn is_granted(alloc: Global, bytes: &[u8]) -> bool {
+    let (Some(host), Some(resource)) = (ShortText::new(b"n1"), Resource::new([1024, 1])) else {
+        return false;
+    };
+    let key = Key {
+        priority: 1,
+        request: 0,
+    };
+    let grants = [Grant::new(1, &key, 1, &host, &resource)];
+    let reply = ReplyWith::Allocate {
+        reply: AllocateView {
             response: 2,
             ignored: 0,
-            grants,
-            ends: ArrayVec::new(),
+            grants: &grants,
+            ends: &[],
         },
-    })
+    };
+    is_written(alloc, 6, Some(reply), bytes)
 }
 
 #[test]
@@ -515,7 +508,7 @@ fn infos_are_written(rt: HostRuntime) {
 #[test]
 fn replies_to_masters_are_written(rt: HostRuntime) {
     assert!(rt; is_written(rt.alloc(), 3, allocations(), ALLOCATIONS));
-    assert!(rt; is_written(rt.alloc(), 6, granted(), ALLOCATE_REPLY));
+    assert!(rt; is_granted(rt.alloc(), ALLOCATE_REPLY));
 }
 
 /// Whether this fault is written as seven bytes that end in its number.

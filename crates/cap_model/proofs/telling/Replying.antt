@@ -152,7 +152,7 @@ module _ {K : ℕ} (old : Flat K) (n id : ℕ) (asks : List Ask) (releases : Lis
   allocate_room app there false e =
       let fresh : NewsRoom = record { grants = min news_max (length app.grants); ends = min news_max (length app.ends + length releases) } in
       let is : news_most app id (length releases) ≡ fresh =
-          ap (λ b. if b then option_map_or (λ (k : AllocateReply). record { grants = length k.grants; ends = length k.ends }) app.kept (record { grants = 0; ends = 0 }) else fresh) e in
+      ap (λ b. if b then option_map_or (λ (k : AllocateReply). record { grants = length k.grants; ends = length k.ends }) app.kept (record { grants = 0; ends = 0 }) else fresh) e in
       subst (λ (m : NewsRoom). (length told.grants ≤ m.grants) × (length told.ends ≤ m.ends)) (sym is) (fresh_room app there)
 
   pub some_room : (app : App) → app_at old n ≡ Some app → (reply : Reply K) (new : Flat K) → Replies old (Request.Allocate n id asks releases) reply new → HasRoomFor reply (news_most app id (length releases))
