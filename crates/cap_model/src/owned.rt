@@ -68,3 +68,17 @@ impl<const K: usize> ReplyRoom<K> {
         }
     }
 }
+
+impl<const K: usize> ReplyWith<K, AllocateReply<K>> {
+    /// The same reply, lent.
+    pub fn view(&self) -> ReplyView<'_, K>
+        ensures { result ≡ self.now }
+    {
+        let ReplyWith::Allocate { reply } = self else {
+            return self.other();
+        };
+        ReplyWith::Allocate {
+            reply: reply.view(),
+        }
+    }
+}

@@ -71,7 +71,7 @@ impl<'a, const K: usize> AllocateView<'a, K> {
     }
 }
 
-/// The answer to a processed allocate, owned.
+/// The answer to a processed allocate, owned: at most `NEWS_MAX` grants and ends.
 #[derive(Drop)]
 pub struct AllocateReply<const K: usize> {
     /// The new response id.
@@ -85,11 +85,29 @@ pub struct AllocateReply<const K: usize> {
 }
 
 impl<const K: usize> Model for AllocateReply<K> {
+    ghost use Rattle.std.specs.Prelude.{◌≤◌, length};
+    ghost use Rattle.cap_model.specs.Limits.{news_max};
     ghost use Rattle.cap_model.specs.News.{AllocateReply as Told};
 
     ghost Value = { Told };
 
     ghost view = { λ r. record { response = r.response; ignored = r.ignored; grants = r.grants.items; ends = r.ends.items } };
+
+    ghost invariant = { λ r. (length r.grants.items ≤ news_max) × (length r.ends.items ≤ news_max) };
+}
+
+impl<const K: usize> AllocateReply<K> {
+    /// The same, lent.
+    pub fn view(&self) -> AllocateView<'_, K>
+        ensures { result ≡ self.now }
+    {
+        AllocateView {
+            response: self.response,
+            ignored: self.ignored,
+            grants: &self.grants,
+            ends: &self.ends,
+        }
+    }
 }
 
 /// The answer to a processed heartbeat.

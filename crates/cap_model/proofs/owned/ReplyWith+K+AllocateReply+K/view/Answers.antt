@@ -1,0 +1,6 @@
+use Rattle.std.proofs.Common.{◌∙◌}
+use Rattle.cap_model.proofs.telling.Replying.{map_same}
+use Rattle.cap_model.proofs.owned.ReplyWith+K+AllocateReply+K.view.Goals as goal
+
+pub returns-in_default : goal.returns-in_default
+returns-in_default g c = c.other.ensures (λ r. r) ∙ map_same c.args.self.now
