@@ -1,0 +1,4 @@
+mod Logs
+pub mod Answering
+mod Steps
+mod Bytes

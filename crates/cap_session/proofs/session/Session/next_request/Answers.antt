@@ -1,0 +1,34 @@
+use Rattle.std.proofs.Common.{refl, ◌∙◌, ap, subst, Some}
+use Rattle.cap_session.specs.Session.{SessionState, NextGives}
+use Rattle.cap_session.specs.Kept.{IsKept, state_inside}
+use Rattle.cap_session.specs.declared.session.Session.TheInside.{Inside}
+use Rattle.cap_session.specs.declared.session.Cause.TheVariants as causes
+use Rattle.cap_session.specs.declared.session.Next.TheVariants as nexts
+use Rattle.cap_session.proofs.Steps.{asks, rests, starves, faults}
+use Rattle.cap_session.proofs.session.Session.next_request.Goals as goal
+
+-- the session that hands out a request
+abbrev asking : goal.After-opened-1 → Inside
+asking c = record c.self.inside { framer = c.find.new.framer; unsent = c.find.new.unsent; answered = c.find.new.answered; head = Some c.in-Request.head; opened = c.in-Request.opened }
+
+asked : (c : goal.After-opened-1) → IsKept (asking c) × NextGives (state_inside c.self.inside) (state_inside (asking c)) (nexts.Request c.in-Request.request)
+asked c =
+    asks c.self.inside (asking c) c.in-Request.head c.in-Request.opened c.in-Request.request c.self.invariant c.in_default.is (ap (λ (s : SessionState). s.open_request) c.self.view_is ∙ c.requires) c.in-Request.ensures refl refl refl refl
+
+pub invariant_of-self : goal.invariant_of-self
+invariant_of-self c = (asked c).0
+
+pub returns-in-Request-clause-open : goal.returns-in-Request-clause-open
+returns-in-Request-clause-open c over = subst (λ (s : SessionState). NextGives s (state_inside (asking c)) (nexts.Request c.in-Request.request)) c.self.view_is (asked c).1
+
+pub invariant_of-self-in-Rest : goal.invariant_of-self-in-Rest
+invariant_of-self-in-Rest c =
+    (rests c.self.inside (record c.self.inside { framer = c.find.new.framer; unsent = c.find.new.unsent; answered = c.find.new.answered }) c.self.invariant c.in_default.is (ap (λ (s : SessionState). s.open_request) c.self.view_is ∙ c.requires) c.in-Rest.ensures refl refl refl refl).0
+
+pub invariant_of-self-in-BadLength : goal.invariant_of-self-in-BadLength
+invariant_of-self-in-BadLength c =
+    (faults c.self.inside (record c.self.inside { framer = c.find.new.framer; unsent = c.find.new.unsent; answered = c.find.new.answered; ended = Some causes.BadLength }) c.self.invariant c.in_default.is (ap (λ (s : SessionState). s.open_request) c.self.view_is ∙ c.requires) c.in-BadLength.ensures refl refl refl refl).0
+
+pub invariant_of-self-in-NoMemory : goal.invariant_of-self-in-NoMemory
+invariant_of-self-in-NoMemory c =
+    (starves c.self.inside (record c.self.inside { framer = c.find.new.framer; unsent = c.find.new.unsent; answered = c.find.new.answered; ended = Some causes.NoMemory }) c.self.invariant c.in_default.is (ap (λ (s : SessionState). s.open_request) c.self.view_is ∙ c.requires) c.in-NoMemory.ensures refl refl refl refl).0
