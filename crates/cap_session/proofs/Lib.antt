@@ -1,4 +1,6 @@
 mod Logs
-pub mod Answering
+mod Answering
 mod Steps
+pub mod Continuing
+mod Unanswered
 mod Bytes

@@ -9,7 +9,7 @@ use Rattle.cap_frames.specs.History.{History, after_gift, IsReading, IsAtFault}
 use Rattle.cap_messages.specs.declared.fault.MessageFault.{MessageFault}
 use Rattle.cap_messages.specs.Spelling.{IsRequest, IsNoRequest, IsReply, kind_of, reply_bytes, fault_reply}
 use Rattle.cap_session.specs.Answers.{nothing}
-use Rattle.cap_session.specs.Session.{OpenRequest, open_payload, SpellsAnswer, FollowsStream, NextGives, answer_bytes, with_answer, after_answer, AnswersBy}
+use Rattle.cap_session.specs.Session.{OpenRequest, open_payload, SpellsAnswer, FollowsStream, IsSession, EndsNow, NextGives, answer_bytes, with_answer, after_answer, AnswersBy}
 use Rattle.cap_session.specs.Kept.{ReadResult, PayloadLog, AnswerLog, payloads_in, calls_in, answered_in, calls_of, open_of, sent_in, state_inside, SpellsRequest, IsHeadOf, IsKept, HasRoom, AnswersBad, AnswersAllBad, Finds, EndsWith}
 use Rattle.cap_session.specs.declared.find.Head.{Head}
 use Rattle.cap_session.specs.declared.find.Found.{Found}
@@ -85,7 +85,7 @@ fault_found {h} {k} {v} {old} {log} m u w found.NoMemory r fed given at reading 
 -- ---- what comes next
 
 -- the payloads that were answered, the open one and later ones are those of the stream
-pub follows : (s : Inside) → IsKept s → FollowsStream (state_inside s)
+follows : (s : Inside) → IsKept s → FollowsStream (state_inside s)
 follows s kept =
     let payload = open_payload (open_of s.head s.opened.items) in
     let answered = answered_in s.answered.items in
@@ -96,6 +96,9 @@ follows s kept =
           (ap (λ (x : List (List ℕ)). x ++ coming) kept.given ∙ append_assoc answered (payload ++ kept.lost) coming ∙ ap (λ (x : List (List ℕ)). answered ++ x) (append_assoc payload kept.lost coming))
           kept.reading.2,
     )
+
+pub promises : (s : Inside) → IsKept s → IsSession (state_inside s)
+promises s kept = record { stream = follows s kept; answers = kept.answers }
 
 -- all payloads that were given were answered
 given_now : (s : Inside) → IsKept s → s.ended ≡ None → open_of s.head s.opened.items ≡ None → s.framer.given ≡ answered_in s.answered.items
@@ -149,10 +152,10 @@ asks s t head opened request kept over none (payloads, frames, p, step, given, r
       answers = answered_open (state_inside t) (e ∙ over) (answers_refused (state_inside s) (state_inside t) payloads frames (answers_open (state_inside s) over kept.answers) step.answers answered calls sent unsent);
       none_open = λ x. absurd cc;
     } in
-    (now, (payloads, frames, now_open, step.answers, refl, is, cc))
+    (now, (over, payloads, frames, now_open, step.answers, refl, is, cc))
 
 pub starves : (s t : Inside) → IsKept s → s.ended ≡ None → open_of s.head s.opened.items ≡ None → Finds s.framer t.framer s.unsent t.unsent s.answered.items t.answered.items found.NoMemory
-    → t.head ≡ s.head → t.opened ≡ s.opened → t.ended ≡ Some causes.NoMemory → t.sent ≡ s.sent → IsKept t × NextGives (state_inside s) (state_inside t) (nexts.Ended causes.NoMemory)
+    → t.head ≡ s.head → t.opened ≡ s.opened → t.ended ≡ Some causes.NoMemory → t.sent ≡ s.sent → IsKept t × EndsNow (state_inside s) (state_inside t) causes.NoMemory
 starves s t kept over none (payloads, frames, lost, step, given, reading) i o e g =
     let is = still_none s t kept none i o in
     let opens = is.none in
@@ -175,7 +178,7 @@ starves s t kept over none (payloads, frames, lost, step, given, reading) i o e 
     (now, (payloads, frames, step.answers, cc))
 
 pub faults : (s t : Inside) → IsKept s → s.ended ≡ None → open_of s.head s.opened.items ≡ None → Finds s.framer t.framer s.unsent t.unsent s.answered.items t.answered.items found.BadLength
-    → t.head ≡ s.head → t.opened ≡ s.opened → t.ended ≡ Some causes.BadLength → t.sent ≡ s.sent → IsKept t × NextGives (state_inside s) (state_inside t) (nexts.Ended causes.BadLength)
+    → t.head ≡ s.head → t.opened ≡ s.opened → t.ended ≡ Some causes.BadLength → t.sent ≡ s.sent → IsKept t × EndsNow (state_inside s) (state_inside t) causes.BadLength
 faults s t kept over none (payloads, frames, w, step, given, said, reading, at) i o e g =
     let is = still_none s t kept none i o in
     let opens = is.none in
@@ -222,7 +225,7 @@ rests s t kept over none (all, at) i o e g =
       answers = answered_open (state_inside t) (e ∙ over) (answers_refused (state_inside s) (state_inside t) all.payloads all.frames (answers_open (state_inside s) over kept.answers) all.step.answers answered calls sent unsent);
       none_open = λ x. is.none;
     } in
-    (now, (all.payloads, all.frames, all.step.answers, cc, (at.0, subst (λ (x : List (List ℕ)). IsStream t.framer.fed x (rest at.0)) given at.1)))
+    (now, (over, all.payloads, all.frames, all.step.answers, cc, (at.0, subst (λ (x : List (List ℕ)). IsStream t.framer.fed x (rest at.0)) given at.1)))
 
 -- ---- an answer
 

@@ -1,8 +1,8 @@
 -- A session, as far as anybody can see it, and what its calls do.
-use Rattle.std.specs.Prelude.{◌≡◌, ◌⊎◌, ℕ, ◌<◌, List, [], ◌∷◌, ◌++◌, length, take, drop, Option, Some, None}
+use Rattle.std.specs.Prelude.{◌≡◌, ◌⊎◌, ℕ, ◌-◌, ◌<◌, List, [], ◌∷◌, ◌++◌, length, take, drop, Option, Some, None}
 use Rattle.cap_model.specs.declared.request.Request.{Request}
 use Rattle.cap_model.specs.declared.reply.Reply.{Reply}
-use Rattle.cap_frames.specs.Stream.{frame_of, Tail, rest, fault, IsStream}
+use Rattle.cap_frames.specs.Stream.{frame_of, frames_of, Tail, rest, fault, IsStream}
 use Rattle.cap_messages.specs.Spelling.{IsRequest, IsReply, IsOfKind, kind_of, reply_bytes, fault_reply}
 use Rattle.cap_session.specs.Counted.{StreamState, one_failure}
 use Rattle.cap_session.specs.Answers.{Call, Answers, IsAnswered}
@@ -60,6 +60,26 @@ AnswersBy (Some causes.BadLength) s = (after : List ℕ) × IsAnswered s.answere
 abbrev pub HasAnswered : SessionState → Type 0
 HasAnswered s = AnswersBy s.ended s
 
+-- what every session promises
+pub record IsSession (s : SessionState) : Type 0 where
+  pub stream : FollowsStream s
+  pub answers : HasAnswered s
+
+-- how many of the bytes that were fed are in no payload that was answered
+abbrev pub bytes_unanswered : SessionState → ℕ
+bytes_unanswered s = length s.fed - length (frames_of s.answered)
+
+-- What was fed and answered since: these bytes were fed, and some more payloads were answered, by these calls; and last these bytes, which
+-- answer no payload.
+pub record Continues (old new : SessionState) (more : List ℕ) (made : List Call) (last : List ℕ) : Type 0 where
+  pub payloads : List (List ℕ)
+  pub frames : List ℕ
+  pub fed : new.fed ≡ old.fed ++ more
+  pub answered : new.answered ≡ old.answered ++ payloads
+  pub calls : new.calls ≡ old.calls ++ made
+  pub answers : Answers payloads made frames
+  pub output : all_answers new ≡ all_answers old ++ (frames ++ last)
+
 -- ---- feeding, and the next request
 
 -- what feeding a piece does: all of it is taken; or none of it, where the session had ended or memory was refused
@@ -71,19 +91,23 @@ FeedGives piece old new (feds.Ended cause) = ((old.ended ≡ Some cause) × (new
 abbrev pub after_bad_messages : SessionState → List (List ℕ) → List ℕ → SessionState
 after_bad_messages s payloads frames = record s { answered = s.answered ++ payloads; unsent = s.unsent ++ frames }
 
--- What comes next in a session that has not ended, after some payloads that are no requests: a request, which is open then; less than a frame;
--- a length that no frame has, which is answered, and ends it; or memory was refused, which ends it.
-abbrev pub NextGives : SessionState → SessionState → Next → Type 0
-NextGives old new (nexts.Request request) = (payloads : List (List ℕ)) × (frames : List ℕ) × (o : OpenRequest) × Answers payloads [] frames × (o.request ≡ request) × IsRequest o.payload o.call_id request
-    × (new ≡ record (after_bad_messages old payloads frames) { open_request = Some o })
-NextGives old new nexts.Need = (payloads : List (List ℕ)) × (frames : List ℕ) × Answers payloads [] frames × (new ≡ after_bad_messages old payloads frames)
-    × ((left : List ℕ) × IsStream new.fed new.answered (rest left))
-NextGives old new (nexts.Ended causes.BadLength) = (payloads : List (List ℕ)) × (frames : List ℕ) × Answers payloads [] frames
+-- It ends now, after some payloads that are no requests: a length that no frame has is answered, or memory was refused.
+abbrev pub EndsNow : SessionState → SessionState → Cause → Type 0
+EndsNow old new causes.BadLength = (payloads : List (List ℕ)) × (frames : List ℕ) × Answers payloads [] frames
     × (new ≡ record (after_bad_messages old payloads (frames ++ frame_of (fault_reply 40))) { ended = Some causes.BadLength })
     × ((after : List ℕ) × IsStream new.fed new.answered (fault after))
-NextGives old new (nexts.Ended causes.NoMemory) = (payloads : List (List ℕ)) × (frames : List ℕ) × Answers payloads [] frames
+EndsNow old new causes.NoMemory = (payloads : List (List ℕ)) × (frames : List ℕ) × Answers payloads [] frames
     × (new ≡ record (after_bad_messages old payloads frames) { ended = Some causes.NoMemory })
-NextGives old new (nexts.Ended causes.WriteFault) = ⊥
+EndsNow old new causes.WriteFault = ⊥
+
+-- What comes next: after some payloads that are no requests a request, which is open then, or less than a frame, and then all payloads are
+-- answered; or the session has ended, before or now.
+abbrev pub NextGives : SessionState → SessionState → Next → Type 0
+NextGives old new (nexts.Request request) = (old.ended ≡ None) × (payloads : List (List ℕ)) × (frames : List ℕ) × (o : OpenRequest) × Answers payloads [] frames × (o.request ≡ request) × IsRequest o.payload o.call_id request
+    × (new ≡ record (after_bad_messages old payloads frames) { open_request = Some o })
+NextGives old new nexts.Need = (old.ended ≡ None) × (payloads : List (List ℕ)) × (frames : List ℕ) × Answers payloads [] frames × (new ≡ after_bad_messages old payloads frames)
+    × ((left : List ℕ) × IsStream new.fed new.answered (rest left))
+NextGives old new (nexts.Ended cause) = ((old.ended ≡ Some cause) × (new ≡ old)) ⊎ ((old.ended ≡ None) × EndsNow old new cause)
 
 -- ---- an answer
 

@@ -6,9 +6,7 @@ ghost use Rattle.cap_session.specs.Kept.{Finds, EndsWith};
 
 use bytes::BytesMut;
 use cap_frames::{Frame, FrameFault, Framer, close_frame, open_frame};
-use cap_messages::{
-    MessageFault, REPLY_ROOM, kind, read_request, write_fault, write_reply,
-};
+use cap_messages::{MessageFault, REPLY_ROOM, kind, read_request, write_fault, write_reply};
 use cap_model::{NoMemory, Reply, Request};
 use http_server::Log;
 use std::alloc::Global;

@@ -1,10 +1,8 @@
 //! A session.
-ghost use Rattle.std.specs.Prelude.{◌≡◌, IfOk, take, None, Some};
+ghost use Rattle.std.specs.Prelude.{◌≡◌, ◌<◌, ◌≤◌, IfOk, take, None};
 ghost use Rattle.std.specs.Io.KnownBytes.{Appends};
-ghost use Rattle.cap_session.specs.declared.session.Cause.{Cause};
-ghost use Rattle.cap_session.specs.declared.session.Next.TheVariants as Next;
 ghost use Rattle.cap_session.specs.Counted.{state_of, inner_of, CanCount};
-ghost use Rattle.cap_session.specs.Session.{new_session, FeedGives, NextGives, MayAnswer, after_answer, SpellsAnswer, after_sent, sent_count, IsSentCount, after_write_out, FollowsStream, HasAnswered};
+ghost use Rattle.cap_session.specs.Session.{new_session, FeedGives, NextGives, MayAnswer, after_answer, SpellsAnswer, after_sent, sent_count, IsSentCount, after_write_out, IsSession, bytes_unanswered};
 ghost use Rattle.cap_session.specs.Kept.{IsWrittenOut};
 
 use crate::counted::{Counted, Put};
@@ -107,7 +105,8 @@ impl Session {
     /// Takes the next piece of the stream, all of it, unless the session has ended. Where an allocation fails the session ends,
     /// and takes none of the piece. What was answered stays.
     pub fn feed(&mut self, piece: &[u8]) -> Fed
-        ensures { FeedGives piece.now self.old self.new result }
+        ensures gives { FeedGives piece.now self.old self.new result }
+        ensures session { IsSession self.new }
     {
         if let Some(cause) = self.ended {
             return Fed::Ended(cause);
@@ -126,9 +125,9 @@ impl Session {
     /// it ends with no reply where an allocation fails, and every later call answers `Ended` with the same cause.
     pub fn next_request(&mut self) -> Next
         requires { self.old.open_request ≡ None }
-        ensures open { self.old.ended ≡ None → NextGives self.old self.new result }
-        ensures over { (cause : Cause) → self.old.ended ≡ Some cause
-            → (self.new ≡ self.old) × (result ≡ Next.Ended cause) }
+        ensures gives { NextGives self.old self.new result }
+        ensures session { IsSession self.new }
+        ensures less { bytes_unanswered self.new ≤ bytes_unanswered self.old }
     {
         if let Some(cause) = self.ended {
             return Next::Ended(cause);
@@ -161,6 +160,7 @@ impl Session {
         requires { MayAnswer self.old.open_request reply.now }
         ensures answered { self.new ≡ after_answer self.old reply.now }
         ensures spells { SpellsAnswer self.old.open_request reply.now }
+        ensures less { bytes_unanswered self.new < bytes_unanswered self.old }
     {
         let Some(head) = self.head else {
             unreachable!()
@@ -173,10 +173,8 @@ impl Session {
     /// The bytes of answers that were not written out yet.
     pub fn unsent(&self) -> &[u8]
         ensures value { result.now ≡ self.now.unsent }
-        // The payloads that were answered are the first of the stream, in order.
-        ensures stream { FollowsStream self.now }
-        // All that was ever answered answers them.
-        ensures answers { HasAnswered self.now }
+        // The payloads that were answered are the first of the stream, and all that was ever answered answers them.
+        ensures session { IsSession self.now }
     {
         self.unsent.as_slice()
     }

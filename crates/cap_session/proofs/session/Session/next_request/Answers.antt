@@ -1,13 +1,19 @@
-use Rattle.std.proofs.Common.{refl, ◌∙◌, ap, subst, Some}
-use Rattle.cap_session.specs.Session.{SessionState, NextGives}
-use Rattle.cap_session.specs.Kept.{IsKept, state_inside}
+use Rattle.std.proofs.Common.{refl, ◌∙◌, ◌≡◌, ap, subst, None, Some, inr}
+use Rattle.cap_session.specs.Session.{SessionState, EndsNow, NextGives, IsSession}
+use Rattle.cap_session.specs.Kept.{IsKept, state_inside, open_of}
 use Rattle.cap_session.specs.declared.session.Session.TheInside.{Inside}
 use Rattle.cap_session.specs.declared.session.Cause.TheVariants as causes
+use Rattle.cap_session.specs.declared.session.Next.{Next}
 use Rattle.cap_session.specs.declared.session.Next.TheVariants as nexts
-use Rattle.cap_session.proofs.Steps.{asks, rests, starves, faults}
+use Rattle.cap_session.proofs.Steps.{promises, asks, rests, starves, faults}
+use Rattle.cap_session.proofs.Unanswered.{next_fewer}
 use Rattle.cap_session.proofs.session.Session.next_request.Goals as goal
 
--- the session that hands out a request
+pub returns-in-Some-clause-session : goal.returns-in-Some-clause-session
+returns-in-Some-clause-session c = subst IsSession c.self.view_is (promises c.self.inside c.self.invariant)
+
+-- ---- a request
+
 abbrev asking : goal.After-opened-1 → Inside
 asking c = record c.self.inside { framer = c.find.new.framer; unsent = c.find.new.unsent; answered = c.find.new.answered; head = Some c.in-Request.head; opened = c.in-Request.opened }
 
@@ -18,8 +24,14 @@ asked c =
 pub invariant_of-self : goal.invariant_of-self
 invariant_of-self c = (asked c).0
 
-pub returns-in-Request-clause-open : goal.returns-in-Request-clause-open
-returns-in-Request-clause-open c over = subst (λ (s : SessionState). NextGives s (state_inside (asking c)) (nexts.Request c.in-Request.request)) c.self.view_is (asked c).1
+pub returns-in-Request-clause-gives : goal.returns-in-Request-clause-gives
+returns-in-Request-clause-gives c = subst (λ (s : SessionState). NextGives s (state_inside (asking c)) (nexts.Request c.in-Request.request)) c.self.view_is (asked c).1
+
+pub returns-in-Request-clause-session : goal.returns-in-Request-clause-session
+returns-in-Request-clause-session c = promises (asking c) (asked c).0
+
+pub returns-in-Request-clause-less : goal.returns-in-Request-clause-less
+returns-in-Request-clause-less c = next_fewer c.args.self.now (state_inside (asking c)) (nexts.Request c.in-Request.request) (returns-in-Request-clause-gives c)
 
 pub invariant_of-self-in-Rest : goal.invariant_of-self-in-Rest
 invariant_of-self-in-Rest c =
@@ -32,3 +44,12 @@ invariant_of-self-in-BadLength c =
 pub invariant_of-self-in-NoMemory : goal.invariant_of-self-in-NoMemory
 invariant_of-self-in-NoMemory c =
     (starves c.self.inside (record c.self.inside { framer = c.find.new.framer; unsent = c.find.new.unsent; answered = c.find.new.answered; ended = Some causes.NoMemory }) c.self.invariant c.in_default.is (ap (λ (s : SessionState). s.open_request) c.self.view_is ∙ c.requires) c.in-NoMemory.ensures refl refl refl refl).0
+
+pub returns-in-Rest-clause-session : goal.returns-in-Rest-clause-session
+returns-in-Rest-clause-session c = promises _ (invariant_of-self-in-Rest c)
+
+pub returns-in-BadLength-clause-session : goal.returns-in-BadLength-clause-session
+returns-in-BadLength-clause-session c = promises _ (invariant_of-self-in-BadLength c)
+
+pub returns-in-NoMemory-clause-session : goal.returns-in-NoMemory-clause-session
+returns-in-NoMemory-clause-session c = promises _ (invariant_of-self-in-NoMemory c)

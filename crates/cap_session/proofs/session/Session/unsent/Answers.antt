@@ -1,10 +1,7 @@
 use Rattle.std.proofs.Common.{subst}
-use Rattle.cap_session.specs.Session.{FollowsStream, HasAnswered}
-use Rattle.cap_session.proofs.Steps.{follows}
+use Rattle.cap_session.specs.Session.{IsSession}
+use Rattle.cap_session.proofs.Steps.{promises}
 use Rattle.cap_session.proofs.session.Session.unsent.Goals as goal
 
-pub returns-clause-stream : goal.returns-clause-stream
-returns-clause-stream c = subst FollowsStream c.self.view_is (follows c.self.inside c.self.invariant)
-
-pub returns-clause-answers : goal.returns-clause-answers
-returns-clause-answers c = subst HasAnswered c.self.view_is c.self.invariant.answers
+pub returns-clause-session : goal.returns-clause-session
+returns-clause-session c = subst IsSession c.self.view_is (promises c.self.inside c.self.invariant)
