@@ -1,7 +1,9 @@
-//! Tests of frames and messages, byte for byte.
+//! Tests of frames, messages and sessions, byte for byte.
 #![tactic(auto)]
 
 #[cfg(test)]
 mod frames;
 #[cfg(test)]
 mod messages;
+#[cfg(test)]
+mod sessions;

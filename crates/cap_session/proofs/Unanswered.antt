@@ -1,0 +1,46 @@
+-- How many bytes are in no payload that was answered.
+use Rattle.std.proofs.Common.{◌≡◌, ℕ, ◌+◌, ◌-◌, ◌<◌, ◌≤◌, List, [], ◌∷◌, ◌++◌, length, length-append, ap, sym, ◌∙◌, arith, append_assoc, subst, inl, inr}
+use Rattle.std.proofs.lemmas.List.Concat.{flat_map-append}
+use Rattle.cap_frames.specs.Stream.{Tail, IsStream, frame_of, frames_of, tail_bytes}
+use Rattle.cap_session.specs.Session.{SessionState, FollowsStream, EndsNow, NextGives, bytes_unanswered, open_payload}
+use Rattle.cap_session.specs.declared.session.Cause.{Cause}
+use Rattle.cap_session.specs.declared.session.Cause.TheVariants as causes
+use Rattle.cap_session.specs.declared.session.Next.{Next}
+use Rattle.cap_session.specs.declared.session.Next.TheVariants as nexts
+
+frames_more : (answered payloads : List (List ℕ)) → length (frames_of (answered ++ payloads)) ≡ length (frames_of answered) + length (frames_of payloads)
+frames_more answered payloads = ap length (flat_map-append frame_of answered payloads) ∙ length-append (frames_of answered) (frames_of payloads)
+
+-- more payloads were answered
+pub fewer_unanswered : (s t : SessionState) (payloads : List (List ℕ)) → t.fed ≡ s.fed → t.answered ≡ s.answered ++ payloads → bytes_unanswered t ≤ bytes_unanswered s
+fewer_unanswered s t payloads fed answered = omega (arith, ap (λ (x : List ℕ). length x) fed, ap (λ (x : List (List ℕ)). length (frames_of x)) answered, frames_more s.answered payloads)
+
+-- the open request's payload was
+pub one_unanswered : (s t : SessionState) (payload : List ℕ) → FollowsStream s → open_payload s.open_request ≡ payload ∷ [] → t.fed ≡ s.fed → t.answered ≡ s.answered ++ payload ∷ [] → bytes_unanswered t < bytes_unanswered s
+one_unanswered s t payload follows opens fed answered =
+    let later = follows.0 in
+    let rest = tail_bytes follows.1 in
+    let whole : s.fed ≡ frames_of (s.answered ++ payload ∷ later) ++ rest = subst (λ (x : List (List ℕ)). s.fed ≡ frames_of (s.answered ++ (x ++ later)) ++ rest) opens follows.2.whole in
+    omega (
+      arith,
+      ap (λ (x : List ℕ). length x) whole,
+      length-append (frames_of (s.answered ++ payload ∷ later)) rest,
+      frames_more s.answered (payload ∷ later),
+      length-append (frame_of payload) (frames_of later),
+      ap (λ (x : List ℕ). length x) fed,
+      ap (λ (x : List (List ℕ)). length (frames_of x)) answered,
+      frames_more s.answered (payload ∷ []),
+      length-append (frame_of payload) [],
+    )
+
+ends_fewer : (s t : SessionState) (cause : Cause) → EndsNow s t cause → bytes_unanswered t ≤ bytes_unanswered s
+ends_fewer s t causes.BadLength (payloads, frames, answers, now, end) = fewer_unanswered s t payloads (ap (λ (x : SessionState). x.fed) now) (ap (λ (x : SessionState). x.answered) now)
+ends_fewer s t causes.NoMemory (payloads, frames, answers, now) = fewer_unanswered s t payloads (ap (λ (x : SessionState). x.fed) now) (ap (λ (x : SessionState). x.answered) now)
+ends_fewer s t causes.WriteFault ends = absurd ends
+
+-- whatever comes next
+pub next_fewer : (s t : SessionState) (next : Next) → NextGives s t next → bytes_unanswered t ≤ bytes_unanswered s
+next_fewer s t (nexts.Request request) (over, payloads, frames, o, answers, is, spells, now) = fewer_unanswered s t payloads (ap (λ (x : SessionState). x.fed) now) (ap (λ (x : SessionState). x.answered) now)
+next_fewer s t nexts.Need (over, payloads, frames, answers, now, end) = fewer_unanswered s t payloads (ap (λ (x : SessionState). x.fed) now) (ap (λ (x : SessionState). x.answered) now)
+next_fewer s t (nexts.Ended cause) (inl (was, same)) = omega (arith, ap bytes_unanswered same)
+next_fewer s t (nexts.Ended cause) (inr (over, ends)) = ends_fewer s t cause ends

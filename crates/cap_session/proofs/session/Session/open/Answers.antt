@@ -1,0 +1,25 @@
+use Rattle.std.proofs.Common.{refl, arith, sym, ap, ◌∙◌, subst, [], ◌++◌, List, ℕ, None, false, rules}
+use Rattle.http_server.specs.declared.log.Log.{Log}
+use Rattle.bytes.specs.Filled.{Filled}
+use Rattle.cap_frames.specs.Stream.{rest}
+use Rattle.cap_frames.specs.History.{History, IsReading}
+use Rattle.cap_session.specs.Answers.{Answers, nothing}
+use Rattle.cap_session.specs.Kept.{answered_in, calls_of, sent_in, AnswerLog}
+use Rattle.cap_session.proofs.session.Session.open.Goals as goal
+
+-- nothing was fed
+nothing_read : IsReading (record { fed = []; given = []; is_spent = false })
+nothing_read = ([], rest [], record { whole = refl; each = search rules; ends = record { length_good = λ l. absurd (omega (arith, l)); short = λ l. absurd (omega (arith, l)) }; fits = search rules })
+
+pub invariant_of-result : goal.invariant_of-result
+invariant_of-result c = record {
+  lost = [];
+  given = ap (λ (h : History). h.given) c.in-Ok.ensures ∙ sym (ap (λ (log : AnswerLog). answered_in log ++ []) c.new-4.ensures);
+  reading = subst IsReading (sym c.in-Ok.ensures) nothing_read;
+  none_lost = λ _. (refl, ap (λ (h : History). h.is_spent) c.in-Ok.ensures);
+  spells = tt;
+  head = tt;
+  room = tt;
+  answers = rw (c.new-2.ensures.items, c.new-4.ensures, c.new-5.ensures) nothing;
+  none_open = λ _. refl;
+}

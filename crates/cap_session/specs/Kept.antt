@@ -1,0 +1,128 @@
+-- What the parts of a session keep.
+use Rattle.std.specs.Prelude.{◌≡◌, ℕ, ◌≤◌, List, [], ◌∷◌, ◌++◌, Option, Some, None, Result, Ok, Err, false, flat_map, map, take, drop}
+use Rattle.bytes.specs.Filled.{Filled}
+use Rattle.http_server.specs.declared.log.Log.{Log}
+use Rattle.cap_model.specs.declared.request.Request.{Request}
+use Rattle.cap_model.specs.declared.reply.Reply.{Reply}
+use Rattle.cap_frames.specs.Stream.{frame_of}
+use Rattle.cap_frames.specs.History.{History, IsReading, IsAtRest, IsAtFault}
+use Rattle.cap_messages.specs.declared.fault.MessageFault.{MessageFault}
+use Rattle.cap_messages.specs.Spelling.{IsRequest, kind_of, fault_reply}
+use Rattle.cap_session.specs.Answers.{Call, Answers}
+use Rattle.cap_session.specs.Session.{SessionState, OpenRequest, open_payload, HasAnswered, IsSentCount, sent_count}
+use Rattle.cap_session.specs.declared.session.Sent.{Sent}
+use Rattle.cap_session.specs.declared.session.Cause.TheVariants as causes
+use Rattle.cap_session.specs.declared.session.Session.TheInside.{Inside}
+use Rattle.cap_session.specs.declared.find.TheConstants.{FRAME_ROOM}
+use Rattle.cap_session.specs.declared.find.Head.{Head}
+use Rattle.cap_session.specs.declared.find.Found.{Found}
+use Rattle.cap_session.specs.declared.find.Found.TheVariants as found
+
+-- what was read from a payload
+abbrev pub ReadResult : Type 0
+ReadResult = Result (ℕ × Request 2) MessageFault
+
+-- payloads with what was read from them
+abbrev pub PayloadLog : Type 0
+PayloadLog = List (Filled × ReadResult)
+
+abbrev pub ReplyLog : Type 0
+ReplyLog = List (Reply 2 × Unit {0})
+
+-- payloads that were answered, with the reply to each that is a request
+abbrev pub AnswerLog : Type 0
+AnswerLog = List (Log Filled ReadResult × Log (Reply 2) (Unit {0}))
+
+abbrev pub payloads_in : PayloadLog → List (List ℕ)
+payloads_in payloads = map (λ e. e.0.items) payloads
+
+-- the call of a request with a reply
+abbrev pub calls_in : PayloadLog → ReplyLog → List Call
+calls_in ((p, Ok x) ∷ []) ((r, u) ∷ []) = record { request = x.1; reply = r } ∷ []
+calls_in payloads replies = []
+
+abbrev pub answered_in : AnswerLog → List (List ℕ)
+answered_in log = flat_map (λ e. payloads_in e.0.items) log
+
+abbrev pub calls_of : AnswerLog → List Call
+calls_of log = flat_map (λ e. calls_in e.0.items e.1.items) log
+
+-- the open request
+abbrev pub open_of : Option Head → PayloadLog → Option OpenRequest
+open_of (Some head) ((p, Ok x) ∷ []) = Some (record { payload = p.items; call_id = x.0; request = x.1 })
+open_of head payloads = None
+
+-- each entry is a buffer before some of its first bytes were written out, and their number
+abbrev pub sent_in : List (Filled × ℕ) → List ℕ
+sent_in log = flat_map (λ e. take e.1 e.0.items) log
+
+abbrev pub state_inside : Inside → SessionState
+state_inside s = record { fed = s.framer.fed; answered = answered_in s.answered.items; open_request = open_of s.head s.opened.items; calls = calls_of s.answered.items; sent = sent_in s.sent.items; unsent = s.unsent.items; ended = s.ended }
+
+-- while a request is open there is room for the frame of its reply
+abbrev pub HasRoom : Option OpenRequest → ℕ → Type 0
+HasRoom None spare = Unit {0}
+HasRoom (Some o) spare = FRAME_ROOM ≤ spare
+
+-- what the head says is the open request's; there is none where no request is open
+abbrev pub IsHeadOf : Option OpenRequest → Option Head → Type 0
+IsHeadOf None None = Unit {0}
+IsHeadOf None (Some head) = ⊥
+IsHeadOf (Some o) None = ⊥
+IsHeadOf (Some o) (Some head) = (head.call_id ≡ o.call_id) × (head.kind ≡ kind_of o.request)
+
+-- the payload of the open request spells it
+abbrev pub SpellsRequest : Option OpenRequest → Type 0
+SpellsRequest None = Unit {0}
+SpellsRequest (Some o) = IsRequest o.payload o.call_id o.request
+
+-- The frames that the framer gave were answered, but for the open request's, and for one that was lost for want of memory.
+pub record IsKept (s : Inside) : Type 0 where
+  pub lost : List (List ℕ)
+  pub given : s.framer.given ≡ answered_in s.answered.items ++ (open_payload (open_of s.head s.opened.items) ++ lost)
+  pub reading : IsReading s.framer
+  pub none_lost : s.ended ≡ None → (lost ≡ []) × (s.framer.is_spent ≡ false)
+  pub spells : SpellsRequest (open_of s.head s.opened.items)
+  pub head : IsHeadOf (open_of s.head s.opened.items) s.head
+  pub room : HasRoom (open_of s.head s.opened.items) s.unsent.spare
+  pub answers : HasAnswered (state_inside s)
+  pub none_open : s.ended ≡ Some causes.BadLength → open_of s.head s.opened.items ≡ None
+
+-- some payloads that are no requests were answered
+pub record AnswersBad (h k : History) (u v : List ℕ) (old new : AnswerLog) (payloads : List (List ℕ)) (frames : List ℕ) : Type 0 where
+  pub answers : Answers payloads [] frames
+  pub fed : k.fed ≡ h.fed
+  pub unsent : v ≡ u ++ frames
+  pub answered : answered_in new ≡ answered_in old ++ payloads
+  pub calls : calls_of new ≡ calls_of old
+
+-- and these are all that the framer gave
+pub record AnswersAllBad (h k : History) (u v : List ℕ) (old new : AnswerLog) : Type 0 where
+  pub payloads : List (List ℕ)
+  pub frames : List ℕ
+  pub step : AnswersBad h k u v old new payloads frames
+  pub given : k.given ≡ h.given ++ payloads
+  pub ready : k.is_spent ≡ false
+
+-- what was found after some payloads that are no requests
+abbrev pub Finds : History → History → Filled → Filled → AnswerLog → AnswerLog → Found → Type 0
+Finds h k u v old new (found.Request head opened request) = (payloads : List (List ℕ)) × (frames : List ℕ) × (p : Filled) × AnswersBad h k u.items v.items old new payloads frames × (k.given ≡ h.given ++ (payloads ++ p.items ∷ [])) × (k.is_spent ≡ false)
+    × IsReading k × (opened.items ≡ (p, Ok (head.call_id, request)) ∷ []) × IsRequest p.items head.call_id request × (head.kind ≡ kind_of request) × (FRAME_ROOM ≤ v.spare)
+Finds h k u v old new found.Rest = AnswersAllBad h k u.items v.items old new × IsAtRest k
+Finds h k u v old new found.BadLength = (payloads : List (List ℕ)) × (frames : List ℕ) × (w : List ℕ) × AnswersBad h k u.items w old new payloads frames × (k.given ≡ h.given ++ payloads)
+    × (v.items ≡ w ++ frame_of (fault_reply 40)) × IsReading k × IsAtFault k
+Finds h k u v old new found.NoMemory = (payloads : List (List ℕ)) × (frames : List ℕ) × (lost : List (List ℕ)) × AnswersBad h k u.items v.items old new payloads frames × (k.given ≡ h.given ++ (payloads ++ lost)) × IsReading k
+
+-- the fault reply 40 was written, or memory was refused for it
+abbrev pub EndsWith : List ℕ → List ℕ → Found → Type 0
+EndsWith u v (found.Request head opened request) = ⊥
+EndsWith u v found.Rest = ⊥
+EndsWith u v found.BadLength = v ≡ u ++ frame_of (fault_reply 40)
+EndsWith u v found.NoMemory = v ≡ u
+
+-- so many first bytes were written out
+pub record IsWrittenOut (u v : Filled) (before after : List (Filled × ℕ)) (sent : Sent) : Type 0 where
+  pub count : IsSentCount u.items sent
+  pub items : v.items ≡ drop (sent_count sent) u.items
+  pub spare : v.spare ≡ u.spare
+  pub history : sent_in after ≡ sent_in before ++ take (sent_count sent) u.items

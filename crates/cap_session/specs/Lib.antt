@@ -1,0 +1,4 @@
+pub mod Counted
+pub mod Answers
+pub mod Session
+pub mod Kept

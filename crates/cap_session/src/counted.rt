@@ -1,0 +1,150 @@
+//! Readers and writers whose failures are counted.
+ghost use Rattle.std.specs.Prelude.{◌≡◌, ◌<◌, ◌++◌, length};
+ghost use Rattle.cap_session.specs.Counted.{state_of, inner_of, new_stream, bytes_in, CanCount, after_read, after_write, Gives, Takes, got_of, put_of};
+
+use http_server::Log;
+use std::io;
+use std::io::{ErrorKind, Read, Write};
+
+/// A reader or a writer, and how often it failed, was quiet, and was found at its end, each counted from 0. Contracts see the
+/// three counts, the bytes that its reads gave, and those that its writes took.
+#[derive(Drop)]
+pub struct Counted<T> {
+    inner: T,
+    failures: u64,
+    quiets: u64,
+    ends: u64,
+    // These two exist for contracts alone.
+    given: Log<u8, ()>,
+    taken: Log<u8, ()>,
+}
+
+/// What a read gave.
+#[derive(Clone, Copy, Debug, PartialEq, Eq)]
+pub enum Got {
+    /// So many bytes, at least one.
+    Bytes(usize),
+    /// The input has ended.
+    End,
+    /// Nothing came in time.
+    Quiet,
+    /// The reader failed.
+    Fault,
+}
+
+/// What a write took.
+#[derive(Clone, Copy, Debug, PartialEq, Eq)]
+pub enum Put {
+    /// So many bytes, at least one.
+    Bytes(usize),
+    /// The writer failed.
+    Fault,
+}
+
+impl<T> Counted<T> {
+    /// The reader or writer, with nothing counted yet.
+    pub fn new(inner: T) -> Counted<T>
+        ensures inner { inner_of result ≡ inner }
+        ensures state { state_of result ≡ new_stream }
+    {
+        Counted {
+            inner,
+            failures: 0,
+            quiets: 0,
+            ends: 0,
+            given: Log::new(),
+            taken: Log::new(),
+        }
+    }
+
+    /// How many calls failed.
+    pub fn failures(&self) -> u64
+        ensures { result ≡ (state_of self.now).failures }
+    {
+        self.failures
+    }
+
+    /// How many reads gave nothing in time.
+    pub fn quiets(&self) -> u64
+        ensures { result ≡ (state_of self.now).quiets }
+    {
+        self.quiets
+    }
+
+    /// How many reads found the end of the input.
+    pub fn ends(&self) -> u64
+        ensures { result ≡ (state_of self.now).ends }
+    {
+        self.ends
+    }
+}
+
+impl<R: Read> Counted<R> {
+    /// Reads once into `buf`, which has room, and counts what the read gave, unless it gave bytes. An error of the reader is a
+    /// failure, an interrupted call too; `WouldBlock` and `TimedOut` are none, and the reader is then quiet.
+    pub fn read(&mut self, buf: &mut [u8]) -> Got
+        requires counts { CanCount (state_of self.old) }
+        requires room { 0 < length buf.old }
+        ensures state { state_of self.new ≡ after_read (state_of self.old) result buf.new }
+        ensures bytes { Gives (R.remaining (inner_of self.old)) (R.remaining (inner_of self.new)) buf.new result }
+    {
+        let got = classify_read(&self.inner.read(buf));
+        match got {
+            Got::Bytes(n) => log_bytes(&mut self.given, &buf[..n]),
+            Got::End => self.ends += 1,
+            Got::Quiet => self.quiets += 1,
+            Got::Fault => self.failures += 1,
+        }
+        got
+    }
+}
+
+impl<W: Write> Counted<W> {
+    /// Writes once from `buf`, which is not empty, and counts a failure: any error of the writer, and a write of no byte.
+    pub fn write(&mut self, buf: &[u8]) -> Put
+        requires counts { CanCount (state_of self.old) }
+        requires some { 0 < length buf.now }
+        ensures state { state_of self.new ≡ after_write (state_of self.old) result buf.now }
+        ensures bytes { Takes (W.contents (inner_of self.old)) (W.contents (inner_of self.new)) buf.now result }
+    {
+        let put = classify_write(&self.inner.write(buf));
+        match put {
+            Put::Bytes(n) => log_bytes(&mut self.taken, &buf[..n]),
+            Put::Fault => self.failures += 1,
+        }
+        put
+    }
+}
+
+// What a read into free room gave.
+fn classify_read(answer: &io::Result<usize>) -> Got
+    ensures { result ≡ got_of answer.now }
+{
+    match answer {
+        Ok(0) => Got::End,
+        Ok(n) => Got::Bytes(*n),
+        Err(error) => match error.kind() {
+            ErrorKind::WouldBlock | ErrorKind::TimedOut => Got::Quiet,
+            _ => Got::Fault,
+        },
+    }
+}
+
+// What a write of some bytes took.
+fn classify_write(answer: &io::Result<usize>) -> Put
+    ensures { result ≡ put_of answer.now }
+{
+    match answer {
+        Ok(0) | Err(_) => Put::Fault,
+        Ok(n) => Put::Bytes(*n),
+    }
+}
+
+// Adds the bytes to a history that only contracts read. It does nothing else.
+fn log_bytes(history: &mut Log<u8, ()>, bytes: &[u8])
+    ensures { bytes_in history.new.items ≡ bytes_in history.old.items ++ bytes.now }
+{
+    for byte in bytes {
+        *history = history.and(byte, &());
+    }
+}

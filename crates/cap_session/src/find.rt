@@ -1,0 +1,115 @@
+//! What comes next in a stream.
+ghost use Rattle.std.specs.Prelude.{◌≡◌, ◌++◌, OnOk, OnErr, false, ◌≤◌};
+ghost use Rattle.cap_frames.specs.Stream.{frame_of};
+ghost use Rattle.cap_messages.specs.Spelling.{IsOfKind, IsReply, reply_bytes, fault_reply};
+ghost use Rattle.cap_session.specs.Kept.{Finds, EndsWith};
+
+use bytes::BytesMut;
+use cap_frames::{Frame, FrameFault, Framer, close_frame, open_frame};
+use cap_messages::{MessageFault, REPLY_ROOM, kind, read_request, write_fault, write_reply};
+use cap_model::{NoMemory, Reply, Request};
+use http_server::Log;
+use std::alloc::Global;
+
+const BAD_LENGTH: u8 = 40;
+
+const BAD_MESSAGE: u8 = 41;
+
+/// The room that is made for the frame of a reply: its length, and what `write_reply` asks for.
+const FRAME_ROOM: usize = 4 + REPLY_ROOM;
+
+/// What the reply to a request repeats of it.
+#[derive(Clone, Copy)]
+pub(crate) struct Head {
+    pub(crate) call_id: u32,
+    pub(crate) kind: u8,
+}
+
+/// A payload with the request that was read from it, if it is one. It exists for contracts alone.
+pub(crate) type ReadPayload = Log<Frame, Result<(u32, Request<2>), MessageFault>>;
+
+/// The payloads that were answered, each with the reply to its request, if it is one. It exists for contracts alone.
+pub(crate) type Answered = Log<ReadPayload, Log<Reply<2>, ()>>;
+
+/// What comes next.
+pub(crate) enum Found {
+    Request(Head, ReadPayload, Request<2>),
+    /// Less than a frame.
+    Rest,
+    /// A length that no frame has.
+    BadLength,
+    NoMemory,
+}
+
+/// Finds the next request, and makes room for the reply to it. Each payload before it that is none is answered so, and a length
+/// that no frame has too.
+pub(crate) fn find(
+    alloc: Global,
+    framer: &mut Framer,
+    unsent: &mut BytesMut,
+    answered: &mut Answered,
+) -> Found
+    requires { framer.old.is_spent ≡ false }
+    ensures { Finds framer.old framer.new unsent.old unsent.new answered.old.items answered.new.items result }
+{
+    loop {
+        let payload = match framer.next() {
+            Ok(Some(payload)) => payload,
+            Ok(None) => return Found::Rest,
+            Err(FrameFault::BadLength) => return end(unsent),
+            Err(FrameFault::NoMemory) => return Found::NoMemory,
+        };
+        let read = read_request(alloc, payload.as_slice());
+        let opened = Log::new().and(&payload, &read);
+        match read {
+            Ok((call_id, request)) => {
+                if unsent.reserve(FRAME_ROOM).is_err() {
+                    return Found::NoMemory;
+                }
+                let kind = kind(&request);
+                return Found::Request(Head { call_id, kind }, opened, request);
+            }
+            Err(MessageFault::Bad) => {
+                let Ok(()) = put_fault(BAD_MESSAGE, unsent) else {
+                    return Found::NoMemory;
+                };
+                *answered = answered.and(&opened, &Log::new());
+            }
+            Err(MessageFault::NoMemory) => return Found::NoMemory,
+        }
+    }
+}
+
+/// Answers a length that no frame has.
+fn end(unsent: &mut BytesMut) -> Found
+    ensures { EndsWith unsent.old.items unsent.new.items result }
+{
+    match put_fault(BAD_LENGTH, unsent) {
+        Ok(()) => Found::BadLength,
+        Err(NoMemory) => Found::NoMemory,
+    }
+}
+
+/// Appends the frame of the fault reply of this status. An `Err` changes nothing.
+fn put_fault(status: u8, unsent: &mut BytesMut) -> Result<(), NoMemory>
+    ensures ok { OnOk result (unsent.new.items ≡ unsent.old.items ++ frame_of (fault_reply status)) }
+    ensures err { OnErr result (unsent.new.items ≡ unsent.old.items) }
+{
+    unsent.reserve(FRAME_ROOM).map_err(|_| NoMemory)?;
+    let start = open_frame(unsent);
+    write_fault(status, unsent);
+    close_frame(start, unsent);
+    Ok(())
+}
+
+/// Appends the frame of a reply to the request of this head. All room has been made.
+pub(crate) fn put_reply(head: Head, reply: &Reply<2>, unsent: &mut BytesMut)
+    requires kind { IsOfKind head.kind reply.now }
+    requires room { FRAME_ROOM ≤ unsent.old.spare }
+    ensures appends { unsent.new.items ≡ unsent.old.items ++ frame_of (reply_bytes head.call_id head.kind reply.now) }
+    ensures spells { IsReply (reply_bytes head.call_id head.kind reply.now) head.call_id head.kind reply.now }
+{
+    let start = open_frame(unsent);
+    write_reply(head.call_id, head.kind, reply, unsent);
+    close_frame(start, unsent);
+}

@@ -1,0 +1,10 @@
+//! One connection: bytes in, requests out, replies in, bytes out. It knows frames and messages, and no cluster.
+#![tactic(auto)]
+
+mod counted;
+mod find;
+mod session;
+
+pub use cap_model::{NoMemory, Reply, Request};
+pub use counted::{Counted, Got, Put};
+pub use session::{Cause, Fed, Next, Sent, Session};

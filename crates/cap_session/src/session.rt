@@ -1,0 +1,229 @@
+//! A session.
+ghost use Rattle.std.specs.Prelude.{◌≡◌, ◌<◌, ◌≤◌, IfOk, take, None};
+ghost use Rattle.std.specs.Io.KnownBytes.{Appends};
+ghost use Rattle.cap_session.specs.Counted.{state_of, inner_of, CanCount};
+ghost use Rattle.cap_session.specs.Session.{new_session, FeedGives, NextGives, MayAnswer, after_answer, SpellsAnswer, after_sent, sent_count, IsSentCount, after_write_out, IsSession, bytes_unanswered};
+ghost use Rattle.cap_session.specs.Kept.{IsWrittenOut};
+
+use crate::counted::{Counted, Put};
+use crate::find::{Answered, Found, Head, ReadPayload, find, put_reply};
+use bytes::BytesMut;
+use cap_frames::Framer;
+use cap_model::{NoMemory, Reply, Request};
+use http_server::Log;
+use std::alloc::Global;
+use std::io::Write;
+use std::marker::Model;
+
+/// Why a session has ended.
+#[derive(Clone, Copy, Debug, PartialEq, Eq)]
+pub enum Cause {
+    /// A length came that no frame has: 0, or over 65,536.
+    BadLength,
+    /// An allocation failed.
+    NoMemory,
+    /// The writer failed.
+    WriteFault,
+}
+
+/// What became of a piece.
+#[derive(Clone, Copy, Debug, PartialEq, Eq)]
+pub enum Fed {
+    /// All of it was taken.
+    Taken,
+    /// None of it was taken: the session has ended.
+    Ended(Cause),
+}
+
+/// What comes next.
+#[derive(Debug, Drop)]
+pub enum Next {
+    /// A request, which is open until it is answered.
+    Request(Request<2>),
+    /// More bytes are needed.
+    Need,
+    /// Nothing more: the session has ended.
+    Ended(Cause),
+}
+
+/// What was written out.
+#[derive(Clone, Copy, Debug, PartialEq, Eq)]
+pub enum Sent {
+    /// All, so many bytes.
+    All(usize),
+    /// So many first bytes, and then the writer failed.
+    Fault { sent: usize },
+}
+
+/// One connection. Contracts see the bytes that it was fed, the payloads that it answered, the request that is open, its calls
+/// (each a request with its reply), the bytes of its answers, written out or not yet, and why it has ended.
+#[derive(Drop)]
+pub struct Session {
+    alloc: Global,
+    framer: Framer,
+    unsent: BytesMut,
+    // That of the open request.
+    head: Option<Head>,
+    ended: Option<Cause>,
+    // These exist for contracts alone.
+    opened: ReadPayload,
+    answered: Answered,
+    sent: Log<BytesMut, usize>,
+}
+
+impl Model for Session {
+    ghost use Rattle.cap_session.specs.Session.{SessionState};
+    ghost use Rattle.cap_session.specs.Kept.{state_inside, IsKept};
+
+    ghost Value = { SessionState };
+
+    ghost view = { state_inside };
+
+    ghost invariant = { IsKept };
+}
+
+impl Session {
+    /// A session that was fed nothing. `NoMemory` where an allocation failed.
+    pub fn open(alloc: Global) -> Result<Session, NoMemory>
+        ensures { IfOk result (λ s. s ≡ new_session) }
+    {
+        let Ok(framer) = Framer::new(alloc) else {
+            return Err(NoMemory);
+        };
+        Ok(Session {
+            alloc,
+            framer,
+            unsent: BytesMut::new(alloc),
+            head: None,
+            ended: None,
+            opened: Log::new(),
+            answered: Log::new(),
+            sent: Log::new(),
+        })
+    }
+
+    /// Takes the next piece of the stream, all of it, unless the session has ended. Where an allocation fails the session ends,
+    /// and takes none of the piece. What was answered stays.
+    pub fn feed(&mut self, piece: &[u8]) -> Fed
+        ensures gives { FeedGives piece.now self.old self.new result }
+        ensures session { IsSession self.new }
+    {
+        if let Some(cause) = self.ended {
+            return Fed::Ended(cause);
+        }
+        match self.framer.feed(piece) {
+            Ok(()) => Fed::Taken,
+            Err(_) => {
+                self.ended = Some(Cause::NoMemory);
+                Fed::Ended(Cause::NoMemory)
+            }
+        }
+    }
+
+    /// The next request of the stream. It is open until `answer` answers it, and no other may be open. Each payload before it that
+    /// is no request is answered with status 41. At a length that no frame has the session ends, with a last reply of status 40;
+    /// it ends with no reply where an allocation fails, and every later call answers `Ended` with the same cause.
+    pub fn next_request(&mut self) -> Next
+        requires { self.old.open_request ≡ None }
+        ensures gives { NextGives self.old self.new result }
+        ensures session { IsSession self.new }
+        ensures less { bytes_unanswered self.new ≤ bytes_unanswered self.old }
+    {
+        if let Some(cause) = self.ended {
+            return Next::Ended(cause);
+        }
+        match find(
+            self.alloc,
+            &mut self.framer,
+            &mut self.unsent,
+            &mut self.answered,
+        ) {
+            Found::Request(head, opened, request) => {
+                self.head = Some(head);
+                self.opened = opened;
+                Next::Request(request)
+            }
+            Found::Rest => Next::Need,
+            Found::BadLength => {
+                self.ended = Some(Cause::BadLength);
+                Next::Ended(Cause::BadLength)
+            }
+            Found::NoMemory => {
+                self.ended = Some(Cause::NoMemory);
+                Next::Ended(Cause::NoMemory)
+            }
+        }
+    }
+
+    /// Answers the open request with a reply that is a refusal or one of its kind. It takes no memory and cannot fail.
+    pub fn answer(&mut self, reply: &Reply<2>)
+        requires { MayAnswer self.old.open_request reply.now }
+        ensures answered { self.new ≡ after_answer self.old reply.now }
+        ensures spells { SpellsAnswer self.old.open_request reply.now }
+        ensures less { bytes_unanswered self.new < bytes_unanswered self.old }
+    {
+        let Some(head) = self.head else {
+            unreachable!()
+        };
+        put_reply(head, reply, &mut self.unsent);
+        self.answered = self.answered.and(&self.opened, &Log::new().and(reply, &()));
+        self.head = None;
+    }
+
+    /// The bytes of answers that were not written out yet.
+    pub fn unsent(&self) -> &[u8]
+        ensures value { result.now ≡ self.now.unsent }
+        // The payloads that were answered are the first of the stream, and all that was ever answered answers them.
+        ensures session { IsSession self.now }
+    {
+        self.unsent.as_slice()
+    }
+
+    /// Writes out the bytes of answers that were not written yet, and takes away those that the writer took. Where the writer fails
+    /// the session has ended, unless it had ended before.
+    pub fn write_out<W: Write>(&mut self, writer: &mut Counted<W>) -> Sent
+        requires { CanCount (state_of writer.old) }
+        ensures count { IsSentCount self.old.unsent result }
+        ensures session { self.new ≡ after_sent self.old result }
+        ensures writer { state_of writer.new
+            ≡ after_write_out (state_of writer.old) (take (sent_count result) self.old.unsent) result }
+        ensures bytes { Appends (W.contents (inner_of writer.old)) (W.contents (inner_of writer.new))
+            (take (sent_count result) self.old.unsent) }
+    {
+        let sent = write_all(&mut self.unsent, &mut self.sent, writer);
+        if let Sent::Fault { .. } = sent
+            && self.ended.is_none()
+        {
+            self.ended = Some(Cause::WriteFault);
+        }
+        sent
+    }
+}
+
+// Writes all bytes, or so many first ones before the writer failed.
+fn write_all<W: Write>(
+    unsent: &mut BytesMut,
+    history: &mut Log<BytesMut, usize>,
+    writer: &mut Counted<W>,
+) -> Sent
+    requires { CanCount (state_of writer.old) }
+    ensures written { IsWrittenOut unsent.old unsent.new history.old.items history.new.items result }
+    ensures writer { state_of writer.new
+        ≡ after_write_out (state_of writer.old) (take (sent_count result) unsent.old.items) result }
+    ensures bytes { Appends (W.contents (inner_of writer.old)) (W.contents (inner_of writer.new))
+        (take (sent_count result) unsent.old.items) }
+{
+    let _most = unsent.len();
+    let mut count = 0;
+    while !unsent.is_empty() {
+        match writer.write(unsent.as_slice()) {
+            Put::Bytes(n) => {
+                *history = history.and(unsent, &n);
+                unsent.advance(n);
+                count += n;
+            }
+            Put::Fault => return Sent::Fault { sent: count },
+        }
+    }
+    Sent::All(count)
+}
