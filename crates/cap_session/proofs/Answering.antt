@@ -1,7 +1,7 @@
 -- What was answered answers what was fed, whatever comes next.
 use Rattle.std.proofs.Common.{◌≡◌, ℕ, List, [], ◌∷◌, ◌++◌, Option, Some, None, refl, ap, ap₂, sym, ◌∙◌, subst, append_assoc, append-nil, take, drop}
 use Rattle.std.proofs.lemmas.List.{take-append-drop}
-use Rattle.cap_model.specs.declared.reply.Reply.{Reply}
+use Rattle.cap_model.specs.News.{Reply}
 use Rattle.cap_frames.specs.Stream.{frame_of, fault, IsStream}
 use Rattle.cap_messages.specs.Spelling.{IsRequest, IsNoRequest, IsReply, kind_of, fault_reply}
 use Rattle.cap_session.specs.Answers.{Call, Answers, nothing, replied, refused}

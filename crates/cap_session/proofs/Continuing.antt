@@ -1,6 +1,6 @@
 -- What was fed and answered since, whatever comes next.
 use Rattle.std.proofs.Common.{◌≡◌, ℕ, List, [], ◌∷◌, ◌++◌, Some, refl, ap, ap₂, sym, ◌∙◌, subst, append_assoc, append-nil}
-use Rattle.cap_model.specs.declared.reply.Reply.{Reply}
+use Rattle.cap_model.specs.News.{Reply}
 use Rattle.cap_frames.specs.Stream.{frame_of}
 use Rattle.cap_session.specs.Answers.{Call, Answers, nothing}
 use Rattle.cap_session.specs.Session.{SessionState, OpenRequest, SpellsAnswer, Continues, all_answers, answer_bytes, after_bad_messages, with_answer}

@@ -4,7 +4,7 @@ use Rattle.std.proofs.lemmas.List.{flat_map_more}
 use Rattle.bytes.specs.Filled.{Filled}
 use Rattle.http_server.specs.declared.log.Log.{Log}
 use Rattle.cap_model.specs.declared.request.Request.{Request}
-use Rattle.cap_model.specs.declared.reply.Reply.{Reply}
+use Rattle.cap_model.specs.News.{Reply}
 use Rattle.cap_session.specs.declared.find.Head.{Head}
 use Rattle.cap_session.specs.Kept.{ReadResult, PayloadLog, AnswerLog, payloads_in, calls_in, answered_in, calls_of, open_of, sent_in, IsHeadOf}
 

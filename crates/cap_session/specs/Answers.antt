@@ -1,7 +1,7 @@
 -- What a connection is answered.
 use Rattle.std.specs.Prelude.{◌≡◌, ℕ, List, [], ◌∷◌, ◌++◌}
 use Rattle.cap_model.specs.declared.request.Request.{Request}
-use Rattle.cap_model.specs.declared.reply.Reply.{Reply}
+use Rattle.cap_model.specs.News.{Reply}
 use Rattle.cap_frames.specs.Stream.{frame_of, Tail, rest, fault}
 use Rattle.cap_messages.specs.Spelling.{IsRequest, IsNoRequest, IsReply, kind_of, fault_reply}
 

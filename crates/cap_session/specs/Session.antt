@@ -1,7 +1,7 @@
 -- A session, as far as anybody can see it, and what its calls do.
 use Rattle.std.specs.Prelude.{◌≡◌, ◌⊎◌, ℕ, ◌-◌, ◌<◌, List, [], ◌∷◌, ◌++◌, length, take, drop, Option, Some, None}
 use Rattle.cap_model.specs.declared.request.Request.{Request}
-use Rattle.cap_model.specs.declared.reply.Reply.{Reply}
+use Rattle.cap_model.specs.News.{Reply}
 use Rattle.cap_frames.specs.Stream.{frame_of, frames_of, Tail, rest, fault, IsStream}
 use Rattle.cap_messages.specs.Spelling.{IsRequest, IsReply, IsOfKind, kind_of, reply_bytes, fault_reply}
 use Rattle.cap_session.specs.Counted.{StreamState, one_failure}

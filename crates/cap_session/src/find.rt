@@ -7,7 +7,7 @@ ghost use Rattle.cap_session.specs.Kept.{Finds, EndsWith};
 use bytes::BytesMut;
 use cap_frames::{Frame, FrameFault, Framer, close_frame, open_frame};
 use cap_messages::{MessageFault, REPLY_ROOM, kind, read_request, write_fault, write_reply};
-use cap_model::{NoMemory, Reply, Request};
+use cap_model::{NoMemory, OwnedReply, Request};
 use http_server::Log;
 use std::alloc::Global;
 
@@ -29,7 +29,7 @@ pub(crate) struct Head {
 pub(crate) type ReadPayload = Log<Frame, Result<(u32, Request<2>), MessageFault>>;
 
 /// The payloads that were answered, each with the reply to its request, if it is one. It exists for contracts alone.
-pub(crate) type Answered = Log<ReadPayload, Log<Reply<2>, ()>>;
+pub(crate) type Answered = Log<ReadPayload, Log<OwnedReply<2>, ()>>;
 
 /// What comes next.
 pub(crate) enum Found {
@@ -103,13 +103,13 @@ fn put_fault(status: u8, unsent: &mut BytesMut) -> Result<(), NoMemory>
 }
 
 /// Appends the frame of a reply to the request of this head. All room has been made.
-pub(crate) fn put_reply(head: Head, reply: &Reply<2>, unsent: &mut BytesMut)
+pub(crate) fn put_reply(head: Head, reply: &OwnedReply<2>, unsent: &mut BytesMut)
     requires kind { IsOfKind head.kind reply.now }
     requires room { FRAME_ROOM ≤ unsent.old.spare }
     ensures appends { unsent.new.items ≡ unsent.old.items ++ frame_of (reply_bytes head.call_id head.kind reply.now) }
     ensures spells { IsReply (reply_bytes head.call_id head.kind reply.now) head.call_id head.kind reply.now }
 {
     let start = open_frame(unsent);
-    write_reply(head.call_id, head.kind, reply, unsent);
+    write_reply(head.call_id, head.kind, &reply.view(), unsent);
     close_frame(start, unsent);
 }

@@ -5,6 +5,6 @@ mod counted;
 mod find;
 mod session;
 
-pub use cap_model::{NoMemory, Reply, Request};
+pub use cap_model::{NoMemory, OwnedReply, Request};
 pub use counted::{Counted, Got, Put};
 pub use session::{Cause, Fed, Next, Sent, Session};

@@ -9,7 +9,7 @@ use crate::counted::{Counted, Put};
 use crate::find::{Answered, Found, Head, ReadPayload, find, put_reply};
 use bytes::BytesMut;
 use cap_frames::Framer;
-use cap_model::{NoMemory, Reply, Request};
+use cap_model::{NoMemory, OwnedReply, Request};
 use http_server::Log;
 use std::alloc::Global;
 use std::io::Write;
@@ -156,7 +156,7 @@ impl Session {
     }
 
     /// Answers the open request with a reply that is a refusal or one of its kind. It takes no memory and cannot fail.
-    pub fn answer(&mut self, reply: &Reply<2>)
+    pub fn answer(&mut self, reply: &OwnedReply<2>)
         requires { MayAnswer self.old.open_request reply.now }
         ensures answered { self.new ≡ after_answer self.old reply.now }
         ensures spells { SpellsAnswer self.old.open_request reply.now }

@@ -1,6 +1,6 @@
 ghost use Rattle.std.specs.Prelude.{◌≡◌, None};
 
-use cap_model::{Refusal, Reply};
+use cap_model::{Refusal, ReplyWith};
 use cap_session::{Cause, Counted, Fed, Got, Next, Sent, Session};
 use std::alloc::Global;
 use std::io::{self, ErrorKind, Read, Write};
@@ -31,7 +31,7 @@ fn refuse_all(session: &mut Session) -> Option<Cause>
 {
     for _ in 0..8 {
         match session.next_request() {
-            Next::Request(_) => session.answer(&Reply::Refused(Refusal::UnknownQueue)),
+            Next::Request(_) => session.answer(&ReplyWith::Refused(Refusal::UnknownQueue)),
             Next::Need => return None,
             Next::Ended(cause) => return Some(cause),
         }
