@@ -13,7 +13,7 @@ use Rattle.cap_model.specs.Asking.{without_key, with_ask, put_ask}
 use Rattle.cap_model.specs.Events.{take_one}
 use Rattle.cap_model.proofs.calls.KeptAsks.{same_key_is, same_key_itself, put_is_found, others_are_found, one_less, not_same_other}
 use Rattle.cap_model.proofs.lists.Tests.{first_is}
-use Rattle.cap_asks.specs.Held.{is_before, AreAfter, AreKept, IsIndex, index_of}
+use Rattle.cap_asks.specs.Held.{is_before, AreAfter, AreKept, IsKeyIndex, index_of}
 use Rattle.cap_model.specs.Limits.{keys_max}
 
 -- the order of keys in numbers
@@ -323,7 +323,7 @@ pub record IsPlaced (ask : Ask) (xs : List Ask) (index : ℕ) (stood none : Bool
   pub at : index ≡ index_of ask.key xs
   pub takes : ask.count == 0 ≡ none
 
-pub placed : (ask : Ask) (xs seen : List Ask) (key : Key) (index count : ℕ) (stood none : Bool) → xs ≡ seen → key ≡ ask.key → IsIndex key seen index stood
+pub placed : (ask : Ask) (xs seen : List Ask) (key : Key) (index count : ℕ) (stood none : Bool) → xs ≡ seen → key ≡ ask.key → IsKeyIndex key seen index stood
     → count ≡ ask.count → count == 0 ≡ none → IsPlaced ask xs index stood none
 placed ask xs seen key index count stood none same key_is i count_is takes = record {
   stands = ap (λ ys. is_some (ask_at ask.key ys)) same ∙ ap (λ k. is_some (ask_at k seen)) (sym key_is) ∙ i.found;
@@ -464,7 +464,7 @@ pub record IsTaken (key : Key) (ask : Ask) (xs : List Ask) (index : ℕ) : Type 
   pub found : ask_at key xs ≡ Some ask
   pub at : index ≡ index_of key xs
 
-pub is_taken : (key : Key) (ask : Ask) (xs seen : List Ask) (index : ℕ) → AreKept xs → xs ≡ seen → IsIndex key seen index true → ask ≡ slice_index_or xs index ask → IsTaken key ask xs index
+pub is_taken : (key : Key) (ask : Ask) (xs seen : List Ask) (index : ℕ) → AreKept xs → xs ≡ seen → IsKeyIndex key seen index true → ask ≡ slice_index_or xs index ask → IsTaken key ask xs index
 is_taken key ask xs seen index kept same i item =
     let at' : index ≡ index_of key xs = i.at ∙ ap (index_of key) (sym same) in
     let item' : ask ≡ slice_index_or xs (index_of key xs) ask = item ∙ ap (λ j. slice_index_or xs j ask) at' in
@@ -475,14 +475,14 @@ is_taken key ask xs seen index kept same i item =
     }
 
 -- an index where a key stands is within the list
-pub stands_within : (key : Key) (xs seen : List Ask) (index : ℕ) → AreKept xs → xs ≡ seen → IsIndex key seen index true → index < length xs
+pub stands_within : (key : Key) (xs seen : List Ask) (index : ℕ) → AreKept xs → xs ≡ seen → IsKeyIndex key seen index true → index < length xs
 stands_within key xs seen index kept same i =
     let at' : index ≡ index_of key xs = i.at ∙ ap (index_of key) (sym same) in
     rw at' ((found (at_key key) xs kept (ap (λ ys. is_some (ask_at key ys)) same ∙ i.found)).below)
 
 -- an index that was looked for
 pub index_found : (key k : Key) (ask : Ask) (xs seen : List Ask) (index : ℕ) → xs ≡ seen → index ≡ index_of key xs → index < length xs → ask ≡ slice_index_or xs index ask → k ≡ ask.key → same_key k key ≡ true
-    → IsIndex key seen index true
+    → IsKeyIndex key seen index true
 index_found key k ask xs seen index same at below item key_is is_key =
     let item' : ask ≡ slice_index_or xs (index_of key xs) ask = item ∙ ap (λ i. slice_index_or xs i ask) at in
     let is_key' = ap (λ (a : Ask). same_key a.key key) (sym item') ∙ ap (λ j. same_key j key) (sym key_is) ∙ is_key in
@@ -492,13 +492,13 @@ index_found key k ask xs seen index same at below item key_is is_key =
     }
 
 pub index_other : (key k : Key) (ask : Ask) (xs seen : List Ask) (index : ℕ) → AreKept xs → xs ≡ seen → index ≡ index_of key xs → ask ≡ slice_index_or xs index ask → k ≡ ask.key → same_key k key ≡ false
-    → IsIndex key seen index false
+    → IsKeyIndex key seen index false
 index_other key k ask xs seen index kept same at item key_is is_key =
     let item' : ask ≡ slice_index_or xs (index_of key xs) ask = item ∙ ap (λ i. slice_index_or xs i ask) at in
     let is_key' = ap (λ (a : Ask). same_key a.key key) (sym item') ∙ ap (λ j. same_key j key) (sym key_is) ∙ is_key in
     record { at = at ∙ ap (index_of key) same; found = ap (λ ys. is_some (ask_at key ys)) (sym same) ∙ other_at_index key xs ask kept is_key' }
 
-pub index_past : (key : Key) (xs seen : List Ask) (index : ℕ) → AreKept xs → xs ≡ seen → index ≡ index_of key xs → length xs ≤ index → IsIndex key seen index false
+pub index_past : (key : Key) (xs seen : List Ask) (index : ℕ) → AreKept xs → xs ≡ seen → index ≡ index_of key xs → length xs ≤ index → IsKeyIndex key seen index false
 index_past key xs seen index kept same at past = record {
   at = at ∙ ap (index_of key) same;
   found = ap (λ ys. is_some (ask_at key ys)) (sym same) ∙ none_past_end key xs kept (omega (arith, at, past));
@@ -527,7 +527,7 @@ module _ (key : Key) (ask : Ask) (xs : List Ask) (index : ℕ) (kept : AreKept x
   pub taken_wanted : 1 ≤ ask.count
   taken_wanted = one_wanted key ask xs kept t.found
 
-pub none_there : (key : Key) (xs seen : List Ask) (index : ℕ) → AreKept xs → xs ≡ seen → IsIndex key seen index false → xs ≡ take_one key xs
+pub none_there : (key : Key) (xs seen : List Ask) (index : ℕ) → AreKept xs → xs ≡ seen → IsKeyIndex key seen index false → xs ≡ take_one key xs
 none_there key xs seen index kept same i = sym (none_taken key xs kept (ap (λ ys. is_some (ask_at key ys)) same ∙ i.found))
 
 -- how many stand after one more of several asks

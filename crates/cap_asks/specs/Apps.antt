@@ -1,10 +1,17 @@
 -- The table of active applications, with the account of each.
-use Rattle.std.specs.Prelude.{◌≡◌, ℕ, ◌+◌, ◌≤◌, List, [], ◌∷◌, ◌++◌, Option, Some, None, option_and_then, false, not, nat_eq, find, filter, map, ◌==◌, if◌then◌else◌}
+use Rattle.std.specs.Prelude.{◌≡◌, ℕ, ◌+◌, ◌≤◌, List, [], ◌∷◌, ◌++◌, Option, Some, None, option_and_then, false, not, nat_eq, find, filter, map, ◌==◌, if◌then◌else◌, option_map}
 use Rattle.std.specs.Option.{option_map_or}
 use Rattle.std.specs.Map.{lookup}
-use Rattle.cap_model.specs.Flat.{AppTable, app_in}
-use Rattle.cap_model.specs.News.{AllocateReply}
-use Rattle.cap_asks.specs.Held.{Account, HeldApp}
+use Rattle.cap_model.specs.Flat.{AppTable, app_in, App}
+use Rattle.cap_model.specs.News.{AllocateReply, Grant}
+use Rattle.cap_asks.specs.Held.{Account, HeldApp, reply_numbers}
+use Rattle.cap_model.specs.declared.ask.Key.{Key}
+use Rattle.cap_model.specs.declared.news.End.{End}
+use Rattle.cap_model.specs.Asks.{Ask}
+use Rattle.cap_model.specs.Asking.{put_ask}
+use Rattle.cap_model.specs.Events.{take_one}
+use Rattle.cap_model.specs.Allocate.{after_telling}
+use Rattle.cap_asks.specs.declared.app.Reported.{Reported}
 
 -- the active applications, the account of each by its number, and how many more there is room for
 pub record HeldApps : Type 0 where
@@ -19,6 +26,27 @@ new_account position = record { position = position; live = 0; asks = 0; grants 
 -- the reply that an application keeps
 abbrev pub kept_of : ℕ → AppTable → Option AllocateReply
 kept_of n table = option_and_then (λ app. app.kept) (app_in table n)
+
+-- the application keeps a reply of these numbers
+abbrev pub KeepsNumbers : ℕ → AppTable → Reported → Type 0
+KeepsNumbers n table reported = option_map reply_numbers (kept_of n table) ≡ Some reported
+
+-- an application after an ask of it was put, and after one container less is wanted for a key
+abbrev pub with_ask_put : Ask → App → App
+with_ask_put ask app = record app { asks = put_ask ask app.asks }
+
+abbrev pub with_one_less : Key → App → App
+with_one_less key app = record app { asks = take_one key app.asks }
+
+-- an application with one more grant that waits, with one more end, and after the next reply to it
+abbrev pub with_waiting_grant : Grant → App → App
+with_waiting_grant grant app = record app { grants = app.grants ++ grant ∷ [] }
+
+abbrev pub with_waiting_end : End → App → App
+with_waiting_end end app = record app { ends = app.ends ++ end ∷ [] }
+
+abbrev pub after_next_reply : ℕ → App → App
+after_next_reply ignored app = after_telling app.response ignored app
 
 -- where the leaf of an application is in the tree, how many of its containers are live, and how many more asks, grants and ends it
 -- may take with no memory; nothing where it is not active
@@ -45,6 +73,10 @@ pub record IsEntered (n : ℕ) (position : List ℕ) (old new : List (ℕ × Acc
   pub absent : account_of n old ≡ None
   pub own : account_of n new ≡ Some (new_account position)
   pub others : (m : ℕ) → m == n ≡ false → account_of m new ≡ account_of m old
+
+-- an application enters under the next number, whose leaf is there in the tree
+abbrev pub Enters : List ℕ → HeldApps → HeldApps → Type 0
+Enters position old new = IsEntered old.table.next position old.accounts new.accounts
 
 -- one account less
 pub record IsLeft (n : ℕ) (old new : List (ℕ × Account)) : Type 0 where

@@ -54,7 +54,7 @@ index_of key [] = 0
 index_of key (ask ∷ asks) = if is_before ask.key key then index_of key asks + 1 else 0
 
 -- an index is where a key stands, or would stand; the flag says whether an ask has the key
-pub record IsIndex (key : Key) (asks : List Ask) (index : ℕ) (stands : Bool) : Type 0 where
+pub record IsKeyIndex (key : Key) (asks : List Ask) (index : ℕ) (stands : Bool) : Type 0 where
   pub at : index ≡ index_of key asks
   pub found : is_some (ask_at key asks) ≡ stands
 
@@ -71,6 +71,10 @@ pub record HasRoom (more_asks more_grants more_ends : ℕ) (account : Account) :
   pub asks : more_asks ≤ account.asks
   pub grants : more_grants ≤ account.grants
   pub ends : more_ends ≤ account.ends
+
+-- a reply with these numbers in place of its own
+abbrev pub with_numbers : Reported → AllocateReply → AllocateReply
+with_numbers reported reply = record reply { response = reported.response; ignored = reported.ignored }
 
 -- those of the reply that an application keeps, where a request of a response id repeats the last processed one
 abbrev pub repeated_numbers : App → ℕ → Option Reported

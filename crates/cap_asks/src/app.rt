@@ -6,7 +6,7 @@ ghost use Rattle.cap_model.specs.Allocate.{has_too_many_keys, after_telling};
 ghost use Rattle.cap_model.specs.Events.{take_one};
 ghost use Rattle.cap_model.specs.ResponseIds.{is_repeated, is_bad_id};
 ghost use Rattle.cap_model.specs.Submit.{new_app};
-ghost use Rattle.cap_asks.specs.Held.{TakesRoom, HasRoom, repeated_numbers};
+ghost use Rattle.cap_asks.specs.Held.{TakesRoom, HasRoom, repeated_numbers, with_numbers};
 ghost use Rattle.cap_model.specs.Reporting.{reported_of, news_most};
 ghost use Rattle.cap_asks.specs.Apps.{new_account};
 
@@ -187,7 +187,7 @@ impl<const K: usize> App<K> {
 
     /// The reply of these numbers, with the grants and ends that were told last.
     pub(crate) fn reply(&self, reported: &Reported) -> AllocateView<'_, K>
-        ensures { IfSome self.now.app.kept (λ kept. result ≡ record kept { response = reported.now.response; ignored = reported.now.ignored }) }
+        ensures { IfSome self.now.app.kept (λ kept. result ≡ with_numbers reported.now kept) }
     {
         AllocateView {
             response: reported.response,

@@ -3,12 +3,11 @@ ghost use Rattle.cap_model.specs.Limits.{live_max, number_end};
 ghost use Rattle.std.specs.Option.{option_map_or};
 ghost use Rattle.cap_model.specs.Asking.{put_ask, reservations_left};
 ghost use Rattle.cap_model.specs.Events.{take_one};
-ghost use Rattle.cap_model.specs.Allocate.{after_telling};
 ghost use Rattle.cap_model.specs.Bounds.{IsRising};
 ghost use Rattle.cap_model.specs.Submit.{add_app};
 ghost use Rattle.cap_model.specs.FinishMaster.{remove_app};
 ghost use Rattle.cap_model.specs.Flat.{change_app, no_apps, app_in};
-ghost use Rattle.cap_asks.specs.Apps.{IsEntered, IsLeft, account_of, ask_room, live_of, UsesRoom, HasRooms, kept_of};
+ghost use Rattle.cap_asks.specs.Apps.{IsLeft, account_of, ask_room, live_of, UsesRoom, HasRooms, kept_of, Enters, with_ask_put, with_one_less, with_waiting_grant, with_waiting_end, after_next_reply};
 ghost use Rattle.cap_model.specs.Reporting.{reported_of};
 
 use crate::app::{App, Position};
@@ -84,7 +83,7 @@ impl<const K: usize> Apps<K> {
         ensures number { IfOk result (λ number. number ≡ self.old.table.next) }
         ensures rising { IsRising 1 (map (λ app. app.number) self.old.table.active) self.old.table.next }
         ensures table { OnOk result (self.new.table ≡ add_app leaf.now user.now self.old.table) }
-        ensures accounts { OnOk result (IsEntered self.old.table.next position.items self.old.accounts self.new.accounts) }
+        ensures accounts { OnOk result (Enters position.items self.old self.new) }
         ensures succeeds { 1 ≤ self.old.vacant → IsOk result }
         ensures table_stays { OnErr result (self.new.table ≡ self.old.table) }
         ensures accounts_stay { OnErr result (self.new.accounts ≡ self.old.accounts) }
@@ -164,7 +163,7 @@ impl<const K: usize> Apps<K> {
     /// room that `room` made.
     pub fn put_ask(&mut self, n: u64, ask: &Ask<K>)
         requires { 1 ≤ ask_room n self.old.accounts }
-        ensures table { self.new.table ≡ change_app n (λ app. record app { asks = put_ask ask.now app.asks }) self.old.table }
+        ensures table { self.new.table ≡ change_app n (with_ask_put ask.now) self.old.table }
         ensures accounts { UsesRoom n 1 0 0 self.old.accounts self.new.accounts }
     {
         let Some(app) = self.active.get_mut(&n) else {
@@ -176,7 +175,7 @@ impl<const K: usize> Apps<K> {
     /// One container less is wanted for this key of an application; an ask that comes to 0 goes. Where there is no such application
     /// or no ask of the key, nothing changes.
     pub fn take_one(&mut self, n: u64, key: &Key)
-        ensures table { self.new.table ≡ change_app n (λ app. record app { asks = take_one key.now app.asks }) self.old.table }
+        ensures table { self.new.table ≡ change_app n (with_one_less key.now) self.old.table }
         ensures accounts { UsesRoom n 0 0 0 self.old.accounts self.new.accounts }
     {
         let Some(app) = self.active.get_mut(&n) else {
@@ -190,7 +189,7 @@ impl<const K: usize> Apps<K> {
     pub fn add_grant(&mut self, n: u64, grant: &Grant<K>)
         requires room { HasRooms n 0 1 (live_of n self.old.accounts + 1) self.old.accounts }
         requires few { live_of n self.old.accounts < live_max }
-        ensures table { self.new.table ≡ change_app n (λ app. record app { grants = app.grants ++ grant.now ∷ [] }) self.old.table }
+        ensures table { self.new.table ≡ change_app n (with_waiting_grant grant.now) self.old.table }
         ensures accounts { UsesRoom n 0 1 0 self.old.accounts self.new.accounts }
     {
         let Some(app) = self.active.get_mut(&n) else {
@@ -202,7 +201,7 @@ impl<const K: usize> Apps<K> {
     /// One container of an application is live no more, and its end waits to be told to its master, last.
     pub fn add_end(&mut self, n: u64, end: &End)
         requires { 1 ≤ live_of n self.old.accounts }
-        ensures table { self.new.table ≡ change_app n (λ app. record app { ends = app.ends ++ end.now ∷ [] }) self.old.table }
+        ensures table { self.new.table ≡ change_app n (with_waiting_end end.now) self.old.table }
         ensures accounts { UsesRoom n 0 0 1 self.old.accounts self.new.accounts }
     {
         let Some(app) = self.active.get_mut(&n) else {
@@ -216,7 +215,7 @@ impl<const K: usize> Apps<K> {
     /// this number is active, nothing changes, and the numbers are 0.
     pub fn tell(&mut self, n: u64, ignored: u16) -> Reported
         ensures rising { IsRising 1 (map (λ app. app.number) self.old.table.active) self.old.table.next }
-        ensures table { self.new.table ≡ change_app n (λ app. after_telling app.response ignored app) self.old.table }
+        ensures table { self.new.table ≡ change_app n (after_next_reply ignored) self.old.table }
         ensures accounts { UsesRoom n 0 0 0 self.old.accounts self.new.accounts }
         ensures told { IsSome (app_in self.old.table n) → option_map reported_of (kept_of n self.new.table) ≡ Some result }
     {

@@ -4,7 +4,7 @@ ghost use Rattle.cap_model.specs.Flat.{ask_at};
 ghost use Rattle.cap_model.specs.Asking.{put_ask};
 ghost use Rattle.cap_model.specs.Limits.{keys_max};
 ghost use Rattle.cap_model.specs.Events.{take_one};
-ghost use Rattle.cap_asks.specs.Held.{is_before, IsIndex};
+ghost use Rattle.cap_asks.specs.Held.{is_before, IsKeyIndex};
 
 use cap_model::{Ask, Key, NoMemory};
 use std::alloc::Global;
@@ -74,8 +74,8 @@ impl<const K: usize> Asks<K> {
     /// Where the ask of this key stands in the order of keys; an error where none has the key, which says where it would stand. It
     /// costs one binary search.
     fn index_of(&self, key: &Key) -> Result<usize, usize>
-        ensures ok { IfOk result (λ index. IsIndex key.now self.now.asks index true) }
-        ensures err { IfErr result (λ index. IsIndex key.now self.now.asks index false) }
+        ensures ok { IfOk result (λ index. IsKeyIndex key.now self.now.asks index true) }
+        ensures err { IfErr result (λ index. IsKeyIndex key.now self.now.asks index false) }
     {
         let items = self.items.as_slice();
         let mut low = 0;

@@ -22,7 +22,7 @@ use Rattle.cap_model.proofs.uses.Tallies.{count_of, count_changed, ended_amount,
 use Rattle.cap_model.proofs.lists.Sums.{count_cons}
 use Rattle.cap_tree.specs.Measure.{Measure}
 use Rattle.cap_tree.specs.Queue.{MayGive}
-use Rattle.cap_tree.specs.Count.{nothing, use_alone}
+use Rattle.cap_tree.specs.Count.{zero_count, use_alone}
 use Rattle.cap_tree.proofs.OneUser.{count_where}
 use Rattle.cap_tree.specs.Rows.{Row, lowered_row, queues_of, user_row_at}
 use Rattle.cap_asks.specs.Apps.{HeldApps, UsesRoom, live_of, position_of}
@@ -105,7 +105,7 @@ module _ {K : ℕ} (p : Parts K) (h : IsHeld p) (number : ℕ) (c : Container) (
     ended = after_ends Cause.Released (c ∷ []) old
 
     -- what is used after it has ended, however the applications are told
-    less_used : (new : Flat K) (change : AppsChange old new) → new.nodes.live ≡ filter (λ d. not (is_among (c ∷ []) d)) p.nodes.live → new.nodes.reserved ≡ p.nodes.reserved → HasMoved old new a.leaf a.user (use_alone c.resource) (nothing K)
+    less_used : (new : Flat K) (change : AppsChange old new) → new.nodes.live ≡ filter (λ d. not (is_among (c ∷ []) d)) p.nodes.live → new.nodes.reserved ≡ p.nodes.reserved → HasMoved old new a.leaf a.user (use_alone c.resource) (zero_count K)
     less_used new change live reserved =
         gives old new a.leaf a.user c.resource short (λ test. ap (count_of test) change.active ∙ count_changed change.change change.keeps test p.apps.table.active)
         (λ test k b.
@@ -123,7 +123,7 @@ module _ {K : ℕ} (p : Parts K) (h : IsHeld p) (number : ℕ) (c : Container) (
     pub may_give_back : MayGive c.resource (user_row_at (position_of a.number p.apps.accounts) a.user p.rows)
     may_give_back =
         let at = row_at p.rows a.leaf (position_of a.number p.apps.accounts) placed.position in
-        may_give old ended a.leaf a.user (use_alone c.resource) (nothing K) (less_used ended (ends_change Cause.Released (c ∷ []) old ended refl refl) refl refl) some_active p.rows h.tied (position_of a.number p.apps.accounts) at.row at.member at.path_is at.item_is
+        may_give old ended a.leaf a.user (use_alone c.resource) (zero_count K) (less_used ended (ends_change Cause.Released (c ∷ []) old ended refl refl) refl refl) some_active p.rows h.tied (position_of a.number p.apps.accounts) at.row at.member at.path_is at.item_is
 
     -- after it has ended, and its application is to be told of it
     pub held_ended : (apps' : HeldApps) (nodes' : NodeTable) (n : ℕ) (end : End) → nodes' ≡ complete (c ∷ []) p.nodes → n ≡ c.app → apps'.table ≡ change_app n (λ app. record app { ends = app.ends ++ end ∷ [] }) p.apps.table →
@@ -135,15 +135,15 @@ module _ {K : ℕ} (p : Parts K) (h : IsHeld p) (number : ℕ) (c : Container) (
         let active : apps'.table.active ≡ map f p.apps.table.active = ap (λ (t : AppTable). t.active) tell in
         let live : nodes'.live ≡ filter (λ d. not (is_among (c ∷ []) d)) p.nodes.live = ap (λ (t : NodeTable). t.live) lift in
         let change : AppsChange old (flat_of q) = record { change = f; keeps = keeps; active = active; next = ap (λ (t : AppTable). t.next) tell } in
-        let settings : (flat_of q).settings.queues ≡ old.settings.queues = moved_settings K a.leaf a.user (use_alone c.resource) (nothing K) p.rows in
+        let settings : (flat_of q).settings.queues ≡ old.settings.queues = moved_settings K a.leaf a.user (use_alone c.resource) (zero_count K) p.rows in
         record {
-          tied = tied_moved old (flat_of q) a.leaf a.user (use_alone c.resource) (nothing K) (less_used (flat_of q) change live (ap (λ (t : NodeTable). t.reserved) lift)) p.rows h.tied;
+          tied = tied_moved old (flat_of q) a.leaf a.user (use_alone c.resource) (zero_count K) (less_used (flat_of q) change live (ap (λ (t : NodeTable). t.reserved) lift)) p.rows h.tied;
           placed =
               of_each (IsInLeaf q) apps'.table.active
               (λ x m.
               let w = of_map f p.apps.table.active x (subst (λ xs. IsIn x xs) active m) in
               still_placed p q (λ path l. leaf_same old (flat_of q) path settings l)
-              (moved_stays K a.leaf a.user (use_alone c.resource) (nothing K) p.rows)
+              (moved_stays K a.leaf a.user (use_alone c.resource) (zero_count K) p.rows)
               x (w.0) (ap (λ (y : App). y.leaf) (sym (w.2)) ∙ keeps.leaf (w.0)) (ap (λ (y : App). y.number) (sym (w.2)) ∙ keeps.number (w.0)) (room.positions (w.0).number) (each_of (IsInLeaf p) p.apps.table.active h.placed (w.0) (w.1)));
           counted = λ m. (let r = h.counted m in let e = room.live m in let w = count_left nodes' live m in let t : weight (c.app == m) ≡ weight (m == n) = ap weight (turned c.app m) ∙ ap (λ k. weight (m == k)) (sym same) in let z = none_where (m == n) in omega (arith, r, e, w, t, z));
           owned = owned_stands (λ (c : Container). c.app) p.nodes.live nodes'.live old (flat_of q) (change_stands old (flat_of q) change) (λ d i. (of_filter (λ x. not (is_among (c ∷ []) x)) p.nodes.live d (subst (IsIn d) live i)).1) h.owned;

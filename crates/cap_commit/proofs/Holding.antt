@@ -12,8 +12,8 @@ use Rattle.cap_model.specs.Limits.{applications_max, resources_max}
 use Rattle.cap_model.specs.Settings.{QueueRow}
 use Rattle.cap_model.specs.Flat.{Flat, App, AppTable, Container, NodeTable, app_at, with_reserved, containers_of, change_app, Reservation}
 use Rattle.cap_model.specs.declared.news.Cause.{Cause}
-use Rattle.cap_model.specs.EngineLaws.{numbers_of}
-use Rattle.cap_model.specs.Ending.{after_ends, with_ends, without}
+use Rattle.cap_model.specs.EngineLaws.{container_numbers}
+use Rattle.cap_model.specs.Ending.{after_ends, with_ends, without_containers}
 use Rattle.cap_model.specs.FinishMaster.{after_finish_master, remove_app}
 use Rattle.cap_model.specs.Submit.{submit_refusal, new_app, add_app}
 use Rattle.cap_model.specs.Bounds.{IsLeaf, IsRising}
@@ -31,7 +31,7 @@ use Rattle.cap_model.proofs.lists.Tests.{kept_if}
 use Rattle.cap_tree.specs.Measure.{Measure}
 use Rattle.cap_tree.specs.Queue.{IsUnused, MayLeave}
 use Rattle.cap_vector.proofs.AmountLemmas.{amount-zeros}
-use Rattle.cap_tree.specs.Count.{nothing, one_application}
+use Rattle.cap_tree.specs.Count.{zero_count, one_app}
 use Rattle.cap_tree.specs.Rows.{Row, IsAt, entered_row, left_row, with_state, queues_of, user_row_at}
 use Rattle.cap_tree.proofs.Listings.{any_kept, path_kept, set_running, same_path, state_in_settings}
 use Rattle.cap_asks.specs.Held.{Account, HeldApp}
@@ -83,7 +83,7 @@ module _ {K : ℕ} where
         placed = of_each (IsInLeaf p) p.apps.table.active (λ a m. absurd (subst (λ xs. IsIn a xs) none m));
         counted = λ n. ap (live_of n) accounts ∙ sym (ap (count_for n) live);
         owned = of_each (IsOwned (flat_of p)) p.nodes.live (λ c m. absurd (subst (λ xs. IsIn c xs) live m));
-        numbers = subst (λ cs. IsRising 1 (numbers_of cs) p.nodes.next_container) (sym live) first;
+        numbers = subst (λ cs. IsRising 1 (container_numbers cs) p.nodes.next_container) (sym live) first;
         limit = l;
         few = (let n = ap length none in omega (arith, n));
         few_live = (let n = ap length live in omega (arith, n));
@@ -186,13 +186,13 @@ module _ {K : ℕ} where
         let n = p.apps.table.next in
         let a : App = new_app n leaf user in
         let active : apps'.table.active ≡ p.apps.table.active ++ a ∷ [] = ap (λ (t : AppTable). t.active) e in
-        let same : (flat_of q).settings.queues ≡ old.settings.queues = moved_settings K leaf user (nothing K) (one_application K) p.rows in
-        let stays : (path position : List ℕ) → IsAt p.rows path position → IsAt q.rows path position = moved_stays K leaf user (nothing K) (one_application K) p.rows in
+        let same : (flat_of q).settings.queues ≡ old.settings.queues = moved_settings K leaf user (zero_count K) (one_app K) p.rows in
+        let stays : (path position : List ℕ) → IsAt p.rows path position → IsAt q.rows path position = moved_stays K leaf user (zero_count K) (one_app K) p.rows in
         let may = may_enter old leaf unrefused in
         let still : (m : ℕ) → IsSome (app_at old m) → IsSome (app_at (flat_of q) m) = λ m there. subst IsSome (sym (ap (find (λ (x : App). x.number == m)) active ∙ find_with_more (λ (x : App). x.number) m p.apps.table.active (a ∷ []) there)) there in
         let own : position_of n apps'.accounts ≡ position = ap (λ o. option_map_or (λ (x : Account). x.position) o []) accounts.own in
         record {
-          tied = tied_moved old (flat_of q) leaf user (nothing K) (one_application K) (enters old (flat_of q) leaf user (record { counts = λ t. ap (count_of t) active ∙ count_entered t p.apps.table.active a; uses = same_use old (flat_of q) (coming_holds old (flat_of q) a active owners refl refl) })) p.rows h.tied;
+          tied = tied_moved old (flat_of q) leaf user (zero_count K) (one_app K) (enters old (flat_of q) leaf user (record { counts = λ t. ap (count_of t) active ∙ count_entered t p.apps.table.active a; uses = same_use old (flat_of q) (coming_holds old (flat_of q) a active owners refl refl) })) p.rows h.tied;
           placed =
               of_each (IsInLeaf q) apps'.table.active
               (λ x m. elim (in_either x p.apps.table.active (a ∷ []) (subst (λ xs. IsIn x xs) active m)) [
@@ -284,24 +284,24 @@ module _ {K : ℕ} where
       pub may_go : MayLeave (user_row_at (position_of a.number p.apps.accounts) a.user p.rows)
       may_go =
           let at = row_at p.rows a.leaf (position_of a.number p.apps.accounts) (placed_at n a found_it).position in
-          may_leave old without_it a.leaf a.user (one_application K) (nothing K) (leaves without_it old a.leaf a.user one_less) some_active p.rows h.tied (position_of a.number p.apps.accounts) at.row at.member at.path_is at.item_is spent
+          may_leave old without_it a.leaf a.user (one_app K) (zero_count K) (leaves without_it old a.leaf a.user one_less) some_active p.rows h.tied (position_of a.number p.apps.accounts) at.row at.member at.path_is at.item_is spent
 
       -- after it has left
       pub held_left : (apps' : HeldApps) → apps'.table ≡ remove_app n p.apps.table → IsLeft n p.apps.accounts apps'.accounts → IsHeld (record p { rows = map (left_row K a.leaf a.user) p.rows; apps = apps' })
       held_left apps' e accounts =
           let q : Parts K = record p { rows = map (left_row K a.leaf a.user) p.rows; apps = apps' } in
           let active : apps'.table.active ≡ filter (λ (x : App). not (x.number == n)) p.apps.table.active = ap (λ (t : AppTable). t.active) e in
-          let same : (flat_of q).settings.queues ≡ old.settings.queues = moved_settings K a.leaf a.user (one_application K) (nothing K) p.rows in
+          let same : (flat_of q).settings.queues ≡ old.settings.queues = moved_settings K a.leaf a.user (one_app K) (zero_count K) p.rows in
           let remains : (k : ℕ) → k == n ≡ false → IsSome (app_at old k) → IsSome (app_at (flat_of q) k) = λ k other there. subst IsSome (sym (ap (find (λ (x : App). x.number == k)) active ∙ find_others (λ (x : App). x.number) n k (turned k n other) p.apps.table.active)) there in
           let stays : HoldsSame without_it (flat_of q) = record { live = refl; reserved = refl; apps = λ app node s. ap (λ (t : AppTable). Rattle.cap_model.proofs.calls.Lessening.standing (find (λ (x : App). x.number == app) t.active)) e } in
           record {
-            tied = tied_stays without_it (flat_of q) (record { counts = λ t. ap (count_of t) active; uses = same_use without_it (flat_of q) stays }) q.rows (tied_moved old without_it a.leaf a.user (one_application K) (nothing K) (leaves without_it old a.leaf a.user one_less) p.rows h.tied);
+            tied = tied_stays without_it (flat_of q) (record { counts = λ t. ap (count_of t) active; uses = same_use without_it (flat_of q) stays }) q.rows (tied_moved old without_it a.leaf a.user (one_app K) (zero_count K) (leaves without_it old a.leaf a.user one_less) p.rows h.tied);
             placed =
                 of_each (IsInLeaf q) apps'.table.active
                 (λ x m.
                 let there = of_filter (λ (y : App). not (y.number == n)) p.apps.table.active x (subst (λ xs. IsIn x xs) active m) in
                 still_placed p q (λ path l. leaf_same old (flat_of q) path same l)
-                (moved_stays K a.leaf a.user (one_application K) (nothing K) p.rows) x x refl refl
+                (moved_stays K a.leaf a.user (one_app K) (zero_count K) p.rows) x x refl refl
                 (ap (λ r. option_map_or (λ (c : Account). c.position) r []) (accounts.others x.number (not-true (x.number == n) there.0)))
                 (each_of (IsInLeaf p) p.apps.table.active h.placed x there.1));
             counted = λ m. live_left (m == n) m refl;
@@ -341,4 +341,4 @@ pub finished_is : {K : ℕ} (cause : Cause) (start ended new : Flat K) (n : ℕ)
     new ≡ record (with_reserved (filter (λ r. not (r.app == n)) ended.nodes.reserved) ended) { apps = remove_app n ended.apps } → new ≡ after_finish_master start n
 finished_is {K} cause start ended new n is e =
     e ∙ ap (λ (x : Flat K). record (with_reserved (filter (λ r. not (r.app == n)) x.nodes.reserved) x) { apps = remove_app n x.apps }) is
-    ∙ ap (λ active. record (with_reserved (filter (λ r. not (r.app == n)) start.nodes.reserved) (without (containers_of start.nodes n) start)) { apps = record start.apps { active = active } }) (finished_active cause n start.nodes.live start.apps.active)
+    ∙ ap (λ active. record (with_reserved (filter (λ r. not (r.app == n)) start.nodes.reserved) (without_containers (containers_of start.nodes n) start)) { apps = record start.apps { active = active } }) (finished_active cause n start.nodes.live start.apps.active)

@@ -6,7 +6,7 @@ use Rattle.std.specs.Option.{option_map_or}
 use Rattle.std.proofs.lemmas.Bool.{cases_lt}
 use Rattle.std.proofs.lemmas.List.{ext_get_or, get_or_past, length-replicate}
 use Rattle.std.proofs.lemmas.Slice.Eq.{bytes_eq-Decides}
-use Rattle.cap_vector.specs.Vector.{amount, exchanged, zeros}
+use Rattle.cap_vector.specs.Vector.{amount, amounts_exchanged, zeros}
 use Rattle.cap_vector.proofs.AmountLemmas.{is_exchanged}
 use Rattle.cap_model.specs.Flat.{Flat, is_under}
 use Rattle.cap_model.proofs.lists.Members.{IsIn, each_of}
@@ -15,9 +15,9 @@ use Rattle.cap_model.proofs.uses.Tallies.{Test, count_of, used_by, length_used}
 use Rattle.cap_model.proofs.lists.Tests.{bytes_turned}
 use Rattle.cap_tree.specs.Measure.{Measure}
 use Rattle.cap_tree.specs.Spot.{item_at}
-use Rattle.cap_tree.specs.Count.{Count, IsPart, count_moved, of_count, nothing, one_application, use_alone}
+use Rattle.cap_tree.specs.Count.{Count, IsPart, count_moved, of_count, zero_count, one_app, use_alone}
 use Rattle.cap_tree.specs.Queue.{Queue, UserRow, MayGive, MayLeave, count_in, moved_above, moved_at, of_one, of_user, user_count, user_row}
-use Rattle.cap_tree.specs.QueueLaws.{nothing_counts}
+use Rattle.cap_tree.specs.QueueLaws.{zero_counts}
 use Rattle.cap_tree.specs.Rows.{Row, IsAt, moved_row, queues_of, user_row_at}
 use Rattle.cap_tree.proofs.Listings.{settings_stay}
 use Rattle.cap_model.proofs.paths.Paths.{under_itself}
@@ -50,7 +50,7 @@ own_count : (K : ℕ) (user : List ℕ) (us : List UserRow) (m : Measure) → of
 own_count K user us m s = by (user_row user us) refl
   where
     by : (o : Option UserRow) → user_row user us ≡ o → of_one user (of_user m) us ≡ of_count (count_in K o) m
-    by None e = none_there user (of_user m) us e ∙ sym (nothing_counts K m)
+    by None e = none_there user (of_user m) us e ∙ sym (zero_counts K m)
     by (Some row) e = single_row user (of_user m) us row s e
 
 module _ {K : ℕ} (before after : Flat K) (leaf user : List ℕ) (old new : Count) (h : HasMoved before after leaf user old new) where
@@ -70,7 +70,7 @@ module _ {K : ℕ} (before after : Flat K) (leaf user : List ℕ) (old new : Cou
       let n : count_where (test leaf user) new m ≡ 0 = ap (λ b. count_where b new m) e in
       omega (arith, c, o, n)
 
-  used_there : (path : List ℕ) → is_under path leaf ≡ true → used_by after (in_queue path) ≡ exchanged old.used new.used (used_by before (in_queue path))
+  used_there : (path : List ℕ) → is_under path leaf ≡ true → used_by after (in_queue path) ≡ amounts_exchanged old.used new.used (used_by before (in_queue path))
   used_there path e =
       is_exchanged old.used new.used (used_by before (in_queue path)) (used_by after (in_queue path)) K (length_used before (in_queue path)) h.short (length_used after (in_queue path)) (λ k b. count_there (in_queue path) (Measure.uses k) e)
 
@@ -110,13 +110,13 @@ module _ {K : ℕ} (before after : Flat K) (leaf user : List ℕ) (old new : Cou
       changed_row (moved_above old new) (moved_at K user old new) leaf (IsRowOf after) r
       (λ e. record {
         active = ap (λ n. (n - old.active) + new.active) t.active ∙ sym (count_there (in_queue r.path) Measure.active (under_it leaf r.path e));
-        used = ap (λ v. exchanged old.used new.used v) t.used ∙ sym (used_there r.path (under_it leaf r.path e));
+        used = ap (λ v. amounts_exchanged old.used new.used v) t.used ∙ sym (used_there r.path (under_it leaf r.path e));
         users = λ owner m. (let own = moved_own K user old new r.item.users (own_part r e t) owner m in let there = user_there r.path owner m e in let was = t.users owner m in omega (arith, own, there, was));
         single = λ owner. moved_single user (count_moved old new (count_in K (user_row user r.item.users))) r.item.users owner (t.single owner);
       })
       (λ e u. record {
         active = ap (λ n. (n - old.active) + new.active) t.active ∙ sym (count_there (in_queue r.path) Measure.active u);
-        used = ap (λ v. exchanged old.used new.used v) t.used ∙ sym (used_there r.path u);
+        used = ap (λ v. amounts_exchanged old.used new.used v) t.used ∙ sym (used_there r.path u);
         users = λ owner m. t.users owner m ∙ sym (user_elsewhere r.path owner m e);
         single = t.single;
       })
@@ -182,15 +182,15 @@ pub record HasOneMore {K : ℕ} (fewer more : Flat K) (leaf user : List ℕ) : T
   pub counts : (test : Test) → count_of test more.apps.active ≡ count_of test fewer.apps.active + one_where (test leaf user)
   pub uses : (test : Test) → used_by more test ≡ used_by fewer test
 
-where_nothing : (K : ℕ) (b : Bool) (m : Measure) → count_where b (nothing K) m ≡ 0
-where_nothing K true m = nothing_counts K m
+where_nothing : (K : ℕ) (b : Bool) (m : Measure) → count_where b (zero_count K) m ≡ 0
+where_nothing K true m = zero_counts K m
 where_nothing K false m = refl
 
-one_uses : (K : ℕ) (b : Bool) (k : ℕ) → count_where b (one_application K) (Measure.uses k) ≡ 0
-one_uses K true k = nothing_counts K (Measure.uses k)
+one_uses : (K : ℕ) (b : Bool) (k : ℕ) → count_where b (one_app K) (Measure.uses k) ≡ 0
+one_uses K true k = zero_counts K (Measure.uses k)
 one_uses K false k = refl
 
-one_counts : (K : ℕ) (b : Bool) → count_where b (one_application K) Measure.active ≡ one_where b
+one_counts : (K : ℕ) (b : Bool) → count_where b (one_app K) Measure.active ≡ one_where b
 one_counts K true = refl
 one_counts K false = refl
 
@@ -199,26 +199,26 @@ zeros_are K = length-replicate K 0
 
 module _ {K : ℕ} (fewer more : Flat K) (leaf user : List ℕ) (h : HasOneMore fewer more leaf user) where
   -- an application enters, and leaves
-  pub enters : HasMoved fewer more leaf user (nothing K) (one_application K)
+  pub enters : HasMoved fewer more leaf user (zero_count K) (one_app K)
   enters = record { counts = counted; fits = λ test m. (let z = where_nothing K (test leaf user) m in omega (arith, z)); short = zeros_are K }
     where
-      counted : (test : Test) (m : Measure) → of_test more test m + count_where (test leaf user) (nothing K) m ≡ of_test fewer test m + count_where (test leaf user) (one_application K) m
+      counted : (test : Test) (m : Measure) → of_test more test m + count_where (test leaf user) (zero_count K) m ≡ of_test fewer test m + count_where (test leaf user) (one_app K) m
       counted test (Measure.uses k) = let u = ap (λ v. amount v k) (h.uses test) in omega (arith, u, where_nothing K (test leaf user) (Measure.uses k), one_uses K (test leaf user) k)
       counted test Measure.active = omega (arith, h.counts test, where_nothing K (test leaf user) Measure.active, one_counts K (test leaf user))
 
-  pub leaves : HasMoved more fewer leaf user (one_application K) (nothing K)
+  pub leaves : HasMoved more fewer leaf user (one_app K) (zero_count K)
   leaves = record { counts = counted; fits = fitted; short = zeros_are K }
     where
-      counted : (test : Test) (m : Measure) → of_test fewer test m + count_where (test leaf user) (one_application K) m ≡ of_test more test m + count_where (test leaf user) (nothing K) m
+      counted : (test : Test) (m : Measure) → of_test fewer test m + count_where (test leaf user) (one_app K) m ≡ of_test more test m + count_where (test leaf user) (zero_count K) m
       counted test (Measure.uses k) = let u = ap (λ v. amount v k) (h.uses test) in omega (arith, u, where_nothing K (test leaf user) (Measure.uses k), one_uses K (test leaf user) k)
       counted test Measure.active = omega (arith, h.counts test, where_nothing K (test leaf user) Measure.active, one_counts K (test leaf user))
 
-      fitted : (test : Test) (m : Measure) → count_where (test leaf user) (one_application K) m ≤ of_test more test m
+      fitted : (test : Test) (m : Measure) → count_where (test leaf user) (one_app K) m ≤ of_test more test m
       fitted test m = let c = counted test m in let z = where_nothing K (test leaf user) m in omega (arith, c, z)
 
 -- a user gives some of its use back: it is enough to know it of the amounts that there are
 pub gives : {K : ℕ} (before after : Flat K) (leaf user r : List ℕ) → length r ≤ K → ((test : Test) → count_of test after.apps.active ≡ count_of test before.apps.active) →
-    ((test : Test) (k : ℕ) → k < K → amount (used_by before test) k ≡ amount (used_by after test) k + count_where (test leaf user) (use_alone r) (Measure.uses k)) → HasMoved before after leaf user (use_alone r) (nothing K)
+    ((test : Test) (k : ℕ) → k < K → amount (used_by before test) k ≡ amount (used_by after test) k + count_where (test leaf user) (use_alone r) (Measure.uses k)) → HasMoved before after leaf user (use_alone r) (zero_count K)
 gives {K} before after leaf user r few counts uses = record { counts = counted; fits = fitted; short = zeros_are K }
   where
     past_where : (b : Bool) (k : ℕ) → K ≤ k → count_where b (use_alone r) (Measure.uses k) ≡ 0
@@ -238,7 +238,7 @@ gives {K} before after leaf user r few counts uses = record { counts = counted; 
           omega (arith, a, b, past_where (test leaf user) k past)
     ]
 
-    counted : (test : Test) (m : Measure) → of_test after test m + count_where (test leaf user) (use_alone r) m ≡ of_test before test m + count_where (test leaf user) (nothing K) m
+    counted : (test : Test) (m : Measure) → of_test after test m + count_where (test leaf user) (use_alone r) m ≡ of_test before test m + count_where (test leaf user) (zero_count K) m
     counted test (Measure.uses k) = omega (arith, used test k, where_nothing K (test leaf user) (Measure.uses k))
     counted test Measure.active = omega (arith, counts test, none_active (test leaf user), where_nothing K (test leaf user) Measure.active)
 

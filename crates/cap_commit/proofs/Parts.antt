@@ -18,11 +18,11 @@ use Rattle.cap_commit.specs.Held.{Parts, flat_of}
 use Rattle.cap_commit.specs.Reservations.{kept_by_ask}
 
 -- what is reported of a queue
-pub report_is : {K : ℕ} (cluster : Flat K) (path : List ℕ) (q : QueueRow) (running below : Bool) (guaranteed : List ℕ) (maximum : Option (List ℕ)) (used : List ℕ) (applications : ℕ)
+pub report_is : {K : ℕ} (cluster : Flat K) (path : List ℕ) (q : QueueRow) (running below : Bool) (guaranteed : List ℕ) (maximum : Option (List ℕ)) (used : List ℕ) (apps : ℕ)
     → queue_at cluster path ≡ Some q → running ≡ is_running cluster path → below ≡ has_children cluster path → guaranteed ≡ q.guaranteed → maximum ≡ q.maximum → used ≡ queue_use cluster path
-    → applications ≡ count_by (λ app. is_under path app.leaf) cluster.apps.active
-    → record { running = running; leaf = not below; guaranteed = guaranteed; maximum = maximum; used = used; applications = applications } ≡ queue_report cluster path
-report_is cluster path q running below guaranteed maximum used applications found a b c d e f = rw (found, a, b, c, d, e, f) refl
+    → apps ≡ count_by (λ app. is_under path app.leaf) cluster.apps.active
+    → record { running = running; leaf = not below; guaranteed = guaranteed; maximum = maximum; used = used; apps = apps } ≡ queue_report cluster path
+report_is cluster path q running below guaranteed maximum used apps found a b c d e f = rw (found, a, b, c, d, e, f) refl
 
 -- an ask is put, where the reservations that it does not leave were dropped before
 pub ask_put : {K : ℕ} (old dropped : Flat K) (table' : AppTable) (n : ℕ) (ask kept : Ask) → kept ≡ rounded_ask K old.settings ask → dropped ≡ with_reserved (kept_by_ask n kept old) old →

@@ -51,7 +51,7 @@ module _ {K : ℕ} (p : Parts K) (path position : List ℕ) (tree : AreRows p.ro
 
   -- what is reported of it
   pub reported : (q : Queue) (running below : Bool) (r : QueueReport K) → item_at position rows ≡ Some q → running ≡ is_running rows (path_at position rows) → has_children rows path ≡ below →
-      r ≡ record { running = running; leaf = not below; guaranteed = q.guaranteed; maximum = q.maximum; used = q.used; applications = q.active } → r ≡ queue_report cluster path
+      r ≡ record { running = running; leaf = not below; guaranteed = q.guaranteed; maximum = q.maximum; used = q.used; apps = q.active } → r ≡ queue_report cluster path
   reported q running below r e runs childless is =
       let item = its_item q e in
       is

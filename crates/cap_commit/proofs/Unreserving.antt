@@ -12,7 +12,7 @@ use Rattle.cap_model.proofs.uses.Measures.{counts, counted, reserved_part, use_a
 use Rattle.cap_model.proofs.uses.Tallies.{count_of, used_by}
 use Rattle.cap_tree.specs.Measure.{Measure}
 use Rattle.cap_tree.specs.Queue.{MayGive}
-use Rattle.cap_tree.specs.Count.{nothing, use_alone}
+use Rattle.cap_tree.specs.Count.{zero_count, use_alone}
 use Rattle.cap_tree.proofs.OneUser.{count_where}
 use Rattle.cap_tree.specs.Rows.{Row, lowered_row, queues_of, user_row_at}
 use Rattle.cap_asks.specs.Apps.{position_of}
@@ -64,7 +64,7 @@ module _ {K : ℕ} (p : Parts K) (h : IsHeld p) (i : ℕ) (r : Reservation) (bel
     placed = each_of (IsInLeaf p) p.apps.table.active h.placed a (found (λ (x : App). x.number == r.app) p.apps.table.active a owner).0
 
     -- what is used after it was dropped, whatever the settings
-    less_used : (settings : Settings) → HasMoved old (record dropped { settings = settings }) a.leaf a.user (use_alone r.resource) (nothing K)
+    less_used : (settings : Settings) → HasMoved old (record dropped { settings = settings }) a.leaf a.user (use_alone r.resource) (zero_count K)
     less_used settings =
         let new : Flat K = record dropped { settings = settings } in
         gives old new a.leaf a.user r.resource short (λ test. refl)
@@ -78,7 +78,7 @@ module _ {K : ℕ} (p : Parts K) (h : IsHeld p) (i : ℕ) (r : Reservation) (bel
     pub may_give_reserved : MayGive r.resource (user_row_at (position_of a.number p.apps.accounts) a.user p.rows)
     may_give_reserved =
         let row = row_at p.rows a.leaf (position_of a.number p.apps.accounts) placed.position in
-        may_give old dropped a.leaf a.user (use_alone r.resource) (nothing K) (less_used old.settings) some_active p.rows h.tied (position_of a.number p.apps.accounts) row.row row.member row.path_is row.item_is
+        may_give old dropped a.leaf a.user (use_alone r.resource) (zero_count K) (less_used old.settings) some_active p.rows h.tied (position_of a.number p.apps.accounts) row.row row.member row.path_is row.item_is
 
     -- after it was dropped
     pub held_dropped : (nodes' : NodeTable) → nodes' ≡ record p.nodes { reserved = remove p.nodes.reserved i } → IsHeld (record p { rows = map (lowered_row K a.leaf a.user r.resource) p.rows; nodes = nodes' })
@@ -88,14 +88,14 @@ module _ {K : ℕ} (p : Parts K) (h : IsHeld p) (i : ℕ) (r : Reservation) (bel
         q = record p { rows = map (lowered_row K a.leaf a.user r.resource) p.rows; nodes = record p.nodes { reserved = remove p.nodes.reserved i } }
 
         settings : (flat_of q).settings.queues ≡ old.settings.queues
-        settings = moved_settings K a.leaf a.user (use_alone r.resource) (nothing K) p.rows
+        settings = moved_settings K a.leaf a.user (use_alone r.resource) (zero_count K) p.rows
 
         here : IsHeld q
         here = record {
-          tied = tied_moved old (flat_of q) a.leaf a.user (use_alone r.resource) (nothing K) (less_used (flat_of q).settings) p.rows h.tied;
+          tied = tied_moved old (flat_of q) a.leaf a.user (use_alone r.resource) (zero_count K) (less_used (flat_of q).settings) p.rows h.tied;
           placed =
               of_each (IsInLeaf q) p.apps.table.active
-              (λ x m. still_placed p q (λ path l. leaf_same old (flat_of q) path settings l) (moved_stays K a.leaf a.user (use_alone r.resource) (nothing K) p.rows) x x refl refl refl (each_of (IsInLeaf p) p.apps.table.active h.placed x m));
+              (λ x m. still_placed p q (λ path l. leaf_same old (flat_of q) path settings l) (moved_stays K a.leaf a.user (use_alone r.resource) (zero_count K) p.rows) x x refl refl refl (each_of (IsInLeaf p) p.apps.table.active h.placed x m));
           counted = h.counted;
           owned = h.owned;
           reserved = owned_stands (λ (x : Reservation). x.app) p.nodes.reserved (remove p.nodes.reserved i) old (flat_of q) (λ n. refl) (λ x m. in_removed p.nodes.reserved i x m) h.reserved;

@@ -97,7 +97,7 @@ impl<const K: usize> Cluster<K> {
     pub fn settings(&self) -> &Limits<K>
         ensures minimum { result.now.minimum_allocation ≡ self.now.flat.settings.minimum_allocation }
         ensures maximum { result.now.maximum_allocation ≡ self.now.flat.settings.maximum_allocation }
-        ensures applications { result.now.application_limit ≡ self.now.flat.settings.application_limit }
+        ensures apps { result.now.application_limit ≡ self.now.flat.settings.application_limit }
     {
         &self.limits
     }

@@ -25,7 +25,7 @@ impl<const K: usize> Cluster<K> {
         ensures { IfOk result (λ room. HasRoomForReplies self.now.flat request.now room) }
     {
         let Request::Allocate {
-            application,
+            app,
             response,
             releases,
             ..
@@ -33,7 +33,7 @@ impl<const K: usize> Cluster<K> {
         else {
             return ReplyRoom::new(alloc, 0, 0);
         };
-        match self.apps().app(*application) {
+        match self.apps().app(*app) {
             Some(app) => app.reply_room(alloc, *response, releases.as_slice().len()),
             None => ReplyRoom::new(alloc, 0, 0),
         }

@@ -12,7 +12,7 @@ pub(crate) fn report_of<const K: usize>(
     leaf: bool,
 ) -> QueueReport<K>
     requires { queue.now.active ≤ applications_max }
-    ensures { result ≡ record { running = running; leaf = leaf; guaranteed = queue.now.guaranteed; maximum = queue.now.maximum; used = queue.now.used; applications = queue.now.active } }
+    ensures { result ≡ record { running = running; leaf = leaf; guaranteed = queue.now.guaranteed; maximum = queue.now.maximum; used = queue.now.used; apps = queue.now.active } }
 {
     QueueReport {
         running,
@@ -20,6 +20,6 @@ pub(crate) fn report_of<const K: usize>(
         guaranteed: queue.guaranteed(),
         maximum: queue.maximum(),
         used: queue.used(),
-        applications: queue.active() as u32,
+        apps: queue.active() as u32,
     }
 }

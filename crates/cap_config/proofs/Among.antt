@@ -3,14 +3,14 @@ use Rattle.std.proofs.Common.{◌≡◌, ℕ, List, [], ◌∷◌, ◌++◌, Boo
 use Rattle.std.specs.Prelude.{◌||◌, is_some}
 use Rattle.std.specs.Str.{bytes_eq}
 use Rattle.std.proofs.lemmas.List.Folds.{list_any-append}
-use Rattle.cap_config.specs.Seen.{is_among}
+use Rattle.cap_config.specs.Seen.{contains_bytes}
 
 or-false : (b : Bool) → (b || false) ≡ b
 or-false true = refl
 or-false false = refl
 
-pub among_push : (keys : List (List ℕ)) (key q : List ℕ) → is_among (keys ++ key ∷ []) q ≡ (is_among keys q || bytes_eq key q)
-among_push keys key q = list_any-append _ keys (key ∷ []) ∙ ap (λ b. is_among keys q || b) (or-false (bytes_eq key q))
+pub among_push : (keys : List (List ℕ)) (key q : List ℕ) → contains_bytes (keys ++ key ∷ []) q ≡ (contains_bytes keys q || bytes_eq key q)
+among_push keys key q = list_any-append _ keys (key ∷ []) ∙ ap (λ b. contains_bytes keys q || b) (or-false (bytes_eq key q))
 
 -- what is there after a key was set
 pub there_after : {X : Type 0} (here : Bool) (o w r : Option X) → is_some w ≡ true → r ≡ cond here w o → is_some r ≡ (is_some o || here)

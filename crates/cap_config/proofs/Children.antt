@@ -9,7 +9,7 @@ use Rattle.std.proofs.lemmas.List.Splits.{length-slice_split}
 use Rattle.std.proofs.lemmas.Option.{same_Some, some_pair_parts}
 use Rattle.std.proofs.Math.Seq.{take-append_seam}
 use Rattle.cap_model.specs.Flat.{is_child_of}
-use Rattle.cap_model.proofs.paths.Paths.{IsUnder, before_dot, its_child}
+use Rattle.cap_model.proofs.paths.Paths.{IsUnder, has_dot, before_no_dot, its_child}
 use Rattle.cap_config.specs.Keys.{last_dot, dot_or, is_dot, is_name, is_name_byte, parts_at_last_dot, parts_round}
 use Rattle.cap_config.specs.Queues.{child}
 use Rattle.cap_config.specs.Tests.{level}
@@ -113,15 +113,15 @@ pub name_no_dot : (path name : List ℕ) → is_name_under path name ≡ true �
 unfolding is_name
 name_no_dot path name h = bytes_no_dot name (both _ _ (both _ _ (both _ _ h).0).1).1
 
-before_dotless : (name : List ℕ) → last_dot name ≡ None → before_dot name ≡ name
-before_dotless [] h = refl
-before_dotless (b ∷ name) h =
+has_none : (name : List ℕ) → last_dot name ≡ None → has_dot name ≡ false
+has_none [] h = refl
+has_none (b ∷ name) h =
     let parts = dotless_cons (is_dot b) (last_dot name) h in
-    rw (parts.0, before_dotless name parts.1) refl
+    rw (parts.0, has_none name parts.1) refl
 
 -- it is the child of that queue
 pub child_is : (path name : List ℕ) → last_dot name ≡ None → is_child_of path (child path name) ≡ true
-child_is path name none = subst (λ (n : List ℕ). is_child_of path (child path n) ≡ true) (before_dotless name none) (its_child path name)
+child_is path name none = subst (λ (n : List ℕ). is_child_of path (child path n) ≡ true) (before_no_dot name (has_none name none)) (its_child path name)
 
 -- what is under it is under that queue
 pub under_child : (path name queue : List ℕ) → IsUnder (child path name) queue → (rest : List ℕ) × (queue ≡ child path rest)

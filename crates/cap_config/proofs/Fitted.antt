@@ -6,7 +6,7 @@ use Rattle.cap_config.specs.declared.entry.Entry.{Entry}
 use Rattle.cap_config.specs.declared.fault.ConfigFault.{ConfigFault}
 use Rattle.cap_config.specs.declared.fault.ConfigFaultKind.TheVariants.{OverParent}
 use Rattle.cap_config.specs.Keys.{root}
-use Rattle.cap_config.specs.Seen.{is_among}
+use Rattle.cap_config.specs.Seen.{contains_bytes}
 use Rattle.cap_config.specs.Values.{is_name_under}
 use Rattle.cap_config.specs.Queues.{names_below, child, guaranteed, maximum}
 use Rattle.cap_config.specs.Tests.{over_parent_line, exceeds, exceeds_limit, guaranteed_below, whole_fault, shape_fault, or_else, or_fault}
@@ -30,7 +30,7 @@ pub guarantee_in_text : (text : List ℕ) (entries : List Entry) → read_lines 
 guarantee_in_text text entries is none path = guarantee_fits entries (shape_of entries none).over path
 
 pub maximum_in_text : (text : List ℕ) (entries : List Entry) → read_lines (lines text) ≡ Ok entries → whole_fault entries ≡ None →
-    (path name most : List ℕ) → is_among (names_below entries path) name ≡ true → maximum entries (child path name) ≡ Some most → exceeds_limit most (maximum entries path) ≡ false
+    (path name most : List ℕ) → contains_bytes (names_below entries path) name ≡ true → maximum entries (child path name) ≡ Some most → exceeds_limit most (maximum entries path) ≡ false
 maximum_in_text text entries is none path name most in_list own =
     let under = among_has (is_name_under path) (names_below entries path) name (under_path entries path (lines_kept (lines text) entries is)) in_list in
     let parts = child_parts path name (name_no_dot path name under) in

@@ -10,7 +10,7 @@ use Rattle.cap_config.specs.declared.value.Value.{Value}
 use Rattle.cap_config.specs.declared.value.Value.TheVariants.{Names, Amounts, Number, Running}
 use Rattle.cap_config.specs.declared.setting.Setting.TheVariants.{Queues, Capacity, MaximumCapacity}
 use Rattle.cap_config.specs.Keys.{root, parts_at_last_dot}
-use Rattle.cap_config.specs.Queues.{entry_for, is_for, is_path_at, same_setting, names_below, names_or_none, names_in_value, guaranteed, maximum, amounts_at, amounts_or, or_zero}
+use Rattle.cap_config.specs.Queues.{entry_for, is_entry_for, is_path_at, same_setting, names_below, names_or_none, names_in_value, guaranteed, maximum, amounts_at, amounts_or, or_zero}
 use Rattle.cap_config.specs.Tests.{exceeds, exceeds_limit, is_over_limit, is_over_maximum, over_maximum_line, is_over_parts, guaranteed_below, is_over_above, is_over_parent, over_parent_line}
 use Rattle.cap_config.proofs.Above.{parent_is}
 use Rattle.cap_config.proofs.Trees.{maximum_own, maximum_inherited}
@@ -43,7 +43,7 @@ own_fits entries false queue value path s q h = absurd (cc s)
 fits_at : (entries : List Entry) (path : List ℕ) (o : Option Entry) → entry_for entries Capacity path ≡ o → over_maximum_line entries ≡ None → exceeds_limit (or_zero (amounts_at None o)) (maximum entries path) ≡ false
 unfolding entry_for
 fits_at entries path (Some entry) is none =
-    let has = found_has (is_for Capacity path) (λ e. not (is_over_maximum entries e)) entries entry is (nowhere_all (is_over_maximum entries) entries none) in
+    let has = found_has (is_entry_for Capacity path) (λ e. not (is_over_maximum entries e)) entries entry is (nowhere_all (is_over_maximum entries) entries none) in
     let for = for_both (same_setting entry.setting Capacity) entry.queue path has.0 in
     own_fits entries (same_setting entry.setting Capacity) entry.queue entry.value path for.0 for.1 has.1
 fits_at entries path None is none = zero_fits (maximum entries path)
@@ -73,7 +73,7 @@ sum_at : (entries : List Entry) (path : List ℕ) (o : Option Entry) → entry_f
     exceeds (guaranteed_below entries path (names_or_none o)) (guaranteed entries path) ≡ false
 unfolding entry_for
 sum_at entries path (Some entry) is none other =
-    let has = found_has (is_for Queues path) (λ e. not (is_over_parent entries e)) entries entry is (nowhere_all (is_over_parent entries) entries none) in
+    let has = found_has (is_entry_for Queues path) (λ e. not (is_over_parent entries e)) entries entry is (nowhere_all (is_over_parent entries) entries none) in
     let for = for_both (same_setting entry.setting Queues) entry.queue path has.0 in
     below_fits entries entry.value entry.queue path for.1 other (same_setting entry.setting MaximumCapacity) has.1
 sum_at entries path None is none other = sum_of_none entries path (guaranteed entries path)
@@ -109,7 +109,7 @@ maximum_by : (entries : List Entry) (path parent name : List ℕ) (o : Option En
     parts_at_last_dot path ≡ Some (parent, name) → is_over (maximum entries path) (maximum entries parent) ≡ false
 unfolding entry_for
 maximum_by entries path parent name (Some entry) (Some amounts) is at none parts =
-    let has = found_has (is_for MaximumCapacity path) (λ e. not (is_over_parent entries e)) entries entry is (nowhere_all (is_over_parent entries) entries none) in
+    let has = found_has (is_entry_for MaximumCapacity path) (λ e. not (is_over_parent entries e)) entries entry is (nowhere_all (is_over_parent entries) entries none) in
     let for = for_both (same_setting entry.setting MaximumCapacity) entry.queue path has.0 in
     let own = maximum_own entries path parent amounts (parent_is path parent name parts) (ap (amounts_at None) is ∙ at) in
     ap (λ (m : Option (List ℕ)). is_over m (maximum entries parent)) own

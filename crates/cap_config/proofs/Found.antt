@@ -19,8 +19,8 @@ use Rattle.cap_config.specs.declared.value.Value.TheVariants.{Names, Amounts, Nu
 use Rattle.cap_config.specs.declared.setting.Setting.TheVariants.{Queues, MaximumApplications, UserLimitFactor}
 use Rattle.cap_config.specs.declared.setting.Setting.{Setting}
 use Rattle.cap_config.specs.Values.{is_name_under, are_new}
-use Rattle.cap_config.specs.Seen.{is_among}
-use Rattle.cap_config.specs.Queues.{setting_number, child, entry_for, is_for, is_path_at, same_setting, names_below, names_or_none, names_in_value}
+use Rattle.cap_config.specs.Seen.{contains_bytes}
+use Rattle.cap_config.specs.Queues.{setting_number, child, entry_for, is_entry_for, is_path_at, same_setting, names_below, names_or_none, names_in_value}
 use Rattle.cap_config.specs.Tests.{cluster_entry, number_or, number_in, line_where, too_deep_line, lists_deep, is_deep, level}
 use Rattle.cap_config.specs.Rows.{factor}
 use Rattle.cap_config.specs.Bounds.{most_of, is_kept, is_bounded, are_bounded, are_under}
@@ -63,7 +63,7 @@ under_at : (entries : List Entry) (path : List ℕ) (o : Option Entry) → entry
     (list_all (is_name_under path) (names_or_none o) && are_new [] (names_or_none o)) ≡ true
 unfolding entry_for
 under_at entries path (Some entry) is all =
-    let has = found_has (is_for Queues path) is_bounded entries entry is all in
+    let has = found_has (is_entry_for Queues path) is_bounded entries entry is all in
     under_in (most_of entry.setting) entry.value entry.queue path (names_at (same_setting entry.setting Queues) entry.queue path has.0) has.1
 under_at entries path None is all = refl
 
@@ -80,11 +80,11 @@ among_by p n name true rest is passes later h = subst (λ (x : List ℕ). p x �
 among_by p n name false rest is passes later h = later h
 
 -- what all names have
-pub among_has : (p : List ℕ → Bool) (names : List (List ℕ)) (name : List ℕ) → list_all p names ≡ true → is_among names name ≡ true → p name ≡ true
+pub among_has : (p : List ℕ → Bool) (names : List (List ℕ)) (name : List ℕ) → list_all p names ≡ true → contains_bytes names name ≡ true → p name ≡ true
 among_has p [] name all h = absurd (cc h)
 among_has p (n ∷ names) name all h =
     let parts = both (p n) (list_all p names) all in
-    among_by p n name (bytes_eq n name) (is_among names name) refl parts.0 (λ later. among_has p names name parts.1 later) h
+    among_by p n name (bytes_eq n name) (contains_bytes names name) refl parts.0 (λ later. among_has p names name parts.1 later) h
 
 nowhere_by : (test : Entry → Bool) (e : Entry) (here : Bool) (found : Option Entry) → test e ≡ here → option_map (λ x. x.line) (cond here (Some e) found) ≡ None →
     (not (test e) ≡ true) × (option_map (λ x. x.line) found ≡ None)
@@ -99,7 +99,7 @@ nowhere_all test (e ∷ entries) h =
     let parts = nowhere_by test e (test e) (find test entries) refl h in
     rw (parts.0, nowhere_all test entries parts.1) refl
 
-deep_in : (value : Value) (queue : Option (List ℕ)) (path name : List ℕ) → queue ≡ Some path → not (is_deep queue value) ≡ true → is_among (names_in_value value) name ≡ true → eqb (level path) 16 ≡ false
+deep_in : (value : Value) (queue : Option (List ℕ)) (path name : List ℕ) → queue ≡ Some path → not (is_deep queue value) ≡ true → contains_bytes (names_in_value value) name ≡ true → eqb (level path) 16 ≡ false
 deep_in (Names names) queue path name e h in_list =
     let no : not (is_deep (Some path) (Names names)) ≡ true = subst (λ (q : Option (List ℕ)). not (is_deep q (Names names)) ≡ true) e h in
     not-true (eqb (level path) 16) no
@@ -107,15 +107,15 @@ deep_in (Amounts amounts) queue path name e h in_list = absurd (cc in_list)
 deep_in (Number n) queue path name e h in_list = absurd (cc in_list)
 deep_in (Running running) queue path name e h in_list = absurd (cc in_list)
 
-deep_at : (entries : List Entry) (path name : List ℕ) (o : Option Entry) → entry_for entries Queues path ≡ o → too_deep_line entries ≡ None → is_among (names_or_none o) name ≡ true → eqb (level path) 16 ≡ false
+deep_at : (entries : List Entry) (path name : List ℕ) (o : Option Entry) → entry_for entries Queues path ≡ o → too_deep_line entries ≡ None → contains_bytes (names_or_none o) name ≡ true → eqb (level path) 16 ≡ false
 unfolding entry_for
 deep_at entries path name (Some entry) is none in_list =
-    let has = found_has (is_for Queues path) (λ e. not (lists_deep e)) entries entry is (nowhere_all lists_deep entries none) in
+    let has = found_has (is_entry_for Queues path) (λ e. not (lists_deep e)) entries entry is (nowhere_all lists_deep entries none) in
     deep_in entry.value entry.queue path name (names_at (same_setting entry.setting Queues) entry.queue path has.0) has.1 in_list
 deep_at entries path name None is none in_list = absurd (cc in_list)
 
 -- where no line lists queues too deep, a queue that lists one is not on the last level
-pub not_deepest : (entries : List Entry) (path name : List ℕ) → too_deep_line entries ≡ None → is_among (names_below entries path) name ≡ true → eqb (level path) 16 ≡ false
+pub not_deepest : (entries : List Entry) (path name : List ℕ) → too_deep_line entries ≡ None → contains_bytes (names_below entries path) name ≡ true → eqb (level path) 16 ≡ false
 not_deepest entries path name none in_list = deep_at entries path name (entry_for entries Queues path) refl none in_list
 
 number_in_kept : (most : ℕ) (value : Value) (queue : Option (List ℕ)) (default : ℕ) → is_kept most value queue ≡ true → default ≤ most → number_in default value ≤ most
@@ -151,7 +151,7 @@ set_for false queue path h = absurd (cc h)
 factor_at : (entries : List Entry) (path : List ℕ) (o : Option Entry) → entry_for entries UserLimitFactor path ≡ o → are_bounded entries ≡ true → number_or o 1 ≤ factor_max
 unfolding entry_for
 factor_at entries path (Some entry) is all =
-    let has = found_has (is_for UserLimitFactor path) is_bounded entries entry is all in
+    let has = found_has (is_entry_for UserLimitFactor path) is_bounded entries entry is all in
     number_of_entry UserLimitFactor 1 entry (set_for (same_setting entry.setting UserLimitFactor) entry.queue path has.0) has.1 (omega arith)
 factor_at entries path None is all = omega arith
 

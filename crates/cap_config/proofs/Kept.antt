@@ -15,7 +15,7 @@ use Rattle.cap_config.specs.declared.setting.Setting.{Setting}
 use Rattle.cap_config.specs.declared.setting.Setting.TheVariants.{Queues, Capacity, MaximumCapacity, UserLimitFactor, State, MaximumApplications, MinimumMemory, MinimumVcores, MaximumMemory, MaximumVcores}
 use Rattle.cap_config.specs.declared.fault.ConfigFault.{ConfigFault}
 use Rattle.cap_config.specs.Keys.{key_of}
-use Rattle.cap_config.specs.Seen.{is_among}
+use Rattle.cap_config.specs.Seen.{contains_bytes}
 use Rattle.cap_config.specs.Values.{digits_max, value_at, value_of, is_name_under, as_names, as_amounts, number_within, state_of, names_for, names_of, are_new, amounts_of}
 use Rattle.cap_text.specs.Numbers.{number_of}
 use Rattle.cap_config.specs.Entries.{entry_of, with_value, with_key, with_parts, line_parts, read_after, read_lines, and_then, is_passed_over, key_text}
@@ -73,7 +73,7 @@ unless_kept true fault n key bytes entry h = absurd (cc h)
 unless_kept false fault n key bytes entry h = with_value_kept n key bytes (value_of key bytes) entry refl h
 
 with_key_kept : (keys : List (List ℕ)) (n : ℕ) (name bytes : List ℕ) (o : Option Key) (entry : Entry) → with_key keys n name bytes o ≡ Ok entry → is_bounded entry ≡ true
-with_key_kept keys n name bytes (Some key) entry h = unless_kept (is_among keys name) _ n key bytes entry h
+with_key_kept keys n name bytes (Some key) entry h = unless_kept (contains_bytes keys name) _ n key bytes entry h
 with_key_kept keys n name bytes None entry h = absurd (cc h)
 
 with_parts_kept : (keys : List (List ℕ)) (n : ℕ) (o : Option (List ℕ × List ℕ)) (entry : Entry) → with_parts keys n o ≡ Ok entry → is_bounded entry ≡ true

@@ -5,7 +5,7 @@ use Rattle.std.specs.Str.Lines.{lines}
 use Rattle.std.proofs.lemmas.Bool.Decides.{nat_tests}
 use Rattle.cap_config.specs.declared.entry.Entry.{Entry}
 use Rattle.cap_config.specs.Keys.{root, parts_at_last_dot}
-use Rattle.cap_config.specs.Seen.{is_among}
+use Rattle.cap_config.specs.Seen.{contains_bytes}
 use Rattle.cap_config.specs.Values.{is_name_under}
 use Rattle.cap_config.specs.Queues.{is_queue, leads_to_root, above, names_below, child}
 use Rattle.cap_config.specs.Tests.{too_deep_line, level}
@@ -20,7 +20,7 @@ use Rattle.cap_config.proofs.Children.{IsCutAt, cut_is, child_parts, level_below
 
 -- a path with a queue above it is a queue where that lists it and is one
 pub queue_below : (entries : List Entry) (path parent name : List ℕ) → parts_at_last_dot path ≡ Some (parent, name) →
-    is_queue entries path ≡ (is_among (names_below entries parent) name && is_queue entries parent)
+    is_queue entries path ≡ (contains_bytes (names_below entries parent) name && is_queue entries parent)
 queue_below entries path parent name parts = ap (leads_to_root entries path) (parent_is path parent name parts).above ∙ rw parts refl
 
 queue_on_top : (entries : List Entry) (path : List ℕ) → parts_at_last_dot path ≡ None → is_queue entries path ≡ true → path ≡ root
@@ -28,30 +28,30 @@ queue_on_top entries path parts h = same_bytes path root (sym (queue_at_top entr
 
 -- one step from a queue to the one above it
 step_up : (entries : List Entry) (C : List ℕ → Type 0) → C root →
-    ((path name : List ℕ) → is_queue entries path ≡ true → is_among (names_below entries path) name ≡ true → IsCutAt (child path name) path name → C path → C (child path name)) →
+    ((path name : List ℕ) → is_queue entries path ≡ true → contains_bytes (names_below entries path) name ≡ true → IsCutAt (child path name) path name → C path → C (child path name)) →
     (path : List ℕ) (o : Option (List ℕ × List ℕ)) → parts_at_last_dot path ≡ o → ((parent : List ℕ) → length parent < length path → is_queue entries parent ≡ true → C parent) →
     is_queue entries path ≡ true → C path
 step_up entries C top below path (Some parts) is above h =
     let cut = cut_is path parts.0 parts.1 is in
-    let here = both (is_among (names_below entries parts.0) parts.1) (is_queue entries parts.0) (sym (queue_below entries path parts.0 parts.1 is) ∙ h) in
+    let here = both (contains_bytes (names_below entries parts.0) parts.1) (is_queue entries parts.0) (sym (queue_below entries path parts.0 parts.1 is) ∙ h) in
     let shorter : length parts.0 < length path = (parent_is path parts.0 parts.1 is).shorter in
     subst C (sym cut.whole) (below parts.0 parts.1 here.1 here.0 (record { whole = refl; dotless = cut.dotless }) (above parts.0 shorter here.1))
 step_up entries C top below path None is above h = subst C (sym (queue_on_top entries path is h)) top
 
 up_to : (entries : List Entry) (C : List ℕ → Type 0) → C root →
-    ((path name : List ℕ) → is_queue entries path ≡ true → is_among (names_below entries path) name ≡ true → IsCutAt (child path name) path name → C path → C (child path name)) →
+    ((path name : List ℕ) → is_queue entries path ≡ true → contains_bytes (names_below entries path) name ≡ true → IsCutAt (child path name) path name → C path → C (child path name)) →
     (n : ℕ) (path : List ℕ) → length path ≤ n → is_queue entries path ≡ true → C path
 up_to entries C top below zero path short h = step_up entries C top below path (parts_at_last_dot path) refl (λ parent less q. absurd (omega arith)) h
 up_to entries C top below (suc n) path short h = step_up entries C top below path (parts_at_last_dot path) refl (λ parent less q. up_to entries C top below n parent (omega arith) q) h
 
 -- what holds of `root`, and of what a queue lists where it holds of the queue, holds of all queues
 pub of_queues : (entries : List Entry) (C : List ℕ → Type 0) → C root →
-    ((path name : List ℕ) → is_queue entries path ≡ true → is_among (names_below entries path) name ≡ true → IsCutAt (child path name) path name → C path → C (child path name)) →
+    ((path name : List ℕ) → is_queue entries path ≡ true → contains_bytes (names_below entries path) name ≡ true → IsCutAt (child path name) path name → C path → C (child path name)) →
     (path : List ℕ) → is_queue entries path ≡ true → C path
 of_queues entries C top below path h = up_to entries C top below (length path) path (omega arith) h
 
 -- a name that a queue lists is a queue
-pub listed_is : (entries : List Entry) (path name : List ℕ) → are_bounded entries ≡ true → is_queue entries path ≡ true → is_among (names_below entries path) name ≡ true → is_queue entries (child path name) ≡ true
+pub listed_is : (entries : List Entry) (path name : List ℕ) → are_bounded entries ≡ true → is_queue entries path ≡ true → contains_bytes (names_below entries path) name ≡ true → is_queue entries (child path name) ≡ true
 listed_is entries path name all h in_list =
     let under = among_has (is_name_under path) (names_below entries path) name (under_path entries path all) in_list in
     queue_below entries (child path name) path name (child_parts path name (name_no_dot path name under)) ∙ rw (in_list, h) refl

@@ -3,11 +3,11 @@ use Rattle.std.proofs.Common.{◌≡◌, ℕ, suc, ◌<◌, ◌≤◌, List, len
 use Rattle.std.specs.Prelude.{find}
 use denote.Ref.{Bor}
 use Rattle.cap_config.specs.declared.entry.Entry.{Entry}
-use Rattle.cap_config.specs.Queues.{pointed}
+use Rattle.cap_config.specs.Queues.{pointed_entry}
 
-pub found_after : (here : Bool) (o r : Option (Bor Entry)) (w : Bor Entry) → r ≡ cond here (Some w) o → pointed r ≡ cond here (Some w.now) (pointed o)
-found_after true o r w e = ap pointed e
-found_after false o r w e = ap pointed e
+pub found_after : (here : Bool) (o r : Option (Bor Entry)) (w : Bor Entry) → r ≡ cond here (Some w) o → pointed_entry r ≡ cond here (Some w.now) (pointed_entry o)
+found_after true o r w e = ap pointed_entry e
+found_after false o r w e = ap pointed_entry e
 
 -- one entry more at the front
 pub find_before : (p : Entry → Bool) (entries : List Entry) (end i : ℕ) (entry : Entry) → end ≡ suc i → end ≤ length entries → entry ≡ get_or entries i entry →

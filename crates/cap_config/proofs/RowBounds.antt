@@ -14,7 +14,7 @@ use Rattle.cap_config.specs.declared.value.Value.{Value}
 use Rattle.cap_config.specs.declared.value.Value.TheVariants.{Names, Amounts, Number, Running}
 use Rattle.cap_config.specs.declared.setting.Setting.TheVariants.{Queues}
 use Rattle.cap_config.specs.Keys.{root}
-use Rattle.cap_config.specs.Queues.{entry_for, is_for, is_path_at, same_setting, names_below, names_or_none, names_in_value, child}
+use Rattle.cap_config.specs.Queues.{entry_for, is_entry_for, is_path_at, same_setting, names_below, names_or_none, names_in_value, child}
 use Rattle.cap_config.specs.Tests.{listed_by, line_past, whole_fault}
 use Rattle.cap_config.specs.Entries.{read_lines}
 use Rattle.cap_config.specs.Rows.{rows_under, row_of, settings_of}
@@ -67,10 +67,10 @@ found_by true (Some p) q e l m later is h = found_here (bytes_eq p q) e l m late
 found_by true None q e l m later is h = omega (arith, h)
 found_by false queue q e l m later is h = found_none (is_path_at queue q) l m (length (names_or_none later)) h
 
-names_within : (q : List ℕ) (entries : List Entry) → length (names_or_none (find (is_for Queues q) entries)) ≤ sum_by (listed_for q) entries
+names_within : (q : List ℕ) (entries : List Entry) → length (names_or_none (find (is_entry_for Queues q) entries)) ≤ sum_by (listed_for q) entries
 names_within q [] = omega arith
 names_within q (e ∷ entries) =
-    let l = found_by (same_setting e.setting Queues) e.queue q e (listed_by e.value) (sum_by (listed_for q) entries) (find (is_for Queues q) entries) (names_listed e.value) (names_within q entries) in
+    let l = found_by (same_setting e.setting Queues) e.queue q e (listed_by e.value) (sum_by (listed_for q) entries) (find (is_entry_for Queues q) entries) (names_listed e.value) (names_within q entries) in
     rw (sum_by-cons (listed_for q) e entries) l
 
 below_within : (entries : List Entry) (q : List ℕ) → length (names_below entries q) ≤ sum_by (listed_for q) entries

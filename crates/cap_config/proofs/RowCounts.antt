@@ -13,7 +13,7 @@ use Rattle.cap_model.specs.Settings.{QueueRow}
 use Rattle.cap_model.proofs.paths.Paths.{IsUnder, before_dot, child_to, only_child}
 use Rattle.cap_config.specs.declared.entry.Entry.{Entry}
 use Rattle.cap_config.specs.Keys.{root, last_dot}
-use Rattle.cap_config.specs.Seen.{is_among}
+use Rattle.cap_config.specs.Seen.{contains_bytes}
 use Rattle.cap_config.specs.Values.{are_new, is_name_under}
 use Rattle.cap_config.specs.Queues.{is_queue, names_below, child}
 use Rattle.cap_config.specs.Tests.{whole_fault}
@@ -30,10 +30,10 @@ abbrev pub rows_for : List QueueRow → List ℕ → ℕ
 rows_for rows path = count_by (λ row. bytes_eq row.path path) rows
 
 -- the paths of the rows under a queue are its own and those below it
-pub row_below_is : (entries : List Entry) (n : ℕ) (p path : List ℕ) → is_among (paths_of (rows_under n entries p)) path ≡ true → IsUnder p path
+pub row_below_is : (entries : List Entry) (n : ℕ) (p path : List ℕ) → contains_bytes (paths_of (rows_under n entries p)) path ≡ true → IsUnder p path
 row_below_is entries zero p path h = none_under (IsUnder p path) entries p path h
 row_below_is entries (suc n) p path h =
-    either (IsUnder p path) (bytes_eq p path) (is_among (paths_of (flat_map (λ name. rows_under n entries (child p name)) (names_below entries p))) path) (sym (paths_more n entries p path) ∙ h)
+    either (IsUnder p path) (bytes_eq p path) (contains_bytes (paths_of (flat_map (λ name. rows_under n entries (child p name)) (names_below entries p))) path) (sym (paths_more n entries p path) ∙ h)
     (λ same. inl (sym (same_bytes p path same)))
     (λ later. in_some (IsUnder p path) (λ name. rows_under n entries (child p name)) (names_below entries p) path later
     (λ name in_list here. inr (under_child p name path (row_below_is entries n (child p name) path here))))
@@ -54,20 +54,20 @@ longer p name path under e =
     omega (arith, l, m)
 
 -- a path among none of the rows has none, and one among them has some
-none_for : (rows : List QueueRow) (path : List ℕ) → is_among (paths_of rows) path ≡ false → rows_for rows path ≡ 0
+none_for : (rows : List QueueRow) (path : List ℕ) → contains_bytes (paths_of rows) path ≡ false → rows_for rows path ≡ 0
 none_for [] path h = refl
 none_for (row ∷ rows) path h =
-    let parts = or_parts (bytes_eq row.path path) (is_among (paths_of rows) path) h in
+    let parts = or_parts (bytes_eq row.path path) (contains_bytes (paths_of rows) path) h in
     sum_by-cons _ row rows ∙ count_no (bytes_eq row.path path) (rows_for rows path) parts.0 ∙ none_for rows path parts.1
 
 some_by : (b : Bool) (n : ℕ) (among : Bool) → (b || among) ≡ true → (among ≡ true → 1 ≤ n) → 1 ≤ cond b 1 0 + n
 some_by true n among h later = omega arith
 some_by false n among h later = let l = later h in omega (arith, l)
 
-some_for : (rows : List QueueRow) (path : List ℕ) → is_among (paths_of rows) path ≡ true → 1 ≤ rows_for rows path
+some_for : (rows : List QueueRow) (path : List ℕ) → contains_bytes (paths_of rows) path ≡ true → 1 ≤ rows_for rows path
 some_for [] path h = absurd (cc h)
 some_for (row ∷ rows) path h =
-    let l = some_by (bytes_eq row.path path) (rows_for rows path) (is_among (paths_of rows) path) h (some_for rows path) in
+    let l = some_by (bytes_eq row.path path) (rows_for rows path) (contains_bytes (paths_of rows) path) h (some_for rows path) in
     rw (sum_by-cons (λ (r : QueueRow). cond (bytes_eq r.path path) 1 0) row rows) l
 
 -- the rows of many lists, list by list
@@ -86,22 +86,22 @@ sum_at_most f p x (name ∷ names) all each =
     let later = sum_at_most f p x names parts.1 each in
     rw (sum_by-cons f name names, sum_by-cons (λ (m : List ℕ). cond (bytes_eq m x) 1 0) name names) (omega (arith, here, later))
 
-pub other_name : (b : Bool) (before : List (List ℕ)) (name x : List ℕ) → bytes_eq name x ≡ b → is_among before name ≡ false → is_among before x ≡ true → b ≡ false
-other_name true before name x is out within = absurd (cc (sym out ∙ ap (is_among before) (same_bytes name x is) ∙ within))
+pub other_name : (b : Bool) (before : List (List ℕ)) (name x : List ℕ) → bytes_eq name x ≡ b → contains_bytes before name ≡ false → contains_bytes before x ≡ true → b ≡ false
+other_name true before name x is out within = absurd (cc (sym out ∙ ap (contains_bytes before) (same_bytes name x is) ∙ within))
 other_name false before name x is out within = refl
 
-pub still_among : (before : List (List ℕ)) (name x : List ℕ) → is_among before x ≡ true → is_among (before ++ name ∷ []) x ≡ true
-still_among before name x h = list_any-append _ before (name ∷ []) ∙ first_of_two (is_among before x) _ h
+pub still_among : (before : List (List ℕ)) (name x : List ℕ) → contains_bytes before x ≡ true → contains_bytes (before ++ name ∷ []) x ≡ true
+still_among before name x h = list_any-append _ before (name ∷ []) ∙ first_of_two (contains_bytes before x) _ h
 
-pub last_among : (before : List (List ℕ)) (name x : List ℕ) → bytes_eq name x ≡ true → is_among (before ++ name ∷ []) x ≡ true
-last_among before name x h = list_any-append _ before (name ∷ []) ∙ second_of_two (is_among before x) _ (first_of_two (bytes_eq name x) false h)
+pub last_among : (before : List (List ℕ)) (name x : List ℕ) → bytes_eq name x ≡ true → contains_bytes (before ++ name ∷ []) x ≡ true
+last_among before name x h = list_any-append _ before (name ∷ []) ∙ second_of_two (contains_bytes before x) _ (first_of_two (bytes_eq name x) false h)
 
 -- no name stands twice
-not_before : (before : List (List ℕ)) (x : List ℕ) (names : List (List ℕ)) → are_new before names ≡ true → is_among before x ≡ true → count_by (λ name. bytes_eq name x) names ≡ 0
+not_before : (before : List (List ℕ)) (x : List ℕ) (names : List (List ℕ)) → are_new before names ≡ true → contains_bytes before x ≡ true → count_by (λ name. bytes_eq name x) names ≡ 0
 not_before before x [] new h = refl
 not_before before x (name ∷ names) new h =
-    let parts = both (not (is_among before name)) (are_new (before ++ name ∷ []) names) new in
-    let other : bytes_eq name x ≡ false = other_name (bytes_eq name x) before name x refl (not-true (is_among before name) parts.0) h in
+    let parts = both (not (contains_bytes before name)) (are_new (before ++ name ∷ []) names) new in
+    let other : bytes_eq name x ≡ false = other_name (bytes_eq name x) before name x refl (not-true (contains_bytes before name) parts.0) h in
     sum_by-cons _ name names ∙ count_no (bytes_eq name x) _ other ∙ not_before (before ++ name ∷ []) x names parts.1 (still_among before name x h)
 
 once_by : (b : Bool) (n : ℕ) → (b ≡ true → n ≡ 0) → n ≤ 1 → cond b 1 0 + n ≤ 1
@@ -111,7 +111,7 @@ once_by false n none most = omega (arith, most)
 names_stand_once : (before : List (List ℕ)) (x : List ℕ) (names : List (List ℕ)) → are_new before names ≡ true → count_by (λ name. bytes_eq name x) names ≤ 1
 names_stand_once before x [] new = omega arith
 names_stand_once before x (name ∷ names) new =
-    let parts = both (not (is_among before name)) (are_new (before ++ name ∷ []) names) new in
+    let parts = both (not (contains_bytes before name)) (are_new (before ++ name ∷ []) names) new in
     let l = once_by (bytes_eq name x) (count_by (λ m. bytes_eq m x) names) (λ same. not_before (before ++ name ∷ []) x names parts.1 (last_among before name x same)) (names_stand_once (before ++ name ∷ []) x names parts.1) in
     rw (sum_by-cons (λ (m : List ℕ). cond (bytes_eq m x) 1 0) name names) l
 
@@ -155,14 +155,14 @@ rows_at_most entries all (suc n) p path =
     let names = names_below entries p in
     let x = before_dot (drop (length p + 1) path) in
     let each : (name : List ℕ) → is_name_under p name ≡ true → rows_for (f name) path ≤ cond (bytes_eq name x) 1 0 =
-    λ name under. among_or (rows_for (f name) path ≤ cond (bytes_eq name x) 1 0) (is_among (paths_of (f name)) path)
+    λ name under. among_or (rows_for (f name) path ≤ cond (bytes_eq name x) 1 0) (contains_bytes (paths_of (f name)) path)
     (λ there. one_of (bytes_eq name x) (rows_for (f name) path) ((bytes_eq-Decides name x).1 (sym (which p name path (name_no_dot p name under) (row_below_is entries n (child p name) path there)))) (rows_at_most entries all n (child p name) path))
     (λ not_there. zero_of (bytes_eq name x) (rows_for (f name) path) (none_for (f name) path not_there)) in
     let below : sum_by (λ name. rows_for (f name) path) names ≤ 1 =
     under_one (sum_at_most (λ name. rows_for (f name) path) (is_name_under p) x names (under_path entries p all) each) (names_stand_once [] x names (names_once entries p all)) in
     let own : bytes_eq p path ≡ true → sum_by (λ name. rows_for (f name) path) names ≡ 0 =
     λ same. sum_of_none (λ name. rows_for (f name) path) names
-    (λ name. none_for (f name) path (false_from_ne_true (is_among (paths_of (f name)) path) (λ there. longer p name path (row_below_is entries n (child p name) path there) (same_bytes p path same)))) in
+    (λ name. none_for (f name) path (false_from_ne_true (contains_bytes (paths_of (f name)) path) (λ there. longer p name path (row_below_is entries n (child p name) path there) (same_bytes p path same)))) in
     rw (rows_first n entries p path, rows_of_all f names path) (below_by (bytes_eq p path) (sum_by (λ name. rows_for (f name) path) names) own (λ _. below))
 
 exactly_one : (b : Bool) (n : ℕ) → n ≤ 1 → (b ≡ true → 1 ≤ n) → (b ≡ false → n ≡ 0) → n ≡ cond b 1 0
@@ -175,5 +175,5 @@ pub one_row_each : (text : List ℕ) (entries : List Entry) → read_lines (line
 one_row_each text entries is none path =
     let rows = (settings_of entries).queues in
     let most : rows_for rows path ≤ 1 = subst (λ (rs : List QueueRow). rows_for rs path ≤ 1) (sym (rows_of_settings entries)) (rows_at_most entries (lines_kept (lines text) entries is) 16 root path) in
-    let there : is_among (paths_of rows) path ≡ is_queue entries path = rows_are_queues text entries is none path in
+    let there : contains_bytes (paths_of rows) path ≡ is_queue entries path = rows_are_queues text entries is none path in
     exactly_one (is_queue entries path) (rows_for rows path) most (λ q. some_for rows path (there ∙ q)) (λ q. none_for rows path (there ∙ q))

@@ -10,7 +10,7 @@ use Rattle.cap_config.specs.declared.entry.Entry.{Entry}
 use Rattle.cap_config.specs.declared.fault.ConfigFault.{ConfigFault}
 use Rattle.cap_config.specs.declared.fault.ConfigFaultKind.{ConfigFaultKind}
 use Rattle.cap_config.specs.Keys.{root}
-use Rattle.cap_config.specs.Seen.{is_among}
+use Rattle.cap_config.specs.Seen.{contains_bytes}
 use Rattle.cap_config.specs.Queues.{is_queue, names_below, child}
 use Rattle.cap_config.specs.declared.fault.ConfigFaultKind.TheVariants.{BadValue, NoChild, NoSuchQueue, TooDeep, TooManyQueues, GuaranteeOverMaximum}
 use Rattle.cap_config.specs.Tests.{allocation_line, no_child_line, no_such_queue_line, too_deep_line, too_many_line, over_maximum_line, level, whole_fault, shape_fault, or_else, or_fault}
@@ -42,81 +42,81 @@ or_assoc : (a b c : Bool) → (a || (b || c)) ≡ ((a || b) || c)
 or_assoc true b c = refl
 or_assoc false b c = refl
 
-paths_append : (xs ys : List QueueRow) (path : List ℕ) → is_among (paths_of (xs ++ ys)) path ≡ (is_among (paths_of xs) path || is_among (paths_of ys) path)
+paths_append : (xs ys : List QueueRow) (path : List ℕ) → contains_bytes (paths_of (xs ++ ys)) path ≡ (contains_bytes (paths_of xs) path || contains_bytes (paths_of ys) path)
 paths_append [] ys path = refl
-paths_append (x ∷ xs) ys path = ap (λ b. bytes_eq x.path path || b) (paths_append xs ys path) ∙ or_assoc (bytes_eq x.path path) (is_among (paths_of xs) path) (is_among (paths_of ys) path)
+paths_append (x ∷ xs) ys path = ap (λ b. bytes_eq x.path path || b) (paths_append xs ys path) ∙ or_assoc (bytes_eq x.path path) (contains_bytes (paths_of xs) path) (contains_bytes (paths_of ys) path)
 
 -- a path in the rows of many lists is in one of them
-pub in_some : (C : Type 0) (f : List ℕ → List QueueRow) (names : List (List ℕ)) (path : List ℕ) → is_among (paths_of (flat_map f names)) path ≡ true →
-    ((name : List ℕ) → is_among names name ≡ true → is_among (paths_of (f name)) path ≡ true → C) → C
+pub in_some : (C : Type 0) (f : List ℕ → List QueueRow) (names : List (List ℕ)) (path : List ℕ) → contains_bytes (paths_of (flat_map f names)) path ≡ true →
+    ((name : List ℕ) → contains_bytes names name ≡ true → contains_bytes (paths_of (f name)) path ≡ true → C) → C
 in_some C f [] path h found = absurd (cc h)
 in_some C f (n ∷ names) path h found =
-    either C (is_among (paths_of (f n)) path) (is_among (paths_of (flat_map f names)) path) (sym (paths_append (f n) (flat_map f names) path) ∙ h)
-    (λ here. found n (first_of_two (bytes_eq n n) (is_among names n) (bytes_itself n)) here)
-    (λ later. in_some C f names path later (λ name in_list here. found name (second_of_two (bytes_eq n name) (is_among names name) in_list) here))
+    either C (contains_bytes (paths_of (f n)) path) (contains_bytes (paths_of (flat_map f names)) path) (sym (paths_append (f n) (flat_map f names) path) ∙ h)
+    (λ here. found n (first_of_two (bytes_eq n n) (contains_bytes names n) (bytes_itself n)) here)
+    (λ later. in_some C f names path later (λ name in_list here. found name (second_of_two (bytes_eq n name) (contains_bytes names name) in_list) here))
 
-in_all : (f : List ℕ → List QueueRow) (names : List (List ℕ)) (name path : List ℕ) → is_among names name ≡ true → is_among (paths_of (f name)) path ≡ true → is_among (paths_of (flat_map f names)) path ≡ true
+in_all : (f : List ℕ → List QueueRow) (names : List (List ℕ)) (name path : List ℕ) → contains_bytes names name ≡ true → contains_bytes (paths_of (f name)) path ≡ true → contains_bytes (paths_of (flat_map f names)) path ≡ true
 in_all f [] name path in_list here = absurd (cc in_list)
 in_all f (n ∷ names) name path in_list here =
     paths_append (f n) (flat_map f names) path
-    ∙ either ((is_among (paths_of (f n)) path || is_among (paths_of (flat_map f names)) path) ≡ true) (bytes_eq n name) (is_among names name) in_list
-    (λ same. first_of_two (is_among (paths_of (f n)) path) (is_among (paths_of (flat_map f names)) path) (subst (λ (x : List ℕ). is_among (paths_of (f x)) path ≡ true) (sym (same_bytes n name same)) here))
-    (λ later. second_of_two (is_among (paths_of (f n)) path) (is_among (paths_of (flat_map f names)) path) (in_all f names name path later here))
+    ∙ either ((contains_bytes (paths_of (f n)) path || contains_bytes (paths_of (flat_map f names)) path) ≡ true) (bytes_eq n name) (contains_bytes names name) in_list
+    (λ same. first_of_two (contains_bytes (paths_of (f n)) path) (contains_bytes (paths_of (flat_map f names)) path) (subst (λ (x : List ℕ). contains_bytes (paths_of (f x)) path ≡ true) (sym (same_bytes n name same)) here))
+    (λ later. second_of_two (contains_bytes (paths_of (f n)) path) (contains_bytes (paths_of (flat_map f names)) path) (in_all f names name path later here))
 
 pub paths_more : (n : ℕ) (entries : List Entry) (p path : List ℕ) →
-    is_among (paths_of (rows_under (suc n) entries p)) path ≡ (bytes_eq p path || is_among (paths_of (flat_map (λ name. rows_under n entries (child p name)) (names_below entries p))) path)
+    contains_bytes (paths_of (rows_under (suc n) entries p)) path ≡ (bytes_eq p path || contains_bytes (paths_of (flat_map (λ name. rows_under n entries (child p name)) (names_below entries p))) path)
 unfolding rows_under row_of
 paths_more n entries p path = refl
 
-pub none_under : (C : Type 0) (entries : List Entry) (p path : List ℕ) → is_among (paths_of (rows_under zero entries p)) path ≡ true → C
+pub none_under : (C : Type 0) (entries : List Entry) (p path : List ℕ) → contains_bytes (paths_of (rows_under zero entries p)) path ≡ true → C
 unfolding rows_under
 none_under C entries p path h = absurd (cc h)
 
 -- a path in the rows under a queue is a queue
-pub row_is : (entries : List Entry) → are_bounded entries ≡ true → (n : ℕ) (p path : List ℕ) → is_queue entries p ≡ true → is_among (paths_of (rows_under n entries p)) path ≡ true → is_queue entries path ≡ true
+pub row_is : (entries : List Entry) → are_bounded entries ≡ true → (n : ℕ) (p path : List ℕ) → is_queue entries p ≡ true → contains_bytes (paths_of (rows_under n entries p)) path ≡ true → is_queue entries path ≡ true
 row_is entries all zero p path q h = none_under (is_queue entries path ≡ true) entries p path h
 row_is entries all (suc n) p path q h =
-    either (is_queue entries path ≡ true) (bytes_eq p path) (is_among (paths_of (flat_map (λ name. rows_under n entries (child p name)) (names_below entries p))) path) (sym (paths_more n entries p path) ∙ h)
+    either (is_queue entries path ≡ true) (bytes_eq p path) (contains_bytes (paths_of (flat_map (λ name. rows_under n entries (child p name)) (names_below entries p))) path) (sym (paths_more n entries p path) ∙ h)
     (λ same. subst (λ (x : List ℕ). is_queue entries x ≡ true) (same_bytes p path same) q)
     (λ later. in_some (is_queue entries path ≡ true) (λ name. rows_under n entries (child p name)) (names_below entries p) path later
     (λ name in_list here. row_is entries all n (child p name) path (listed_is entries p name all q in_list) here))
 
-first_row : (n : ℕ) (entries : List Entry) (p : List ℕ) → is_among (paths_of (rows_under (suc n) entries p)) p ≡ true
+first_row : (n : ℕ) (entries : List Entry) (p : List ℕ) → contains_bytes (paths_of (rows_under (suc n) entries p)) p ≡ true
 first_row n entries p = paths_more n entries p p ∙ first_of_two (bytes_eq p p) _ (bytes_itself p)
 
 -- a level more has a row for each name that a queue of a row lists
-row_below : (entries : List Entry) (n : ℕ) (p q name : List ℕ) → is_among (names_below entries q) name ≡ true → is_among (paths_of (rows_under n entries p)) q ≡ true →
-    is_among (paths_of (rows_under (suc n) entries p)) (child q name) ≡ true
-row_below entries zero p q name in_list h = none_under (is_among (paths_of (rows_under (suc zero) entries p)) (child q name) ≡ true) entries p q h
+row_below : (entries : List Entry) (n : ℕ) (p q name : List ℕ) → contains_bytes (names_below entries q) name ≡ true → contains_bytes (paths_of (rows_under n entries p)) q ≡ true →
+    contains_bytes (paths_of (rows_under (suc n) entries p)) (child q name) ≡ true
+row_below entries zero p q name in_list h = none_under (contains_bytes (paths_of (rows_under (suc zero) entries p)) (child q name) ≡ true) entries p q h
 row_below entries (suc n) p q name in_list h =
-    let C = is_among (paths_of (rows_under (suc (suc n)) entries p)) (child q name) ≡ true in
-    let rest = is_among (paths_of (flat_map (λ m. rows_under (suc n) entries (child p m)) (names_below entries p))) (child q name) in
-    either C (bytes_eq p q) (is_among (paths_of (flat_map (λ m. rows_under n entries (child p m)) (names_below entries p))) q) (sym (paths_more n entries p q) ∙ h)
+    let C = contains_bytes (paths_of (rows_under (suc (suc n)) entries p)) (child q name) ≡ true in
+    let rest = contains_bytes (paths_of (flat_map (λ m. rows_under (suc n) entries (child p m)) (names_below entries p))) (child q name) in
+    either C (bytes_eq p q) (contains_bytes (paths_of (flat_map (λ m. rows_under n entries (child p m)) (names_below entries p))) q) (sym (paths_more n entries p q) ∙ h)
     (λ same.
     paths_more (suc n) entries p (child q name)
     ∙ second_of_two (bytes_eq p (child q name)) rest
     (in_all (λ m. rows_under (suc n) entries (child p m)) (names_below entries p) name (child q name)
-    (subst (λ (x : List ℕ). is_among (names_below entries x) name ≡ true) (sym (same_bytes p q same)) in_list)
-    (subst (λ (x : List ℕ). is_among (paths_of (rows_under (suc n) entries (child x name))) (child q name) ≡ true) (sym (same_bytes p q same)) (first_row n entries (child q name)))))
+    (subst (λ (x : List ℕ). contains_bytes (names_below entries x) name ≡ true) (sym (same_bytes p q same)) in_list)
+    (subst (λ (x : List ℕ). contains_bytes (paths_of (rows_under (suc n) entries (child x name))) (child q name) ≡ true) (sym (same_bytes p q same)) (first_row n entries (child q name)))))
     (λ later. in_some C (λ m. rows_under n entries (child p m)) (names_below entries p) q later
     (λ m listed here.
     paths_more (suc n) entries p (child q name)
     ∙ second_of_two (bytes_eq p (child q name)) rest (in_all (λ k. rows_under (suc n) entries (child p k)) (names_below entries p) m (child q name) listed (row_below entries n (child p m) q name in_list here))))
 
-first_at : (entries : List Entry) (n : ℕ) → level root ≤ n → is_among (paths_of (rows_under n entries root)) root ≡ true
+first_at : (entries : List Entry) (n : ℕ) → level root ≤ n → contains_bytes (paths_of (rows_under n entries root)) root ≡ true
 unfolding root
 first_at entries zero h = absurd (omega arith)
 first_at entries (suc n) h = first_row n entries root
 
-below_at : (entries : List Entry) (p name : List ℕ) (l m : ℕ) → l ≡ m + 1 → is_among (names_below entries p) name ≡ true →
-    ((n : ℕ) → m ≤ n → is_among (paths_of (rows_under n entries root)) p ≡ true) → (n : ℕ) → l ≤ n → is_among (paths_of (rows_under n entries root)) (child p name) ≡ true
+below_at : (entries : List Entry) (p name : List ℕ) (l m : ℕ) → l ≡ m + 1 → contains_bytes (names_below entries p) name ≡ true →
+    ((n : ℕ) → m ≤ n → contains_bytes (paths_of (rows_under n entries root)) p ≡ true) → (n : ℕ) → l ≤ n → contains_bytes (paths_of (rows_under n entries root)) (child p name) ≡ true
 below_at entries p name l m e in_list above zero h = absurd (omega arith)
 below_at entries p name l m e in_list above (suc n) h = row_below entries n root p name in_list (above n (omega arith))
 
 -- a queue has a row under `root` where there are levels enough
-pub row_of_queue : (entries : List Entry) (path : List ℕ) → is_queue entries path ≡ true → (n : ℕ) → level path ≤ n → is_among (paths_of (rows_under n entries root)) path ≡ true
+pub row_of_queue : (entries : List Entry) (path : List ℕ) → is_queue entries path ≡ true → (n : ℕ) → level path ≤ n → contains_bytes (paths_of (rows_under n entries root)) path ≡ true
 row_of_queue entries path h =
-    of_queues entries (λ p. (n : ℕ) → level p ≤ n → is_among (paths_of (rows_under n entries root)) p ≡ true) (first_at entries)
+    of_queues entries (λ p. (n : ℕ) → level p ≤ n → contains_bytes (paths_of (rows_under n entries root)) p ≡ true) (first_at entries)
     (λ p name q in_list cut above. below_at entries p name (level (child p name)) (level p) (level_below (child p name) p name cut) in_list above)
     path h
 
@@ -164,13 +164,13 @@ unfolding settings_of
 rows_of_settings entries = refl
 
 -- the rows from the root on are those of the queues
-pub queue_rows : (entries : List Entry) → are_bounded entries ≡ true → whole_fault entries ≡ None → (path : List ℕ) → is_among (paths_of (rows_under 16 entries root)) path ≡ is_queue entries path
+pub queue_rows : (entries : List Entry) → are_bounded entries ≡ true → whole_fault entries ≡ None → (path : List ℕ) → contains_bytes (paths_of (rows_under 16 entries root)) path ≡ is_queue entries path
 queue_rows entries all none path =
-    same_test (is_among (paths_of (rows_under 16 entries root)) path) (is_queue entries path)
+    same_test (contains_bytes (paths_of (rows_under 16 entries root)) path) (is_queue entries path)
     (λ h. row_is entries all 16 root path (root_is entries) h)
     (λ h. row_of_queue entries path h 16 (queue_level entries none path h))
 
 pub rows_are_queues : (text : List ℕ) (entries : List Entry) → read_lines (lines text) ≡ Ok entries → whole_fault entries ≡ None → (path : List ℕ) →
-    is_among (map (λ row. row.path) (settings_of entries).queues) path ≡ is_queue entries path
+    contains_bytes (map (λ row. row.path) (settings_of entries).queues) path ≡ is_queue entries path
 rows_are_queues text entries is none path =
-    ap (λ (rows : List QueueRow). is_among (paths_of rows) path) (rows_of_settings entries) ∙ queue_rows entries (lines_kept (lines text) entries is) none path
+    ap (λ (rows : List QueueRow). contains_bytes (paths_of rows) path) (rows_of_settings entries) ∙ queue_rows entries (lines_kept (lines text) entries is) none path

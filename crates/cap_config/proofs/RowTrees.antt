@@ -12,7 +12,7 @@ use Rattle.cap_model.proofs.lists.Tests.{bytes_itself}
 use Rattle.cap_config.specs.declared.entry.Entry.{Entry}
 use Rattle.cap_config.specs.declared.fault.ConfigFault.{ConfigFault}
 use Rattle.cap_config.specs.Keys.{root, last_dot, is_dot}
-use Rattle.cap_config.specs.Seen.{is_among}
+use Rattle.cap_config.specs.Seen.{contains_bytes}
 use Rattle.cap_config.specs.Queues.{is_queue, child}
 use Rattle.cap_config.specs.Entries.{read_lines}
 use Rattle.cap_config.specs.Tests.{whole_fault}
@@ -79,16 +79,16 @@ is_there_by : (b : Bool) (row : QueueRow) (r : Option QueueRow) (among : Bool) �
 is_there_by true row r among h later = refl
 is_there_by false row r among h later = later h
 
-is_there : (rows : List QueueRow) (path : List ℕ) → is_among (paths_of rows) path ≡ true → has_path rows path ≡ true
+is_there : (rows : List QueueRow) (path : List ℕ) → contains_bytes (paths_of rows) path ≡ true → has_path rows path ≡ true
 is_there [] path h = absurd (cc h)
-is_there (row ∷ rows) path h = is_there_by (bytes_eq row.path path) row (find (λ r. bytes_eq r.path path) rows) (is_among (paths_of rows) path) h (is_there rows path)
+is_there (row ∷ rows) path h = is_there_by (bytes_eq row.path path) row (find (λ r. bytes_eq r.path path) rows) (contains_bytes (paths_of rows) path) h (is_there rows path)
 
 -- the path of each row is among those of the rows
-pub own_path : (rows : List QueueRow) (k : ℕ) (d : QueueRow) → k < length rows → is_among (paths_of rows) (slice_index_or rows k d).path ≡ true
+pub own_path : (rows : List QueueRow) (k : ℕ) (d : QueueRow) → k < length rows → contains_bytes (paths_of rows) (slice_index_or rows k d).path ≡ true
 own_path [] k d h = absurd (omega arith)
-own_path (row ∷ rows) zero d h = first_of_two (bytes_eq row.path row.path) (is_among (paths_of rows) row.path) (bytes_itself row.path)
+own_path (row ∷ rows) zero d h = first_of_two (bytes_eq row.path row.path) (contains_bytes (paths_of rows) row.path) (bytes_itself row.path)
 own_path (row ∷ rows) (suc k) d h =
-    second_of_two (bytes_eq row.path (slice_index_or rows k d).path) (is_among (paths_of rows) (slice_index_or rows k d).path) (own_path rows k d (omega (arith, h)))
+    second_of_two (bytes_eq row.path (slice_index_or rows k d).path) (contains_bytes (paths_of rows) (slice_index_or rows k d).path) (own_path rows k d (omega (arith, h)))
 
 -- bytes without a dot have no beginning before one
 no_front : (front rest : List ℕ) → last_dot (front ++ 46 ∷ rest) ≡ None → ⊥

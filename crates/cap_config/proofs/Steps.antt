@@ -9,7 +9,7 @@ use Rattle.cap_config.specs.declared.fault.ConfigFaultKind.{ConfigFaultKind}
 use Rattle.cap_config.specs.declared.fault.ConfigFaultKind.TheVariants.{BadLine, UnknownKey, Repeated, BadValue, NoSuchQueue, OverParent, GuaranteeOverMaximum, TooManyQueues, TooDeep, NoChild, NoMemory}
 use Rattle.cap_config.specs.Fault.{fault_at, FailsBy}
 use Rattle.cap_config.specs.Keys.{key_of}
-use Rattle.cap_config.specs.Seen.{is_among}
+use Rattle.cap_config.specs.Seen.{contains_bytes}
 use Rattle.cap_config.specs.Values.{value_of}
 use Rattle.cap_config.specs.Entries.{line_parts, entry_of, is_passed_over, read_after, key_text}
 
@@ -21,17 +21,17 @@ pub entry_no_key : (keys : List (List ℕ)) (n : ℕ) (line name value : List �
 unfolding entry_of
 entry_no_key keys n line name value h k = rw (h, k) refl
 
-pub entry_repeated : (keys : List (List ℕ)) (n : ℕ) (line name value : List ℕ) (key : Key) → line_parts line ≡ Some (name, value) → key_of name ≡ Some key → is_among keys name ≡ true →
+pub entry_repeated : (keys : List (List ℕ)) (n : ℕ) (line name value : List ℕ) (key : Key) → line_parts line ≡ Some (name, value) → key_of name ≡ Some key → contains_bytes keys name ≡ true →
     entry_of keys n line ≡ Err (fault_at n Repeated)
 unfolding entry_of
 entry_repeated keys n line name value key h k stood = rw (h, k, stood) refl
 
-pub entry_no_value : (keys : List (List ℕ)) (n : ℕ) (line name value : List ℕ) (key : Key) → line_parts line ≡ Some (name, value) → key_of name ≡ Some key → is_among keys name ≡ false →
+pub entry_no_value : (keys : List (List ℕ)) (n : ℕ) (line name value : List ℕ) (key : Key) → line_parts line ≡ Some (name, value) → key_of name ≡ Some key → contains_bytes keys name ≡ false →
     value_of key value ≡ None → entry_of keys n line ≡ Err (fault_at n BadValue)
 unfolding entry_of
 entry_no_value keys n line name value key h k stood v = rw (h, k, stood, v) refl
 
-pub entry_good : (keys : List (List ℕ)) (n : ℕ) (line name value : List ℕ) (key : Key) (is : Value) → line_parts line ≡ Some (name, value) → key_of name ≡ Some key → is_among keys name ≡ false →
+pub entry_good : (keys : List (List ℕ)) (n : ℕ) (line name value : List ℕ) (key : Key) (is : Value) → line_parts line ≡ Some (name, value) → key_of name ≡ Some key → contains_bytes keys name ≡ false →
     value_of key value ≡ Some is → entry_of keys n line ≡ Ok (record { line = n; queue = key.queue; setting = key.setting; value = is })
 unfolding entry_of
 entry_good keys n line name value key is h k stood v = rw (h, k, stood, v) refl

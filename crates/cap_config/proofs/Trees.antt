@@ -9,22 +9,22 @@ use Rattle.cap_config.specs.declared.value.Value.TheVariants.{Names, Amounts, Nu
 use Rattle.cap_config.specs.declared.setting.Setting.{Setting}
 use Rattle.cap_config.specs.declared.setting.Setting.TheVariants.{MaximumCapacity}
 use Rattle.cap_config.specs.Keys.{root, parts_at_last_dot}
-use Rattle.cap_config.specs.Seen.{is_among}
-use Rattle.cap_config.specs.Queues.{is_queue, maximum, nearest_maximum, leads_to_root, above, names_below, amounts_at, amounts_or, entry_for, found, FindsAll}
+use Rattle.cap_config.specs.Seen.{contains_bytes}
+use Rattle.cap_config.specs.Queues.{is_queue, maximum, nearest_maximum, leads_to_root, above, names_below, amounts_at, amounts_or, entry_for, entry_at, FindsAll}
 use Rattle.cap_config.proofs.Above.{IsParent, parent_is}
 
-pub queue_not_listed : (entries : List Entry) (path parent name : List ℕ) → parts_at_last_dot path ≡ Some (parent, name) → is_among (names_below entries parent) name ≡ false →
+pub queue_not_listed : (entries : List Entry) (path parent name : List ℕ) → parts_at_last_dot path ≡ Some (parent, name) → contains_bytes (names_below entries parent) name ≡ false →
     is_queue entries path ≡ false
 queue_not_listed entries path parent name parts h = ap (leads_to_root entries path) (parent_is path parent name parts).above ∙ rw (parts, h) refl
 
-pub queue_listed : (entries : List Entry) (path parent name : List ℕ) → parts_at_last_dot path ≡ Some (parent, name) → is_among (names_below entries parent) name ≡ true →
+pub queue_listed : (entries : List Entry) (path parent name : List ℕ) → parts_at_last_dot path ≡ Some (parent, name) → contains_bytes (names_below entries parent) name ≡ true →
     is_queue entries path ≡ is_queue entries parent
 queue_listed entries path parent name parts h = ap (leads_to_root entries path) (parent_is path parent name parts).above ∙ rw (parts, h) refl
 
 pub queue_at_top : (entries : List Entry) (path : List ℕ) → above path ≡ [] → is_queue entries path ≡ bytes_eq path root
 queue_at_top entries path is = ap (leads_to_root entries path) is
 
-pub entry_found : (entries : List Entry) (setting : Setting) (places : BTreeMap (Bor (List ℕ)) (Bor Entry)) (q : List ℕ) → FindsAll places setting entries → found places q ≡ entry_for entries setting q
+pub entry_found : (entries : List Entry) (setting : Setting) (places : BTreeMap (Bor (List ℕ)) (Bor Entry)) (q : List ℕ) → FindsAll places setting entries → entry_at places q ≡ entry_for entries setting q
 unfolding entry_for
 entry_found entries setting places q h = h q
 

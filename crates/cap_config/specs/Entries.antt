@@ -7,9 +7,9 @@ use Rattle.cap_config.specs.declared.value.Value.{Value}
 use Rattle.cap_config.specs.declared.fault.ConfigFault.{ConfigFault}
 use Rattle.cap_config.specs.declared.fault.ConfigFaultKind.TheVariants.{BadLine, UnknownKey, Repeated, BadValue}
 use Rattle.cap_config.specs.Fault.{fault_at}
-use Rattle.cap_text.specs.Pieces.{parts_at, trimmed}
+use Rattle.cap_text.specs.Pieces.{parts_at, trimmed_bytes}
 use Rattle.cap_config.specs.Keys.{key_of}
-use Rattle.cap_config.specs.Seen.{is_among}
+use Rattle.cap_config.specs.Seen.{contains_bytes}
 use Rattle.cap_config.specs.Values.{value_of}
 
 -- whether a line says nothing: it is empty, or begins with `#`
@@ -22,7 +22,7 @@ abbrev pub is_printable : ℕ → Bool
 is_printable b = nat_le 32 b && nat_le b 126
 
 abbrev pub both_trimmed : Option (List ℕ × List ℕ) → Option (List ℕ × List ℕ)
-both_trimmed (Some parts) = Some (trimmed parts.0, trimmed parts.1)
+both_trimmed (Some parts) = Some (trimmed_bytes parts.0, trimmed_bytes parts.1)
 both_trimmed None = None
 
 -- the key and the value of a line: printable bytes, cut at the first `=`
@@ -44,7 +44,7 @@ with_value n key None = Err (fault_at n BadValue)
 
 -- the key stood in an earlier line:
 abbrev pub with_key : List (List ℕ) → ℕ → List ℕ → List ℕ → Option Key → Result Entry ConfigFault
-with_key keys n name value (Some key) = if is_among keys name then Err (fault_at n Repeated) else with_value n key (value_of key value)
+with_key keys n name value (Some key) = if contains_bytes keys name then Err (fault_at n Repeated) else with_value n key (value_of key value)
 with_key keys n name value None = Err (fault_at n UnknownKey)
 
 -- there is no key and value:

@@ -2,7 +2,7 @@
 use Rattle.std.specs.Prelude.{ℕ, ◌+◌, List, [], ◌∷◌, ◌++◌, length, take, drop, find, Option, Some, None, Bool, true, false, not, ◌&&◌, ◌||◌, ◌==◌, nat_lt, nat_le, nat_eq, if◌then◌else◌, codes}
 use Rattle.std.specs.List.{list_all, slice_split, starts_with}
 use Rattle.std.specs.Str.{bytes_eq}
-use Rattle.cap_model.specs.Texts.{is_text}
+use Rattle.cap_model.specs.Texts.{is_text, dot}
 use Rattle.cap_config.specs.declared.key.Key.{Key}
 use Rattle.cap_config.specs.declared.setting.Setting.{Setting}
 use Rattle.cap_config.specs.declared.setting.Setting.TheVariants.{Queues, Capacity, MaximumCapacity, UserLimitFactor, State, MaximumApplications, MinimumMemory, MinimumVcores, MaximumMemory, MaximumVcores}
@@ -56,7 +56,7 @@ unfoldable pub is_name : List ℕ → Bool
 is_name bytes = (nat_lt 0 (length bytes) && nat_le (length bytes) 64) && list_all is_name_byte bytes
 
 abbrev pub is_dot : ℕ → Bool
-is_dot b = b == 46
+is_dot b = b == dot
 
 -- the names of a path
 abbrev pub names_in : List ℕ → List (List ℕ)
@@ -65,7 +65,7 @@ names_in path = slice_split is_dot path
 -- names joined by dots, the first of them `root`, in at most 255 bytes
 unfoldable pub path_of : List ℕ → Option (List ℕ)
 path_of bytes =
-    if (is_text 255 bytes && (bytes_eq bytes root || starts_with nat_eq bytes (root ++ 46 ∷ []))) && list_all is_name (names_in bytes)
+    if (is_text 255 bytes && (bytes_eq bytes root || starts_with nat_eq bytes (root ++ dot ∷ []))) && list_all is_name (names_in bytes)
     then Some bytes
     else None
 

@@ -4,7 +4,7 @@ use Rattle.std.specs.Str.{bytes_eq}
 use Rattle.std.specs.Str.Lines.{lines}
 use Rattle.cap_config.specs.declared.entry.Entry.{Entry}
 use Rattle.cap_config.specs.Keys.{root}
-use Rattle.cap_config.specs.Seen.{is_among}
+use Rattle.cap_config.specs.Seen.{contains_bytes}
 use Rattle.cap_config.specs.Queues.{is_queue, names_below, child, guaranteed, maximum}
 use Rattle.cap_config.specs.Entries.{read_lines}
 use Rattle.cap_config.specs.Tests.{whole_fault, level, exceeds, exceeds_limit, guaranteed_below}
@@ -18,7 +18,7 @@ HasOneAnswer = (text : List ℕ) → (first_fault text ≡ None) ↔ IsSome (set
 -- a set of paths has `root`, and the queues that its members list
 pub record HasListed (entries : List Entry) (has : List ℕ → Bool) : Type 0 where
   pub top : has root ≡ true
-  pub below : (path name : List ℕ) → has path ≡ true → is_among (names_below entries path) name ≡ true → has (child path name) ≡ true
+  pub below : (path name : List ℕ) → has path ≡ true → contains_bytes (names_below entries path) name ≡ true → has (child path name) ≡ true
 
 -- the queues that the lines of a text set up are such a set, and are in each such set
 abbrev pub QueuesAreLeast : Type 0
@@ -50,7 +50,7 @@ GuaranteeFitsMaximum =
 abbrev pub MaximumFitsParent : Type 0
 MaximumFitsParent =
     (text : List ℕ) (entries : List Entry) → read_lines (lines text) ≡ Ok entries → whole_fault entries ≡ None →
-    (path name most : List ℕ) → is_among (names_below entries path) name ≡ true → maximum entries (child path name) ≡ Some most → exceeds_limit most (maximum entries path) ≡ false
+    (path name most : List ℕ) → contains_bytes (names_below entries path) name ≡ true → maximum entries (child path name) ≡ Some most → exceeds_limit most (maximum entries path) ≡ false
 
 -- the capacities of the queues below one other than `root` add up to no more than its own
 abbrev pub ChildrenFitParent : Type 0

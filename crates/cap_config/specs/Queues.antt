@@ -12,7 +12,8 @@ use Rattle.cap_config.specs.declared.value.Value.TheVariants.{Names, Amounts, Nu
 use Rattle.cap_config.specs.declared.setting.Setting.{Setting}
 use Rattle.cap_config.specs.declared.setting.Setting.TheVariants.{Queues, Capacity, MaximumCapacity, UserLimitFactor, State, MaximumApplications, MinimumMemory, MinimumVcores, MaximumMemory, MaximumVcores}
 use Rattle.cap_config.specs.Keys.{root, is_dot, parts_at_last_dot}
-use Rattle.cap_config.specs.Seen.{is_among}
+use Rattle.cap_config.specs.Seen.{contains_bytes}
+use Rattle.cap_model.specs.Texts.{dot}
 
 abbrev pub setting_number : Setting → ℕ
 setting_number Queues = 0
@@ -37,28 +38,28 @@ abbrev pub is_path_at : Option (List ℕ) → List ℕ → Bool
 is_path_at (Some path) q = bytes_eq path q
 is_path_at None q = false
 
-abbrev pub is_for : Setting → List ℕ → Entry → Bool
-is_for setting q entry = is_path_at (path_for setting entry) q
+abbrev pub is_entry_for : Setting → List ℕ → Entry → Bool
+is_entry_for setting q entry = is_path_at (path_for setting entry) q
 
 -- the entry that sets a property for the queue of a path
 unfoldable pub entry_for : List Entry → Setting → List ℕ → Option Entry
-entry_for entries setting q = find (is_for setting q) entries
+entry_for entries setting q = find (is_entry_for setting q) entries
 
 -- what a map from paths to entries has at a path
-abbrev pub pointed : Option (Bor Entry) → Option Entry
-pointed (Some entry) = Some entry.now
-pointed None = None
+abbrev pub pointed_entry : Option (Bor Entry) → Option Entry
+pointed_entry (Some entry) = Some entry.now
+pointed_entry None = None
 
-abbrev pub found : BTreeMap (Bor (List ℕ)) (Bor Entry) → List ℕ → Option Entry
-found places q = pointed (get_by (λ k. slice_cmp nat_cmp q k.now) places)
+abbrev pub entry_at : BTreeMap (Bor (List ℕ)) (Bor Entry) → List ℕ → Option Entry
+entry_at places q = pointed_entry (get_by (λ k. slice_cmp nat_cmp q k.now) places)
 
 -- the map has each entry of a property at its path
 abbrev pub FindsAll : BTreeMap (Bor (List ℕ)) (Bor Entry) → Setting → List Entry → Type 0
-FindsAll places setting entries = (q : List ℕ) → found places q ≡ find (is_for setting q) entries
+FindsAll places setting entries = (q : List ℕ) → entry_at places q ≡ find (is_entry_for setting q) entries
 
 -- the path of the queue with this name below another
 abbrev pub child : List ℕ → List ℕ → List ℕ
-child path name = path ++ 46 ∷ name
+child path name = path ++ dot ∷ name
 
 -- the names that a queue lists
 abbrev pub names_in_value : Value → List (List ℕ)
@@ -85,7 +86,7 @@ above (b ∷ bytes) = map (λ path. b ∷ path) (above bytes) ++ dot_ends (is_do
 
 -- whether the queue above a path, cut at its last dot, lists the name after the dot
 abbrev pub is_below : List Entry → Option (List ℕ × List ℕ) → Bool
-is_below entries (Some parts) = is_among (names_below entries parts.0) parts.1
+is_below entries (Some parts) = contains_bytes (names_below entries parts.0) parts.1
 is_below entries None = false
 
 -- whether each path but the last is listed by the queue above it, and the last is `root`

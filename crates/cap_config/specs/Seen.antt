@@ -10,9 +10,9 @@ abbrev pub has : {X S : Type 0} → HashMap (Bor (List ℕ)) X S → List ℕ �
 has seen q = is_some (get_by (λ k. bytes_eq q k.now) seen)
 
 -- whether these bytes are in a list
-abbrev pub is_among : List (List ℕ) → List ℕ → Bool
-is_among keys q = list_any (λ key. bytes_eq key q) keys
+abbrev pub contains_bytes : List (List ℕ) → List ℕ → Bool
+contains_bytes keys q = list_any (λ key. bytes_eq key q) keys
 
 -- the keys are these byte strings
 abbrev pub HasAll : {X S : Type 0} → HashMap (Bor (List ℕ)) X S → List (List ℕ) → Type 0
-HasAll seen keys = (q : List ℕ) → has seen q ≡ is_among keys q
+HasAll seen keys = (q : List ℕ) → has seen q ≡ contains_bytes keys q

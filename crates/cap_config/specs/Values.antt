@@ -9,15 +9,15 @@ use Rattle.cap_config.specs.declared.value.Value.TheVariants.{Names, Amounts, Nu
 use Rattle.cap_config.specs.declared.key.Key.{Key}
 use Rattle.cap_config.specs.declared.setting.Setting.{Setting}
 use Rattle.cap_config.specs.declared.setting.Setting.TheVariants.{Queues, Capacity, MaximumCapacity, UserLimitFactor, State, MaximumApplications, MinimumMemory, MinimumVcores, MaximumMemory, MaximumVcores}
-use Rattle.cap_text.specs.Pieces.{parts_at, trimmed}
+use Rattle.cap_text.specs.Pieces.{parts_at, trimmed_bytes}
 use Rattle.cap_text.specs.Numbers.{number_of}
 use Rattle.cap_config.specs.Keys.{is_name}
-use Rattle.cap_config.specs.Seen.{is_among}
+use Rattle.cap_config.specs.Seen.{contains_bytes}
 
 -- the names of a list; an empty one has none
 unfoldable pub names_of : List ℕ → List (List ℕ)
 names_of [] = []
-names_of (b ∷ bytes) = map trimmed (slice_split (λ c. c == 44) (b ∷ bytes))
+names_of (b ∷ bytes) = map trimmed_bytes (slice_split (λ c. c == 44) (b ∷ bytes))
 
 -- the greatest number of digits that a number may have
 abbrev pub digits_max : ℕ
@@ -58,7 +58,7 @@ amounts_in first second =
 
 unfoldable pub amounts_of : List ℕ → Option (List ℕ)
 amounts_of bytes =
-    option_and_then (λ inner. option_and_then (λ parts. amounts_in (trimmed parts.0) (trimmed parts.1)) (parts_at 44 inner)) (in_brackets bytes)
+    option_and_then (λ inner. option_and_then (λ parts. amounts_in (trimmed_bytes parts.0) (trimmed_bytes parts.1)) (parts_at 44 inner)) (in_brackets bytes)
 
 -- a name for a queue below this path: with the path and a dot before it there are at most 255 bytes
 abbrev pub is_name_under : List ℕ → List ℕ → Bool
@@ -70,12 +70,12 @@ name_under path name = if is_name_under path name then Some name else None
 
 -- whether a list may go on with this name
 abbrev pub is_next : List ℕ → List (List ℕ) → List ℕ → Bool
-is_next path before name = is_name_under path name && not (is_among before name)
+is_next path before name = is_name_under path name && not (contains_bytes before name)
 
 -- whether no name stands a second time, or among those before
 abbrev pub are_new : List (List ℕ) → List (List ℕ) → Bool
 are_new before [] = true
-are_new before (name ∷ names) = not (is_among before name) && are_new (before ++ name ∷ []) names
+are_new before (name ∷ names) = not (contains_bytes before name) && are_new (before ++ name ∷ []) names
 
 -- the names of a list for the queue of this path
 unfoldable pub names_for : List ℕ → List ℕ → Option (List (List ℕ))
@@ -89,13 +89,13 @@ abbrev pub as_amounts : Option (List ℕ) → Option Value
 as_amounts (Some amounts) = Some (Amounts amounts)
 as_amounts None = None
 
-abbrev pub listed : Option (List ℕ) → List ℕ → Option Value
-listed (Some path) bytes = as_names (names_for path bytes)
-listed None bytes = None
+abbrev pub listed_names : Option (List ℕ) → List ℕ → Option Value
+listed_names (Some path) bytes = as_names (names_for path bytes)
+listed_names None bytes = None
 
 -- the value that bytes give a property
 unfoldable pub value_at : Option (List ℕ) → Setting → List ℕ → Option Value
-value_at queue Queues bytes = listed queue bytes
+value_at queue Queues bytes = listed_names queue bytes
 value_at queue Capacity bytes = as_amounts (amounts_of bytes)
 value_at queue MaximumCapacity bytes = as_amounts (amounts_of bytes)
 value_at queue UserLimitFactor bytes = number_within 1000 bytes

@@ -1,6 +1,6 @@
 ghost use Rattle.std.specs.Prelude.{◌≡◌, IfOk};
 ghost use Rattle.std.specs.Option.{option_map, option_copied};
-ghost use Rattle.cap_config.specs.Queues.{FindsAll, found, path_for, child};
+ghost use Rattle.cap_config.specs.Queues.{FindsAll, entry_at, path_for, child};
 ghost use Rattle.cap_config.specs.Index.{IsIndex};
 
 use crate::entry::Entry;
@@ -74,7 +74,7 @@ pub fn entry_at<'e, 't>(
     places: &BTreeMap<&'e [u8], &'e Entry<'t>>,
     path: &[u8],
 ) -> Option<&'e Entry<'t>>
-    ensures { option_copied result ≡ found places.now path.now }
+    ensures { option_copied result ≡ entry_at places.now path.now }
 {
     match places.get(path) {
         Some(entry) => Some(*entry),

@@ -33,7 +33,7 @@ impl<'t> Model for Names<'t> {
 }
 
 impl<'t> Names<'t> {
-    ghost use Rattle.cap_config.specs.Seen.{is_among};
+    ghost use Rattle.cap_config.specs.Seen.{contains_bytes};
 
     /// The names, each once.
     pub fn names(&self) -> &[ShortText]
@@ -44,7 +44,7 @@ impl<'t> Names<'t> {
 
     /// Whether this name is among them.
     pub fn has(&self, name: &[u8]) -> bool
-        ensures { result ≡ is_among self.now name.now }
+        ensures { result ≡ contains_bytes self.now name.now }
     {
         was_seen(&self.set, name)
     }

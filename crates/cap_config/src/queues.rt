@@ -6,7 +6,7 @@ ghost use Rattle.cap_config.specs.Index.{IsIndex};
 ghost use Rattle.cap_config.specs.Rows.{factor, is_running, running_or};
 ghost use Rattle.cap_config.specs.Tests.{level, number_or};
 ghost use Rattle.cap_config.specs.Queues.{is_queue, names_below, names_or_none, amounts_at, guaranteed, maximum};
-ghost use Rattle.cap_config.specs.Seen.{is_among};
+ghost use Rattle.cap_config.specs.Seen.{contains_bytes};
 
 use crate::entry::Entry;
 use crate::index::{Index, entry_at};
@@ -36,13 +36,13 @@ pub fn is_queue(index: &Index, path: &[u8]) -> bool
 /// Whether a queue lists this name.
 fn lists(index: &Index, path: &[u8], name: &[u8]) -> bool
     requires { IsIndex index.now }
-    ensures { result ≡ is_among (names_below index.now.entries.now path.now) name.now }
+    ensures { result ≡ contains_bytes (names_below index.now.entries.now path.now) name.now }
 {
     has_name(entry_at(&index.queues, path), name)
 }
 
 fn has_name(entry: Option<&Entry>, name: &[u8]) -> bool
-    ensures { result ≡ is_among (names_or_none (option_copied entry.entry)) name.now }
+    ensures { result ≡ contains_bytes (names_or_none (option_copied entry.entry)) name.now }
 {
     match entry {
         Some(entry) => match &entry.value {

@@ -1,6 +1,6 @@
 ghost use Rattle.std.specs.Prelude.{◌≡◌, IfOk};
 ghost use Rattle.std.specs.Option.{option_map};
-ghost use Rattle.cap_config.specs.Values.{value_of, listed, as_amounts, number_within, state_of, amounts_of, amounts_in, in_brackets, number_after, resource};
+ghost use Rattle.cap_config.specs.Values.{value_of, listed_names, as_amounts, number_within, state_of, amounts_of, amounts_in, in_brackets, number_after, resource};
 
 use crate::key::Key;
 use crate::names::{Names, names_for};
@@ -59,7 +59,7 @@ fn listed<'t>(
     queue: &Option<PathText>,
     bytes: &'t [u8],
 ) -> Result<Option<Value<'t>>, AllocError>
-    ensures { IfOk result (λ value. value ≡ listed queue.now bytes.now) }
+    ensures { IfOk result (λ value. value ≡ listed_names queue.now bytes.now) }
 {
     let Some(path) = queue else {
         return Ok(None);

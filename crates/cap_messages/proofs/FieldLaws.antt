@@ -8,7 +8,7 @@ use Rattle.std.proofs.lemmas.Bool.Decides.{nat_tests}
 use Rattle.std.proofs.lemmas.List.{take_at, drop_at, take-append-drop, length-append, length-take, get_or-drop, get_or-take, get_or_past, append-nil, nil_from_length}
 use Rattle.std.proofs.lemmas.Nat.{be_bytes_2, be_bytes_4, be_bytes_8, from_be_bytes-to_be_bytes_2, from_be_bytes-to_be_bytes_4, from_be_bytes-to_be_bytes_8}
 use Rattle.cap_vector.specs.Vector.{IsVector}
-use Rattle.cap_messages.specs.Spelling.{text, resource, flag, listed, FitsListed}
+use Rattle.cap_messages.specs.Spelling.{text, resource, flag, list_bytes, FitsListed}
 use Rattle.cap_messages.specs.Fields.{◌>>=◌, number_at, byte_at, flag_of_byte, flag_at, text_at, amount_at, amounts_at, pair_at, passing_at, times_at, all_at, counted_at}
 
 abbrev pub AreBytes : List ℕ → Type 0
@@ -250,8 +250,8 @@ pub is_u16 : IsField (number_at w16) (to_be_bytes w16) (λ n. n < 2 ^ 16)
 is_u16 = is_number w16 (2 ^ 16) wide16
 
 counted_takes : {A : Type 0} (most : ℕ) (field : List ℕ → Option (A × List ℕ)) (s : A → List ℕ) (F : A → Type 0) → IsField field s F → (bytes : List ℕ) (xs : List A) (rest : List ℕ) → AreBytes bytes →
-    counted_at most field bytes ≡ Some (xs, rest) → Takes bytes (listed s xs) rest × FitsListed most F xs
-unfolding counted_at listed
+    counted_at most field bytes ≡ Some (xs, rest) → Takes bytes (list_bytes s xs) rest × FitsListed most F xs
+unfolding counted_at list_bytes
 counted_takes {A} most field s F is bytes xs rest fits e =
     let count = is_passing (λ n. nat_le n most) (number_at w16) (to_be_bytes w16) (λ n. n < 2 ^ 16) is_u16 in
     let a = bind_some (passing_at (λ n. nat_le n most) (number_at w16) bytes) (λ n. times_at n.0 field n.1) (xs, rest) e in
@@ -264,8 +264,8 @@ counted_takes {A} most field s F is bytes xs rest fits e =
     )
 
 counted_again : {A : Type 0} (most : ℕ) (small : most < 2 ^ 16) (field : List ℕ → Option (A × List ℕ)) (s : A → List ℕ) (F : A → Type 0) → IsField field s F → (xs : List A) (rest : List ℕ) → FitsListed most F xs →
-    counted_at most field (listed s xs ++ rest) ≡ Some (xs, rest)
-unfolding counted_at listed
+    counted_at most field (list_bytes s xs ++ rest) ≡ Some (xs, rest)
+unfolding counted_at list_bytes
 counted_again {A} most small field s F is xs rest fits =
     let count = is_passing (λ n. nat_le n most) (number_at w16) (to_be_bytes w16) (λ n. n < 2 ^ 16) is_u16 in
     let few : length xs ≤ most = fits.few in
@@ -275,7 +275,7 @@ counted_again {A} most small field s F is xs rest fits =
     ∙ (is_times (length xs) field s F is).again xs rest (refl, fits.each)
 
 -- a list with its length before it
-pub is_counted : {A : Type 0} (most : ℕ) → most < 2 ^ 16 → (field : List ℕ → Option (A × List ℕ)) (s : A → List ℕ) (F : A → Type 0) → IsField field s F → IsField (counted_at most field) (listed s) (FitsListed most F)
+pub is_counted : {A : Type 0} (most : ℕ) → most < 2 ^ 16 → (field : List ℕ → Option (A × List ℕ)) (s : A → List ℕ) (F : A → Type 0) → IsField field s F → IsField (counted_at most field) (list_bytes s) (FitsListed most F)
 is_counted most small field s F is = record { takes = counted_takes most field s F is; again = counted_again most small field s F is }
 
 -- ---- texts

@@ -17,7 +17,7 @@ use Rattle.cap_model.specs.declared.news.Cause.{Cause}
 use Rattle.cap_model.specs.declared.replies.HeartbeatReply.{HeartbeatReply}
 use Rattle.cap_messages.specs.Texts.{is_place}
 use Rattle.cap_model.specs.Limits.{news_max}
-use Rattle.cap_messages.specs.Spelling.{counted_list, FitsListed, grant, FitsGrant, end, FitsEnd, allocated, FitsAllocated, beat, FitsBeat, text, resource, flag, queue_report, cluster_report, reply_body, IsOfKind, FitsReply, IsReply, fault_reply}
+use Rattle.cap_messages.specs.Spelling.{counted_list, FitsListed, grant, FitsGrant, end, FitsEnd, allocate_bytes, FitsAllocated, beat, FitsBeat, text, resource, flag, queue_report, cluster_report, reply_body, IsOfKind, FitsReply, IsReply, fault_reply}
 use Rattle.cap_messages.specs.Fields.{◌>>=◌, byte_at, flag_at, number_at, amounts_at, text_at, pair_at, passing_at, times_at, all_at}
 use Rattle.cap_messages.specs.Reading.{head_at}
 use Rattle.cap_messages.proofs.FieldLaws.{some_is, IsField, is_pair, all_again, is_flag, is_u16, is_u32, is_u64, is_amounts, is_text_passing, is_times, is_made, is_field_of}
@@ -308,7 +308,7 @@ is_info =
 -- ---- what follows the status
 
 abbrev submitted : ℕ → Option (Reply 2)
-submitted application = Some (Submit application)
+submitted app = Some (Submit app)
 
 abbrev registered : ℕ → Option (Reply 2)
 registered node = Some (RegisterNode node)
@@ -320,10 +320,10 @@ abbrev lost : ℕ → Option (Reply 2)
 lost ended = Some (NodeGone ended)
 
 abbrev reported : Report → Option (Reply 2)
-reported x = Some (QueueInfo (record { running = x.0.0.0.0.0; leaf = x.0.0.0.0.1; guaranteed = x.0.0.0.1; maximum = maximum_of x.0.0.1; used = x.0.1; applications = x.1 }))
+reported x = Some (QueueInfo (record { running = x.0.0.0.0.0; leaf = x.0.0.0.0.1; guaranteed = x.0.0.0.1; maximum = maximum_of x.0.0.1; used = x.0.1; apps = x.1 }))
 
 abbrev informed : Info → Option (Reply 2)
-informed x = Some (ClusterInfo (record { nodes = x.0.0.0.0; applications = x.0.0.0.1; containers = x.0.0.1; totals = x.0.1; used = x.1 }))
+informed x = Some (ClusterInfo (record { nodes = x.0.0.0.0; apps = x.0.0.0.1; containers = x.0.0.1; totals = x.0.1; used = x.1 }))
 
 abbrev granted_at : ℕ → List ℕ → Option (Reply 2)
 granted_at kind bytes =
@@ -351,16 +351,16 @@ refused_again kind _ = refl
 node_again : (node : ℕ) → node < 2 ^ 64 → granted_at 5 (to_be_bytes w64 node) ≡ Some (RegisterNode node)
 node_again node fits = ap (λ (o : Option ℕ). o >>= registered) (all_again (number_at w64) (to_be_bytes w64) (λ n. n < 2 ^ 64) is_u64 node fits)
 
-application_again : (application : ℕ) → application < 2 ^ 64 → granted_at 1 (to_be_bytes w64 application) ≡ Some (Submit application)
-application_again application fits = ap (λ (o : Option ℕ). o >>= submitted) (all_again (number_at w64) (to_be_bytes w64) (λ n. n < 2 ^ 64) is_u64 application fits)
+app_again : (app : ℕ) → app < 2 ^ 64 → granted_at 1 (to_be_bytes w64 app) ≡ Some (Submit app)
+app_again app fits = ap (λ (o : Option ℕ). o >>= submitted) (all_again (number_at w64) (to_be_bytes w64) (λ n. n < 2 ^ 64) is_u64 app fits)
 
 bounds_again : (minimum maximum : List ℕ) → IsResource 2 minimum → IsResource 2 maximum → granted_at 2 (resource minimum ++ resource maximum) ≡ Some (RegisterMaster minimum maximum)
 bounds_again minimum maximum a b =
     let x : Bounds = (minimum, maximum) in
     ap (λ (o : Option Bounds). o >>= λ x. Some (RegisterMaster x.0 x.1)) (all_again bounds_at bounds_of FitsBounds is_bounds x (a, b))
 
-allocate_again : (r : AllocateReply) → FitsAllocated r → granted_at 3 (allocated r) ≡ Some (Allocate r)
-unfolding allocated
+allocate_again : (r : AllocateReply) → FitsAllocated r → granted_at 3 (allocate_bytes r) ≡ Some (Allocate r)
+unfolding allocate_bytes
 allocate_again r fits =
     ap (λ (o : Option (Allocated × List ℕ)). (o >>= λ x. if length x.1 == 0 then Some x.0 else None) >>= λ x. Some (reply_from x))
     (allocated_again r.response r.ignored r.grants r.ends fits.response fits.ignored fits.grants fits.ends)
@@ -386,7 +386,7 @@ info_again x fits = ap (λ (o : Option Info). o >>= informed) (all_again info_at
 reply_body_again : (kind : ℕ) (reply : Reply 2) → IsOfKind kind reply → FitsReply reply → reply_body_at kind (reply_body reply) ≡ Some reply
 unfolding queue_report cluster_report
 reply_body_again kind (Refused refusal) of_kind fits = refused_again kind refusal
-reply_body_again kind (Submit application) of_kind fits = rw of_kind (application_again application fits)
+reply_body_again kind (Submit app) of_kind fits = rw of_kind (app_again app fits)
 reply_body_again kind (RegisterMaster minimum maximum) of_kind fits = rw of_kind (bounds_again minimum maximum fits.0 fits.1)
 reply_body_again kind (Allocate reply) of_kind fits = rw of_kind (allocate_again reply fits)
 reply_body_again kind (FinishMaster ended) of_kind fits = rw of_kind (finish_again ended fits)
@@ -394,12 +394,12 @@ reply_body_again kind (RegisterNode node) of_kind fits = rw of_kind (node_again 
 reply_body_again kind (Heartbeat reply) of_kind fits = rw of_kind (beat_again reply fits)
 reply_body_again kind (NodeGone ended) of_kind fits = rw of_kind (lost_again ended fits)
 reply_body_again kind (QueueInfo r) of_kind fits =
-    let x : Report = (((((r.running, r.leaf), r.guaranteed), limit_to r.maximum), r.used), r.applications) in
-    let ok : FitsReport x = (((((tt, tt), fits.guaranteed), limit_fits r.maximum fits.maximum), fits.used), fits.applications) in
+    let x : Report = (((((r.running, r.leaf), r.guaranteed), limit_to r.maximum), r.used), r.apps) in
+    let ok : FitsReport x = (((((tt, tt), fits.guaranteed), limit_fits r.maximum fits.maximum), fits.used), fits.apps) in
     rw of_kind (report_again x ok ∙ ap (λ (m : Option (List ℕ)). Some (QueueInfo (record r { maximum = m }))) (maximum_again r.maximum))
 reply_body_again kind SetQueueState of_kind fits = rw of_kind refl
 reply_body_again kind (ClusterInfo r) of_kind fits =
-    rw of_kind (info_again ((((r.nodes, r.applications), r.containers), r.totals), r.used) ((((fits.nodes, fits.applications), fits.containers), fits.totals), fits.used))
+    rw of_kind (info_again ((((r.nodes, r.apps), r.containers), r.totals), r.used) ((((fits.nodes, fits.apps), fits.containers), fits.totals), fits.used))
 
 -- ---- the whole
 

@@ -12,13 +12,13 @@ use Rattle.cap_messages.specs.declared.fault.MessageFault.TheVariants as faults
 use Rattle.cap_messages.specs.Texts.{is_host, is_rack, is_path, is_user, is_place}
 use Rattle.cap_model.specs.Asks.{Ask}
 use Rattle.cap_model.specs.Limits.{asks_max, numbers_max}
-use Rattle.cap_messages.specs.Spelling.{listed, FitsListed, ask, FitsAsk, FitsNumber, text, resource, flag, kind_of, request_body, FitsRequest, request_bytes, IsRequest, IsNoRequest}
+use Rattle.cap_messages.specs.Spelling.{list_bytes, FitsListed, ask, FitsAsk, FitsNumber, text, resource, flag, kind_of, request_body, FitsRequest, request_bytes, IsRequest, IsNoRequest}
 use Rattle.cap_messages.specs.Fields.{◌>>=◌, number_at, byte_at, text_at, flag_at, amounts_at, pair_at, passing_at, all_at, counted_at}
 use Rattle.cap_messages.specs.Submit.{submission_at, submit_at}
 use Rattle.cap_messages.specs.MasterCalls.{register_master_at, finish_master_at, wish_at, ask_of, ask_at, wishes_at, allocate_at}
 use Rattle.cap_messages.specs.NodeCalls.{report_at, heartbeat_at, node_gone_at}
 use Rattle.cap_messages.specs.RegisterNode.{registration_at, register_node_at}
-use Rattle.cap_messages.specs.QueueCalls.{path_at, queue_info_at, queue_state_at, set_queue_state_at}
+use Rattle.cap_messages.specs.QueueCalls.{path_text_at, queue_info_at, queue_state_at, set_queue_state_at}
 use Rattle.cap_messages.specs.ClusterInfo.{cluster_info_at}
 use Rattle.cap_messages.specs.Reading.{GivesInMemory, head_at, body_at, request_at}
 use Rattle.cap_messages.proofs.FieldLaws.{AreBytes, bind_some, bind_then, guard_then, chosen, some_is, IsField, is_pair, all_takes, all_again, is_byte, is_flag, is_u32, is_u64, is_amounts, is_text_passing, is_made, is_counted, is_field_of}
@@ -133,16 +133,16 @@ abbrev FitsWishes : Wishes → Type 0
 FitsWishes x = (x.0 < 2 ^ 64) × ((x.1.0 < 2 ^ 32) × (FitsListed asks_max FitsAsk x.1.1.0 × FitsListed numbers_max FitsNumber x.1.1.1))
 
 abbrev wishes : Wishes → List ℕ
-wishes x = to_be_bytes w64 x.0 ++ (to_be_bytes w32 x.1.0 ++ (listed ask x.1.1.0 ++ listed (to_be_bytes w64) x.1.1.1))
+wishes x = to_be_bytes w64 x.0 ++ (to_be_bytes w32 x.1.0 ++ (list_bytes ask x.1.1.0 ++ list_bytes (to_be_bytes w64) x.1.1.1))
 
-is_numbers : IsField (counted_at numbers_max (number_at w64)) (listed (to_be_bytes w64)) (FitsListed numbers_max FitsNumber)
+is_numbers : IsField (counted_at numbers_max (number_at w64)) (list_bytes (to_be_bytes w64)) (FitsListed numbers_max FitsNumber)
 is_numbers = is_counted numbers_max (omega arith) (number_at w64) (to_be_bytes w64) FitsNumber is_u64
 
 is_wishes : IsField wishes_at wishes FitsWishes
 is_wishes =
     is_pair _ _ _ _ _ _ is_u64
     (is_pair _ _ _ _ _ _ is_u32
-    (is_pair (counted_at asks_max ask_at) (listed ask) (FitsListed asks_max FitsAsk) (counted_at numbers_max (number_at w64)) (listed (to_be_bytes w64)) (FitsListed numbers_max FitsNumber)
+    (is_pair (counted_at asks_max ask_at) (list_bytes ask) (FitsListed asks_max FitsAsk) (counted_at numbers_max (number_at w64)) (list_bytes (to_be_bytes w64)) (FitsListed numbers_max FitsNumber)
     (is_counted asks_max (omega arith) ask_at ask FitsAsk is_ask)
     is_numbers))
 
@@ -155,11 +155,11 @@ allocate_takes bytes r fits e =
     let same : made ≡ r = cc (b.2) in
     subst (λ (q : Request 2). IsBody 3 bytes q) same (record { kind_is = refl; spelled = t.0; fits = (t.1.0, t.1.1.0, t.1.1.1.0, t.1.1.1.1) })
 
-allocate_again : (application response : ℕ) (asks : List Ask) (releases : List ℕ) → FitsRequest (Allocate application response asks releases) →
-    allocate_at (request_body (Allocate application response asks releases)) ≡ Some (Allocate application response asks releases)
+allocate_again : (app response : ℕ) (asks : List Ask) (releases : List ℕ) → FitsRequest (Allocate app response asks releases) →
+    allocate_at (request_body (Allocate app response asks releases)) ≡ Some (Allocate app response asks releases)
 unfolding allocate_at
-allocate_again application response asks releases fits =
-    let x : Wishes = (application, (response, (asks, releases))) in
+allocate_again app response asks releases fits =
+    let x : Wishes = (app, (response, (asks, releases))) in
     let ok : FitsWishes x = (fits.0, (fits.1, (fits.2, fits.3))) in
     rw (all_again wishes_at wishes FitsWishes is_wishes x ok) refl
 
@@ -172,10 +172,10 @@ abbrev FitsNodeReport : NodeReport → Type 0
 FitsNodeReport x = (x.0 < 2 ^ 64) × ((x.1.0 < 2 ^ 32) × FitsListed numbers_max FitsNumber x.1.1)
 
 abbrev node_report : NodeReport → List ℕ
-node_report x = to_be_bytes w64 x.0 ++ (to_be_bytes w32 x.1.0 ++ listed (to_be_bytes w64) x.1.1)
+node_report x = to_be_bytes w64 x.0 ++ (to_be_bytes w32 x.1.0 ++ list_bytes (to_be_bytes w64) x.1.1)
 
 is_node_report : IsField report_at node_report FitsNodeReport
-is_node_report = is_pair _ _ _ _ _ _ is_u64 (is_pair (number_at w32) (to_be_bytes w32) (λ n. n < 2 ^ 32) (counted_at numbers_max (number_at w64)) (listed (to_be_bytes w64)) (FitsListed numbers_max FitsNumber) is_u32 is_numbers)
+is_node_report = is_pair _ _ _ _ _ _ is_u64 (is_pair (number_at w32) (to_be_bytes w32) (λ n. n < 2 ^ 32) (counted_at numbers_max (number_at w64)) (list_bytes (to_be_bytes w64)) (FitsListed numbers_max FitsNumber) is_u32 is_numbers)
 
 heartbeat_takes : (bytes : List ℕ) (r : Request 2) → AreBytes bytes → heartbeat_at bytes ≡ Some r → IsBody 6 bytes r
 unfolding heartbeat_at
@@ -231,21 +231,21 @@ register_node_again host rack total fits =
 abbrev FitsPath : List ℕ → Type 0
 FitsPath path = is_path path ≡ true
 
-is_path_field : IsField path_at text FitsPath
+is_path_field : IsField path_text_at text FitsPath
 is_path_field = is_text_passing is_path
 
 queue_info_takes : (bytes : List ℕ) (r : Request 2) → AreBytes bytes → queue_info_at bytes ≡ Some r → IsBody 8 bytes r
 unfolding queue_info_at
 queue_info_takes bytes r fits e =
-    let b = bind_some (all_at path_at bytes) (λ path. Some (QueueInfo path)) r e in
-    let t = all_takes path_at text FitsPath is_path_field bytes b.0 fits b.1 in
+    let b = bind_some (all_at path_text_at bytes) (λ path. Some (QueueInfo path)) r e in
+    let t = all_takes path_text_at text FitsPath is_path_field bytes b.0 fits b.1 in
     let made : Request 2 = QueueInfo b.0 in
     let same : made ≡ r = cc (b.2) in
     subst (λ (q : Request 2). IsBody 8 bytes q) same (record { kind_is = refl; spelled = t.0; fits = t.1 })
 
 queue_info_again : (path : List ℕ) → FitsPath path → queue_info_at (text path) ≡ Some (QueueInfo path)
 unfolding queue_info_at
-queue_info_again path fits = rw (all_again path_at text FitsPath is_path_field path fits) refl
+queue_info_again path fits = rw (all_again path_text_at text FitsPath is_path_field path fits) refl
 
 -- ---- SetQueueState
 
@@ -259,7 +259,7 @@ abbrev state : State → List ℕ
 state x = text x.0 ++ flag x.1
 
 is_state : IsField queue_state_at state FitsState
-is_state = is_pair path_at text FitsPath flag_at flag (λ holds. Unit {0}) is_path_field is_flag
+is_state = is_pair path_text_at text FitsPath flag_at flag (λ holds. Unit {0}) is_path_field is_flag
 
 set_queue_state_takes : (bytes : List ℕ) (r : Request 2) → AreBytes bytes → set_queue_state_at bytes ≡ Some r → IsBody 9 bytes r
 unfolding set_queue_state_at
@@ -347,9 +347,9 @@ body_takes kind bytes r fits e =
 body_again : (r : Request 2) → FitsRequest r → body_at (kind_of r) (request_body r) ≡ Some r
 unfolding body_at
 body_again (Submit path user) fits = submit_again path user fits
-body_again (RegisterMaster application) fits = register_master_again application fits
-body_again (Allocate application response asks releases) fits = allocate_again application response asks releases fits
-body_again (FinishMaster application) fits = finish_master_again application fits
+body_again (RegisterMaster app) fits = register_master_again app fits
+body_again (Allocate app response asks releases) fits = allocate_again app response asks releases fits
+body_again (FinishMaster app) fits = finish_master_again app fits
 body_again (RegisterNode host rack total) fits = register_node_again host rack total fits
 body_again (Heartbeat node response ended) fits = heartbeat_again node response ended fits
 body_again (NodeGone node) fits = node_gone_again node fits

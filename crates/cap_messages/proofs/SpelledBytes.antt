@@ -22,8 +22,8 @@ use Rattle.cap_model.specs.declared.news.End.{End}
 use Rattle.cap_model.specs.declared.news.Cause.{Cause}
 use Rattle.cap_model.specs.declared.replies.HeartbeatReply.{HeartbeatReply}
 use Rattle.cap_model.specs.Limits.{news_max}
-use Rattle.cap_messages.specs.Spelling.{listed, FitsListed, ask, FitsAsk, counted_list, grant, FitsGrant, end, FitsEnd, allocated, FitsAllocated, beat, FitsReply, text, resource, flag, limit, queue_report, cluster_report, kind_of, request_body, request_bytes, FitsRequest, reply_body, reply_bytes}
-use Rattle.cap_messages.specs.Laws.{IsBytes}
+use Rattle.cap_messages.specs.Spelling.{list_bytes, FitsListed, ask, FitsAsk, counted_list, grant, FitsGrant, end, FitsEnd, allocate_bytes, FitsAllocated, beat, FitsReply, text, resource, flag, limit, queue_report, cluster_report, kind_of, request_body, request_bytes, FitsRequest, reply_body, reply_bytes}
+use Rattle.cap_frames.specs.Stream.{IsBytes}
 use Rattle.cap_messages.proofs.RequestLaws.{kind_fits}
 
 abbrev Small : ℕ → Type 0
@@ -82,22 +82,22 @@ a_queue : (r : QueueReport 2) → IsBytes (queue_report r)
 unfolding queue_report
 a_queue r =
     let flags = flag r.running ++ flag r.leaf in
-    both (flags ++ resource r.guaranteed ++ limit r.maximum ++ resource r.used) (to_be_bytes w32 r.applications)
+    both (flags ++ resource r.guaranteed ++ limit r.maximum ++ resource r.used) (to_be_bytes w32 r.apps)
     (both (flags ++ resource r.guaranteed ++ limit r.maximum) (resource r.used)
     (both (flags ++ resource r.guaranteed) (limit r.maximum)
     (both flags (resource r.guaranteed) (both (flag r.running) (flag r.leaf) (a_flag r.running) (a_flag r.leaf)) (amounts r.guaranteed))
     (a_limit r.maximum))
     (amounts r.used))
-    (word r.applications)
+    (word r.apps)
 
 a_cluster : (r : ClusterReport 2) → IsBytes (cluster_report r)
 unfolding cluster_report
 a_cluster r =
-    let counts = to_be_bytes w32 r.nodes ++ to_be_bytes w32 r.applications ++ to_be_bytes w32 r.containers in
+    let counts = to_be_bytes w32 r.nodes ++ to_be_bytes w32 r.apps ++ to_be_bytes w32 r.containers in
     both (counts ++ resource r.totals) (resource r.used)
     (both counts (resource r.totals)
-    (both (to_be_bytes w32 r.nodes ++ to_be_bytes w32 r.applications) (to_be_bytes w32 r.containers)
-    (both (to_be_bytes w32 r.nodes) (to_be_bytes w32 r.applications) (word r.nodes) (word r.applications))
+    (both (to_be_bytes w32 r.nodes ++ to_be_bytes w32 r.apps) (to_be_bytes w32 r.containers)
+    (both (to_be_bytes w32 r.nodes) (to_be_bytes w32 r.apps) (word r.nodes) (word r.apps))
     (word r.containers))
     (amounts r.totals))
     (amounts r.used)
@@ -109,8 +109,8 @@ each_of : {A : Type 0} (spell : A → List ℕ) (F : A → Type 0) → ((x : A) 
 each_of spell F is [] fits = All-nil Small
 each_of spell F is (x ∷ xs) fits = both (spell x) (flat_map spell xs) (is x fits.0) (each_of spell F is xs fits.1)
 
-a_list : {A : Type 0} (most : ℕ) (spell : A → List ℕ) (F : A → Type 0) → ((x : A) → F x → IsBytes (spell x)) → (xs : List A) → FitsListed most F xs → IsBytes (listed spell xs)
-unfolding listed
+a_list : {A : Type 0} (most : ℕ) (spell : A → List ℕ) (F : A → Type 0) → ((x : A) → F x → IsBytes (spell x)) → (xs : List A) → FitsListed most F xs → IsBytes (list_bytes spell xs)
+unfolding list_bytes
 a_list most spell F is xs fits = both (to_be_bytes w16 (length xs)) (flat_map spell xs) (two (length xs)) (each_of spell F is xs fits.each)
 
 an_ask : (a : Ask) → FitsAsk a → IsBytes (ask a)
@@ -142,8 +142,8 @@ an_end : (e : End) → FitsEnd e → IsBytes (end e)
 unfolding end
 an_end e fits = both (to_be_bytes w64 e.container) (cause_number e.cause ∷ []) (long e.container) (one (cause_number e.cause) [] (a_cause e.cause) (All-nil Small))
 
-an_allocated : (r : AllocateReply) → FitsAllocated r → IsBytes (allocated r)
-unfolding allocated
+an_allocated : (r : AllocateReply) → FitsAllocated r → IsBytes (allocate_bytes r)
+unfolding allocate_bytes
 an_allocated r fits =
     both (to_be_bytes w32 r.response) (to_be_bytes w16 r.ignored ++ (counted_list grant r.grants ++ counted_list end r.ends)) (word r.response)
     (both (to_be_bytes w16 r.ignored) (counted_list grant r.grants ++ counted_list end r.ends) (two r.ignored)
@@ -155,16 +155,16 @@ a_beat r = both (to_be_bytes w32 r.response) (to_be_bytes w16 r.ignored ++ to_be
 
 body_bytes : (r : Request 2) → FitsRequest r → IsBytes (request_body r)
 body_bytes (Request.Submit path user) fits = both (text path) (text user) (a_text 255 path (omega arith) fits.0) (a_text 64 user (omega arith) fits.1)
-body_bytes (Request.RegisterMaster application) fits = long application
-body_bytes (Request.Allocate application response asks releases) fits =
-    both (to_be_bytes w64 application) (to_be_bytes w32 response ++ (listed ask asks ++ listed (to_be_bytes w64) releases)) (long application)
-    (both (to_be_bytes w32 response) (listed ask asks ++ listed (to_be_bytes w64) releases) (word response)
-    (both (listed ask asks) (listed (to_be_bytes w64) releases) (a_list _ ask FitsAsk an_ask asks fits.2) (a_list _ (to_be_bytes w64) _ (λ n f. long n) releases fits.3)))
-body_bytes (Request.FinishMaster application) fits = long application
+body_bytes (Request.RegisterMaster app) fits = long app
+body_bytes (Request.Allocate app response asks releases) fits =
+    both (to_be_bytes w64 app) (to_be_bytes w32 response ++ (list_bytes ask asks ++ list_bytes (to_be_bytes w64) releases)) (long app)
+    (both (to_be_bytes w32 response) (list_bytes ask asks ++ list_bytes (to_be_bytes w64) releases) (word response)
+    (both (list_bytes ask asks) (list_bytes (to_be_bytes w64) releases) (a_list _ ask FitsAsk an_ask asks fits.2) (a_list _ (to_be_bytes w64) _ (λ n f. long n) releases fits.3)))
+body_bytes (Request.FinishMaster app) fits = long app
 body_bytes (Request.RegisterNode host rack total) fits =
     both (text host) (text rack ++ resource total) (a_text 64 host (omega arith) (host_is_text host fits.0)) (both (text rack) (resource total) (a_text 64 rack (omega arith) (rack_is_text rack fits.1)) (amounts total))
 body_bytes (Request.Heartbeat node response ended) fits =
-    both (to_be_bytes w64 node) (to_be_bytes w32 response ++ listed (to_be_bytes w64) ended) (long node) (both (to_be_bytes w32 response) (listed (to_be_bytes w64) ended) (word response) (a_list _ (to_be_bytes w64) _ (λ n f. long n) ended fits.2))
+    both (to_be_bytes w64 node) (to_be_bytes w32 response ++ list_bytes (to_be_bytes w64) ended) (long node) (both (to_be_bytes w32 response) (list_bytes (to_be_bytes w64) ended) (word response) (a_list _ (to_be_bytes w64) _ (λ n f. long n) ended fits.2))
 body_bytes (Request.NodeGone node) fits = long node
 body_bytes (Request.QueueInfo path) fits = a_text 255 path (omega arith) fits
 body_bytes (Request.SetQueueState path running) fits = both (text path) (flag running) (a_text 255 path (omega arith) fits) (a_flag running)
@@ -179,9 +179,9 @@ status_small _ = omega arith
 
 reply_body_bytes : (r : Reply 2) → FitsReply r → IsBytes (reply_body r)
 reply_body_bytes (Reply.Refused refusal) fits = one (status_of refusal) [] (status_small refusal) (All-nil Small)
-reply_body_bytes (Reply.Submit application) fits = one 0 (to_be_bytes w64 application) (omega arith) (long application)
+reply_body_bytes (Reply.Submit app) fits = one 0 (to_be_bytes w64 app) (omega arith) (long app)
 reply_body_bytes (Reply.RegisterMaster minimum maximum) fits = one 0 (resource minimum ++ resource maximum) (omega arith) (both (resource minimum) (resource maximum) (amounts minimum) (amounts maximum))
-reply_body_bytes (Reply.Allocate reply) fits = one 0 (allocated reply) (omega arith) (an_allocated reply fits)
+reply_body_bytes (Reply.Allocate reply) fits = one 0 (allocate_bytes reply) (omega arith) (an_allocated reply fits)
 reply_body_bytes (Reply.FinishMaster ended) fits = one 0 (to_be_bytes w32 ended) (omega arith) (word ended)
 reply_body_bytes (Reply.RegisterNode node) fits = one 0 (to_be_bytes w64 node) (omega arith) (long node)
 reply_body_bytes (Reply.Heartbeat reply) fits = one 0 (beat reply) (omega arith) (a_beat reply)

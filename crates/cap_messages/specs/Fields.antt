@@ -24,8 +24,8 @@ pair_at first second bytes = do
   Some ((x.0, y.0), y.1)
 
 -- what passes a test
-abbrev pub passing : {A : Type 0} → (A → Bool) → A → Option A
-passing test x = if test x then Some x else None
+abbrev pub what_passes : {A : Type 0} → (A → Bool) → A → Option A
+what_passes test x = if test x then Some x else None
 
 -- a field that passes a test
 abbrev pub passing_at : {A : Type 0} → (A → Bool) → (List ℕ → Option (A × List ℕ)) → List ℕ → Option (A × List ℕ)

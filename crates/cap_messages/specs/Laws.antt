@@ -1,11 +1,9 @@
 -- Each request and each reply has exactly one spelling.
-use Rattle.std.specs.Prelude.{◌≡◌, ℕ, ◌<◌, ◌^◌, ◌⊎◌, List, All}
+use Rattle.std.specs.Prelude.{◌≡◌, ℕ, ◌<◌, ◌^◌, ◌⊎◌, List}
 use Rattle.cap_model.specs.declared.request.Request.{Request}
 use Rattle.cap_model.specs.News.{Reply}
 use Rattle.cap_messages.specs.Spelling.{FitsRequest, IsRequest, IsOfKind, FitsReply, IsReply, fault_reply}
-
-abbrev pub IsBytes : List ℕ → Type 0
-IsBytes bytes = All (λ b. b < 256) bytes
+use Rattle.cap_frames.specs.Stream.{IsBytes}
 
 -- every request within its bounds is spelled by some bytes, under every call id
 abbrev pub RequestsHaveASpelling : Type 0

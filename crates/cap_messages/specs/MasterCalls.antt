@@ -10,13 +10,13 @@ use Rattle.cap_model.specs.Limits.{asks_max, numbers_max}
 
 unfoldable pub register_master_at : List ℕ → Option (Request 2)
 register_master_at bytes = do
-  application ← all_at (number_at w64) bytes
-  Some (Request.RegisterMaster application)
+  app ← all_at (number_at w64) bytes
+  Some (Request.RegisterMaster app)
 
 unfoldable pub finish_master_at : List ℕ → Option (Request 2)
 finish_master_at bytes = do
-  application ← all_at (number_at w64) bytes
-  Some (Request.FinishMaster application)
+  app ← all_at (number_at w64) bytes
+  Some (Request.FinishMaster app)
 
 -- priority, request id, count, resource and place
 abbrev pub wish_at : List ℕ → Option ((ℕ × (ℕ × (ℕ × (List ℕ × List ℕ)))) × List ℕ)

@@ -4,17 +4,17 @@ use Rattle.cap_model.specs.declared.request.Request.{Request}
 use Rattle.cap_messages.specs.Fields.{◌>>=◌, pair_at, passing_at, all_at, text_at, flag_at}
 use Rattle.cap_messages.specs.Texts.{is_path}
 
-abbrev pub path_at : List ℕ → Option (List ℕ × List ℕ)
-path_at bytes = passing_at is_path text_at bytes
+abbrev pub path_text_at : List ℕ → Option (List ℕ × List ℕ)
+path_text_at bytes = passing_at is_path text_at bytes
 
 unfoldable pub queue_info_at : List ℕ → Option (Request 2)
 queue_info_at bytes = do
-  path ← all_at path_at bytes
+  path ← all_at path_text_at bytes
   Some (Request.QueueInfo path)
 
 -- path, and whether the queue shall run
 abbrev pub queue_state_at : List ℕ → Option ((List ℕ × Bool) × List ℕ)
-queue_state_at bytes = pair_at path_at flag_at bytes
+queue_state_at bytes = pair_at path_text_at flag_at bytes
 
 unfoldable pub set_queue_state_at : List ℕ → Option (Request 2)
 set_queue_state_at bytes = do

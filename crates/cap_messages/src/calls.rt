@@ -18,14 +18,14 @@ pub fn dispatch(_alloc: Global, cluster: &mut Cluster<2>, request: &Request<2>) 
 {
     match request {
         Request::Submit { path, user } => submit(cluster, path, user),
-        Request::RegisterMaster { application } => register_master(cluster, *application),
+        Request::RegisterMaster { app } => register_master(cluster, *app),
         Request::Allocate {
-            application,
+            app,
             response,
             asks,
             releases,
-        } => allocate(cluster, *application, *response, asks, releases),
-        Request::FinishMaster { application } => finish_master(cluster, *application),
+        } => allocate(cluster, *app, *response, asks, releases),
+        Request::FinishMaster { app } => finish_master(cluster, *app),
         Request::RegisterNode { host, rack, total } => register_node(cluster, host, rack, total),
         Request::Heartbeat {
             node,

@@ -28,7 +28,7 @@ pub(crate) fn put_cluster_report(report: &ClusterReport<2>, out: &mut Out)
     ensures fits { FitsClusterReport report.now }
 {
     out.extend_reserved(&report.nodes.to_be_bytes());
-    out.extend_reserved(&report.applications.to_be_bytes());
+    out.extend_reserved(&report.apps.to_be_bytes());
     out.extend_reserved(&report.containers.to_be_bytes());
     put_amounts(&report.totals, out);
     put_amounts(&report.used, out);

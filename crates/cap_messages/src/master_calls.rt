@@ -13,11 +13,11 @@ use std::alloc::Global;
 pub(crate) fn register_master_of(bytes: &[u8]) -> Result<Request<2>, MessageFault>
     ensures { Gives (λ x. x) result (register_master_at bytes.now) }
 {
-    let (application, rest) = u64_of(bytes)?;
+    let (app, rest) = u64_of(bytes)?;
     if !rest.is_empty() {
         return Err(MessageFault::Bad);
     }
-    Ok(Request::RegisterMaster { application })
+    Ok(Request::RegisterMaster { app })
 }
 
 // The body of an Allocate, all of the bytes.
@@ -25,7 +25,7 @@ pub(crate) fn register_master_of(bytes: &[u8]) -> Result<Request<2>, MessageFaul
 pub(crate) fn allocate_of(alloc: Global, bytes: &[u8]) -> Result<Request<2>, MessageFault>
     ensures { GivesInMemory (λ x. x) result (allocate_at bytes.now) }
 {
-    let (application, rest) = u64_of(bytes)?;
+    let (app, rest) = u64_of(bytes)?;
     let (response, rest) = u32_of(rest)?;
     let (asks, rest) = asks_of(alloc, rest)?;
     let (releases, rest) = numbers_of(alloc, rest)?;
@@ -33,7 +33,7 @@ pub(crate) fn allocate_of(alloc: Global, bytes: &[u8]) -> Result<Request<2>, Mes
         return Err(MessageFault::Bad);
     }
     Ok(Request::Allocate {
-        application,
+        app,
         response,
         asks,
         releases,
@@ -45,9 +45,9 @@ pub(crate) fn allocate_of(alloc: Global, bytes: &[u8]) -> Result<Request<2>, Mes
 pub(crate) fn finish_master_of(bytes: &[u8]) -> Result<Request<2>, MessageFault>
     ensures { Gives (λ x. x) result (finish_master_at bytes.now) }
 {
-    let (application, rest) = u64_of(bytes)?;
+    let (app, rest) = u64_of(bytes)?;
     if !rest.is_empty() {
         return Err(MessageFault::Bad);
     }
-    Ok(Request::FinishMaster { application })
+    Ok(Request::FinishMaster { app })
 }

@@ -1,6 +1,6 @@
 ghost use Rattle.std.specs.Prelude.{◌≡◌, ◌≤◌, ◌+◌, ◌*◌, ◌++◌, length};
 ghost use Rattle.std.specs.List.{flat_map, AllByRecursion};
-ghost use Rattle.cap_messages.specs.Spelling.{grant, end, counted_list, allocated, beat, FitsGrant, FitsEnd, FitsAllocated, FitsBeat};
+ghost use Rattle.cap_messages.specs.Spelling.{grant, end, counted_list, allocate_bytes, beat, FitsGrant, FitsEnd, FitsAllocated, FitsBeat};
 
 use crate::output::{Out, put_amounts};
 use cap_model::{AllocateView, End, Grant, HeartbeatReply};
@@ -66,12 +66,12 @@ fn put_ends(ends: &[End], out: &mut Out)
 }
 
 // What an Allocate gives.
-#[tactic(auto, unfolding(crate::specs::Spelling::allocated))]
+#[tactic(auto, unfolding(crate::specs::Spelling::allocate_bytes))]
 pub(crate) fn put_allocated(reply: &AllocateView<'_, 2>, out: &mut Out)
     requires { 7560 ≤ out.old.spare }
-    ensures appends { out.new.items ≡ out.old.items ++ allocated reply.now }
-    ensures spare { out.new.spare + length (allocated reply.now) ≡ out.old.spare }
-    ensures len { length (allocated reply.now) ≤ 7560 }
+    ensures appends { out.new.items ≡ out.old.items ++ allocate_bytes reply.now }
+    ensures spare { out.new.spare + length (allocate_bytes reply.now) ≡ out.old.spare }
+    ensures len { length (allocate_bytes reply.now) ≤ 7560 }
     ensures fits { FitsAllocated reply.now }
 {
     out.extend_reserved(&reply.response.to_be_bytes());

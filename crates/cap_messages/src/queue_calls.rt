@@ -71,5 +71,5 @@ pub(crate) fn put_queue_report(report: &QueueReport<2>, out: &mut Out)
     put_amounts(&report.guaranteed, out);
     put_limit(&report.maximum, out);
     put_amounts(&report.used, out);
-    out.extend_reserved(&report.applications.to_be_bytes());
+    out.extend_reserved(&report.apps.to_be_bytes());
 }

@@ -18,7 +18,7 @@ fn put_reply_body(reply: &ReplyView<'_, 2>, out: &mut Out)
 {
     match reply {
         ReplyWith::Refused(refusal) => out.extend_reserved(&[refusal.status()]),
-        ReplyWith::Submit { application } => put_number(*application, out),
+        ReplyWith::Submit { app } => put_number(*app, out),
         ReplyWith::RegisterMaster { minimum, maximum } => {
             out.extend_reserved(&[0]);
             put_amounts(minimum, out);

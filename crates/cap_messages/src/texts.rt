@@ -1,12 +1,12 @@
 ghost use Rattle.cap_messages.specs.Texts.{is_host, is_rack, is_path, is_user, is_place};
-ghost use Rattle.cap_messages.specs.Fields.{Gives, passing};
+ghost use Rattle.cap_messages.specs.Fields.{Gives, what_passes};
 
 use crate::fault::MessageFault;
 use cap_model::{PathText, ShortText};
 
 // A host: a text that is neither `*` nor begins with `/`, since those name any place and a rack.
 pub(crate) fn host_from(bytes: &[u8]) -> Result<ShortText, MessageFault>
-    ensures { Gives (λ host. host) result (passing is_host bytes.now) }
+    ensures { Gives (λ host. host) result (what_passes is_host bytes.now) }
 {
     let Some(host) = ShortText::new(bytes) else {
         return Err(MessageFault::Bad);
@@ -19,7 +19,7 @@ pub(crate) fn host_from(bytes: &[u8]) -> Result<ShortText, MessageFault>
 
 // A rack: a text that begins with `/`.
 pub(crate) fn rack_from(bytes: &[u8]) -> Result<ShortText, MessageFault>
-    ensures { Gives (λ rack. rack) result (passing is_rack bytes.now) }
+    ensures { Gives (λ rack. rack) result (what_passes is_rack bytes.now) }
 {
     let Some(rack) = ShortText::new(bytes) else {
         return Err(MessageFault::Bad);
@@ -32,7 +32,7 @@ pub(crate) fn rack_from(bytes: &[u8]) -> Result<ShortText, MessageFault>
 
 // The path of a queue: any text. Whether a queue has it is the engine's to say.
 pub(crate) fn path_from(bytes: &[u8]) -> Result<PathText, MessageFault>
-    ensures { Gives (λ path. path) result (passing is_path bytes.now) }
+    ensures { Gives (λ path. path) result (what_passes is_path bytes.now) }
 {
     let Some(path) = PathText::new(bytes) else {
         return Err(MessageFault::Bad);
@@ -42,7 +42,7 @@ pub(crate) fn path_from(bytes: &[u8]) -> Result<PathText, MessageFault>
 
 // The user of an application: any text.
 pub(crate) fn user_from(bytes: &[u8]) -> Result<ShortText, MessageFault>
-    ensures { Gives (λ user. user) result (passing is_user bytes.now) }
+    ensures { Gives (λ user. user) result (what_passes is_user bytes.now) }
 {
     let Some(user) = ShortText::new(bytes) else {
         return Err(MessageFault::Bad);
@@ -52,7 +52,7 @@ pub(crate) fn user_from(bytes: &[u8]) -> Result<ShortText, MessageFault>
 
 // Where an ask may be met: any text.
 pub(crate) fn place_from(bytes: &[u8]) -> Result<ShortText, MessageFault>
-    ensures { Gives (λ place. place) result (passing is_place bytes.now) }
+    ensures { Gives (λ place. place) result (what_passes is_place bytes.now) }
 {
     let Some(place) = ShortText::new(bytes) else {
         return Err(MessageFault::Bad);

@@ -1,7 +1,7 @@
 -- When a proposal may be granted or reserved, and the first reason why not.
 use Rattle.std.specs.Prelude.{◌≡◌, ◌⊎◌, ℕ, ◌<◌, Bool, true, false, not, ◌&&◌, ◌||◌, List, [], ◌∷◌, Option, None, is_some, is_none, option_and_then, unwrap_or, option_map, position, nat_le, bytes_eq, if◌then◌else◌}
 use Rattle.std.specs.List.{list_all}
-use Rattle.cap_vector.specs.Vector.{exchanged}
+use Rattle.cap_vector.specs.Vector.{amounts_exchanged}
 use Rattle.cap_model.specs.Limits.{number_end, live_max}
 use Rattle.cap_model.specs.Cascade.{earliest, holds_of}
 use Rattle.cap_model.specs.Amounts.{fits, times}
@@ -103,12 +103,12 @@ module _ {K : ℕ} where
   fits_total sight p = holds_of (λ node. fits p.resource node.total) (seen_node sight p.node)
 
   -- what a grant takes back: the room that was reserved on the node for its application and key
-  abbrev pub replaced : Sight K → NodeProposal → List ℕ
-  replaced sight p = if is_grant p.kind && is_reserved_for sight p then unwrap_or (option_map (λ r. r.resource) (node_reservation sight p)) [] else []
+  abbrev pub room_replaced : Sight K → NodeProposal → List ℕ
+  room_replaced sight p = if is_grant p.kind && is_reserved_for sight p then unwrap_or (option_map (λ r. r.resource) (node_reservation sight p)) [] else []
 
   -- a use as the proposal would leave it
   abbrev pub use_after : Sight K → NodeProposal → List ℕ → List ℕ
-  use_after sight p used = exchanged (replaced sight p) p.resource used
+  use_after sight p used = amounts_exchanged (room_replaced sight p) p.resource used
 
   -- the leaf queue and the user of the proposal's application
   abbrev pub leaf_path : Sight K → NodeProposal → List ℕ

@@ -23,9 +23,9 @@ complete gone table = record table { live = filter (λ c. not (is_among gone c))
 
 module _ {K : ℕ} where
   -- the cluster without these live containers
-  abbrev pub without : List Container → Flat K → Flat K
-  without gone cluster = record cluster { nodes = complete gone cluster.nodes }
+  abbrev pub without_containers : List Container → Flat K → Flat K
+  without_containers gone cluster = record cluster { nodes = complete gone cluster.nodes }
 
   -- the same, where each application is to be told of the end of its own, in this order
   abbrev pub after_ends : Cause → List Container → Flat K → Flat K
-  after_ends cause gone cluster = without gone (record cluster { apps = record cluster.apps { active = map (with_ends cause gone) cluster.apps.active } })
+  after_ends cause gone cluster = without_containers gone (record cluster { apps = record cluster.apps { active = map (with_ends cause gone) cluster.apps.active } })

@@ -45,12 +45,12 @@ abbrev pub StepIsDetermined : Type 0
 StepIsDetermined = (K : ℕ) (old new : Flat K) (event : Event K) → Step old event new → new ≡ after_event old event
 
 -- the numbers of containers
-abbrev pub numbers_of : List Container → List ℕ
-numbers_of containers = map (λ c. c.number) containers
+abbrev pub container_numbers : List Container → List ℕ
+container_numbers containers = map (λ c. c.number) containers
 
 -- the live containers have distinct numbers below the next
 abbrev pub HasDistinctNumbers : {K : ℕ} → Flat K → Type 0
-HasDistinctNumbers cluster = IsRising 1 (numbers_of cluster.nodes.live) cluster.nodes.next_container
+HasDistinctNumbers cluster = IsRising 1 (container_numbers cluster.nodes.live) cluster.nodes.next_container
 
 -- a step keeps the numbers of live containers distinct and below the next
 abbrev pub NumbersStayDistinct : Type 0
@@ -59,7 +59,7 @@ NumbersStayDistinct = (K : ℕ) (old new : Flat K) (event : Event K) → HasDist
 -- the containers that a run grants have rising numbers, from the first that was free at its start: none is granted twice
 abbrev pub GrantedOnce : Type 0
 GrantedOnce =
-    (K : ℕ) (events : List (Event K)) (old new : Flat K) → Run old events new → IsRising old.nodes.next_container (numbers_of (ever_granted events)) new.nodes.next_container
+    (K : ℕ) (events : List (Event K)) (old new : Flat K) → Run old events new → IsRising old.nodes.next_container (container_numbers (ever_granted events)) new.nodes.next_container
 
 -- of the containers that pass any test, those live at the close and those ever ended are as many as those live at the opening and those
 -- ever granted: none is lost, none is doubled

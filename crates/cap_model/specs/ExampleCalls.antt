@@ -12,19 +12,19 @@ use Rattle.cap_model.specs.News.{Reply}
 use Rattle.cap_model.specs.Flat.{Flat, opened_cluster, app_at, with_app}
 use Rattle.cap_model.specs.Submit.{new_app}
 use Rattle.cap_model.specs.Replies.{reply_to, after_request}
-use Rattle.cap_model.specs.ExampleClusters.{mb_and_vcores, key, ask_anywhere, two_queues, after_calls, small, asks_of, granted, container}
+use Rattle.cap_model.specs.ExampleClusters.{mb_and_vcores, key, ask_anywhere, two_queues, after_calls, small, asks_of, after_grants, container}
 
 -- the reply to an allocate that has nothing to tell
 abbrev pub told_nothing : ℕ → ℕ → Reply 2
 told_nothing response ignored = Reply.Allocate (record { response = response; ignored = ignored; grants = []; ends = [] })
 
 -- a cluster of two queues in which root.a is STOPPED
-abbrev pub stopped : Flat 2
-stopped = after_calls small (Request.SetQueueState (codes "root.a") false ∷ [])
+abbrev pub stopped_cluster : Flat 2
+stopped_cluster = after_calls small (Request.SetQueueState (codes "root.a") false ∷ [])
 
 -- the same with so many applications active
 abbrev pub with_active : ℕ → Flat 2
-with_active count = record stopped {
+with_active count = record stopped_cluster {
   apps = record {
     active = map (λ n. new_app n (codes "root.b") (codes "u1")) (range_with_len 1 count);
     next = count + 1;
@@ -50,9 +50,9 @@ abbrev pub SubmitRefusals : Type 0
 SubmitRefusals =
     (reply_to small (Request.Submit (codes "root.c") (codes "u1")) ≡ Reply.Refused Refusal.UnknownQueue)
     × (reply_to small (Request.Submit (codes "root") (codes "u1")) ≡ Reply.Refused Refusal.NotLeaf)
-    × (reply_to stopped (Request.Submit (codes "root.a") (codes "u1")) ≡ Reply.Refused Refusal.QueueStopped)
+    × (reply_to stopped_cluster (Request.Submit (codes "root.a") (codes "u1")) ≡ Reply.Refused Refusal.QueueStopped)
     × (reply_to (with_active 10000) (Request.Submit (codes "root.b") (codes "u1")) ≡ Reply.Refused Refusal.TooManyApplications)
-    × (reply_to (after_request stopped (Request.SetQueueState (codes "root") false)) (Request.Submit (codes "root") (codes "u1")) ≡ Reply.Refused Refusal.NotLeaf)
+    × (reply_to (after_request stopped_cluster (Request.SetQueueState (codes "root") false)) (Request.Submit (codes "root") (codes "u1")) ≡ Reply.Refused Refusal.NotLeaf)
     × (reply_to small (Request.Submit (codes "root.b") (codes "u1")) ≡ Reply.Submit 3)
 
 -- a master is registered once, and finished once
@@ -67,7 +67,7 @@ MasterComesAndGoes =
 -- container 1 is application 1's, container 2 application 2's; application 1 releases 1, 1 and 2
 abbrev pub ReleasedOnce : Type 0
 ReleasedOnce =
-    let before = granted 1 2 (key 0 0) 1 (mb_and_vcores 1024 1) (granted 1 1 (key 0 0) 1 (mb_and_vcores 1024 1) small) in
+    let before = after_grants 1 2 (key 0 0) 1 (mb_and_vcores 1024 1) (after_grants 1 1 (key 0 0) 1 (mb_and_vcores 1024 1) small) in
     let quiet = with_app 1 (λ app. record app { grants = [] }) before in
     let release = Request.Allocate 1 0 [] (1 ∷ 1 ∷ 2 ∷ []) in
     let after = after_request quiet release in
@@ -145,17 +145,17 @@ NodeRefusals =
 abbrev pub OperatorSees : Type 0
 OperatorSees =
     (reply_to (opened_cluster {K = 2} two_queues) (Request.QueueInfo (codes "root.a"))
-    ≡ Reply.QueueInfo (record { running = true; leaf = true; guaranteed = mb_and_vcores 4096 4; maximum = Some (mb_and_vcores 16384 16); used = mb_and_vcores 0 0; applications = 0 }))
+    ≡ Reply.QueueInfo (record { running = true; leaf = true; guaranteed = mb_and_vcores 4096 4; maximum = Some (mb_and_vcores 16384 16); used = mb_and_vcores 0 0; apps = 0 }))
     × (reply_to (after_request small (Request.SetQueueState (codes "root") false)) (Request.QueueInfo (codes "root.b"))
-    ≡ Reply.QueueInfo (record { running = false; leaf = true; guaranteed = mb_and_vcores 2048 8; maximum = None; used = mb_and_vcores 0 0; applications = 1 }))
+    ≡ Reply.QueueInfo (record { running = false; leaf = true; guaranteed = mb_and_vcores 2048 8; maximum = None; used = mb_and_vcores 0 0; apps = 1 }))
     × (reply_to small Request.ClusterInfo
-    ≡ Reply.ClusterInfo (record { nodes = 1; applications = 2; containers = 0; totals = mb_and_vcores 8192 8; used = mb_and_vcores 0 0 }))
+    ≡ Reply.ClusterInfo (record { nodes = 1; apps = 2; containers = 0; totals = mb_and_vcores 8192 8; used = mb_and_vcores 0 0 }))
 
 -- a granted container is told with the host that it was granted on, and once
 abbrev pub GrantIsTold : Type 0
 GrantIsTold =
     let asked = after_calls small (asks_of 1 0 (ask_anywhere (key 1 0) 1 (mb_and_vcores 1024 1) ∷ []) ∷ []) in
-    let got = granted 1 1 (key 1 0) 1 (mb_and_vcores 1024 1) asked in
+    let got = after_grants 1 1 (key 1 0) 1 (mb_and_vcores 1024 1) asked in
     let news : Grant = record { container = 1; key = key 1 0; node = 1; host = codes "n1"; resource = mb_and_vcores 1024 1 } in
     (reply_to got (asks_of 1 1 []) ≡ Reply.Allocate (record { response = 2; ignored = 0; grants = news ∷ []; ends = [] }))
     × (reply_to (after_request got (asks_of 1 1 [])) (asks_of 1 2 []) ≡ told_nothing 3 0)
@@ -164,7 +164,7 @@ GrantIsTold =
 -- a node reports a container that has ended, one that is none, and the first again; a repeat gets the same reply; the master is told
 abbrev pub HeartbeatEnds : Type 0
 HeartbeatEnds =
-    let two = granted 2 1 (key 0 0) 1 (mb_and_vcores 1024 1) small in
+    let two = after_grants 2 1 (key 0 0) 1 (mb_and_vcores 1024 1) small in
     let quiet = with_app 1 (λ app. record app { grants = [] }) two in
     let beat = Request.Heartbeat 1 0 (2 ∷ 7 ∷ 2 ∷ []) in
     let answer = Reply.Heartbeat (record { response = 1; ignored = 2; live = 1 }) in

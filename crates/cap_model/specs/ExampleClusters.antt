@@ -73,11 +73,11 @@ abbrev pub container : ℕ → ℕ → Key → ℕ → List ℕ → Container
 container number app k node resource = record { number = number; app = app; key = k; node = node; resource = resource }
 
 -- the cluster after so many equal containers of the next numbers were granted to an application on a node
-abbrev pub granted : ℕ → ℕ → Key → ℕ → List ℕ → Flat 2 → Flat 2
-granted zero app k node resource cluster = cluster
-granted (suc n) app k node resource cluster =
-    granted n app k node resource (after_grant cluster (container cluster.nodes.next_container app k node resource))
+abbrev pub after_grants : ℕ → ℕ → Key → ℕ → List ℕ → Flat 2 → Flat 2
+after_grants zero app k node resource cluster = cluster
+after_grants (suc n) app k node resource cluster =
+    after_grants n app k node resource (after_grant cluster (container cluster.nodes.next_container app k node resource))
 
 -- the cluster after room was reserved
-abbrev pub reserved : ℕ → Key → ℕ → List ℕ → Flat 2 → Flat 2
-reserved app k node resource cluster = after_reserve cluster (record { app = app; key = k; node = node; resource = resource })
+abbrev pub with_room_reserved : ℕ → Key → ℕ → List ℕ → Flat 2 → Flat 2
+with_room_reserved app k node resource cluster = after_reserve cluster (record { app = app; key = k; node = node; resource = resource })

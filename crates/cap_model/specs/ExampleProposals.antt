@@ -10,7 +10,7 @@ use Rattle.cap_model.specs.Admission.{RejectReason, reason_of}
 use Rattle.cap_model.specs.Candidates.{choice_from}
 use Rattle.cap_model.specs.Bounds.{is_tree}
 use Rattle.cap_model.specs.Replies.{reply_to, after_request}
-use Rattle.cap_model.specs.ExampleClusters.{mb_and_vcores, key, ask_anywhere, queue, with_queues, two_queues, two_masters, after_calls, small, asks_of, grant_of, reserve_of, granted, reserved}
+use Rattle.cap_model.specs.ExampleClusters.{mb_and_vcores, key, ask_anywhere, queue, with_queues, two_queues, two_masters, after_calls, small, asks_of, grant_of, reserve_of, after_grants, with_room_reserved}
 
 -- a middle queue of guarantee (2048, 4) and maximum (3072, 8), with two children of maximum (2048, 8) and a leaf in each
 abbrev pub middle_queue : Settings
@@ -26,7 +26,7 @@ middle_queue = with_queues (
 -- root.g.q.l holds two containers of (1024, 1), and application 1 in root.g.p.l asks for two more
 abbrev pub under_middle : Flat 2
 under_middle =
-    after_calls (granted 2 2 (key 0 0) 1 (mb_and_vcores 1024 1)
+    after_calls (after_grants 2 2 (key 0 0) 1 (mb_and_vcores 1024 1)
     (after_calls (opened_cluster middle_queue) (
     Request.RegisterNode (codes "n1") (codes "/r1") (mb_and_vcores 8192 8)
     ∷ Request.Submit (codes "root.g.p.l") (codes "u1")
@@ -39,23 +39,23 @@ under_middle =
 -- the first container is admissible and brings root.g to its maximum; the second would pass it at level 1, though every leaf has room
 abbrev pub MiddleMaximum : Type 0
 MiddleMaximum =
-    let once = granted 1 1 (key 1 0) 1 (mb_and_vcores 1024 1) under_middle in
+    let once = after_grants 1 1 (key 1 0) 1 (mb_and_vcores 1024 1) under_middle in
     (reason_of (sight_of under_middle) (grant_of 1 (key 1 0) 1 (mb_and_vcores 1024 1)) ≡ None)
     × (queue_use once (codes "root.g") ≡ mb_and_vcores 3072 3)
     × (reason_of (sight_of once) (grant_of 1 (key 1 0) 1 (mb_and_vcores 1024 1)) ≡ Some (RejectReason.over_maximum 1))
 
 -- application 1 holds six containers of (1024, 1) on the only node, and asks for one of (3072, 1)
-abbrev pub crowded : Flat 2
-crowded = after_calls (granted 6 1 (key 0 0) 1 (mb_and_vcores 1024 1) small) (asks_of 1 0 (ask_anywhere (key 1 1) 1 (mb_and_vcores 3072 1) ∷ []) ∷ [])
+abbrev pub crowded_cluster : Flat 2
+crowded_cluster = after_calls (after_grants 6 1 (key 0 0) 1 (mb_and_vcores 1024 1) small) (asks_of 1 0 (ask_anywhere (key 1 1) 1 (mb_and_vcores 3072 1) ∷ []) ∷ [])
 
 -- room is reserved for it, and then application 2 asks for one of (1024, 1)
 abbrev pub crowded_reserved : Flat 2
-crowded_reserved = after_calls (reserved 1 (key 1 1) 1 (mb_and_vcores 3072 1) crowded) (asks_of 2 0 (ask_anywhere (key 1 0) 1 (mb_and_vcores 1024 1) ∷ []) ∷ [])
+crowded_reserved = after_calls (with_room_reserved 1 (key 1 1) 1 (mb_and_vcores 3072 1) crowded_cluster) (asks_of 2 0 (ask_anywhere (key 1 0) 1 (mb_and_vcores 1024 1) ∷ []) ∷ [])
 
 -- the ask does not fit now, so room is reserved, and that counts as use of its queue
 abbrev pub RoomIsReserved : Type 0
 RoomIsReserved =
-    (choice_from (sight_of crowded) 0 ≡ Some (reserve_of 1 (key 1 1) 1 (mb_and_vcores 3072 1)))
+    (choice_from (sight_of crowded_cluster) 0 ≡ Some (reserve_of 1 (key 1 1) 1 (mb_and_vcores 3072 1)))
     × (queue_use crowded_reserved (codes "root.a") ≡ mb_and_vcores 9216 7)
 
 -- while the reservation stands nobody else gets a container there, though one would fit
@@ -72,7 +72,7 @@ one_ended = Request.Heartbeat 1 0 (1 ∷ [])
 abbrev pub ReservationIsConverted : Type 0
 ReservationIsConverted =
     let ended = after_request crowded_reserved one_ended in
-    let converted = granted 1 1 (key 1 1) 1 (mb_and_vcores 3072 1) ended in
+    let converted = after_grants 1 1 (key 1 1) 1 (mb_and_vcores 3072 1) ended in
     (reply_to crowded_reserved one_ended ≡ Reply.Heartbeat (record { response = 1; ignored = 0; live = 5 }))
     × (queue_use ended (codes "root.a") ≡ mb_and_vcores 8192 6)
     × (choice_from (sight_of ended) 0 ≡ Some (grant_of 1 (key 1 1) 1 (mb_and_vcores 3072 1)))
@@ -82,8 +82,8 @@ ReservationIsConverted =
 -- two nodes of (4096, 4); application 1 holds (2048, 1) on each, asks for two of (3072, 1), and room is reserved on both nodes
 abbrev pub two_reservations : Flat 2
 two_reservations =
-    reserved 1 (key 3 0) 2 (mb_and_vcores 3072 1) (reserved 1 (key 3 0) 1 (mb_and_vcores 3072 1)
-    (after_calls (granted 1 1 (key 0 0) 2 (mb_and_vcores 2048 1) (granted 1 1 (key 0 0) 1 (mb_and_vcores 2048 1)
+    with_room_reserved 1 (key 3 0) 2 (mb_and_vcores 3072 1) (with_room_reserved 1 (key 3 0) 1 (mb_and_vcores 3072 1)
+    (after_calls (after_grants 1 1 (key 0 0) 2 (mb_and_vcores 2048 1) (after_grants 1 1 (key 0 0) 1 (mb_and_vcores 2048 1)
     (after_calls (after_calls (opened_cluster two_queues) (
     Request.RegisterNode (codes "n1") (codes "/r1") (mb_and_vcores 4096 4)
     ∷ Request.RegisterNode (codes "n2") (codes "/r1") (mb_and_vcores 4096 4)
@@ -111,7 +111,7 @@ ChangedAskDropsAll =
 -- application 2 holds two containers of (1024, 1) and asks for a third: the user would pass (2048, 8)
 abbrev pub UserLimit : Type 0
 UserLimit =
-    let full = after_calls (granted 2 2 (key 0 0) 1 (mb_and_vcores 1024 1) small) (asks_of 2 0 (ask_anywhere (key 1 0) 1 (mb_and_vcores 1024 1) ∷ []) ∷ []) in
+    let full = after_calls (after_grants 2 2 (key 0 0) 1 (mb_and_vcores 1024 1) small) (asks_of 2 0 (ask_anywhere (key 1 0) 1 (mb_and_vcores 1024 1) ∷ []) ∷ []) in
     reason_of (sight_of full) (grant_of 2 (key 1 0) 1 (mb_and_vcores 1024 1)) ≡ Some RejectReason.over_user
 
 -- application 1 asks for one container of (1024, 1)
@@ -121,7 +121,7 @@ one_asked = after_calls small (asks_of 1 0 (ask_anywhere (key 1 0) 1 (mb_and_vco
 -- two workers propose the same: the first proposal is admissible, and then nothing more is wanted
 abbrev pub SecondProposalRejected : Type 0
 SecondProposalRejected =
-    let after = granted 1 1 (key 1 0) 1 (mb_and_vcores 1024 1) one_asked in
+    let after = after_grants 1 1 (key 1 0) 1 (mb_and_vcores 1024 1) one_asked in
     (choice_from (sight_of one_asked) 0 ≡ Some (grant_of 1 (key 1 0) 1 (mb_and_vcores 1024 1)))
     × (reason_of (sight_of one_asked) (grant_of 1 (key 1 0) 1 (mb_and_vcores 1024 1)) ≡ None)
     × (reason_of (sight_of after) (grant_of 1 (key 1 0) 1 (mb_and_vcores 1024 1)) ≡ Some RejectReason.no_ask)
@@ -149,8 +149,8 @@ ReturnedNodeIsAnother =
 abbrev pub NodeFillsUp : Type 0
 NodeFillsUp =
     let asked = after_calls small (asks_of 1 0 (ask_anywhere (key 1 0) 5 (mb_and_vcores 4096 1) ∷ []) ∷ []) in
-    let full = granted 2 1 (key 1 0) 1 (mb_and_vcores 4096 1) asked in
-    (reason_of (sight_of (granted 1 1 (key 1 0) 1 (mb_and_vcores 4096 1) asked)) (grant_of 1 (key 1 0) 1 (mb_and_vcores 4096 1)) ≡ None)
+    let full = after_grants 2 1 (key 1 0) 1 (mb_and_vcores 4096 1) asked in
+    (reason_of (sight_of (after_grants 1 1 (key 1 0) 1 (mb_and_vcores 4096 1) asked)) (grant_of 1 (key 1 0) 1 (mb_and_vcores 4096 1)) ≡ None)
     × (reason_of (sight_of full) (grant_of 1 (key 1 0) 1 (mb_and_vcores 4096 1)) ≡ Some RejectReason.no_room)
     × (reply_to full (Request.NodeGone 1) ≡ Reply.NodeGone 2)
     × (queue_use (after_request full (Request.NodeGone 1)) (codes "root") ≡ mb_and_vcores 0 0)

@@ -5,7 +5,7 @@ use Rattle.cap_vector.specs.Rounding.{round_up}
 use Rattle.cap_model.specs.Fullness.{Share, shares, shares_cmp}
 use Rattle.cap_model.specs.Sight.{sight_of}
 use Rattle.cap_model.specs.Candidates.{choice_on}
-use Rattle.cap_model.specs.ExampleClusters.{mb_and_vcores, key, ask_anywhere, small, after_calls, asks_of, granted, grant_of}
+use Rattle.cap_model.specs.ExampleClusters.{mb_and_vcores, key, ask_anywhere, small, after_calls, asks_of, after_grants, grant_of}
 use Rattle.cap_model.specs.Flat.{Flat}
 
 abbrev pub share : ℕ → ℕ → Share
@@ -31,7 +31,7 @@ ThreeShares =
 -- root.a uses (1024, 2) and root.b uses (1024, 1), and both applications ask for more
 abbrev pub both_ask : Flat 2
 both_ask =
-    granted 1 2 (key 2 0) 1 (mb_and_vcores 1024 1) (granted 1 1 (key 2 0) 1 (mb_and_vcores 1024 2)
+    after_grants 1 2 (key 2 0) 1 (mb_and_vcores 1024 1) (after_grants 1 1 (key 2 0) 1 (mb_and_vcores 1024 2)
     (after_calls small (
     asks_of 1 0 (ask_anywhere (key 1 0) 1 (mb_and_vcores 1024 1) ∷ ask_anywhere (key 2 0) 1 (mb_and_vcores 1024 2) ∷ [])
     ∷ asks_of 2 0 (ask_anywhere (key 5 0) 1 (mb_and_vcores 1024 1) ∷ ask_anywhere (key 2 0) 1 (mb_and_vcores 1024 1) ∷ [])

@@ -5,7 +5,7 @@ use Rattle.cap_model.specs.declared.refusal.Refusal.{Refusal}
 use Rattle.cap_model.specs.declared.reply.ReplyWith.TheVariants as Reply
 use Rattle.cap_model.specs.News.{Reply}
 use Rattle.cap_model.specs.Flat.{Flat, AppTable, app_at, containers_of, with_reserved}
-use Rattle.cap_model.specs.Ending.{without}
+use Rattle.cap_model.specs.Ending.{without_containers}
 
 -- the table without an application
 abbrev pub remove_app : ℕ → AppTable → AppTable
@@ -22,7 +22,7 @@ module _ {K : ℕ} where
   -- the application goes with its asks and what it was not told, its containers end and its reservations are dropped
   abbrev pub after_finish_master : Flat K → ℕ → Flat K
   after_finish_master cluster n =
-      let left = without (containers_of cluster.nodes n) cluster in
+      let left = without_containers (containers_of cluster.nodes n) cluster in
       let unreserved = with_reserved (filter (λ r. not (r.app == n)) left.nodes.reserved) left in
       record unreserved { apps = remove_app n unreserved.apps }
 

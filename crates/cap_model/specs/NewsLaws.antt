@@ -12,7 +12,7 @@ use Rattle.cap_model.specs.Flat.{Flat, Container, app_at, containers_on}
 use Rattle.cap_model.specs.declared.event.Event.{Event}
 use Rattle.cap_model.specs.Events.{Step, Run, after_event, ever_granted, ever_ended, news_of}
 use Rattle.cap_model.specs.Bounds.{IsWellFormed, IsBounded}
-use Rattle.cap_model.specs.EngineLaws.{numbers_of, HasAppNumbers}
+use Rattle.cap_model.specs.EngineLaws.{container_numbers, HasAppNumbers}
 
 -- the grants that an application was not yet told
 abbrev pub untold_grants : {K : ℕ} → Flat K → ℕ → List Grant
@@ -56,7 +56,7 @@ GrantsAreToldOverRuns =
 -- the grants that a run adds for an application are its containers among those that the run granted
 abbrev pub NewGrantsAreOfTheGranted : Type 0
 NewGrantsAreOfTheGranted =
-    (K : ℕ) (events : List (Event K)) (old : Flat K) (n : ℕ) → map (λ g. g.container) (ever_new_grants old n events) ≡ numbers_of (filter (λ c. c.app == n) (ever_granted events))
+    (K : ℕ) (events : List (Event K)) (old : Flat K) (n : ℕ) → map (λ g. g.container) (ever_new_grants old n events) ≡ container_numbers (filter (λ c. c.app == n) (ever_granted events))
 
 -- the ends that an application was not yet told
 abbrev pub untold_ends : {K : ℕ} → Flat K → ℕ → List End

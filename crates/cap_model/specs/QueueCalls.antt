@@ -30,7 +30,7 @@ module _ {K : ℕ} where
     guaranteed = unwrap_or (option_map (λ q. q.guaranteed) (queue_at cluster path)) (zeros K);
     maximum = option_and_then (λ q. q.maximum) (queue_at cluster path);
     used = queue_use cluster path;
-    applications = count_by (λ app. is_under path app.leaf) cluster.apps.active;
+    apps = count_by (λ app. is_under path app.leaf) cluster.apps.active;
   }
 
   abbrev pub queue_info_reply : Flat K → List ℕ → Reply K
@@ -46,7 +46,7 @@ module _ {K : ℕ} where
   abbrev pub cluster_report : Flat K → ClusterReport K
   cluster_report cluster = record {
     nodes = length cluster.nodes.present;
-    applications = length cluster.apps.active;
+    apps = length cluster.apps.active;
     containers = length cluster.nodes.live;
     totals = total_of_nodes cluster;
     used = queue_use cluster root_path;

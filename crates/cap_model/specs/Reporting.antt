@@ -33,7 +33,7 @@ module _ {K : ℕ} where
   -- the same reply, where what an allocate is answered is taken from what it was
   abbrev pub map_reply : {A B : Type 0} → (A → B) → ReplyWith K A → ReplyWith K B
   map_reply f (Reply.Refused refusal) = Reply.Refused refusal
-  map_reply f (Reply.Submit application) = Reply.Submit application
+  map_reply f (Reply.Submit app) = Reply.Submit app
   map_reply f (Reply.RegisterMaster minimum maximum) = Reply.RegisterMaster minimum maximum
   map_reply f (Reply.Allocate reply) = Reply.Allocate (f reply)
   map_reply f (Reply.FinishMaster ended) = Reply.FinishMaster ended
@@ -47,7 +47,7 @@ module _ {K : ℕ} where
   -- what holds of the answer to an allocate, where the reply is one
   abbrev pub IfAllocate : {A : Type 0} → (A → Type 0) → ReplyWith K A → Type 0
   IfAllocate P (Reply.Refused refusal) = Unit {0}
-  IfAllocate P (Reply.Submit application) = Unit {0}
+  IfAllocate P (Reply.Submit app) = Unit {0}
   IfAllocate P (Reply.RegisterMaster minimum maximum) = Unit {0}
   IfAllocate P (Reply.Allocate reply) = P reply
   IfAllocate P (Reply.FinishMaster ended) = Unit {0}

@@ -12,7 +12,7 @@ use cap_vector::Resource;
 pub enum ReplyWith<const K: usize, A> {
     Refused(Refusal),
     Submit {
-        application: u64,
+        app: u64,
     },
     /// The least and the most that a container may have.
     RegisterMaster {
@@ -53,9 +53,7 @@ impl<const K: usize, A> ReplyWith<K, A> {
     {
         match self {
             ReplyWith::Refused(refusal) => ReplyWith::Refused(*refusal),
-            ReplyWith::Submit { application } => ReplyWith::Submit {
-                application: *application,
-            },
+            ReplyWith::Submit { app } => ReplyWith::Submit { app: *app },
             ReplyWith::RegisterMaster { minimum, maximum } => ReplyWith::RegisterMaster {
                 minimum: *minimum,
                 maximum: *maximum,

@@ -14,7 +14,7 @@ pub struct QueueReport<const K: usize> {
     /// What all applications in and under it use, in MiB and vcores.
     pub used: Sum<K>,
     /// How many applications are active in and under it.
-    pub applications: u32,
+    pub apps: u32,
 }
 
 /// What an operator sees of the cluster.
@@ -23,7 +23,7 @@ pub struct ClusterReport<const K: usize> {
     /// How many nodes are present.
     pub nodes: u32,
     /// How many applications are active.
-    pub applications: u32,
+    pub apps: u32,
     /// How many containers are live.
     pub containers: u32,
     /// What all nodes have together, in MiB and vcores.

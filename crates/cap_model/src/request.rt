@@ -12,18 +12,18 @@ pub enum Request<const K: usize> {
     },
     /// The master of an application reports, once.
     RegisterMaster {
-        application: u64,
+        app: u64,
     },
     /// A master asks for containers, releases some, and is told what was granted and what has ended.
     Allocate {
-        application: u64,
+        app: u64,
         response: u32,
         asks: Asks<K>,
         releases: Numbers,
     },
     /// An application ends, and its containers with it.
     FinishMaster {
-        application: u64,
+        app: u64,
     },
     /// A node manager joins the cluster.
     RegisterNode {

@@ -20,7 +20,7 @@ pub type PathText = Text<255>;
 impl<const MAX: usize> Model for Text<MAX> {
     ghost use Rattle.std.specs.Prelude.{List, ℕ, take, length};
     ghost use Rattle.std.proofs.Common.{sym};
-    ghost use Rattle.cap_model.specs.Texts.{IsStored, padded, length_held};
+    ghost use Rattle.cap_model.specs.Texts.{IsStored, padded_text, length_held};
 
     ghost Value = { List ℕ };
 
@@ -28,7 +28,7 @@ impl<const MAX: usize> Model for Text<MAX> {
 
     ghost invariant = { λ t. IsStored MAX t.len t.bytes };
 
-    ghost inverse = { λ text. record { bytes = padded MAX text; len = length text } };
+    ghost inverse = { λ text. record { bytes = padded_text MAX text; len = length text } };
 
     ghost inverse_ok = { λ t h i. record { bytes = sym h.padding i; len = length_held MAX t.len t.bytes h i } };
 }

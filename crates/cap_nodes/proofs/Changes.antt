@@ -16,236 +16,236 @@ use Rattle.cap_model.specs.Flat.{ClusterNode, Container}
 use Rattle.cap_model.specs.RegisterNode.{sum_of_totals}
 use Rattle.cap_model.specs.Heartbeat.{after_beat}
 use Rattle.cap_nodes.specs.Tables.{left_of}
-use Rattle.cap_nodes.specs.Places.{Place, IsTied, AreTied, place_at, change_place, held_more, held_less, beaten_place, HasOne}
+use Rattle.cap_nodes.specs.Loads.{Load, IsTied, AreTied, load_at, change_load, held_more, held_less, beaten_load, HasOne}
 use Rattle.cap_nodes.proofs.Numbered.{none_at_end}
 use Rattle.cap_nodes.proofs.Sums.{where-none, filter-none, none-filter, zeros-fit, where-less-own, where-had, sum-without, length-where, amount-where}
 use Rattle.cap_nodes.proofs.Ties.{is_found, all_changed, all_mapped, all_kept, all_each, all_pushed, still_there, there_pushed, tied_beside, tied_with, room_fits, untied_beside, untied_from, has_one}
 
-abbrev pub nodes_of : List Place → List ClusterNode
-nodes_of places = map (λ p. p.node) places
+abbrev pub nodes_of : List Load → List ClusterNode
+nodes_of loads = map (λ p. p.node) loads
 
--- the node of a place
-pub node_of_place : (places : List Place) (n : ℕ) (p : Place) → place_at places n ≡ Some p → find (λ x. x.number == n) (nodes_of places) ≡ Some p.node
-node_of_place [] n p there = absurd (cc there)
-node_of_place (q ∷ places) n p there = by (q.node.number == n) there (node_of_place places n p)
+-- the node of a load
+pub node_of_load : (loads : List Load) (n : ℕ) (p : Load) → load_at loads n ≡ Some p → find (λ x. x.number == n) (nodes_of loads) ≡ Some p.node
+node_of_load [] n p there = absurd (cc there)
+node_of_load (q ∷ loads) n p there = by (q.node.number == n) there (node_of_load loads n p)
   where
-    by : (b : Bool) → cond b (Some q) (place_at places n) ≡ Some p → (place_at places n ≡ Some p → find (λ x. x.number == n) (nodes_of places) ≡ Some p.node) →
-        cond b (Some q.node) (find (λ x. x.number == n) (nodes_of places)) ≡ Some p.node
-    by true h more = let e : q ≡ p = cc h in ap (λ (x : Place). Some x.node) e
+    by : (b : Bool) → cond b (Some q) (load_at loads n) ≡ Some p → (load_at loads n ≡ Some p → find (λ x. x.number == n) (nodes_of loads) ≡ Some p.node) →
+        cond b (Some q.node) (find (λ x. x.number == n) (nodes_of loads)) ≡ Some p.node
+    by true h more = let e : q ≡ p = cc h in ap (λ (x : Load). Some x.node) e
     by false h more = more h
 
-pub node_of_none : (places : List Place) (n : ℕ) → place_at places n ≡ None → find (λ x. x.number == n) (nodes_of places) ≡ None
+pub node_of_none : (loads : List Load) (n : ℕ) → load_at loads n ≡ None → find (λ x. x.number == n) (nodes_of loads) ≡ None
 node_of_none [] n there = refl
-node_of_none (q ∷ places) n there = by (q.node.number == n) there (node_of_none places n)
+node_of_none (q ∷ loads) n there = by (q.node.number == n) there (node_of_none loads n)
   where
-    by : (b : Bool) → cond b (Some q) (place_at places n) ≡ None → (place_at places n ≡ None → find (λ x. x.number == n) (nodes_of places) ≡ None) →
-        cond b (Some q.node) (find (λ x. x.number == n) (nodes_of places)) ≡ None
+    by : (b : Bool) → cond b (Some q) (load_at loads n) ≡ None → (load_at loads n ≡ None → find (λ x. x.number == n) (nodes_of loads) ≡ None) →
+        cond b (Some q.node) (find (λ x. x.number == n) (nodes_of loads)) ≡ None
     by true h more = absurd (cc h)
     by false h more = more h
 
--- the place of a number after it changed
-pub place_changed : (f : Place → Place) → ((p : Place) → (f p).node.number ≡ p.node.number) → (places : List Place) (n : ℕ) (p : Place) → place_at places n ≡ Some p → place_at (change_place n f places) n ≡ Some (f p)
-place_changed f same [] n p there = absurd (cc there)
-place_changed f same (q ∷ places) n p there = by (q.node.number == n) refl (place_changed f same places n p) there
+-- the load of a number after it changed
+pub load_changed : (f : Load → Load) → ((p : Load) → (f p).node.number ≡ p.node.number) → (loads : List Load) (n : ℕ) (p : Load) → load_at loads n ≡ Some p → load_at (change_load n f loads) n ≡ Some (f p)
+load_changed f same [] n p there = absurd (cc there)
+load_changed f same (q ∷ loads) n p there = by (q.node.number == n) refl (load_changed f same loads n p) there
   where
-    by : (b : Bool) → q.node.number == n ≡ b → (place_at places n ≡ Some p → place_at (change_place n f places) n ≡ Some (f p)) → cond b (Some q) (place_at places n) ≡ Some p →
-        cond ((cond b (f q) q).node.number == n) (Some (cond b (f q) q)) (place_at (change_place n f places) n) ≡ Some (f p)
+    by : (b : Bool) → q.node.number == n ≡ b → (load_at loads n ≡ Some p → load_at (change_load n f loads) n ≡ Some (f p)) → cond b (Some q) (load_at loads n) ≡ Some p →
+        cond ((cond b (f q) q).node.number == n) (Some (cond b (f q) q)) (load_at (change_load n f loads) n) ≡ Some (f p)
     by true e more h =
         let q_is : q ≡ p = cc h in
-        ap (λ m. cond (m == n) (Some (f q)) (place_at (change_place n f places) n)) (same q) ∙ ap (λ c. cond c (Some (f q)) (place_at (change_place n f places) n)) e ∙ ap (λ (x : Place). Some (f x)) q_is
-    by false e more h = ap (λ c. cond c (Some q) (place_at (change_place n f places) n)) e ∙ more h
+        ap (λ m. cond (m == n) (Some (f q)) (load_at (change_load n f loads) n)) (same q) ∙ ap (λ c. cond c (Some (f q)) (load_at (change_load n f loads) n)) e ∙ ap (λ (x : Load). Some (f x)) q_is
+    by false e more h = ap (λ c. cond c (Some q) (load_at (change_load n f loads) n)) e ∙ more h
 
 -- the reply that a node keeps is there in its place
-pub kept_shown : (places : List Place) (n : ℕ) (reply : HeartbeatReply) → option_and_then (λ (p : Place). p.node.kept) (place_at places n) ≡ Some reply →
-    option_and_then (λ (x : ClusterNode). x.kept) (find (λ x. x.number == n) (nodes_of places)) ≡ Some reply
-kept_shown places n reply h = by (place_at places n) refl h
+pub kept_shown : (loads : List Load) (n : ℕ) (reply : HeartbeatReply) → option_and_then (λ (p : Load). p.node.kept) (load_at loads n) ≡ Some reply →
+    option_and_then (λ (x : ClusterNode). x.kept) (find (λ x. x.number == n) (nodes_of loads)) ≡ Some reply
+kept_shown loads n reply h = by (load_at loads n) refl h
   where
-    by : (o : Option Place) → place_at places n ≡ o → option_and_then (λ (p : Place). p.node.kept) o ≡ Some reply → option_and_then (λ (x : ClusterNode). x.kept) (find (λ x. x.number == n) (nodes_of places)) ≡ Some reply
+    by : (o : Option Load) → load_at loads n ≡ o → option_and_then (λ (p : Load). p.node.kept) o ≡ Some reply → option_and_then (λ (x : ClusterNode). x.kept) (find (λ x. x.number == n) (nodes_of loads)) ≡ Some reply
     by None e k = absurd (cc k)
-    by (Some p) e k = ap (option_and_then (λ (x : ClusterNode). x.kept)) (node_of_place places n p e) ∙ k
+    by (Some p) e k = ap (option_and_then (λ (x : ClusterNode). x.kept)) (node_of_load loads n p e) ∙ k
 
 some_is : (o : Option ClusterNode) → o ≡ None → IsSome o → ⊥
 some_is None e h = absurd (cc h)
 some_is (Some x) e h = absurd (cc e)
 
--- a node that is there has a place
-pub record IsAt (places : List Place) (n : ℕ) : Type 0 where
-  pub place : Place
-  pub at : place_at places n ≡ Some place
+-- a node that is there has a load
+pub record IsAt (loads : List Load) (n : ℕ) : Type 0 where
+  pub load : Load
+  pub at : load_at loads n ≡ Some load
 
-pub place_of_node : (places : List Place) (n : ℕ) → IsSome (find (λ x. x.number == n) (nodes_of places)) → IsAt places n
-place_of_node places n h = by (place_at places n) refl
+pub load_of_node : (loads : List Load) (n : ℕ) → IsSome (find (λ x. x.number == n) (nodes_of loads)) → IsAt loads n
+load_of_node loads n h = by (load_at loads n) refl
   where
-    by : (o : Option Place) → place_at places n ≡ o → IsAt places n
-    by (Some p) e = record { place = p; at = e }
-    by None e = absurd (some_is (find (λ x. x.number == n) (nodes_of places)) (node_of_none places n e) h)
+    by : (o : Option Load) → load_at loads n ≡ o → IsAt loads n
+    by (Some p) e = record { load = p; at = e }
+    by None e = absurd (some_is (find (λ x. x.number == n) (nodes_of loads)) (node_of_none loads n e) h)
 
-pub no_place : (places : List Place) (n : ℕ) → place_at places n ≡ None → IsSome (find (λ x. x.number == n) (nodes_of places)) → ⊥
-no_place places n e h = some_is (find (λ x. x.number == n) (nodes_of places)) (node_of_none places n e) h
+pub no_load : (loads : List Load) (n : ℕ) → load_at loads n ≡ None → IsSome (find (λ x. x.number == n) (nodes_of loads)) → ⊥
+no_load loads n e h = some_is (find (λ x. x.number == n) (nodes_of loads)) (node_of_none loads n e) h
 
-pub is_at : (places : List Place) (n : ℕ) (p : Place) → place_at places n ≡ Some p → IsSome (place_at places n)
-is_at places n p e = rw e refl
+pub is_at : (loads : List Load) (n : ℕ) (p : Load) → load_at loads n ≡ Some p → IsSome (load_at loads n)
+is_at loads n p e = rw e refl
 
 same_node : (n m : ℕ) → n ≡ m → (n == m) ≡ true
 same_node n m e = grind (arith, nat_tests)
 
-module _ (K : ℕ) (places : List Place) (live : List Container) (tied : AreTied K places live) where
-  -- the tie of a place
-  pub tie_of : (n : ℕ) (p : Place) → place_at places n ≡ Some p → IsTied K live p × (p.node.number ≡ n)
-  tie_of n p there = let f = is_found (IsTied K live) (λ (q : Place). q.node.number == n) places p there tied.ties in (f.0, eqb-true p.node.number n f.1)
+module _ (K : ℕ) (loads : List Load) (live : List Container) (tied : AreTied K loads live) where
+  -- the tie of a load
+  pub tie_of : (n : ℕ) (p : Load) → load_at loads n ≡ Some p → IsTied K live p × (p.node.number ≡ n)
+  tie_of n p there = let f = is_found (IsTied K live) (λ (q : Load). q.node.number == n) loads p there tied.ties in (f.0, eqb-true p.node.number n f.1)
 
   -- no container is live where no node is
-  pub none_there : (n : ℕ) → place_at places n ≡ None → AllByRecursion (λ (c : Container). (c.node == n) ≡ false) live
-  none_there n e = all_each (λ (c : Container). IsSome (place_at places c.node)) (λ (c : Container). (c.node == n) ≡ false) live (λ c h. by c h (c.node == n) refl) tied.homes
+  pub none_there : (n : ℕ) → load_at loads n ≡ None → AllByRecursion (λ (c : Container). (c.node == n) ≡ false) live
+  none_there n e = all_each (λ (c : Container). IsSome (load_at loads c.node)) (λ (c : Container). (c.node == n) ≡ false) live (λ c h. by c h (c.node == n) refl) tied.homes
     where
-      none_some : (o : Option Place) → o ≡ None → IsSome o → ⊥
+      none_some : (o : Option Load) → o ≡ None → IsSome o → ⊥
       none_some None e h = absurd (cc h)
       none_some (Some x) e h = absurd (cc e)
 
-      by : (c : Container) → IsSome (place_at places c.node) → (b : Bool) → (c.node == n) ≡ b → (c.node == n) ≡ false
-      by c h true is = absurd (none_some (place_at places c.node) (ap (place_at places) (eqb-true c.node n is) ∙ e) h)
+      by : (c : Container) → IsSome (load_at loads c.node) → (b : Bool) → (c.node == n) ≡ b → (c.node == n) ≡ false
+      by c h true is = absurd (none_some (load_at loads c.node) (ap (load_at loads) (eqb-true c.node n is) ∙ e) h)
       by c h false is = is
 
-  pub live_of : (n : ℕ) (p : Place) → place_at places n ≡ Some p → p.live ≡ length (filter (λ c. c.node == n) live)
+  pub live_of : (n : ℕ) (p : Load) → load_at loads n ≡ Some p → p.live ≡ length (filter (λ c. c.node == n) live)
   live_of n p there =
       let t = tie_of n p there in
       t.0.count ∙ ap (λ m. count_by (λ (c : Container). c.node == m) live) t.1 ∙ sym (length-filter (λ (c : Container). c.node == n) live)
 
-  pub none_of : (n : ℕ) → place_at places n ≡ None → 0 ≡ length (filter (λ c. c.node == n) live)
+  pub none_of : (n : ℕ) → load_at loads n ≡ None → 0 ≡ length (filter (λ c. c.node == n) live)
   none_of n e = ap (λ (cs : List Container). length cs) (sym (filter-none (λ (c : Container). c.node == n) live (none_there n e)))
 
-  pub free_is : (n : ℕ) (p : Place) → place_at places n ≡ Some p → less p.node.total p.held ≡ left_of (find (λ x. x.number == n) (nodes_of places)) (sum_where K (λ c. c.node == n) (λ c. c.resource) live)
+  pub free_is : (n : ℕ) (p : Load) → load_at loads n ≡ Some p → less p.node.total p.held ≡ left_of (find (λ x. x.number == n) (nodes_of loads)) (sum_where K (λ c. c.node == n) (λ c. c.resource) live)
   free_is n p there =
       let t = tie_of n p there in
       ap (less p.node.total) (t.0.held ∙ ap (λ m. sum_where K (λ (c : Container). c.node == m) (λ c. c.resource) live) t.1)
-      ∙ ap (λ o. left_of o (sum_where K (λ (c : Container). c.node == n) (λ c. c.resource) live)) (sym (node_of_place places n p there))
+      ∙ ap (λ o. left_of o (sum_where K (λ (c : Container). c.node == n) (λ c. c.resource) live)) (sym (node_of_load loads n p there))
 
   -- one more node
-  pub with_node : (next : ℕ) (node : ClusterNode) → IsRising 1 (map (λ p. p.node.number) places) next → node.number ≡ next → IsWithin amount_max node.total →
-      AreTied K (places ++ record { node = node; held = zeros K; live = 0 } ∷ []) live
+  pub with_node : (next : ℕ) (node : ClusterNode) → IsRising 1 (map (λ p. p.node.number) loads) next → node.number ≡ next → IsWithin amount_max node.total →
+      AreTied K (loads ++ record { node = node; held = zeros K; live = 0 } ∷ []) live
   with_node next node rising is within =
-      let p : Place = record { node = node; held = zeros K; live = 0 } in
-      let none : AllByRecursion (λ (c : Container). (c.node == node.number) ≡ false) live = none_there node.number (ap (place_at places) is ∙ none_at_end (λ (q : Place). q.node.number) next 1 places rising) in
+      let p : Load = record { node = node; held = zeros K; live = 0 } in
+      let none : AllByRecursion (λ (c : Container). (c.node == node.number) ≡ false) live = none_there node.number (ap (load_at loads) is ∙ none_at_end (λ (q : Load). q.node.number) next 1 loads rising) in
       record {
-        ties = all_pushed (IsTied K live) places p tied.ties (record {
+        ties = all_pushed (IsTied K live) loads p tied.ties (record {
           held = sym (where-none K (λ (c : Container). c.node == node.number) (λ c. c.resource) live none);
           count = ap (λ (cs : List Container). length cs) (sym (filter-none (λ (c : Container). c.node == node.number) live none)) ∙ length-filter (λ (c : Container). c.node == node.number) live;
           fits = zeros-fit K node.total;
           within = within;
         });
-        homes = all_each (λ (c : Container). IsSome (place_at places c.node)) (λ (c : Container). IsSome (place_at (places ++ p ∷ []) c.node)) live (λ c h. there_pushed places p c.node h) tied.homes;
+        homes = all_each (λ (c : Container). IsSome (load_at loads c.node)) (λ (c : Container). IsSome (load_at (loads ++ p ∷ []) c.node)) live (λ c h. there_pushed loads p c.node h) tied.homes;
       }
 
   -- one more container
-  pub with_one : (next n : ℕ) (p : Place) (c : Container) → IsRising 1 (map (λ q. q.node.number) places) next → place_at places n ≡ Some p → c.node ≡ n → Fits c.resource (less p.node.total p.held) →
-      length (plus p.held c.resource) ≡ K → AreTied K (change_place n (held_more c.resource) places) (live ++ c ∷ [])
+  pub with_one : (next n : ℕ) (p : Load) (c : Container) → IsRising 1 (map (λ q. q.node.number) loads) next → load_at loads n ≡ Some p → c.node ≡ n → Fits c.resource (less p.node.total p.held) →
+      length (plus p.held c.resource) ≡ K → AreTied K (change_load n (held_more c.resource) loads) (live ++ c ∷ [])
   with_one next n p c rising there home room count =
       let t = tie_of n p there in
-      let there_still : (m : ℕ) → IsSome (place_at places m) → IsSome (place_at (change_place n (held_more c.resource) places) m) = λ m h. still_there places n m (held_more c.resource) (λ q. refl) h in
+      let there_still : (m : ℕ) → IsSome (load_at loads m) → IsSome (load_at (change_load n (held_more c.resource) loads) m) = λ m h. still_there loads n m (held_more c.resource) (λ q. refl) h in
       record {
-        ties = all_changed (IsTied K live) (IsTied K (live ++ c ∷ [])) n 1 (held_more c.resource) p places next rising there
+        ties = all_changed (IsTied K live) (IsTied K (live ++ c ∷ [])) n 1 (held_more c.resource) p loads next rising there
             (λ tie. tied_with K live c p tie (same_node c.node p.node.number (home ∙ sym t.1)) count (room_fits K live c.resource p tie room))
             (λ q tie other. tied_beside K live c q tie (grind (arith, nat_tests, other, home)))
             tied.ties;
-        homes = all_pushed (λ (x : Container). IsSome (place_at (change_place n (held_more c.resource) places) x.node)) live c
-            (all_each (λ (x : Container). IsSome (place_at places x.node)) (λ (x : Container). IsSome (place_at (change_place n (held_more c.resource) places) x.node)) live (λ x h. there_still x.node h) tied.homes)
-            (there_still c.node (subst (λ m. IsSome (place_at places m)) (sym home) (is_at places n p there)));
+        homes = all_pushed (λ (x : Container). IsSome (load_at (change_load n (held_more c.resource) loads) x.node)) live c
+            (all_each (λ (x : Container). IsSome (load_at loads x.node)) (λ (x : Container). IsSome (load_at (change_load n (held_more c.resource) loads) x.node)) live (λ x h. there_still x.node h) tied.homes)
+            (there_still c.node (subst (λ m. IsSome (load_at loads m)) (sym home) (is_at loads n p there)));
       }
 
   -- the home of a live container
-  pub home_of : (n : ℕ) (c : Container) → find (λ x. x.number == n) live ≡ Some c → IsSome (place_at places c.node)
-  home_of n c there = (is_found (λ (x : Container). IsSome (place_at places x.node)) (λ x. x.number == n) live c there tied.homes).0
+  pub home_of : (n : ℕ) (c : Container) → find (λ x. x.number == n) live ≡ Some c → IsSome (load_at loads c.node)
+  home_of n c there = (is_found (λ (x : Container). IsSome (load_at loads x.node)) (λ x. x.number == n) live c there tied.homes).0
 
-  pub has_it : (next n : ℕ) (c : Container) (p : Place) → IsRising 1 (map (λ x. x.number) live) next → find (λ x. x.number == n) live ≡ Some c → place_at places c.node ≡ Some p → length c.resource ≤ K → HasOne c.resource p
+  pub has_it : (next n : ℕ) (c : Container) (p : Load) → IsRising 1 (map (λ x. x.number) live) next → find (λ x. x.number == n) live ≡ Some c → load_at loads c.node ≡ Some p → length c.resource ≤ K → HasOne c.resource p
   has_it next n c p rising there at short =
       let t = tie_of c.node p at in
       has_one K live n next rising c there p t.0 (same_node c.node p.node.number (sym t.1)) short
 
   -- one container less
-  pub without_one : (next high n : ℕ) (c : Container) (p : Place) → IsRising 1 (map (λ q. q.node.number) places) next → IsRising 1 (map (λ x. x.number) live) high → find (λ x. x.number == n) live ≡ Some c →
-      place_at places c.node ≡ Some p → AreTied K (change_place c.node (held_less c.resource) places) (filter (λ x. not (x.number == n)) live)
+  pub without_one : (next high n : ℕ) (c : Container) (p : Load) → IsRising 1 (map (λ q. q.node.number) loads) next → IsRising 1 (map (λ x. x.number) live) high → find (λ x. x.number == n) live ≡ Some c →
+      load_at loads c.node ≡ Some p → AreTied K (change_load c.node (held_less c.resource) loads) (filter (λ x. not (x.number == n)) live)
   without_one next high n c p rising numbers there at =
       let t = tie_of c.node p at in
       let left = filter (λ (x : Container). not (x.number == n)) live in
       record {
-        ties = all_changed (IsTied K live) (IsTied K left) c.node 1 (held_less c.resource) p places next rising at
+        ties = all_changed (IsTied K live) (IsTied K left) c.node 1 (held_less c.resource) p loads next rising at
             (λ tie. untied_from K live n high numbers c there p tie (same_node c.node p.node.number (sym t.1)))
             (λ q tie other. untied_beside K live n high numbers c there q tie (grind (arith, nat_tests, other)))
             tied.ties;
-        homes = all_kept (λ (x : Container). IsSome (place_at places x.node)) (λ (x : Container). IsSome (place_at (change_place c.node (held_less c.resource) places) x.node)) (λ x. not (x.number == n)) live
-            (λ x h _. still_there places c.node x.node (held_less c.resource) (λ q. refl) h) tied.homes;
+        homes = all_kept (λ (x : Container). IsSome (load_at loads x.node)) (λ (x : Container). IsSome (load_at (change_load c.node (held_less c.resource) loads) x.node)) (λ x. not (x.number == n)) live
+            (λ x h _. still_there loads c.node x.node (held_less c.resource) (λ q. refl) h) tied.homes;
       }
 
   -- one more heartbeat
-  pub with_beat : (n ignored : ℕ) → AreTied K (change_place n (beaten_place ignored) places) live
+  pub with_beat : (n ignored : ℕ) → AreTied K (change_load n (beaten_load ignored) loads) live
   with_beat n ignored = record {
-    ties = all_mapped (IsTied K live) (IsTied K live) n (beaten_place ignored) places (λ q tie. record { held = tie.held; count = tie.count; fits = tie.fits; within = tie.within }) (λ q tie. tie) tied.ties;
-    homes = all_each (λ (x : Container). IsSome (place_at places x.node)) (λ (x : Container). IsSome (place_at (change_place n (beaten_place ignored) places) x.node)) live
-        (λ x h. still_there places n x.node (beaten_place ignored) (λ q. refl) h) tied.homes;
+    ties = all_mapped (IsTied K live) (IsTied K live) n (beaten_load ignored) loads (λ q tie. record { held = tie.held; count = tie.count; fits = tie.fits; within = tie.within }) (λ q tie. tie) tied.ties;
+    homes = all_each (λ (x : Container). IsSome (load_at loads x.node)) (λ (x : Container). IsSome (load_at (change_load n (beaten_load ignored) loads) x.node)) live
+        (λ x h. still_there loads n x.node (beaten_load ignored) (λ q. refl) h) tied.homes;
   }
 
   -- one node less
-  pub without_empty : (n : ℕ) → filter (λ c. c.node == n) live ≡ [] → AreTied K (filter (λ p. not (p.node.number == n)) places) live
+  pub without_empty : (n : ℕ) → filter (λ c. c.node == n) live ≡ [] → AreTied K (filter (λ p. not (p.node.number == n)) loads) live
   without_empty n none = record {
-    ties = all_kept (IsTied K live) (IsTied K live) (λ (p : Place). not (p.node.number == n)) places (λ p tie _. tie) tied.ties;
+    ties = all_kept (IsTied K live) (IsTied K live) (λ (p : Load). not (p.node.number == n)) loads (λ p tie _. tie) tied.ties;
     homes = both live tied.homes (none-filter (λ (c : Container). c.node == n) live none);
   }
     where
-      there : (m : ℕ) (ps : List Place) → (m == n) ≡ false → IsSome (place_at ps m) → IsSome (place_at (filter (λ p. not (p.node.number == n)) ps) m)
+      there : (m : ℕ) (ps : List Load) → (m == n) ≡ false → IsSome (load_at ps m) → IsSome (load_at (filter (λ p. not (p.node.number == n)) ps) m)
       there m [] other h = h
       there m (q ∷ ps) other h = step (q.node.number == n) (q.node.number == m) refl refl h (there m ps other)
         where
-          step : (b e : Bool) → (q.node.number == n) ≡ b → (q.node.number == m) ≡ e → IsSome (cond e (Some q) (place_at ps m)) → (IsSome (place_at ps m) → IsSome (place_at (filter (λ p. not (p.node.number == n)) ps) m)) →
-              IsSome (place_at (cond (not b) (q ∷ filter (λ p. not (p.node.number == n)) ps) (filter (λ p. not (p.node.number == n)) ps)) m)
+          step : (b e : Bool) → (q.node.number == n) ≡ b → (q.node.number == m) ≡ e → IsSome (cond e (Some q) (load_at ps m)) → (IsSome (load_at ps m) → IsSome (load_at (filter (λ p. not (p.node.number == n)) ps) m)) →
+              IsSome (load_at (cond (not b) (q ∷ filter (λ p. not (p.node.number == n)) ps) (filter (λ p. not (p.node.number == n)) ps)) m)
           step true true x y h more = absurd (grind (arith, nat_tests, x, y, other))
           step true false x y h more = more h
           step false true x y h more = rw y refl
           step false false x y h more = rw y (more h)
 
-      both : (cs : List Container) → AllByRecursion (λ (c : Container). IsSome (place_at places c.node)) cs → AllByRecursion (λ (c : Container). (c.node == n) ≡ false) cs →
-          AllByRecursion (λ (c : Container). IsSome (place_at (filter (λ p. not (p.node.number == n)) places) c.node)) cs
+      both : (cs : List Container) → AllByRecursion (λ (c : Container). IsSome (load_at loads c.node)) cs → AllByRecursion (λ (c : Container). (c.node == n) ≡ false) cs →
+          AllByRecursion (λ (c : Container). IsSome (load_at (filter (λ p. not (p.node.number == n)) loads) c.node)) cs
       both [] a b = tt
-      both (c ∷ cs) a b = (there c.node places b.0 a.0, both cs a.1 b.1)
+      both (c ∷ cs) a b = (there c.node loads b.0 a.0, both cs a.1 b.1)
 
 -- changes that leave the nodes as they are
-pub same_nodes : (n : ℕ) (change : Place → Place) (places : List Place) → ((p : Place) → (change p).node ≡ p.node) → nodes_of (change_place n change places) ≡ nodes_of places
+pub same_nodes : (n : ℕ) (change : Load → Load) (loads : List Load) → ((p : Load) → (change p).node ≡ p.node) → nodes_of (change_load n change loads) ≡ nodes_of loads
 same_nodes n change [] keeps = refl
-same_nodes n change (p ∷ places) keeps = by (p.node.number == n) (same_nodes n change places keeps)
+same_nodes n change (p ∷ loads) keeps = by (p.node.number == n) (same_nodes n change loads keeps)
   where
-    by : (b : Bool) → nodes_of (change_place n change places) ≡ nodes_of places → (cond b (change p) p).node ∷ nodes_of (change_place n change places) ≡ p.node ∷ nodes_of places
+    by : (b : Bool) → nodes_of (change_load n change loads) ≡ nodes_of loads → (cond b (change p) p).node ∷ nodes_of (change_load n change loads) ≡ p.node ∷ nodes_of loads
     by true e = rw (keeps p, e) refl
     by false e = rw e refl
 
-pub nodes_pushed : (places : List Place) (p : Place) → nodes_of (places ++ p ∷ []) ≡ nodes_of places ++ p.node ∷ []
+pub nodes_pushed : (loads : List Load) (p : Load) → nodes_of (loads ++ p ∷ []) ≡ nodes_of loads ++ p.node ∷ []
 nodes_pushed [] p = refl
-nodes_pushed (q ∷ places) p = ap (λ ns. q.node ∷ ns) (nodes_pushed places p)
+nodes_pushed (q ∷ loads) p = ap (λ ns. q.node ∷ ns) (nodes_pushed loads p)
 
-pub nodes_kept : (n : ℕ) (places : List Place) → nodes_of (filter (λ p. not (p.node.number == n)) places) ≡ filter (λ x. not (x.number == n)) (nodes_of places)
+pub nodes_kept : (n : ℕ) (loads : List Load) → nodes_of (filter (λ p. not (p.node.number == n)) loads) ≡ filter (λ x. not (x.number == n)) (nodes_of loads)
 nodes_kept n [] = refl
-nodes_kept n (q ∷ places) = by (not (q.node.number == n)) (nodes_kept n places)
+nodes_kept n (q ∷ loads) = by (not (q.node.number == n)) (nodes_kept n loads)
   where
-    by : (b : Bool) → nodes_of (filter (λ p. not (p.node.number == n)) places) ≡ filter (λ x. not (x.number == n)) (nodes_of places) →
-        nodes_of (cond b (q ∷ filter (λ p. not (p.node.number == n)) places) (filter (λ p. not (p.node.number == n)) places)) ≡ cond b (q.node ∷ filter (λ x. not (x.number == n)) (nodes_of places)) (filter (λ x. not (x.number == n)) (nodes_of places))
+    by : (b : Bool) → nodes_of (filter (λ p. not (p.node.number == n)) loads) ≡ filter (λ x. not (x.number == n)) (nodes_of loads) →
+        nodes_of (cond b (q ∷ filter (λ p. not (p.node.number == n)) loads) (filter (λ p. not (p.node.number == n)) loads)) ≡ cond b (q.node ∷ filter (λ x. not (x.number == n)) (nodes_of loads)) (filter (λ x. not (x.number == n)) (nodes_of loads))
     by true e = ap (λ ns. q.node ∷ ns) e
     by false e = e
 
-numbers_of_nodes : (places : List Place) → map (λ (x : ClusterNode). x.number) (nodes_of places) ≡ map (λ p. p.node.number) places
+numbers_of_nodes : (loads : List Load) → map (λ (x : ClusterNode). x.number) (nodes_of loads) ≡ map (λ p. p.node.number) loads
 numbers_of_nodes [] = refl
-numbers_of_nodes (p ∷ places) = ap (λ ns. p.node.number ∷ ns) (numbers_of_nodes places)
+numbers_of_nodes (p ∷ loads) = ap (λ ns. p.node.number ∷ ns) (numbers_of_nodes loads)
 
 -- the nodes after a change of one
 abbrev changed : ℕ → (ClusterNode → ClusterNode) → List ClusterNode → List ClusterNode
 changed n change nodes = map (λ node. cond (node.number == n) (change node) node) nodes
 
 -- the nodes after a heartbeat
-pub nodes_beaten : (K n ignored : ℕ) (live : List Container) (places : List Place) → AllByRecursion (IsTied K live) places →
-    nodes_of (change_place n (beaten_place ignored) places) ≡ changed n (after_beat ignored (length (filter (λ c. c.node == n) live))) (nodes_of places)
+pub nodes_beaten : (K n ignored : ℕ) (live : List Container) (loads : List Load) → AllByRecursion (IsTied K live) loads →
+    nodes_of (change_load n (beaten_load ignored) loads) ≡ changed n (after_beat ignored (length (filter (λ c. c.node == n) live))) (nodes_of loads)
 nodes_beaten K n ignored live [] all = refl
-nodes_beaten K n ignored live (p ∷ places) all = by (p.node.number == n) refl (nodes_beaten K n ignored live places all.1)
+nodes_beaten K n ignored live (p ∷ loads) all = by (p.node.number == n) refl (nodes_beaten K n ignored live loads all.1)
   where
-    by : (b : Bool) → (p.node.number == n) ≡ b → nodes_of (change_place n (beaten_place ignored) places) ≡ changed n (after_beat ignored (length (filter (λ c. c.node == n) live))) (nodes_of places) →
-        (cond b (beaten_place ignored p) p).node ∷ nodes_of (change_place n (beaten_place ignored) places)
-        ≡ cond b (after_beat ignored (length (filter (λ c. c.node == n) live)) p.node) p.node ∷ changed n (after_beat ignored (length (filter (λ c. c.node == n) live))) (nodes_of places)
+    by : (b : Bool) → (p.node.number == n) ≡ b → nodes_of (change_load n (beaten_load ignored) loads) ≡ changed n (after_beat ignored (length (filter (λ c. c.node == n) live))) (nodes_of loads) →
+        (cond b (beaten_load ignored p) p).node ∷ nodes_of (change_load n (beaten_load ignored) loads)
+        ≡ cond b (after_beat ignored (length (filter (λ c. c.node == n) live)) p.node) p.node ∷ changed n (after_beat ignored (length (filter (λ c. c.node == n) live))) (nodes_of loads)
     by true e more =
         let same : p.live ≡ length (filter (λ (c : Container). c.node == n) live) = all.0.count ∙ ap (λ m. count_by (λ (c : Container). c.node == m) live) (eqb-true p.node.number n e) ∙ sym (length-filter (λ (c : Container). c.node == n) live) in
         rw (same, more) refl
@@ -259,66 +259,66 @@ totals_by K f g e =
     let b : i < K = omega (arith, length-where K (λ (x : ClusterNode). true) (λ x. x.total) f) in
     amount-where K (λ (x : ClusterNode). true) (λ x. x.total) f i b ∙ e i ∙ sym (amount-where K (λ (x : ClusterNode). true) (λ x. x.total) g i b))
 
-pub totals_beaten : (K n ignored : ℕ) (places : List Place) → sum_of_totals K (nodes_of (change_place n (beaten_place ignored) places)) ≡ sum_of_totals K (nodes_of places)
-totals_beaten K n ignored places = totals_by K (nodes_of (change_place n (beaten_place ignored) places)) (nodes_of places) (λ i. same i places)
+pub totals_beaten : (K n ignored : ℕ) (loads : List Load) → sum_of_totals K (nodes_of (change_load n (beaten_load ignored) loads)) ≡ sum_of_totals K (nodes_of loads)
+totals_beaten K n ignored loads = totals_by K (nodes_of (change_load n (beaten_load ignored) loads)) (nodes_of loads) (λ i. same i loads)
   where
-    same : (i : ℕ) (ps : List Place) → sum_by (λ x. amount x.total i) (nodes_of (change_place n (beaten_place ignored) ps)) ≡ sum_by (λ x. amount x.total i) (nodes_of ps)
+    same : (i : ℕ) (ps : List Load) → sum_by (λ x. amount x.total i) (nodes_of (change_load n (beaten_load ignored) ps)) ≡ sum_by (λ x. amount x.total i) (nodes_of ps)
     same i [] = refl
     same i (p ∷ ps) =
         let h = λ (x : ClusterNode). amount x.total i in
-        sum_by-cons h (cond (p.node.number == n) (beaten_place ignored p) p).node (nodes_of (change_place n (beaten_place ignored) ps))
-        ∙ ap (λ m. h (cond (p.node.number == n) (beaten_place ignored p) p).node + m) (same i ps)
+        sum_by-cons h (cond (p.node.number == n) (beaten_load ignored p) p).node (nodes_of (change_load n (beaten_load ignored) ps))
+        ∙ ap (λ m. h (cond (p.node.number == n) (beaten_load ignored p) p).node + m) (same i ps)
         ∙ ap (λ m. m + sum_by h (nodes_of ps)) (head (p.node.number == n))
         ∙ sym (sum_by-cons h p.node (nodes_of ps))
       where
-        head : (b : Bool) → amount (cond b (beaten_place ignored p) p).node.total i ≡ amount p.node.total i
+        head : (b : Bool) → amount (cond b (beaten_load ignored p) p).node.total i ≡ amount p.node.total i
         head true = refl
         head false = refl
 
-module _ (K next n : ℕ) (places : List Place) (p : Place) (rising : IsRising 1 (map (λ q. q.node.number) places) next) (there : place_at places n ≡ Some p) where
-  node_moved : (h : ClusterNode → ℕ) → sum_by h (nodes_of places) ≡ sum_by h (filter (λ x. not (x.number == n)) (nodes_of places)) + h p.node
-  node_moved h = sum-without (λ (x : ClusterNode). x.number) h n 1 (nodes_of places) next (subst (λ ns. IsRising 1 ns next) (sym (numbers_of_nodes places)) rising) p.node (node_of_place places n p there)
+module _ (K next n : ℕ) (loads : List Load) (p : Load) (rising : IsRising 1 (map (λ q. q.node.number) loads) next) (there : load_at loads n ≡ Some p) where
+  node_moved : (h : ClusterNode → ℕ) → sum_by h (nodes_of loads) ≡ sum_by h (filter (λ x. not (x.number == n)) (nodes_of loads)) + h p.node
+  node_moved h = sum-without (λ (x : ClusterNode). x.number) h n 1 (nodes_of loads) next (subst (λ ns. IsRising 1 ns next) (sym (numbers_of_nodes loads)) rising) p.node (node_of_load loads n p there)
 
   -- what the nodes have together without one
-  pub total_fits : length p.node.total ≤ K → Fits p.node.total (sum_of_totals K (nodes_of places))
-  total_fits short = where-had K (λ (x : ClusterNode). true) (λ x. x.total) (nodes_of places) (filter (λ x. not (x.number == n)) (nodes_of places)) p.node node_moved refl short
+  pub total_fits : length p.node.total ≤ K → Fits p.node.total (sum_of_totals K (nodes_of loads))
+  total_fits short = where-had K (λ (x : ClusterNode). true) (λ x. x.total) (nodes_of loads) (filter (λ x. not (x.number == n)) (nodes_of loads)) p.node node_moved refl short
 
-  pub total_without : less (sum_of_totals K (nodes_of places)) p.node.total ≡ sum_of_totals K (nodes_of (filter (λ q. not (q.node.number == n)) places))
+  pub total_without : less (sum_of_totals K (nodes_of loads)) p.node.total ≡ sum_of_totals K (nodes_of (filter (λ q. not (q.node.number == n)) loads))
   total_without =
-      sym (where-less-own K (λ (x : ClusterNode). true) (λ x. x.total) (nodes_of places) (filter (λ x. not (x.number == n)) (nodes_of places)) p.node node_moved refl)
-      ∙ ap (sum_of_totals K) (sym (nodes_kept n places))
+      sym (where-less-own K (λ (x : ClusterNode). true) (λ x. x.total) (nodes_of loads) (filter (λ x. not (x.number == n)) (nodes_of loads)) p.node node_moved refl)
+      ∙ ap (sum_of_totals K) (sym (nodes_kept n loads))
 
-pub any_node : (test : List ℕ → Bool) (places : List Place) → list_any (λ p. test p.node.host) places ≡ list_any (λ x. test x.host) (nodes_of places)
+pub any_node : (test : List ℕ → Bool) (loads : List Load) → list_any (λ p. test p.node.host) loads ≡ list_any (λ x. test x.host) (nodes_of loads)
 any_node test [] = refl
-any_node test (p ∷ places) = by (test p.node.host) (any_node test places)
+any_node test (p ∷ loads) = by (test p.node.host) (any_node test loads)
   where
-    by : (b : Bool) → list_any (λ p. test p.node.host) places ≡ list_any (λ x. test x.host) (nodes_of places) → (b || list_any (λ p. test p.node.host) places) ≡ (b || list_any (λ x. test x.host) (nodes_of places))
+    by : (b : Bool) → list_any (λ p. test p.node.host) loads ≡ list_any (λ x. test x.host) (nodes_of loads) → (b || list_any (λ p. test p.node.host) loads) ≡ (b || list_any (λ x. test x.host) (nodes_of loads))
     by true e = refl
     by false e = e
 
-pub at_of : (places : List Place) (n : ℕ) → IsSome (place_at places n) → IsAt places n
-at_of places n h = by (place_at places n) refl h
+pub at_of : (loads : List Load) (n : ℕ) → IsSome (load_at loads n) → IsAt loads n
+at_of loads n h = by (load_at loads n) refl h
   where
-    by : (o : Option Place) → place_at places n ≡ o → IsSome o → IsAt places n
-    by (Some p) e h = record { place = p; at = e }
+    by : (o : Option Load) → load_at loads n ≡ o → IsSome o → IsAt loads n
+    by (Some p) e h = record { load = p; at = e }
     by None e h = absurd (cc h)
 
 -- what is true of every table
-pub homes_all : (K : ℕ) (places : List Place) (live : List Container) → AreTied K places live → All (λ (c : Container). IsSome (find (λ x. x.number == c.node) (nodes_of places))) live
-homes_all K places live tied =
-    All-from_recursion (λ (c : Container). IsSome (find (λ x. x.number == c.node) (nodes_of places))) live
-    (all_each (λ (c : Container). IsSome (place_at places c.node)) (λ (c : Container). IsSome (find (λ x. x.number == c.node) (nodes_of places))) live
-    (λ c h. let at = at_of places c.node h in rw (node_of_place places c.node at.place at.at) refl)
+pub homes_all : (K : ℕ) (loads : List Load) (live : List Container) → AreTied K loads live → All (λ (c : Container). IsSome (find (λ x. x.number == c.node) (nodes_of loads))) live
+homes_all K loads live tied =
+    All-from_recursion (λ (c : Container). IsSome (find (λ x. x.number == c.node) (nodes_of loads))) live
+    (all_each (λ (c : Container). IsSome (load_at loads c.node)) (λ (c : Container). IsSome (find (λ x. x.number == c.node) (nodes_of loads))) live
+    (λ c h. let at = at_of loads c.node h in rw (node_of_load loads c.node at.load at.at) refl)
     tied.homes)
 
-pub held_all : (K : ℕ) (live : List Container) (places : List Place) → AllByRecursion (IsTied K live) places →
-    All (λ (x : ClusterNode). fits (sum_where K (λ (c : Container). c.node == x.number) (λ c. c.resource) live) x.total ≡ true) (nodes_of places)
-held_all K live places ties = All-from_recursion (λ (x : ClusterNode). fits (sum_where K (λ (c : Container). c.node == x.number) (λ c. c.resource) live) x.total ≡ true) (nodes_of places) (each places ties)
+pub held_all : (K : ℕ) (live : List Container) (loads : List Load) → AllByRecursion (IsTied K live) loads →
+    All (λ (x : ClusterNode). fits (sum_where K (λ (c : Container). c.node == x.number) (λ c. c.resource) live) x.total ≡ true) (nodes_of loads)
+held_all K live loads ties = All-from_recursion (λ (x : ClusterNode). fits (sum_where K (λ (c : Container). c.node == x.number) (λ c. c.resource) live) x.total ≡ true) (nodes_of loads) (each loads ties)
   where
-    each : (ps : List Place) → AllByRecursion (IsTied K live) ps → AllByRecursion (λ (x : ClusterNode). fits (sum_where K (λ (c : Container). c.node == x.number) (λ c. c.resource) live) x.total ≡ true) (nodes_of ps)
+    each : (ps : List Load) → AllByRecursion (IsTied K live) ps → AllByRecursion (λ (x : ClusterNode). fits (sum_where K (λ (c : Container). c.node == x.number) (λ c. c.resource) live) x.total ≡ true) (nodes_of ps)
     each [] all = tt
     each (p ∷ ps) all =
         (amounts_fit (sum_where K (λ (c : Container). c.node == p.node.number) (λ c. c.resource) live) p.node.total (subst (λ (h : List ℕ). Fits h p.node.total) all.0.held all.0.fits), each ps all.1)
 
-pub rising_nodes : (places : List Place) (next : ℕ) → IsRising 1 (map (λ p. p.node.number) places) next → IsRising 1 (map (λ (x : ClusterNode). x.number) (nodes_of places)) next
-rising_nodes places next rising = subst (λ ns. IsRising 1 ns next) (sym (numbers_of_nodes places)) rising
+pub rising_nodes : (loads : List Load) (next : ℕ) → IsRising 1 (map (λ p. p.node.number) loads) next → IsRising 1 (map (λ (x : ClusterNode). x.number) (nodes_of loads)) next
+rising_nodes loads next rising = subst (λ ns. IsRising 1 ns next) (sym (numbers_of_nodes loads)) rising

@@ -12,11 +12,11 @@ use Rattle.cap_model.proofs.lists.Filters.{length-kept, filter_same}
 use Rattle.cap_model.proofs.lists.Members.{found as passes_found}
 use Rattle.cap_model.specs.Ending.{is_among}
 use Rattle.std.proofs.lemmas.Bool.Decides.{nat_tests}
-use Rattle.cap_nodes.specs.Places.{tagged, IsLive}
-use Rattle.cap_nodes.proofs.Numbered.{remove-tagged, insert-tagged, same_place, lookup-tagged, none_at_end, values-tagged}
+use Rattle.cap_nodes.specs.Loads.{tagged_items, IsLive}
+use Rattle.cap_nodes.proofs.Numbered.{remove-tagged, insert-tagged, same_tie, lookup-tagged, none_at_end, values-tagged}
 
 pub found : (entries : List (ℕ × Container)) (next n : ℕ) → IsLive entries next → lookup (is_at (nat_cmp n)) entries ≡ find (λ c. c.number == n) (values_of entries)
-found entries next n h = ap (lookup (is_at (nat_cmp n))) h.0 ∙ lookup-tagged (λ (c : Container). c.number) (is_at (nat_cmp n)) n (same_place n) (values_of entries)
+found entries next n h = ap (lookup (is_at (nat_cmp n))) h.0 ∙ lookup-tagged (λ (c : Container). c.number) (is_at (nat_cmp n)) n (same_tie n) (values_of entries)
 
 pub fresh : (entries : List (ℕ × Container)) (next : ℕ) → IsLive entries next → find (λ c. c.number == next) (values_of entries) ≡ None
 fresh entries next h = none_at_end (λ (c : Container). c.number) next 1 (values_of entries) h.1
@@ -26,13 +26,13 @@ pub record Are (entries : List (ℕ × Container)) (cs : List Container) (next :
   pub values : values_of entries ≡ cs
   pub live : IsLive entries next
 
-are : (entries : List (ℕ × Container)) (cs : List Container) (next : ℕ) → entries ≡ tagged (λ c. c.number) cs → IsRising 1 (map (λ c. c.number) cs) next → length cs ≤ live_max → Are entries cs next
+are : (entries : List (ℕ × Container)) (cs : List Container) (next : ℕ) → entries ≡ tagged_items (λ c. c.number) cs → IsRising 1 (map (λ c. c.number) cs) next → length cs ≤ live_max → Are entries cs next
 are entries cs next e rising few =
     let vs : values_of entries ≡ cs = ap values_of e ∙ values-tagged (λ (c : Container). c.number) cs in
     record {
       values = vs;
       live = (
-        e ∙ ap (tagged (λ (c : Container). c.number)) (sym vs),
+        e ∙ ap (tagged_items (λ (c : Container). c.number)) (sym vs),
         subst (λ (xs : List Container). IsRising 1 (map (λ c. c.number) xs) next) (sym vs) rising,
         subst (λ (xs : List Container). length xs ≤ live_max) (sym vs) few,
       );
@@ -42,7 +42,7 @@ pub removed : (old new : List (ℕ × Container)) (next n : ℕ) → IsLive old 
 removed old new next n h e =
     let num = λ (c : Container). c.number in
     let t = λ (c : Container). not (c.number == n) in
-    are new (filter t (values_of old)) next (e ∙ ap (remove_entry (is_at (nat_cmp n))) h.0 ∙ remove-tagged num (is_at (nat_cmp n)) n (same_place n) 1 (values_of old) next h.1)
+    are new (filter t (values_of old)) next (e ∙ ap (remove_entry (is_at (nat_cmp n))) h.0 ∙ remove-tagged num (is_at (nat_cmp n)) n (same_tie n) 1 (values_of old) next h.1)
     (rising_kept num t 1 (values_of old) next h.1)
     (omega (arith, length-kept t (values_of old), h.2))
 

@@ -9,24 +9,24 @@ use Rattle.std.specs.Cmp.{unsigned_ties, nat_cmp_is}
 use Rattle.std.proofs.lemmas.Bool.Decides.{nat_tests}
 use Rattle.cap_model.specs.Bounds.{IsRising}
 use Rattle.cap_model.proofs.lists.Numbered.{rising_ends}
-use Rattle.cap_nodes.specs.Places.{tagged}
+use Rattle.cap_nodes.specs.Loads.{tagged_items}
 
 -- the tests of maps by number
 pub same_number : (n k : ℕ) → nat_eq n k ≡ (k == n)
 same_number n k = grind (arith, nat_tests)
 
-pub same_place : (n k : ℕ) → is_at (nat_cmp n) k ≡ (k == n)
-same_place n k = sym (unsigned_ties n k) ∙ same_number n k
+pub same_tie : (n k : ℕ) → is_at (nat_cmp n) k ≡ (k == n)
+same_tie n k = sym (unsigned_ties n k) ∙ same_number n k
 
 greater : (n k : ℕ) → k < n → nat_cmp n k ≡ Greater
 greater n k h = sym (nat_cmp_is n k Greater h)
 
 module _ {X : Type 0} (num : X → ℕ) where
-  pub values-tagged : (xs : List X) → values_of (tagged num xs) ≡ xs
+  pub values-tagged : (xs : List X) → values_of (tagged_items num xs) ≡ xs
   values-tagged [] = refl
   values-tagged (x ∷ xs) = ap (λ ys. x ∷ ys) (values-tagged xs)
 
-  pub lookup-tagged : (test : ℕ → Bool) (n : ℕ) → ((k : ℕ) → test k ≡ (k == n)) → (xs : List X) → lookup test (tagged num xs) ≡ find (λ x. num x == n) xs
+  pub lookup-tagged : (test : ℕ → Bool) (n : ℕ) → ((k : ℕ) → test k ≡ (k == n)) → (xs : List X) → lookup test (tagged_items num xs) ≡ find (λ x. num x == n) xs
   lookup-tagged test n same [] = refl
   lookup-tagged test n same (x ∷ xs) = rw (same (num x), lookup-tagged test n same xs) refl
 
@@ -52,36 +52,36 @@ module _ {X : Type 0} (num : X → ℕ) where
 
   -- without the item of a number
   pub remove-tagged : (test : ℕ → Bool) (n : ℕ) → ((k : ℕ) → test k ≡ (k == n)) → (low : ℕ) (xs : List X) (high : ℕ) → IsRising low (map num xs) high →
-      remove_entry test (tagged num xs) ≡ tagged num (filter (λ x. not (num x == n)) xs)
+      remove_entry test (tagged_items num xs) ≡ tagged_items num (filter (λ x. not (num x == n)) xs)
   remove-tagged test n same low [] high r = refl
   remove-tagged test n same low (x ∷ xs) high r = by (num x == n) refl (remove-tagged test n same (num x + 1) xs high r.1)
     where
-      by : (b : Bool) → (num x == n) ≡ b → remove_entry test (tagged num xs) ≡ tagged num (filter (λ y. not (num y == n)) xs) →
-          remove_entry test (tagged num (x ∷ xs)) ≡ tagged num (filter (λ y. not (num y == n)) (x ∷ xs))
-      by true e more = rw (same (num x), e) (sym (ap (tagged num) (not_later n (num x + 1) xs high r.1 (grind (arith, nat_tests, e)))))
+      by : (b : Bool) → (num x == n) ≡ b → remove_entry test (tagged_items num xs) ≡ tagged_items num (filter (λ y. not (num y == n)) xs) →
+          remove_entry test (tagged_items num (x ∷ xs)) ≡ tagged_items num (filter (λ y. not (num y == n)) (x ∷ xs))
+      by true e more = rw (same (num x), e) (sym (ap (tagged_items num) (not_later n (num x + 1) xs high r.1 (grind (arith, nat_tests, e)))))
       by false e more = rw (same (num x), e) (ap (λ ys. (num x, x) ∷ ys) more)
 
   -- one more of the next number
-  pub insert-tagged : (low : ℕ) (xs : List X) (n : ℕ) (x : X) → num x ≡ n → IsRising low (map num xs) n → insert_entry nat_cmp (tagged num xs) n x ≡ tagged num (xs ++ x ∷ [])
+  pub insert-tagged : (low : ℕ) (xs : List X) (n : ℕ) (x : X) → num x ≡ n → IsRising low (map num xs) n → insert_entry nat_cmp (tagged_items num xs) n x ≡ tagged_items num (xs ++ x ∷ [])
   insert-tagged low [] n x e r = ap (λ k. (k, x) ∷ []) (sym e)
   insert-tagged low (y ∷ xs) n x e r =
       let below : num y < n = omega (arith, rising_ends num (num y + 1) xs n r.1) in
       rw (greater n (num y) below) (ap (λ ys. (num y, y) ∷ ys) (insert-tagged (num y + 1) xs n x e r.1))
 
-  pub push-tagged : (xs : List X) (n : ℕ) (x : X) → num x ≡ n → tagged num xs ++ (n, x) ∷ [] ≡ tagged num (xs ++ x ∷ [])
+  pub push-tagged : (xs : List X) (n : ℕ) (x : X) → num x ≡ n → tagged_items num xs ++ (n, x) ∷ [] ≡ tagged_items num (xs ++ x ∷ [])
   push-tagged [] n x e = ap (λ k. (k, x) ∷ []) (sym e)
   push-tagged (y ∷ xs) n x e = ap (λ ys. (num y, y) ∷ ys) (push-tagged xs n x e)
 
   -- the item of a number, changed
   pub set-tagged : (test : ℕ → Bool) (n : ℕ) → ((k : ℕ) → test k ≡ (k == n)) → (change : X → X) → ((x : X) → num (change x) ≡ num x) → (w : X) (low : ℕ) (xs : List X) (high : ℕ) →
       IsRising low (map num xs) high → ((x : X) → find (λ y. num y == n) xs ≡ Some x → w ≡ change x) →
-      set_value test (tagged num xs) w ≡ tagged num (map (λ x. cond (num x == n) (change x) x) xs)
+      set_value test (tagged_items num xs) w ≡ tagged_items num (map (λ x. cond (num x == n) (change x) x) xs)
   set-tagged test n same change keeps w low [] high r is = refl
   set-tagged test n same change keeps w low (x ∷ xs) high r is = by (num x == n) refl (λ later. set-tagged test n same change keeps w (num x + 1) xs high r.1 later)
     where
       by : (b : Bool) → (num x == n) ≡ b →
-          (((y : X) → find (λ z. num z == n) xs ≡ Some y → w ≡ change y) → set_value test (tagged num xs) w ≡ tagged num (map (λ y. cond (num y == n) (change y) y) xs)) →
-          set_value test (tagged num (x ∷ xs)) w ≡ tagged num (map (λ y. cond (num y == n) (change y) y) (x ∷ xs))
+          (((y : X) → find (λ z. num z == n) xs ≡ Some y → w ≡ change y) → set_value test (tagged_items num xs) w ≡ tagged_items num (map (λ y. cond (num y == n) (change y) y) xs)) →
+          set_value test (tagged_items num (x ∷ xs)) w ≡ tagged_items num (map (λ y. cond (num y == n) (change y) y) (x ∷ xs))
       by true e more =
           let later = same_later n (num x + 1) xs high change r.1 (grind (arith, nat_tests, e)) in
           let here : w ≡ change x = is x (rw e refl) in

@@ -5,7 +5,7 @@ use Rattle.std.proofs.lemmas.Bool.Decides.{nat_tests}
 use Rattle.cap_model.specs.Bounds.{IsRising}
 use Rattle.cap_model.specs.Flat.{Container}
 use Rattle.cap_model.proofs.lists.Numbered.{none_before}
-use Rattle.cap_nodes.specs.Places.{IsOwnerIndex, is_of, has_pair, HasMore, HasLess}
+use Rattle.cap_nodes.specs.Loads.{IsOwnerIndex, is_of, has_pair, HasMore, HasLess}
 
 find_pushed : (n : ℕ) (cs : List Container) (c : Container) → find (λ x. x.number == c.number) cs ≡ None →
     find (λ x. x.number == n) (cs ++ c ∷ []) ≡ cond (c.number == n) (Some c) (find (λ x. x.number == n) cs)

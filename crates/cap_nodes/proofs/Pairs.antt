@@ -7,7 +7,7 @@ use Rattle.std.specs.declared.cmp.Ordering.TheVariants.{Less, Equal, Greater}
 use Rattle.std.specs.BTreeMap.{is_at}
 use Rattle.std.specs.Cmp.{both_tied, unsigned_ties}
 use Rattle.std.proofs.lemmas.Bool.Decides.{nat_tests}
-use Rattle.cap_nodes.specs.Places.{pair_cmp, has_pair}
+use Rattle.cap_nodes.specs.Loads.{pair_cmp, has_pair}
 
 pub same_pair : (a n b m : ℕ) → is_at (pair_cmp (a, n)) (b, m) ≡ (a == b && n == m)
 same_pair a n b m = sym (both_tied (a == b) (n == m) (nat_cmp a b) (nat_cmp n m) (unsigned_ties a b) (unsigned_ties n m))

@@ -7,70 +7,70 @@ use Rattle.cap_model.specs.Bounds.{IsRising}
 use Rattle.cap_model.specs.Limits.{nodes_max}
 use Rattle.cap_model.proofs.lists.Numbered.{rising_kept, rising_more}
 use Rattle.cap_model.proofs.lists.Filters.{length-kept}
-use Rattle.cap_nodes.specs.Places.{Place, tagged, place_at, change_place}
+use Rattle.cap_nodes.specs.Loads.{Load, tagged_items, load_at, change_load}
 use Rattle.cap_nodes.proofs.Numbered.{remove-tagged, push-tagged, set-tagged, lookup-tagged, same_number, values-tagged, length-change, numbers-change, none_at_end}
 
--- the entries are the places by number, which rise and are few
-abbrev pub IsPresent : List (ℕ × Place) → ℕ → Type 0
-IsPresent entries next = (entries ≡ tagged (λ p. p.node.number) (values_of entries)) × (IsRising 1 (map (λ p. p.node.number) (values_of entries)) next) × (length (values_of entries) ≤ nodes_max)
+-- the entries are the loads by number, which rise and are few
+abbrev pub IsPresent : List (ℕ × Load) → ℕ → Type 0
+IsPresent entries next = (entries ≡ tagged_items (λ p. p.node.number) (values_of entries)) × (IsRising 1 (map (λ p. p.node.number) (values_of entries)) next) × (length (values_of entries) ≤ nodes_max)
 
--- entries that are some places by number
-pub record Are (entries : List (ℕ × Place)) (ps : List Place) (next : ℕ) : Type 0 where
+-- entries that are some loads by number
+pub record Are (entries : List (ℕ × Load)) (ps : List Load) (next : ℕ) : Type 0 where
   pub values : values_of entries ≡ ps
   pub present : IsPresent entries next
 
-are : (entries : List (ℕ × Place)) (ps : List Place) (next : ℕ) → entries ≡ tagged (λ p. p.node.number) ps → IsRising 1 (map (λ p. p.node.number) ps) next → length ps ≤ nodes_max → Are entries ps next
+are : (entries : List (ℕ × Load)) (ps : List Load) (next : ℕ) → entries ≡ tagged_items (λ p. p.node.number) ps → IsRising 1 (map (λ p. p.node.number) ps) next → length ps ≤ nodes_max → Are entries ps next
 are entries ps next e rising few =
-    let vs : values_of entries ≡ ps = ap values_of e ∙ values-tagged (λ (p : Place). p.node.number) ps in
+    let vs : values_of entries ≡ ps = ap values_of e ∙ values-tagged (λ (p : Load). p.node.number) ps in
     record {
       values = vs;
       present = (
-        e ∙ ap (tagged (λ (p : Place). p.node.number)) (sym vs),
-        subst (λ (xs : List Place). IsRising 1 (map (λ p. p.node.number) xs) next) (sym vs) rising,
-        subst (λ (xs : List Place). length xs ≤ nodes_max) (sym vs) few,
+        e ∙ ap (tagged_items (λ (p : Load). p.node.number)) (sym vs),
+        subst (λ (xs : List Load). IsRising 1 (map (λ p. p.node.number) xs) next) (sym vs) rising,
+        subst (λ (xs : List Load). length xs ≤ nodes_max) (sym vs) few,
       );
     }
 
-pub found : (entries : List (ℕ × Place)) (next n : ℕ) → IsPresent entries next → lookup (nat_eq n) entries ≡ place_at (values_of entries) n
-found entries next n h = ap (lookup (nat_eq n)) h.0 ∙ lookup-tagged (λ (p : Place). p.node.number) (nat_eq n) n (same_number n) (values_of entries)
+pub found : (entries : List (ℕ × Load)) (next n : ℕ) → IsPresent entries next → lookup (nat_eq n) entries ≡ load_at (values_of entries) n
+found entries next n h = ap (lookup (nat_eq n)) h.0 ∙ lookup-tagged (λ (p : Load). p.node.number) (nat_eq n) n (same_number n) (values_of entries)
 
-pub absent : (entries : List (ℕ × Place)) (next : ℕ) → IsPresent entries next → lookup (nat_eq next) entries ≡ None
-absent entries next h = found entries next next h ∙ none_at_end (λ (p : Place). p.node.number) next 1 (values_of entries) h.1
+pub absent : (entries : List (ℕ × Load)) (next : ℕ) → IsPresent entries next → lookup (nat_eq next) entries ≡ None
+absent entries next h = found entries next next h ∙ none_at_end (λ (p : Load). p.node.number) next 1 (values_of entries) h.1
 
-pub removed : (old new : List (ℕ × Place)) (next n : ℕ) → IsPresent old next → new ≡ remove_entry (nat_eq n) old → Are new (filter (λ p. not (p.node.number == n)) (values_of old)) next
+pub removed : (old new : List (ℕ × Load)) (next n : ℕ) → IsPresent old next → new ≡ remove_entry (nat_eq n) old → Are new (filter (λ p. not (p.node.number == n)) (values_of old)) next
 removed old new next n h e =
-    let num = λ (p : Place). p.node.number in
-    let t = λ (p : Place). not (p.node.number == n) in
+    let num = λ (p : Load). p.node.number in
+    let t = λ (p : Load). not (p.node.number == n) in
     are new (filter t (values_of old)) next (e ∙ ap (remove_entry (nat_eq n)) h.0 ∙ remove-tagged num (nat_eq n) n (same_number n) 1 (values_of old) next h.1)
     (rising_kept num t 1 (values_of old) next h.1)
     (omega (arith, length-kept t (values_of old), h.2))
 
-pub pushed : (old new : List (ℕ × Place)) (next : ℕ) (p : Place) → IsPresent old next → length (values_of old) < nodes_max → p.node.number ≡ next → new ≡ old ++ (next, p) ∷ [] →
+pub pushed : (old new : List (ℕ × Load)) (next : ℕ) (p : Load) → IsPresent old next → length (values_of old) < nodes_max → p.node.number ≡ next → new ≡ old ++ (next, p) ∷ [] →
     Are new (values_of old ++ p ∷ []) (next + 1)
 pushed old new next p h few is e =
-    let num = λ (p : Place). p.node.number in
-    are new (values_of old ++ p ∷ []) (next + 1) (e ∙ ap (λ (es : List (ℕ × Place)). es ++ (next, p) ∷ []) h.0 ∙ push-tagged num (values_of old) next p is)
+    let num = λ (p : Load). p.node.number in
+    are new (values_of old ++ p ∷ []) (next + 1) (e ∙ ap (λ (es : List (ℕ × Load)). es ++ (next, p) ∷ []) h.0 ∙ push-tagged num (values_of old) next p is)
     (rising_more num 1 (values_of old) p next is h.1)
     (omega (arith, length-append (values_of old) (p ∷ []), few))
 
-pub changed : (old new : List (ℕ × Place)) (next n : ℕ) (change : Place → Place) → ((p : Place) → (change p).node.number ≡ p.node.number) → (p w : Place) → IsPresent old next →
-    place_at (values_of old) n ≡ Some p → w ≡ change p → new ≡ set_value (nat_eq n) old w → Are new (change_place n change (values_of old)) next
+pub changed : (old new : List (ℕ × Load)) (next n : ℕ) (change : Load → Load) → ((p : Load) → (change p).node.number ≡ p.node.number) → (p w : Load) → IsPresent old next →
+    load_at (values_of old) n ≡ Some p → w ≡ change p → new ≡ set_value (nat_eq n) old w → Are new (change_load n change (values_of old)) next
 changed old new next n change keeps p w h there is e =
-    let num = λ (p : Place). p.node.number in
-    let only : (q : Place) → place_at (values_of old) n ≡ Some q → w ≡ change q = λ q at. is ∙ ap change (same_Some p q (sym there ∙ at)) in
-    are new (change_place n change (values_of old)) next
-    (e ∙ ap (λ (es : List (ℕ × Place)). set_value (nat_eq n) es w) h.0 ∙ set-tagged num (nat_eq n) n (same_number n) change keeps w 1 (values_of old) next h.1 only)
+    let num = λ (p : Load). p.node.number in
+    let only : (q : Load) → load_at (values_of old) n ≡ Some q → w ≡ change q = λ q at. is ∙ ap change (same_Some p q (sym there ∙ at)) in
+    are new (change_load n change (values_of old)) next
+    (e ∙ ap (λ (es : List (ℕ × Load)). set_value (nat_eq n) es w) h.0 ∙ set-tagged num (nat_eq n) n (same_number n) change keeps w 1 (values_of old) next h.1 only)
     (subst (λ ns. IsRising 1 ns next) (sym (numbers-change num n change keeps (values_of old))) h.1)
     (omega (arith, length-change num n change (values_of old), h.2))
 
-pub not_none : (o : Option Place) → o ≡ None → IsSome o → ⊥
+pub not_none : (o : Option Load) → o ≡ None → IsSome o → ⊥
 not_none (Some p) e h = absurd (cc e)
 not_none None e h = absurd (cc h)
 
-pub of_found : (P : Place → Type 0) (o : Option Place) (p : Place) → o ≡ Some p → IfSome o P → P p
+pub of_found : (P : Load → Type 0) (o : Option Load) (p : Load) → o ≡ Some p → IfSome o P → P p
 of_found P (Some q) p e h = subst P (same_Some q p e) h
 of_found P None p e h = absurd (cc e)
 
-pub if_found : (P : Place → Type 0) (o : Option Place) (p : Place) → o ≡ Some p → P p → IfSome o P
+pub if_found : (P : Load → Type 0) (o : Option Load) (p : Load) → o ≡ Some p → P p → IfSome o P
 if_found P (Some q) p e h = subst P (sym (same_Some q p e)) h
 if_found P None p e h = absurd (cc e)

@@ -12,7 +12,7 @@ use Rattle.cap_model.specs.Amounts.{sum_where}
 use Rattle.cap_model.specs.Bounds.{IsRising}
 use Rattle.cap_model.specs.Flat.{Container}
 use Rattle.cap_model.proofs.lists.Sums.{one_where}
-use Rattle.cap_nodes.specs.Places.{Place, IsTied, place_at, change_place, held_more, held_less, CanHold, HasOne}
+use Rattle.cap_nodes.specs.Loads.{Load, IsTied, load_at, change_load, held_more, held_less, CanHold, HasOne}
 use Rattle.cap_nodes.proofs.Sums.{where-push-other, where-push-own, where-less-other, where-less-own, where-had, sum-without, count-push}
 
 -- what holds of each holds of the one that is found
@@ -26,31 +26,31 @@ is_found P t (y ∷ xs) x there all = by (t y) refl (λ later. is_found P t xs x
         (subst P this all.0, subst (λ z. t z ≡ true) this e)
     by false e more = more (subst (λ b. cond b (Some y) (find t xs) ≡ Some x) e there)
 
--- what holds of each place still does after a change of one
-all_later : (P Q : Place → Type 0) (n low : ℕ) (change : Place → Place) (places : List Place) (high : ℕ) → IsRising low (map (λ p. p.node.number) places) high → n < low →
-    ((q : Place) → P q → (q.node.number == n) ≡ false → Q q) → AllByRecursion P places → AllByRecursion Q (change_place n change places)
+-- what holds of each load still does after a change of one
+all_later : (P Q : Load → Type 0) (n low : ℕ) (change : Load → Load) (loads : List Load) (high : ℕ) → IsRising low (map (λ p. p.node.number) loads) high → n < low →
+    ((q : Load) → P q → (q.node.number == n) ≡ false → Q q) → AllByRecursion P loads → AllByRecursion Q (change_load n change loads)
 all_later P Q n low change [] high r h other all = tt
-all_later P Q n low change (q ∷ places) high r h other all =
+all_later P Q n low change (q ∷ loads) high r h other all =
     let no : (q.node.number == n) ≡ false = grind (arith, nat_tests, r.0, h) in
-    (subst (λ b. Q (cond b (change q) q)) (sym no) (other q all.0 no), all_later P Q n (q.node.number + 1) change places high r.1 (omega (arith, r.0, h)) other all.1)
+    (subst (λ b. Q (cond b (change q) q)) (sym no) (other q all.0 no), all_later P Q n (q.node.number + 1) change loads high r.1 (omega (arith, r.0, h)) other all.1)
 
-pub all_changed : (P Q : Place → Type 0) (n low : ℕ) (change : Place → Place) (p : Place) (places : List Place) (high : ℕ) → IsRising low (map (λ q. q.node.number) places) high →
-    place_at places n ≡ Some p → (P p → Q (change p)) → ((q : Place) → P q → (q.node.number == n) ≡ false → Q q) → AllByRecursion P places → AllByRecursion Q (change_place n change places)
+pub all_changed : (P Q : Load → Type 0) (n low : ℕ) (change : Load → Load) (p : Load) (loads : List Load) (high : ℕ) → IsRising low (map (λ q. q.node.number) loads) high →
+    load_at loads n ≡ Some p → (P p → Q (change p)) → ((q : Load) → P q → (q.node.number == n) ≡ false → Q q) → AllByRecursion P loads → AllByRecursion Q (change_load n change loads)
 all_changed P Q n low change p [] high r there own other all = tt
-all_changed P Q n low change p (q ∷ places) high r there own other all = by (q.node.number == n) refl (λ later. all_changed P Q n (q.node.number + 1) change p places high r.1 later own other all.1)
+all_changed P Q n low change p (q ∷ loads) high r there own other all = by (q.node.number == n) refl (λ later. all_changed P Q n (q.node.number + 1) change p loads high r.1 later own other all.1)
   where
-    by : (b : Bool) → (q.node.number == n) ≡ b → (place_at places n ≡ Some p → AllByRecursion Q (change_place n change places)) → AllByRecursion Q (change_place n change (q ∷ places))
+    by : (b : Bool) → (q.node.number == n) ≡ b → (load_at loads n ≡ Some p → AllByRecursion Q (change_load n change loads)) → AllByRecursion Q (change_load n change (q ∷ loads))
     by true e more =
-        let this : q ≡ p = same_Some q p (subst (λ b. cond b (Some q) (place_at places n) ≡ Some p) e there) in (
-          subst (λ b. Q (cond b (change q) q)) (sym e) (subst (λ (x : Place). Q (change x)) (sym this) (own (subst P this all.0))),
-          all_later P Q n (q.node.number + 1) change places high r.1 (grind (arith, nat_tests, e)) other all.1,
+        let this : q ≡ p = same_Some q p (subst (λ b. cond b (Some q) (load_at loads n) ≡ Some p) e there) in (
+          subst (λ b. Q (cond b (change q) q)) (sym e) (subst (λ (x : Load). Q (change x)) (sym this) (own (subst P this all.0))),
+          all_later P Q n (q.node.number + 1) change loads high r.1 (grind (arith, nat_tests, e)) other all.1,
         )
-    by false e more = (subst (λ b. Q (cond b (change q) q)) (sym e) (other q all.0 e), more (subst (λ b. cond b (Some q) (place_at places n) ≡ Some p) e there))
+    by false e more = (subst (λ b. Q (cond b (change q) q)) (sym e) (other q all.0 e), more (subst (λ b. cond b (Some q) (load_at loads n) ≡ Some p) e there))
 
-pub all_mapped : (P Q : Place → Type 0) (n : ℕ) (change : Place → Place) (places : List Place) → ((q : Place) → P q → Q (change q)) → ((q : Place) → P q → Q q) → AllByRecursion P places →
-    AllByRecursion Q (change_place n change places)
+pub all_mapped : (P Q : Load → Type 0) (n : ℕ) (change : Load → Load) (loads : List Load) → ((q : Load) → P q → Q (change q)) → ((q : Load) → P q → Q q) → AllByRecursion P loads →
+    AllByRecursion Q (change_load n change loads)
 all_mapped P Q n change [] own other all = tt
-all_mapped P Q n change (q ∷ places) own other all = (by (q.node.number == n), all_mapped P Q n change places own other all.1)
+all_mapped P Q n change (q ∷ loads) own other all = (by (q.node.number == n), all_mapped P Q n change loads own other all.1)
   where
     by : (b : Bool) → Q (cond b (change q) q)
     by true = own q all.0
@@ -72,30 +72,30 @@ pub all_pushed : {X : Type 0} (P : X → Type 0) (xs : List X) (x : X) → AllBy
 all_pushed P [] x all h = (h, tt)
 all_pushed P (y ∷ xs) x all h = (all.0, all_pushed P xs x all.1 h)
 
--- a place that is there is still there
-pub still_there : (places : List Place) (n m : ℕ) (change : Place → Place) → ((p : Place) → (change p).node.number ≡ p.node.number) → IsSome (place_at places m) → IsSome (place_at (change_place n change places) m)
+-- a load that is there is still there
+pub still_there : (loads : List Load) (n m : ℕ) (change : Load → Load) → ((p : Load) → (change p).node.number ≡ p.node.number) → IsSome (load_at loads m) → IsSome (load_at (change_load n change loads) m)
 still_there [] n m change keeps there = there
-still_there (q ∷ places) n m change keeps there = by (q.node.number == n) (q.node.number == m) refl (keeps q) (λ later. still_there places n m change keeps later) there
+still_there (q ∷ loads) n m change keeps there = by (q.node.number == n) (q.node.number == m) refl (keeps q) (λ later. still_there loads n m change keeps later) there
   where
-    by : (b e : Bool) → (q.node.number == m) ≡ e → (change q).node.number ≡ q.node.number → (IsSome (place_at places m) → IsSome (place_at (change_place n change places) m)) →
-        IsSome (cond e (Some q) (place_at places m)) →
-        IsSome (cond ((cond b (change q) q).node.number == m) (Some (cond b (change q) q)) (place_at (change_place n change places) m))
+    by : (b e : Bool) → (q.node.number == m) ≡ e → (change q).node.number ≡ q.node.number → (IsSome (load_at loads m) → IsSome (load_at (change_load n change loads) m)) →
+        IsSome (cond e (Some q) (load_at loads m)) →
+        IsSome (cond ((cond b (change q) q).node.number == m) (Some (cond b (change q) q)) (load_at (change_load n change loads) m))
     by true true is k more h = let y : ((change q).node.number == m) ≡ true = ap (λ x. x == m) k ∙ is in rw y refl
     by true false is k more h = let y : ((change q).node.number == m) ≡ false = ap (λ x. x == m) k ∙ is in rw y (more h)
     by false true is k more h = rw is refl
     by false false is k more h = rw is (more h)
 
-pub there_pushed : (places : List Place) (p : Place) (m : ℕ) → IsSome (place_at places m) → IsSome (place_at (places ++ p ∷ []) m)
+pub there_pushed : (loads : List Load) (p : Load) (m : ℕ) → IsSome (load_at loads m) → IsSome (load_at (loads ++ p ∷ []) m)
 there_pushed [] p m there = absurd (cc there)
-there_pushed (q ∷ places) p m there = by (q.node.number == m) there (there_pushed places p m)
+there_pushed (q ∷ loads) p m there = by (q.node.number == m) there (there_pushed loads p m)
   where
-    by : (b : Bool) → IsSome (cond b (Some q) (place_at places m)) → (IsSome (place_at places m) → IsSome (place_at (places ++ p ∷ []) m)) → IsSome (cond b (Some q) (place_at (places ++ p ∷ []) m))
+    by : (b : Bool) → IsSome (cond b (Some q) (load_at loads m)) → (IsSome (load_at loads m) → IsSome (load_at (loads ++ p ∷ []) m)) → IsSome (cond b (Some q) (load_at (loads ++ p ∷ []) m))
     by true h more = refl
     by false h more = more h
 
 module _ (K : ℕ) (live : List Container) where
   -- a container that comes
-  pub tied_beside : (c : Container) (p : Place) → IsTied K live p → (c.node == p.node.number) ≡ false → IsTied K (live ++ c ∷ []) p
+  pub tied_beside : (c : Container) (p : Load) → IsTied K live p → (c.node == p.node.number) ≡ false → IsTied K (live ++ c ∷ []) p
   tied_beside c p tie e =
       let t = λ (x : Container). x.node == p.node.number in
       let z : one_where (t c) ≡ 0 = ap one_where e in
@@ -106,7 +106,7 @@ module _ (K : ℕ) (live : List Container) where
         within = tie.within;
       }
 
-  pub tied_with : (c : Container) (p : Place) → IsTied K live p → (c.node == p.node.number) ≡ true → length (plus p.held c.resource) ≡ K → Fits (plus p.held c.resource) p.node.total →
+  pub tied_with : (c : Container) (p : Load) → IsTied K live p → (c.node == p.node.number) ≡ true → length (plus p.held c.resource) ≡ K → Fits (plus p.held c.resource) p.node.total →
       IsTied K (live ++ c ∷ []) (held_more c.resource p)
   tied_with c p tie e count fits =
       let t = λ (x : Container). x.node == p.node.number in
@@ -120,10 +120,10 @@ module _ (K : ℕ) (live : List Container) where
       }
 
   -- room on a node
-  pub room_fits : (r : List ℕ) (p : Place) → IsTied K live p → Fits r (less p.node.total p.held) → Fits (plus p.held r) p.node.total
+  pub room_fits : (r : List ℕ) (p : Load) → IsTied K live p → Fits r (less p.node.total p.held) → Fits (plus p.held r) p.node.total
   room_fits r p tie room k = omega (arith, amount-plus p.held r k, amount-less p.node.total p.held k, room k, tie.fits k)
 
-  pub has_room : (r : List ℕ) (p : Place) → IsTied K live p → Fits r (less p.node.total p.held) → length live < live_max → CanHold r p
+  pub has_room : (r : List ℕ) (p : Load) → IsTied K live p → Fits r (less p.node.total p.held) → length live < live_max → CanHold r p
   has_room r p tie room few = record {
     within = λ k. omega (arith, room_fits r p tie room k, tie.within k);
     few = omega (arith, tie.count, count_by-le-length (λ (x : Container). x.node == p.node.number) live, few);
@@ -134,7 +134,7 @@ module _ (K : ℕ) (live : List Container) where
     moved h = sum-without (λ (x : Container). x.number) h n 1 live high rising c there
 
     -- a container that goes
-    pub untied_beside : (p : Place) → IsTied K live p → (c.node == p.node.number) ≡ false → IsTied K (filter (λ x. not (x.number == n)) live) p
+    pub untied_beside : (p : Load) → IsTied K live p → (c.node == p.node.number) ≡ false → IsTied K (filter (λ x. not (x.number == n)) live) p
     untied_beside p tie e =
         let t = λ (x : Container). x.node == p.node.number in
         let left = filter (λ (x : Container). not (x.number == n)) live in
@@ -147,7 +147,7 @@ module _ (K : ℕ) (live : List Container) where
           within = tie.within;
         }
 
-    pub has_one : (p : Place) → IsTied K live p → (c.node == p.node.number) ≡ true → length c.resource ≤ K → HasOne c.resource p
+    pub has_one : (p : Load) → IsTied K live p → (c.node == p.node.number) ≡ true → length c.resource ≤ K → HasOne c.resource p
     has_one p tie e short =
         let t = λ (x : Container). x.node == p.node.number in
         let left = filter (λ (x : Container). not (x.number == n)) live in
@@ -158,7 +158,7 @@ module _ (K : ℕ) (live : List Container) where
           some = (let b = tie.count in let r : 0 < p.live = omega (arith, m, b, z) in r);
         }
 
-    pub untied_from : (p : Place) → IsTied K live p → (c.node == p.node.number) ≡ true → IsTied K (filter (λ x. not (x.number == n)) live) (held_less c.resource p)
+    pub untied_from : (p : Load) → IsTied K live p → (c.node == p.node.number) ≡ true → IsTied K (filter (λ x. not (x.number == n)) live) (held_less c.resource p)
     untied_from p tie e =
         let t = λ (x : Container). x.node == p.node.number in
         let left = filter (λ (x : Container). not (x.number == n)) live in

@@ -2,10 +2,10 @@
 #![tactic(auto)]
 
 mod live;
+mod load;
 mod node;
 mod nodes;
 mod owners;
-mod place;
 mod present;
 
 pub use cap_model::Container;

@@ -1,6 +1,7 @@
-ghost use Rattle.std.specs.Prelude.{◌≡◌, ℕ, ◌+◌, ◌<◌, ◌≤◌, ◌++◌, ◌∷◌, [], ◌==◌, ◌&&◌, nat_lt, length, map, find, filter, not, IfOk, OnErr};
+ghost use Rattle.std.specs.Prelude.{◌≡◌, ℕ, ◌+◌, ◌<◌, ◌≤◌, [], ◌==◌, ◌&&◌, nat_lt, length, map, find, filter, not, IfOk, OnErr};
 ghost use Rattle.cap_model.specs.Limits.{live_max, number_end};
 ghost use Rattle.cap_model.specs.Bounds.{IsRising};
+ghost use Rattle.cap_nodes.specs.Loads.{add_live};
 
 use crate::owners::Owners;
 use cap_model::{Container, Key, NoMemory};
@@ -21,7 +22,7 @@ pub(crate) struct Live<const K: usize> {
 
 impl<const K: usize> Model for Live<K> {
     ghost use Rattle.std.specs.BTreeMap.{values};
-    ghost use Rattle.cap_nodes.specs.Places.{LiveTable, IsOwnerIndex, IsLive};
+    ghost use Rattle.cap_nodes.specs.Loads.{LiveTable, IsOwnerIndex, IsLive};
 
     ghost Value = { LiveTable };
 
@@ -80,7 +81,7 @@ impl<const K: usize> Live<K> {
         requires few { length self.old.live < live_max }
         requires numbered { self.old.next < number_end }
         ensures ok { IfOk result (λ number. (number ≡ self.old.next)
-            × (self.new ≡ record { live = self.old.live ++ record { number = self.old.next; app = app; key = key.now; node = node; resource = resource.now } ∷ []; next = self.old.next + 1 })) }
+            × (self.new ≡ add_live app key.now node resource.now self.old)) }
         ensures err { OnErr result (self.new ≡ self.old) }
     {
         let number = self.next;

@@ -2,6 +2,7 @@ ghost use Rattle.std.specs.Prelude.{◌≡◌, ◌<◌, Some, None, if◌then◌
 ghost use Rattle.cap_vector.specs.Vector.{IsResource};
 ghost use Rattle.cap_model.specs.ResponseIds.{is_repeated, is_bad_id};
 ghost use Rattle.cap_model.specs.Heartbeat.{after_beat};
+ghost use Rattle.cap_model.specs.RegisterNode.{new_node};
 
 use cap_model::{HeartbeatReply, ShortText, is_bad, next_response, repeats};
 use cap_vector::Resource;
@@ -39,7 +40,7 @@ impl<const K: usize> Node<K> {
         rack: &ShortText,
         total: &Resource<K>,
     ) -> Node<K>
-        ensures { result ≡ record { number = number; host = host.now; rack = rack.now; total = total.now; response = 0; kept = None } }
+        ensures { result ≡ new_node number host.now rack.now total.now }
     {
         Node {
             number,

@@ -1,4 +1,4 @@
-ghost use Rattle.std.specs.Prelude.{◌≡◌, ◌+◌, ◌<◌, ◌≤◌, ◌==◌, ◌&&◌, nat_lt, [], ◌∷◌, IsSome, Some, IfOk, IfSome, OnOk, OnErr, bytes_eq, length, map, find, true, option_and_then};
+ghost use Rattle.std.specs.Prelude.{◌≡◌, ◌<◌, ◌≤◌, ◌==◌, ◌&&◌, nat_lt, [], ◌∷◌, IsSome, Some, IfOk, IfSome, OnOk, OnErr, bytes_eq, length, map, find, true, option_and_then};
 ghost use Rattle.std.specs.List.{All, list_any, remove};
 ghost use Rattle.std.specs.Option.{option_copied};
 ghost use Rattle.cap_vector.specs.Vector.{Fits, IsWithin, amount_max, plus};
@@ -6,13 +6,13 @@ ghost use Rattle.cap_model.specs.Limits.{live_max, nodes_max, number_end};
 ghost use Rattle.cap_model.specs.Amounts.{fits};
 ghost use Rattle.cap_model.specs.Bounds.{IsRising};
 ghost use Rattle.cap_model.specs.RegisterNode.{sum_of_totals, add_node};
-ghost use Rattle.cap_model.specs.Flat.{no_nodes, node_in, container_in, containers_on, change_node};
-ghost use Rattle.cap_model.specs.Events.{add_reservation, launch};
+ghost use Rattle.cap_model.specs.Flat.{no_nodes, node_in, container_in, containers_on};
+ghost use Rattle.cap_model.specs.Events.{add_reservation};
 ghost use Rattle.cap_model.specs.Ending.{complete};
 ghost use Rattle.cap_model.specs.NodeGone.{remove_node};
 ghost use Rattle.cap_model.specs.Uses.{held_on};
-ghost use Rattle.cap_model.specs.Heartbeat.{after_beat};
 ghost use Rattle.cap_nodes.specs.Tables.{free_on};
+ghost use Rattle.cap_nodes.specs.Loads.{add_container, new_reservation, after_beat_of};
 
 use crate::live::Live;
 use crate::node::Node;
@@ -36,13 +36,13 @@ impl<const K: usize> Model for Nodes<K> {
     ghost use Rattle.std.specs.Prelude.{◌≡◌, [], map};
     ghost use Rattle.cap_model.specs.Flat.{NodeTable};
     ghost use Rattle.cap_model.specs.RegisterNode.{sum_of_totals};
-    ghost use Rattle.cap_nodes.specs.Places.{AreTied};
+    ghost use Rattle.cap_nodes.specs.Loads.{AreTied};
 
     ghost Value = { NodeTable };
 
-    ghost view = { λ n. record { present = map (λ p. p.node) n.present.places; live = n.live.live; reserved = n.reserved.items; next_node = n.present.next; next_container = n.live.next } };
+    ghost view = { λ n. record { present = map (λ p. p.node) n.present.loads; live = n.live.live; reserved = n.reserved.items; next_node = n.present.next; next_container = n.live.next } };
 
-    ghost invariant = { λ n. (AreTied K n.present.places n.live.live) × (n.total ≡ sum_of_totals K (map (λ p. p.node) n.present.places)) };
+    ghost invariant = { λ n. (AreTied K n.present.loads n.live.live) × (n.total ≡ sum_of_totals K (map (λ p. p.node) n.present.loads)) };
 }
 
 impl<const K: usize> Nodes<K> {
@@ -66,7 +66,7 @@ impl<const K: usize> Nodes<K> {
         ensures held { All (λ node. fits (held_on K self.now node.number) node.total ≡ true) self.now.present }
     {
         match self.present.get(number) {
-            Some(place) => Some(place.node()),
+            Some(load) => Some(load.node()),
             None => None,
         }
     }
@@ -140,7 +140,7 @@ impl<const K: usize> Nodes<K> {
         ensures { result ≡ length (containers_on self.now number) }
     {
         match self.present.get(number) {
-            Some(place) => place.live(),
+            Some(load) => load.live(),
             None => 0,
         }
     }
@@ -151,7 +151,7 @@ impl<const K: usize> Nodes<K> {
         ensures { result ≡ free_on K self.now number }
     {
         match self.present.get(number) {
-            Some(place) => place.free(),
+            Some(load) => load.free(),
             None => unreachable!(),
         }
     }
@@ -167,7 +167,8 @@ impl<const K: usize> Nodes<K> {
         requires few { length self.old.present < nodes_max }
         requires numbered { self.old.next_node < number_end }
         requires within { IsWithin amount_max (plus (sum_of_totals K self.old.present) total.now) }
-        ensures ok { IfOk result (λ number. (number ≡ self.old.next_node) × (self.new ≡ add_node host.now rack.now total.now self.old)) }
+        ensures ok { IfOk result (λ number. (number ≡ self.old.next_node)
+            × (self.new ≡ add_node host.now rack.now total.now self.old)) }
         ensures err { OnErr result (self.new ≡ self.old) }
     {
         let Some(sum) = checked_add(&self.total, total) else {
@@ -194,7 +195,8 @@ impl<const K: usize> Nodes<K> {
         requires room { Fits resource.now (free_on K self.old node) }
         requires numbered { self.old.next_container < number_end }
         requires few { length self.old.live < live_max }
-        ensures ok { IfOk result (λ number. (number ≡ self.old.next_container) × (self.new ≡ launch (record { number = self.old.next_container; app = app; key = key.now; node = node; resource = resource.now }) self.old)) }
+        ensures ok { IfOk result (λ number. (number ≡ self.old.next_container)
+            × (self.new ≡ add_container app key.now node resource.now self.old)) }
         ensures err { OnErr result (self.new ≡ self.old) }
     {
         let number = match self.live.push(app, key, node, resource) {
@@ -223,7 +225,7 @@ impl<const K: usize> Nodes<K> {
         node: u64,
         resource: &Resource<K>,
     ) -> Result<(), NoMemory>
-        ensures ok { OnOk result (self.new ≡ add_reservation (record { app = app; key = key.now; node = node; resource = resource.now }) self.old) }
+        ensures ok { OnOk result (self.new ≡ add_reservation (new_reservation app key.now node resource.now) self.old) }
         ensures err { OnErr result (self.new ≡ self.old) }
     {
         let reservation = Reservation {
@@ -250,7 +252,7 @@ impl<const K: usize> Nodes<K> {
     /// id moves on, and the reply, which is the result, is kept. It tells how many are live there now.
     pub fn beat(&mut self, number: u64, ignored: u16) -> HeartbeatReply
         requires { IsSome (node_in self.old number) }
-        ensures table { self.new ≡ change_node number (after_beat ignored (length (containers_on self.old number))) self.old }
+        ensures table { self.new ≡ after_beat_of number ignored self.old }
         ensures kept { option_and_then (λ node. node.kept) (node_in self.new number) ≡ Some result }
     {
         self.present.beat(number, ignored)
@@ -262,10 +264,10 @@ impl<const K: usize> Nodes<K> {
         requires empty { containers_on self.old number ≡ [] }
         ensures { self.new ≡ remove_node number self.old }
     {
-        let Some(place) = self.present.get(number) else {
+        let Some(load) = self.present.get(number) else {
             unreachable!()
         };
-        self.total = minus(&self.total, &place.node().total());
+        self.total = minus(&self.total, &load.node().total());
         self.present.remove(number);
     }
 

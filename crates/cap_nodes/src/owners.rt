@@ -1,5 +1,5 @@
 ghost use Rattle.std.specs.Prelude.{◌≡◌, ℕ, ◌<◌, ◌≤◌, [], IfSome, IfNone, OnOk, OnErr, true, false};
-ghost use Rattle.cap_nodes.specs.Places.{has_pair, HasMore, HasLess};
+ghost use Rattle.cap_nodes.specs.Loads.{has_pair, HasMore, HasLess};
 
 use cap_model::NoMemory;
 use std::alloc::Global;

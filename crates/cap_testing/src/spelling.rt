@@ -64,8 +64,8 @@ fn body_of(alloc: Global, call: &Call<'_>) -> Result<Vec<u8>, AllocError> {
         Call::RegisterMaster(number) | Call::FinishMaster(number) | Call::NodeGone(number) => {
             body.extend_from_slice(&number.to_be_bytes())?;
         }
-        Call::Allocate(application, response, asks, releases) => {
-            body.extend_from_slice(&application.to_be_bytes())?;
+        Call::Allocate(app, response, asks, releases) => {
+            body.extend_from_slice(&app.to_be_bytes())?;
             body.extend_from_slice(&response.to_be_bytes())?;
             put_asks(&mut body, asks)?;
             put_numbers(&mut body, releases)?;

@@ -26,5 +26,5 @@ from_first_word bytes = drop (prefix_len is_space bytes) bytes
 abbrev pub to_last_word : List ℕ → List ℕ
 to_last_word bytes = take (length bytes - suffix_len is_space bytes) bytes
 
-unfoldable pub trimmed : List ℕ → List ℕ
-trimmed bytes = to_last_word (from_first_word bytes)
+unfoldable pub trimmed_bytes : List ℕ → List ℕ
+trimmed_bytes bytes = to_last_word (from_first_word bytes)

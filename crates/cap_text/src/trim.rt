@@ -1,10 +1,10 @@
 ghost use Rattle.std.specs.Prelude.{◌≡◌};
-ghost use Rattle.cap_text.specs.Pieces.{trimmed, from_first_word, to_last_word};
+ghost use Rattle.cap_text.specs.Pieces.{trimmed_bytes, from_first_word, to_last_word};
 
 /// The bytes without the spaces at both ends.
-#[tactic(auto, unfolding(crate::specs::Pieces::trimmed))]
+#[tactic(auto, unfolding(crate::specs::Pieces::trimmed_bytes))]
 pub fn trimmed(bytes: &[u8]) -> &[u8]
-    ensures { result.now ≡ trimmed bytes.now }
+    ensures { result.now ≡ trimmed_bytes bytes.now }
 {
     to_last_word(from_first_word(bytes))
 }

@@ -5,8 +5,8 @@ use Rattle.cap_vector.proofs.AmountLemmas.{amount-zeros}
 use Rattle.cap_model.specs.Limits.{number_end}
 use Rattle.cap_tree.specs.Spot.{item_at, HoldsOfItem, IsPosition}
 use Rattle.cap_tree.specs.Measure.{Measure}
-use Rattle.cap_tree.specs.Count.{Count, IsPart, nothing, one_application, use_alone}
-use Rattle.cap_tree.specs.QueueLaws.{nothing_counts}
+use Rattle.cap_tree.specs.Count.{Count, IsPart, zero_count, one_app, use_alone}
+use Rattle.cap_tree.specs.QueueLaws.{zero_counts}
 use Rattle.cap_tree.specs.Queue.{Queue, UserRow, MayLeave, MayGive, user_row, count_in}
 use Rattle.cap_tree.specs.Rows.{Row, HasRoomAtRoot, active_in, user_row_at}
 
@@ -45,10 +45,10 @@ never_grows position rows h = by (item_at position rows) h
 
 -- the parts that calls move are in the user's count
 
-pub entering_part : (K : ℕ) (row : Option UserRow) → IsPart (nothing K) (count_in K row)
-entering_part K row m = omega (arith, nothing_counts K m)
+pub entering_part : (K : ℕ) (row : Option UserRow) → IsPart (zero_count K) (count_in K row)
+entering_part K row m = omega (arith, zero_counts K m)
 
-pub leaving_part : (K : ℕ) (row : Option UserRow) → MayLeave row → IsPart (one_application K) (count_in K row)
+pub leaving_part : (K : ℕ) (row : Option UserRow) → MayLeave row → IsPart (one_app K) (count_in K row)
 leaving_part K None h m = absurd h
 leaving_part K (Some u) h (Measure.uses k) = omega (arith, amount-zeros K k)
 leaving_part K (Some u) h Measure.active = h.0
@@ -60,10 +60,10 @@ giving_part K r (Some u) h Measure.active = omega arith
 
 -- there is room at the root for one more application, and wherever nothing new comes
 
-pub room_entering : (K : ℕ) (rows : List Row) → active_in rows < number_end → HasRoomAtRoot (nothing K) (one_application K) rows
+pub room_entering : (K : ℕ) (rows : List Row) → active_in rows < number_end → HasRoomAtRoot (zero_count K) (one_app K) rows
 room_entering K rows h (Measure.uses k) = inl (omega arith)
 room_entering K [] h Measure.active = inr (omega arith)
 room_entering K (r ∷ rows) h Measure.active = inr (omega (arith, h))
 
-pub room_falling : (K : ℕ) (old : Count) (rows : List Row) → HasRoomAtRoot old (nothing K) rows
-room_falling K old rows m = inl (omega (arith, nothing_counts K m))
+pub room_falling : (K : ℕ) (old : Count) (rows : List Row) → HasRoomAtRoot old (zero_count K) rows
+room_falling K old rows m = inl (omega (arith, zero_counts K m))

@@ -15,7 +15,7 @@ use Rattle.cap_model.specs.Listing.{IsListed, IsListing}
 use Rattle.cap_model.specs.Limits.{depth_max}
 use Rattle.cap_model.specs.QueueCalls.{root_path}
 use Rattle.cap_model.proofs.lists.Members.{IsIn, in_right, in_either, each_of, of_each, in_map}
-use Rattle.cap_model.proofs.paths.Paths.{IsUnder, under_is, is_under_it, name_has_none, dot_in, head_is, tail_is, under_itself}
+use Rattle.cap_model.proofs.paths.Paths.{IsUnder, under_is, is_under_it, name_has_none, dot_in, head_is, tail_is, under_itself, has_dot}
 use Rattle.cap_model.proofs.lists.Tests.{same_test}
 use Rattle.cap_model.proofs.paths.Levels.{no_levels}
 use Rattle.cap_tree.specs.Spot.{leads_to, path_at, last_position, IsAddedAt, IsAdded}
@@ -32,9 +32,6 @@ use Rattle.cap_tree.proofs.Adding.{last-append}
 
 abbrev one_where : Bool → ℕ
 one_where b = cond b 1 0
-
-abbrev has_dot : List ℕ → Bool
-has_dot name = list_any (λ b. b == 46) name
 
 child_depth : (path name : List ℕ) → has_dot name ≡ false → depth (path ++ 46 ∷ name) ≡ depth path + 1
 child_depth path name h =

@@ -5,9 +5,9 @@ use Rattle.std.proofs.lemmas.List.Sums.{sum_by-cons}
 use Rattle.std.proofs.lemmas.Slice.Eq.{bytes_eq-Decides}
 use Rattle.indexmap.specs.IndexMap.{swap_remove_by}
 use Rattle.cap_tree.specs.Measure.{Measure}
-use Rattle.cap_tree.specs.Count.{Count, IsPart, of_count, nothing, is_nothing, count_moved}
+use Rattle.cap_tree.specs.Count.{Count, IsPart, of_count, zero_count, is_zero_count, count_moved}
 use Rattle.cap_tree.specs.Queue.{UserRow, of_one, of_user, user_row, count_in, with_count, with_row}
-use Rattle.cap_tree.specs.QueueLaws.{moved_counts, nothing_counts, is_nothing_counts}
+use Rattle.cap_tree.specs.QueueLaws.{moved_counts, zero_counts, is_zero_counts}
 use Rattle.cap_tree.specs.UserLaws.{row_for, row_is_users, removed_none, sum-put, sum-new, sum-removed, sum-with_count}
 
 -- what a row counts for a user
@@ -73,9 +73,9 @@ moved_where : (b : Bool) (old new c : Count) (m : Measure) → of_count old m �
 moved_where true old new c m h = omega (arith, moved_counts old new c m, h)
 moved_where false old new c m h = omega arith
 
-nothing_where : (b : Bool) (c : Count) (m : Measure) → of_count c m ≡ 0 → count_where b c m ≡ 0
-nothing_where true c m h = h
-nothing_where false c m h = refl
+zero_where : (b : Bool) (c : Count) (m : Measure) → of_count c m ≡ 0 → count_where b c m ≡ 0
+zero_where true c m h = h
+zero_where false c m h = refl
 
 part_where : (b : Bool) (old c : Count) (m : Measure) → of_count old m ≤ of_count c m → count_where b old m ≤ count_where b c m
 part_where true old c m h = h
@@ -87,12 +87,12 @@ pub moved_own : (K : ℕ) (mover : List ℕ) (old new : Count) (us : List UserRo
 moved_own K mover old new us h user m =
     let b = bytes_eq mover user in
     let c = count_in K (user_row mover us) in
-    let s = sum-with_count (of_it user (of_user m)) K mover (count_moved old new c) us (nothing_where b (nothing K) m (nothing_counts K m)) (λ n. nothing_where b (count_moved old new c) m (is_nothing_counts (count_moved old new c) m n)) in
+    let s = sum-with_count (of_it user (of_user m)) K mover (count_moved old new c) us (zero_where b (zero_count K) m (zero_counts K m)) (λ n. zero_where b (count_moved old new c) m (is_zero_counts (count_moved old new c) m n)) in
     omega (arith, s, moved_where b old new c m (h m), part_where b old c m (h m))
 
 -- and each user still has one row at most
 pub moved_single : (mover : List ℕ) (c : Count) (us : List UserRow) (user : List ℕ) → of_one user one us ≤ 1 → of_one user one (with_count mover c us) ≤ 1
-moved_single mover c us user h = by (user_row mover us) (is_nothing c) refl
+moved_single mover c us user h = by (user_row mover us) (is_zero_count c) refl
   where
     by : (o : Option UserRow) (b : Bool) → user_row mover us ≡ o → of_one user one (if b then swap_remove_by (λ (u : UserRow). bytes_eq u.user mover) us else with_row (row_for mover c) us) ≤ 1
     by None true e = subst (λ vs. of_one user one vs ≤ 1) (sym (removed_none (λ (u : UserRow). bytes_eq u.user mover) us e)) h

@@ -9,15 +9,15 @@ use Rattle.std.proofs.lemmas.Bool.Decides.{nat_tests}
 use Rattle.std.proofs.lemmas.List.{map-set, length-map}
 use Rattle.std.proofs.lemmas.Slice.Eq.{bytes_eq-Decides}
 use Rattle.indexmap.specs.IndexMap.{insert_entry, swap_remove_entry, swap_remove_by}
-use Rattle.cap_model.specs.Texts.{padded}
+use Rattle.cap_model.specs.Texts.{padded_text}
 use Rattle.cap_model.proofs.lists.Tests.{bytes_itself, bytes_turned, and_true, and_false}
-use Rattle.cap_tree.specs.Count.{Count, is_nothing}
+use Rattle.cap_tree.specs.Count.{Count, is_zero_count}
 use Rattle.cap_tree.specs.Queue.{UserRow, user_row, with_count, with_row}
 
 -- texts of at most 64 bytes are equal where their arrays and lengths are
 
 abbrev pub same_text : List ℕ → List ℕ → Bool
-same_text a b = bytes_eq (padded 64 a) (padded 64 b) && (length a == length b)
+same_text a b = bytes_eq (padded_text 64 a) (padded_text 64 b) && (length a == length b)
 
 same_end : (a b rest : List ℕ) → length a ≡ length b → bytes_eq (a ++ rest) (b ++ rest) ≡ bytes_eq a b
 same_end [] [] rest h = bytes_itself rest
@@ -33,11 +33,11 @@ other_length (x ∷ a) (y ∷ b) h =
     let e : (length a == length b) ≡ false = grind (arith, nat_tests, h) in
     ap (λ c. (x == y) && c) (other_length a b e) ∙ and_false (x == y)
 
-text_cases : (c : Bool) (a b : List ℕ) → (length a == length b) ≡ c → bytes_eq (padded 64 a) (padded 64 b) && c ≡ bytes_eq a b
+text_cases : (c : Bool) (a b : List ℕ) → (length a == length b) ≡ c → bytes_eq (padded_text 64 a) (padded_text 64 b) && c ≡ bytes_eq a b
 text_cases true a b e =
     let l : length a ≡ length b = grind (arith, nat_tests, e) in
-    and_true (bytes_eq (padded 64 a) (padded 64 b)) ∙ ap (λ n. bytes_eq (padded 64 a) (b ++ replicate (64 - n) 0)) (sym l) ∙ same_end a b (replicate (64 - length a) 0) l
-text_cases false a b e = and_false (bytes_eq (padded 64 a) (padded 64 b)) ∙ sym (other_length a b e)
+    and_true (bytes_eq (padded_text 64 a) (padded_text 64 b)) ∙ ap (λ n. bytes_eq (padded_text 64 a) (b ++ replicate (64 - n) 0)) (sym l) ∙ same_end a b (replicate (64 - length a) 0) l
+text_cases false a b e = and_false (bytes_eq (padded_text 64 a) (padded_text 64 b)) ∙ sym (other_length a b e)
 
 pub same_text-is : (a b : List ℕ) → same_text a b ≡ bytes_eq a b
 same_text-is a b = text_cases (length a == length b) a b refl
@@ -101,8 +101,8 @@ removed-entries user (e ∷ es) =
 
 -- the entries with a user's count, or without the user, as rows
 
-pub counted-entries : (user : List ℕ) (c : Count) (es es' : List (List ℕ × Count)) → is_nothing c ≡ false → es' ≡ insert_entry same_text es user c → rows_of es' ≡ with_count user c (rows_of es)
+pub counted-entries : (user : List ℕ) (c : Count) (es es' : List (List ℕ × Count)) → is_zero_count c ≡ false → es' ≡ insert_entry same_text es user c → rows_of es' ≡ with_count user c (rows_of es)
 counted-entries user c es es' n e = ap rows_of e ∙ with_row-entries user c es ∙ ap (λ b. if b then swap_remove_by (λ (u : UserRow). bytes_eq u.user user) (rows_of es) else with_row (row_of user c) (rows_of es)) (sym n)
 
-pub uncounted-entries : (user : List ℕ) (c : Count) (es es' : List (List ℕ × Count)) → is_nothing c ≡ true → es' ≡ swap_remove_entry (same_text user) es → rows_of es' ≡ with_count user c (rows_of es)
+pub uncounted-entries : (user : List ℕ) (c : Count) (es es' : List (List ℕ × Count)) → is_zero_count c ≡ true → es' ≡ swap_remove_entry (same_text user) es → rows_of es' ≡ with_count user c (rows_of es)
 uncounted-entries user c es es' n e = ap rows_of e ∙ removed-entries user es ∙ ap (λ b. if b then swap_remove_by (λ (u : UserRow). bytes_eq u.user user) (rows_of es) else with_row (row_of user c) (rows_of es)) (sym n)

@@ -1,7 +1,7 @@
 -- The tests of limits, as code and as the model makes them.
 use Rattle.std.proofs.Common.{◌≡◌, ℕ, zero, suc, ◌*◌, ◌≤◌, Bool, true, false, List, [], ◌∷◌, Some, None, refl, sym, ◌∙◌, ap, subst, arith, inl, inr}
 use Rattle.std.specs.Prelude.{◌↔◌, IsTrue, if◌then◌else◌}
-use Rattle.cap_vector.specs.Vector.{amount, exchanged, FitsTimes, IsWithin, sum_max}
+use Rattle.cap_vector.specs.Vector.{amount, amounts_exchanged, FitsTimes, IsWithin, sum_max}
 use Rattle.cap_vector.proofs.AmountLemmas.{amount-exchanged}
 use Rattle.std.specs.Option.{option_map_or}
 use Rattle.cap_model.specs.Cascade.{holds_of}
@@ -40,7 +40,7 @@ pub fits_once : (b : Bool) (a most : List ℕ) → IsTrue b ↔ FitsTimes a 1 mo
 fits_once b a most d = fits_times b a 1 most d ∙ ap (fits a) (times_one most)
 
 -- room for a change of use at the root
-pub room_applying : (old new : List ℕ) (rows : List Row) → IsWithin sum_max (exchanged old new (root_use rows)) → HasRoomAtRoot (use_alone old) (use_alone new) rows
+pub room_applying : (old new : List ℕ) (rows : List Row) → IsWithin sum_max (amounts_exchanged old new (root_use rows)) → HasRoomAtRoot (use_alone old) (use_alone new) rows
 room_applying old new [] h (Measure.uses k) = inr (omega (arith, h k, amount-exchanged old new [] k))
 room_applying old new (r ∷ rows) h (Measure.uses k) = inr (omega (arith, h k, amount-exchanged old new r.item.used k))
 room_applying old new rows h Measure.active = inl (omega arith)

@@ -8,10 +8,11 @@ use Rattle.cap_model.specs.Members.{IsIn}
 use Rattle.cap_tree.specs.Spot.{last_position}
 use Rattle.cap_tree.specs.Queue.{IsUnused}
 use Rattle.cap_tree.specs.Rows.{Row, PositionsArePaths, queues_of}
+use Rattle.cap_model.specs.Texts.{dot}
 
 -- with each path all its beginnings before a dot are there
 abbrev pub IsClosed : List QueueRow → Type 0
-IsClosed qs = All (λ q. (front rest : List ℕ) → q.path ≡ front ++ 46 ∷ rest → has_path qs front ≡ true) qs
+IsClosed qs = All (λ q. (front rest : List ℕ) → q.path ≡ front ++ dot ∷ rest → has_path qs front ≡ true) qs
 
 -- a tree with nothing in it, to which these rows may be added one after the other
 pub record IsGrowing (K : ℕ) (rows : List Row) (todo : List QueueRow) : Type 0 where

@@ -7,8 +7,8 @@ pub data Measure : Type 0 where
   active : Measure
 
 -- active applications
-abbrev pub applications : Measure
-applications = Measure.active
+abbrev pub apps : Measure
+apps = Measure.active
 
 -- the most that is counted
 abbrev pub most : Measure → ℕ

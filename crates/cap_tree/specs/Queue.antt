@@ -2,12 +2,12 @@
 use Rattle.std.specs.Prelude.{◌≡◌, ℕ, ◌≤◌, Bool, if◌then◌else◌, bytes_eq, find, List, [], ◌∷◌, Option, Some, None, sum_by}
 use Rattle.std.specs.Option.{option_map_or}
 use Rattle.indexmap.specs.IndexMap.{swap_remove_by}
-use Rattle.cap_vector.specs.Vector.{amount, exchanged, zeros, Fits}
+use Rattle.cap_vector.specs.Vector.{amount, amounts_exchanged, zeros, Fits}
 use Rattle.cap_model.specs.Admission.{fits_maximum, fits_user_limit}
 use Rattle.cap_model.specs.Settings.{QueueRow}
 use Rattle.cap_model.specs.Flat.{name_of}
 use Rattle.cap_tree.specs.Measure.{Measure}
-use Rattle.cap_tree.specs.Count.{Count, of_count, nothing, is_nothing, count_moved}
+use Rattle.cap_tree.specs.Count.{Count, of_count, zero_count, is_zero_count, count_moved}
 
 -- a user of a leaf: name, use, number of active applications
 pub record UserRow : Type 0 where
@@ -58,12 +58,12 @@ with_row row (u ∷ us) = if bytes_eq u.user row.user then row ∷ us else u ∷
 
 -- the count in a user's row, nothing where there is none
 abbrev pub count_in : ℕ → Option UserRow → Count
-count_in K row = option_map_or user_count row (nothing K)
+count_in K row = option_map_or user_count row (zero_count K)
 
 -- the users with that count for one of them, who has no row where it is nothing
 abbrev pub with_count : List ℕ → Count → List UserRow → List UserRow
 with_count user c us =
-    if is_nothing c then swap_remove_by (λ u. bytes_eq u.user user) us else with_row (record { user = user; used = c.used; active = c.active }) us
+    if is_zero_count c then swap_remove_by (λ u. bytes_eq u.user user) us else with_row (record { user = user; used = c.used; active = c.active }) us
 
 -- a queue after the move of a part of what is below it, or of a user in it
 abbrev pub moved_above : Count → Count → Queue → Queue
@@ -92,10 +92,10 @@ use_of K row = (count_in K row).used
 
 -- whether a queue stays within its maximum, and a user within the user limit of a leaf, with old taken away and new added
 abbrev pub stays_in_maximum : List ℕ → List ℕ → Queue → Bool
-stays_in_maximum old new q = fits_maximum q.maximum (exchanged old new q.used)
+stays_in_maximum old new q = fits_maximum q.maximum (amounts_exchanged old new q.used)
 
 abbrev pub stays_in_user_limit : ℕ → List ℕ → List ℕ → List ℕ → Queue → Bool
-stays_in_user_limit K user old new q = fits_user_limit q.factor q.guaranteed (exchanged old new (use_of K (user_row user q.users)))
+stays_in_user_limit K user old new q = fits_user_limit q.factor q.guaranteed (amounts_exchanged old new (use_of K (user_row user q.users)))
 
 -- nothing is in a queue
 pub record IsUnused (K : ℕ) (q : Queue) : Type 0 where

@@ -5,7 +5,7 @@ use Rattle.std.proofs.lemmas.Bool.{and_parts, eqb-true}
 use Rattle.cap_vector.specs.Vector.{amount, is_zero}
 use Rattle.cap_vector.proofs.AmountLemmas.{amount-exchanged, amount-is_zero, amount-zeros}
 use Rattle.cap_tree.specs.Measure.{Measure}
-use Rattle.cap_tree.specs.Count.{Count, IsPart, of_count, nothing, is_nothing, count_moved}
+use Rattle.cap_tree.specs.Count.{Count, IsPart, of_count, zero_count, is_zero_count, count_moved}
 use Rattle.cap_tree.specs.Queue.{Queue, UserRow, of_user, of_queue, user_row, count_in, with_count}
 use Rattle.cap_tree.specs.UserLaws.{row_counts, sum-with_count}
 
@@ -18,16 +18,16 @@ pub moved_counts : (old new c : Count) (m : Measure) → of_count (count_moved o
 moved_counts old new c (Measure.uses k) = amount-exchanged old.used new.used c.used k
 moved_counts old new c Measure.active = refl
 
-pub nothing_counts : (K : ℕ) (m : Measure) → of_count (nothing K) m ≡ 0
-nothing_counts K (Measure.uses k) = amount-zeros K k
-nothing_counts K Measure.active = refl
+pub zero_counts : (K : ℕ) (m : Measure) → of_count (zero_count K) m ≡ 0
+zero_counts K (Measure.uses k) = amount-zeros K k
+zero_counts K Measure.active = refl
 
-pub is_nothing_counts : (c : Count) (m : Measure) → is_nothing c ≡ true → of_count c m ≡ 0
-is_nothing_counts c (Measure.uses k) h = amount-is_zero c.used k ((and_parts (c.active == 0) (is_zero c.used) h).1)
-is_nothing_counts c Measure.active h = eqb-true c.active 0 ((and_parts (c.active == 0) (is_zero c.used) h).0)
+pub is_zero_counts : (c : Count) (m : Measure) → is_zero_count c ≡ true → of_count c m ≡ 0
+is_zero_counts c (Measure.uses k) h = amount-is_zero c.used k ((and_parts (c.active == 0) (is_zero c.used) h).1)
+is_zero_counts c Measure.active h = eqb-true c.active 0 ((and_parts (c.active == 0) (is_zero c.used) h).0)
 
 count_le_cases : (K : ℕ) (user : List ℕ) (us : List UserRow) (m : Measure) (o : Option UserRow) → user_row user us ≡ o → of_count (count_in K o) m ≤ sum_by (of_user m) us
-count_le_cases K user us m None e = omega (arith, nothing_counts K m)
+count_le_cases K user us m None e = omega (arith, zero_counts K m)
 count_le_cases K user us m (Some u) e = row_counts (of_user m) user us u e
 
 -- a user's count is a part of that of all
@@ -38,7 +38,7 @@ pub moved_sum : (K : ℕ) (user : List ℕ) (old new : Count) (us : List UserRow
     IsMoved (of_count old m) (of_count new m) (sum_by (of_user m) us) (sum_by (of_user m) (with_count user (count_moved old new (count_in K (user_row user us))) us))
 moved_sum K user old new us m h =
     let c = count_in K (user_row user us) in
-    let s = sum-with_count (of_user m) K user (count_moved old new c) us (nothing_counts K m) (is_nothing_counts (count_moved old new c) m) in
+    let s = sum-with_count (of_user m) K user (count_moved old new c) us (zero_counts K m) (is_zero_counts (count_moved old new c) m) in
     let l = count_le_all K user us m in
     record { fits = omega (arith, h m, l); sum = omega (arith, h m, l, s, moved_counts old new c m) }
 

@@ -11,8 +11,9 @@ use Rattle.cap_tree.specs.declared.found.Found.{Found}
 use Rattle.cap_tree.specs.declared.found.Found.TheVariants.{Leaf, Parent, Missing}
 use Rattle.cap_tree.specs.Spot.{Spot, first, first_of, leads_to, item_at, path_at, IsPosition}
 use Rattle.cap_tree.specs.Measure.{Measure, StaysBounded, most}
-use Rattle.cap_tree.specs.Count.{Count, of_count, nothing, one_application, use_alone}
+use Rattle.cap_tree.specs.Count.{Count, of_count, zero_count, one_app, use_alone}
 use Rattle.cap_tree.specs.Queue.{Queue, UserRow, of_queue, user_row, moved_above, moved_at, with_running}
+use Rattle.cap_model.specs.Texts.{dot}
 
 -- a row: the queue's position, its dotted path, and what it holds
 abbrev pub Row : Type 0
@@ -46,13 +47,13 @@ moved_row K path user old new = changed_at (moved_above old new) (moved_at K use
 
 -- after one more application of the user has entered there, after one has left, and after some of the user's use is given back
 abbrev pub entered_row : ℕ → List ℕ → List ℕ → Row → Row
-entered_row K path user = moved_row K path user (nothing K) (one_application K)
+entered_row K path user = moved_row K path user (zero_count K) (one_app K)
 
 abbrev pub left_row : ℕ → List ℕ → List ℕ → Row → Row
-left_row K path user = moved_row K path user (one_application K) (nothing K)
+left_row K path user = moved_row K path user (one_app K) (zero_count K)
 
 abbrev pub lowered_row : ℕ → List ℕ → List ℕ → List ℕ → Row → Row
-lowered_row K path user r = moved_row K path user (use_alone r) (nothing K)
+lowered_row K path user r = moved_row K path user (use_alone r) (zero_count K)
 
 -- after the use of a user there has changed from old to new
 abbrev pub applied_row : ℕ → List ℕ → List ℕ → List ℕ → List ℕ → Row → Row
@@ -92,7 +93,7 @@ is_running rows path = list_all (λ q. q.running) (filter (λ q. is_under q.path
 
 -- whether a queue stands below the path
 abbrev pub has_children : List Row → List ℕ → Bool
-has_children rows path = list_any (λ q. starts_with nat_eq q.path (path ++ 46 ∷ [])) (queues_of rows)
+has_children rows path = list_any (λ q. starts_with nat_eq q.path (path ++ dot ∷ [])) (queues_of rows)
 
 -- the position is that of the queue with the path
 pub record IsAt (rows : List Row) (path position : List ℕ) : Type 0 where

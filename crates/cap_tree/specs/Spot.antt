@@ -5,6 +5,7 @@ use Rattle.std.specs.List.{list_any}
 use Rattle.std.specs.Coded.{Coded, code_by, coded×, coded_ℕ, coded_list}
 use Rattle.std.proofs.Common.{arith, length-append}
 use Rattle.std.proofs.lemmas.List.{length-map}
+use Rattle.cap_model.specs.Texts.{dot}
 use denote.Param.Weighed.{most}
 
 pub record Spot (T : Type 0) : Type 0 where
@@ -65,7 +66,7 @@ module _ {T : Type 0} where
 
   -- the spot as it is seen one level up, where it is under child i
   abbrev pub under : List ℕ → ℕ → Spot T → Spot T
-  under name i s = record s { position = i ∷ s.position; path = name ++ 46 ∷ s.path }
+  under name i s = record s { position = i ∷ s.position; path = name ++ dot ∷ s.path }
 
   -- the spots under the children from number i on, which have these spots
   abbrev pub below : List ℕ → ℕ → List (List (Spot T)) → List (Spot T)
@@ -102,7 +103,7 @@ module _ {T : Type 0} where
   pub record IsAddedAt (position name : List ℕ) (item : T) (old new : List (Spot T)) : Type 0 where
     pub child : ℕ
     pub parent : IsPosition old position
-    pub is : new ≡ old ++ record { position = position ++ child ∷ []; path = path_at position old ++ 46 ∷ name; item = item } ∷ []
+    pub is : new ≡ old ++ record { position = position ++ child ∷ []; path = path_at position old ++ dot ∷ name; item = item } ∷ []
     pub fresh : list_any (λ s. leads_to (position ++ child ∷ []) s.position) old ≡ false
 
   -- the same of the spot so many levels down on the way to the last one

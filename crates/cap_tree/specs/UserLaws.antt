@@ -7,7 +7,7 @@ use Rattle.std.proofs.lemmas.Bool.Decides.{nat_tests}
 use Rattle.std.proofs.lemmas.List.Sums.{sum_by-cons, sum_by-swap_remove}
 use Rattle.std.proofs.lemmas.Slice.Eq.{bytes_eq-Decides}
 use Rattle.indexmap.specs.IndexMap.{swap_remove_by}
-use Rattle.cap_tree.specs.Count.{Count, nothing, is_nothing}
+use Rattle.cap_tree.specs.Count.{Count, zero_count, is_zero_count}
 use Rattle.cap_tree.specs.Queue.{UserRow, user_row, user_count, count_in, with_count, with_row}
 
 -- where a row is
@@ -94,7 +94,7 @@ row_counts f user (x ∷ us) u h = counted_cases (bytes_eq x.user user) f x u us
 abbrev pub row_for : List ℕ → Count → UserRow
 row_for user c = record { user = user; used = c.used; active = c.active }
 
-sum_with_cases : (f : UserRow → ℕ) (K : ℕ) (user : List ℕ) (c : Count) (us : List UserRow) (o : Option UserRow) (b : Bool) → user_row user us ≡ o → f (row_for user (nothing K)) ≡ 0 → (b ≡ true → f (row_for user c) ≡ 0) →
+sum_with_cases : (f : UserRow → ℕ) (K : ℕ) (user : List ℕ) (c : Count) (us : List UserRow) (o : Option UserRow) (b : Bool) → user_row user us ≡ o → f (row_for user (zero_count K)) ≡ 0 → (b ≡ true → f (row_for user c) ≡ 0) →
     sum_by f (if b then swap_remove_by (λ (u : UserRow). bytes_eq u.user user) us else with_row (row_for user c) us) + f (row_for user (count_in K o)) ≡ sum_by f us + f (row_for user c)
 sum_with_cases f K user c us None true e z h = let s = ap (sum_by f) (removed_none (λ (u : UserRow). bytes_eq u.user user) us e) in omega (arith, s, z, h refl)
 sum_with_cases f K user c us None false e z h = omega (arith, sum-new f (row_for user c) us e, z)
@@ -105,6 +105,6 @@ sum_with_cases f K user c us (Some u) false e z h =
     let own = ap (λ x. f (row_for x (user_count u))) (row_is_users user us u e) in
     omega (arith, sum-put f (row_for user c) u us e, own)
 
-pub sum-with_count : (f : UserRow → ℕ) (K : ℕ) (user : List ℕ) (c : Count) (us : List UserRow) → f (row_for user (nothing K)) ≡ 0 → (is_nothing c ≡ true → f (row_for user c) ≡ 0) →
+pub sum-with_count : (f : UserRow → ℕ) (K : ℕ) (user : List ℕ) (c : Count) (us : List UserRow) → f (row_for user (zero_count K)) ≡ 0 → (is_zero_count c ≡ true → f (row_for user c) ≡ 0) →
     sum_by f (with_count user c us) + f (row_for user (count_in K (user_row user us))) ≡ sum_by f us + f (row_for user c)
-sum-with_count f K user c us z h = sum_with_cases f K user c us (user_row user us) (is_nothing c) refl z h
+sum-with_count f K user c us z h = sum_with_cases f K user c us (user_row user us) (is_zero_count c) refl z h

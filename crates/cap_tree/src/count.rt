@@ -1,6 +1,6 @@
 //! What is counted of a queue and of a user in it.
 ghost use Rattle.std.specs.Prelude.{◌≡◌};
-ghost use Rattle.cap_tree.specs.Count.{IsPart, MayMove, count_moved, is_nothing, nothing, one_application, use_alone};
+ghost use Rattle.cap_tree.specs.Count.{IsPart, MayMove, count_moved, is_zero_count, zero_count, one_app, use_alone};
 
 use cap_vector::{AMOUNT_MAX, Amounts, SUM_MAX, exchanged};
 use std::marker::Model;
@@ -30,8 +30,8 @@ impl<const K: usize, const MAX: u64> Model for Count<K, MAX> {
 
 impl<const K: usize, const MAX: u64> Count<K, MAX> {
     /// No use and no application.
-    pub(crate) fn nothing() -> Count<K, MAX>
-        ensures { result ≡ nothing K }
+    pub(crate) fn zero() -> Count<K, MAX>
+        ensures { result ≡ zero_count K }
     {
         Count {
             used: Amounts::zero(),
@@ -40,8 +40,8 @@ impl<const K: usize, const MAX: u64> Count<K, MAX> {
     }
 
     /// One active application that uses nothing.
-    pub(crate) fn application() -> Count<K, MAX>
-        ensures { result ≡ one_application K }
+    pub(crate) fn app() -> Count<K, MAX>
+        ensures { result ≡ one_app K }
     {
         Count {
             used: Amounts::zero(),
@@ -60,8 +60,8 @@ impl<const K: usize, const MAX: u64> Count<K, MAX> {
     }
 
     /// Whether it is no use and no application.
-    pub(crate) fn is_nothing(&self) -> bool
-        ensures { result ≡ is_nothing self.now }
+    pub(crate) fn is_zero(&self) -> bool
+        ensures { result ≡ is_zero_count self.now }
     {
         self.active == 0 && self.used.is_zero()
     }

@@ -69,7 +69,7 @@ impl<const K: usize, A: Allocator + Copy> Queue<K, A> {
             maximum: row.maximum(),
             factor: row.factor(),
             running: row.is_running(),
-            count: Total::nothing(),
+            count: Total::zero(),
             users: IndexMap::new(alloc),
         })
     }
@@ -137,7 +137,7 @@ impl<const K: usize, A: Allocator> Queue<K, A> {
         ensures { result ≡ count_in K (user_row user.now self.now.users) }
     {
         match self.users.get(user) {
-            None => Total::nothing(),
+            None => Total::zero(),
             Some(count) => *count,
         }
     }
@@ -172,7 +172,7 @@ impl<const K: usize, A: Allocator> Queue<K, A> {
         ensures err { OnErr result (self.new ≡ self.old) }
         ensures absent { OnErr result (user_row user.now self.old.users ≡ None) }
     {
-        if count.is_nothing() {
+        if count.is_zero() {
             self.users.swap_remove(user);
             return Ok(());
         }

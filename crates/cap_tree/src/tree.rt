@@ -1,7 +1,7 @@
 //! The tree of queues, seen as the list of its rows.
 ghost use Rattle.std.specs.Prelude.{◌≡◌, ◌<◌, ◌++◌, ◌∷◌, [], map, None, Some, IfErr, IfOk, OnOk, OnErr};
 ghost use Rattle.std.specs.List.{All};
-ghost use Rattle.cap_vector.specs.Vector.{IsWithin, exchanged, sum_max};
+ghost use Rattle.cap_vector.specs.Vector.{IsWithin, amounts_exchanged, sum_max};
 ghost use Rattle.cap_model.specs.Limits.{number_end};
 ghost use Rattle.cap_model.specs.Bounds.{depth};
 ghost use Rattle.cap_model.specs.Cascade.{holds_of};
@@ -133,8 +133,8 @@ impl<const K: usize, A: Allocator + Copy> QueueTree<K, A> {
     {
         let change = Move {
             user,
-            old: Part::nothing(),
-            new: Part::application(),
+            old: Part::zero(),
+            new: Part::app(),
         };
         self.change(path, &change)
     }
@@ -147,8 +147,8 @@ impl<const K: usize, A: Allocator + Copy> QueueTree<K, A> {
     {
         let change = Move {
             user,
-            old: Part::application(),
-            new: Part::nothing(),
+            old: Part::app(),
+            new: Part::zero(),
         };
         let Ok(()) = self.change(path, &change) else {
             unreachable!()
@@ -164,7 +164,7 @@ impl<const K: usize, A: Allocator + Copy> QueueTree<K, A> {
         let change = Move {
             user,
             old: Part::use_alone(r),
-            new: Part::nothing(),
+            new: Part::zero(),
         };
         let Ok(()) = self.change(path, &change) else {
             unreachable!()
@@ -175,7 +175,7 @@ impl<const K: usize, A: Allocator + Copy> QueueTree<K, A> {
     /// at each queue above and for the user. It takes no memory.
     pub fn apply(&mut self, path: &Path<A>, user: &ShortText, old: &Resource<K>, new: &Resource<K>)
         requires may { MayGive old.now (user_row_at path.now.items user.now self.old) }
-        requires within { IsWithin sum_max (exchanged old.now new.now (root_use self.old)) }
+        requires within { IsWithin sum_max (amounts_exchanged old.now new.now (root_use self.old)) }
         ensures { self.new ≡ map (applied_row K (path_at path.now.items self.old) user.now old.now new.now) self.old }
     {
         let change = Move {

@@ -4,8 +4,8 @@ use Rattle.std.specs.Prelude.{nat_le, min, ◌==◌}
 use Rattle.std.proofs.lemmas.List.{ext_get_or, get_or_past}
 use Rattle.std.proofs.lemmas.List.FromFn.{length-map-range_with_len, get_or-map-range_with_len}
 use Rattle.std.proofs.lemmas.Bool.{cases_lt, and_parts, eqb-true, leb-true, le-leb}
-use Rattle.cap_vector.specs.Vector.{plus, less, exchanged, amount, zeros, is_zero, FitsTimes, IsWithin, is_within}
-use Rattle.cap_vector.specs.Rounding.{raised, round_up}
+use Rattle.cap_vector.specs.Vector.{plus, less, amounts_exchanged, amount, zeros, is_zero, FitsTimes, IsWithin, is_within}
+use Rattle.cap_vector.specs.Rounding.{raised_amount, round_up}
 
 pub amount-plus : (a b : List ℕ) (k : ℕ) → get_or (plus a b) k 0 ≡ get_or a k 0 + get_or b k 0
 unfolding plus
@@ -33,7 +33,7 @@ length-less [] b = refl
 length-less (x ∷ a) [] = refl
 length-less (x ∷ a) (y ∷ b) = let r : length (less a b) ≡ length a = length-less a b in omega arith
 
-pub amount-exchanged : (old new v : List ℕ) (k : ℕ) → amount (exchanged old new v) k ≡ (amount v k - amount old k) + amount new k
+pub amount-exchanged : (old new v : List ℕ) (k : ℕ) → amount (amounts_exchanged old new v) k ≡ (amount v k - amount old k) + amount new k
 amount-exchanged old new v k = omega (arith, amount-plus (less v old) new k, amount-less v old k)
 
 pub amount-zeros : (n k : ℕ) → amount (zeros n) k ≡ 0
@@ -62,7 +62,7 @@ is_less a b r n ha hr each =
 
 -- a list of the amounts after an exchange is the vector after it
 pub is_exchanged : (old new a r : List ℕ) (n : ℕ) → length a ≡ n → length new ≡ n → length r ≡ n →
-    ((k : ℕ) → k < n → get_or r k 0 ≡ (get_or a k 0 - get_or old k 0) + get_or new k 0) → r ≡ exchanged old new a
+    ((k : ℕ) → k < n → get_or r k 0 ≡ (get_or a k 0 - get_or old k 0) + get_or new k 0) → r ≡ amounts_exchanged old new a
 is_exchanged old new a r n ha hn hr each =
     is_plus (less a old) new r n (length-less a old ∙ ha) hn hr (λ k h. omega (arith, each k h, amount-less a old k))
 
@@ -76,12 +76,12 @@ within_below bound v each k =
 
 -- and what is exchanged for so many times another vector
 pub exchanged_fits : (old new a most : List ℕ) (factor n : ℕ) → length a ≡ n → length new ≡ n →
-    ((k : ℕ) → k < n → (amount a k - amount old k) + amount new k ≤ factor * amount most k) → FitsTimes (exchanged old new a) factor most
+    ((k : ℕ) → k < n → (amount a k - amount old k) + amount new k ≤ factor * amount most k) → FitsTimes (amounts_exchanged old new a) factor most
 exchanged_fits old new a most factor n ha hn each k =
     let long = length-plus (less a old) new (length-less a old ∙ ha ∙ sym hn) in
     elim (cases_lt k n) [
       | inl h ↦ omega (arith, each k h, amount-exchanged old new a k)
-      | inr h ↦ omega (arith, get_or_past (exchanged old new a) k 0 (omega (arith, h, long, length-less a old)))
+      | inr h ↦ omega (arith, get_or_past (amounts_exchanged old new a) k 0 (omega (arith, h, long, length-less a old)))
     ]
 
 -- the test of a bound, and what it says
@@ -101,8 +101,8 @@ test_from_within bound (x ∷ v) h =
 
 -- a list of the raised amounts is the vector rounded up
 pub is_rounded : (v step most r : List ℕ) (n : ℕ) → length r ≡ n →
-    ((k : ℕ) → k < n → get_or r k 0 ≡ min (raised (get_or v k 0) (get_or step k 0)) (get_or most k 0)) → r ≡ round_up n v step most
+    ((k : ℕ) → k < n → get_or r k 0 ≡ min (raised_amount (get_or v k 0) (get_or step k 0)) (get_or most k 0)) → r ≡ round_up n v step most
 is_rounded v step most r n hr each =
-    let f = λ (k : ℕ). min (raised (amount v k) (amount step k)) (amount most k) in
+    let f = λ (k : ℕ). min (raised_amount (amount v k) (amount step k)) (amount most k) in
     let long : length (round_up n v step most) ≡ n = length-map-range_with_len f 0 n in
     ext_get_or 0 r (round_up n v step most) (hr ∙ sym long) (λ k h. each k (omega (arith, hr)) ∙ sym (get_or-map-range_with_len f 0 n k k 0 (omega (arith, hr)) (omega arith)))

@@ -66,5 +66,5 @@ less (x ∷ a) [] = x ∷ a
 less (x ∷ a) (y ∷ b) = (x - y) ∷ less a b
 
 -- with old taken away and new added
-abbrev pub exchanged : List ℕ → List ℕ → List ℕ → List ℕ
-exchanged old new v = plus (less v old) new
+abbrev pub amounts_exchanged : List ℕ → List ℕ → List ℕ → List ℕ
+amounts_exchanged old new v = plus (less v old) new

@@ -5,7 +5,7 @@ use Rattle.cap_model.specs.Settings.{Settings}
 use Rattle.cap_model.specs.Flat.{Flat, opened_cluster}
 use Rattle.cap_model.specs.Bounds.{IsBounded, IsRising}
 use Rattle.cap_model.specs.Events.{ever_granted, ever_ended, Run}
-use Rattle.cap_model.specs.EngineLaws.{numbers_of}
+use Rattle.cap_model.specs.EngineLaws.{container_numbers}
 use Rattle.cap_config.specs.First.{settings_in}
 use Rattle.cap_world.specs.declared.step.Step.{Step}
 use Rattle.cap_world.specs.World.{WorldState}
@@ -21,7 +21,7 @@ WorldsStayBounded =
 abbrev pub ContainersAreUsedOnce : Type 0
 ContainersAreUsedOnce =
     (opening : Flat 2) (steps : List Step) (done : ℕ) (events : List (Event 2)) (sight : WorldState) → IsBounded opening → IsHeadline opening steps done events sight →
-    IsRising opening.nodes.next_container (numbers_of (ever_granted events)) sight.cluster.nodes.next_container
+    IsRising opening.nodes.next_container (container_numbers (ever_granted events)) sight.cluster.nodes.next_container
     × ((n : ℕ) → count_by (λ c. c.number == n) (ever_ended opening events) ≤ 1)
 
 -- The cluster that the settings of a text open is bounded.

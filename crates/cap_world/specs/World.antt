@@ -74,10 +74,10 @@ abbrev pub events_of : List (Vec (Event 2) × ℕ) → List (Event 2)
 events_of entries = flat_map (λ e. drop e.1 e.0.items) entries
 
 -- the settings of nothing
-abbrev pub nothing : Settings
-nothing = record { queues = []; minimum_allocation = []; maximum_allocation = []; application_limit = 0 }
+abbrev pub no_settings : Settings
+no_settings = record { queues = []; minimum_allocation = []; maximum_allocation = []; application_limit = 0 }
 
 -- the first entry is the opening
 abbrev pub opening_of : List (Held 2 × ℕ) → Flat 2
-opening_of [] = opened_cluster nothing
+opening_of [] = opened_cluster no_settings
 opening_of (x ∷ xs) = x.0.flat

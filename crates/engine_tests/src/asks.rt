@@ -150,7 +150,7 @@ fn applications_are_numbered_and_counted(rt: HostRuntime) {
 }
 
 /// Application 1: its number, whether it is `u1`'s in `root.a`, and whether its master has registered.
-fn application(alloc: Global, changes: &[Change]) -> Option<(u64, bool, bool)> {
+fn app(alloc: Global, changes: &[Change]) -> Option<(u64, bool, bool)> {
     let apps = after(alloc, changes)?;
     let app = apps.app(1)?;
     let owner = app.user().as_bytes() == b"u1".as_slice();
@@ -173,7 +173,7 @@ fn masters_register_and_finish(rt: HostRuntime) {
         (3, Some((1, true, true))),
         (4, None),
     ] {
-        let given = application(rt.alloc(), first(&changes, made));
+        let given = app(rt.alloc(), first(&changes, made));
         assert!(rt; given == answer, "{made}");
     }
 }

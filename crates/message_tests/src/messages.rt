@@ -116,8 +116,8 @@ fn has_texts(alloc: Global, payload: &[u8], first: &[u8], second: &[u8]) -> Opti
 /// The numbers of a request, and of its lists the lengths and the first number.
 fn numbers(request: &Request<2>) -> [u64; 4] {
     match request {
-        Request::RegisterMaster { application } => [*application, 0, 0, 0],
-        Request::FinishMaster { application } => [*application, 0, 0, 0],
+        Request::RegisterMaster { app } => [*app, 0, 0, 0],
+        Request::FinishMaster { app } => [*app, 0, 0, 0],
         Request::NodeGone { node } => [*node, 0, 0, 0],
         Request::RegisterNode { total, .. } => {
             let [memory, vcores] = total.amounts();
@@ -137,7 +137,7 @@ fn numbers(request: &Request<2>) -> [u64; 4] {
             ]
         }
         Request::Allocate {
-            application,
+            app,
             response,
             asks,
             releases,
@@ -146,7 +146,7 @@ fn numbers(request: &Request<2>) -> [u64; 4] {
                 asks.as_slice().len() as u64,
                 releases.as_slice().len() as u64,
             );
-            [*application, *response as u64, lengths.0, lengths.1]
+            [*app, *response as u64, lengths.0, lengths.1]
         }
         _ => [0; 4],
     }
@@ -362,7 +362,7 @@ fn replies_of_a_number_are_written(rt: HostRuntime) {
     let cases: [(u32, ReplyView<'_, 2>, &[u8]); 6] = [
         (
             1,
-            ReplyWith::Submit { application: 1 },
+            ReplyWith::Submit { app: 1 },
             &[1, 1, 0, 0, 0, 1, 0, 0, 0, 0, 0, 0, 0, 0, 1],
         ),
         (
@@ -430,7 +430,7 @@ fn cluster_info() -> Option<ReplyView<'static, 2>> {
     Some(ReplyWith::ClusterInfo {
         report: ClusterReport {
             nodes: 1,
-            applications: 0,
+            apps: 0,
             containers: 0,
             totals: Resource::new([8192, 8])?,
             used: Sum::zero(),
@@ -447,7 +447,7 @@ fn leaf_info() -> Option<ReplyView<'static, 2>> {
             guaranteed: Resource::new([4096, 4])?,
             maximum: Resource::new([16384, 16]),
             used: Sum::zero(),
-            applications: 0,
+            apps: 0,
         },
     })
 }
@@ -461,7 +461,7 @@ fn parent_info(maximum: Option<Resource<2>>) -> Option<ReplyView<'static, 2>> {
             guaranteed: Resource::zero(),
             maximum,
             used: Sum::new([3072, 2])?,
-            applications: 5,
+            apps: 5,
         },
     })
 }

@@ -1,15 +1,13 @@
-ghost use Rattle.std.specs.Prelude.{◌≡◌, ◌≤◌, ◌+◌, Some, None, option_map, option_and_then, IfOk, IfErr, OnOk, OnErr, length, true};
+ghost use Rattle.std.specs.Prelude.{◌≡◌, ◌≤◌, ◌+◌, Some, None, option_map, IfOk, IfErr, OnOk, OnErr, length, true};
 ghost use Rattle.std.specs.List.{list_any};
 ghost use Rattle.cap_model.specs.declared.request.Request.TheVariants.{Allocate};
 ghost use Rattle.cap_model.specs.Reporting.{HasNumbers, RepliesInFull, reported_of};
 ghost use Rattle.cap_model.specs.declared.reply.ReplyWith.TheVariants as Reply;
 ghost use Rattle.cap_model.specs.Limits.{resources_max};
 ghost use Rattle.cap_model.specs.Asking.{after_asks};
-ghost use Rattle.cap_model.specs.Flat.{app_at};
-ghost use Rattle.cap_asks.specs.Held.{repeated_numbers};
 ghost use Rattle.cap_asks.specs.Apps.{kept_of, ask_room};
 ghost use Rattle.cap_model.specs.Allocate.{allocate_refusal, is_too_large, after_processed_allocate};
-ghost use Rattle.cap_masters.specs.Processed.{HasResponse};
+ghost use Rattle.cap_masters.specs.Processed.{HasResponse, repeated_at};
 
 use cap_commit::{Cluster, Owner, Reported};
 use cap_model::{AllocateNumbers, Ask, Asks, Cause, NoMemory, Numbers, Refusal, Reply};
@@ -24,23 +22,23 @@ use cap_vector::fits;
 /// memory with `NoMemory`; a refusal changes nothing.
 pub fn allocate<const K: usize>(
     cluster: &mut Cluster<K>,
-    application: u64,
+    app: u64,
     response: u32,
     asks: &Asks<K>,
     releases: &Numbers,
 ) -> Reply<K>
-    ensures replies { RepliesInFull cluster.old.flat (Allocate application response asks.now releases.now) result cluster.new.flat }
+    ensures replies { RepliesInFull cluster.old.flat (Allocate app response asks.now releases.now) result cluster.new.flat }
     ensures numbers { HasNumbers cluster.new.flat result }
 {
-    let repeated = match admit(cluster, application, response, asks.as_slice()) {
+    let repeated = match admit(cluster, app, response, asks.as_slice()) {
         Ok(repeated) => repeated,
         Err(refusal) => return Reply::Refused(refusal),
     };
     if let Some(reported) = repeated {
-        return reply_of(application, reported);
+        return reply_of(app, reported);
     }
-    match process(cluster, application, response, asks, releases) {
-        Ok(reported) => reply_of(application, reported),
+    match process(cluster, app, response, asks, releases) {
+        Ok(reported) => reply_of(app, reported),
         Err(NoMemory) => Reply::Refused(Refusal::NoMemory),
     }
 }
@@ -49,16 +47,16 @@ pub fn allocate<const K: usize>(
 /// that holds, memory aside.
 fn admit<const K: usize>(
     cluster: &Cluster<K>,
-    application: u64,
+    app: u64,
     response: u32,
     asks: &[Ask<K>],
 ) -> Result<Option<Reported>, Refusal>
-    ensures ok { OnOk result (allocate_refusal cluster.now.flat application response asks.now ≡ None) }
-    ensures repeated { IfOk result (λ r. r ≡ option_and_then (λ app. repeated_numbers app response) (app_at cluster.now.flat application)) }
-    ensures err { IfErr result (λ refusal. allocate_refusal cluster.now.flat application response asks.now ≡ Some refusal) }
+    ensures ok { OnOk result (allocate_refusal cluster.now.flat app response asks.now ≡ None) }
+    ensures repeated { IfOk result (λ r. r ≡ repeated_at cluster.now.flat app response) }
+    ensures err { IfErr result (λ refusal. allocate_refusal cluster.now.flat app response asks.now ≡ Some refusal) }
     ensures resources { K ≤ resources_max }
 {
-    let Some(app) = cluster.apps().app(application) else {
+    let Some(app) = cluster.apps().app(app) else {
         return Err(Refusal::UnknownApplication);
     };
     if !app.is_registered() {
@@ -95,36 +93,36 @@ fn has_too_large<const K: usize>(cluster: &Cluster<K>, asks: &[Ask<K>]) -> bool
 /// Puts the asks, ends what is released, and tells the news; the result is the numbers of the reply. `NoMemory` changes nothing.
 fn process<const K: usize>(
     cluster: &mut Cluster<K>,
-    application: u64,
+    app: u64,
     response: u32,
     asks: &Asks<K>,
     releases: &Numbers,
 ) -> Result<Reported, NoMemory>
-    requires { HasResponse cluster.old.flat application response }
-    ensures ok { OnOk result (cluster.new.flat ≡ after_processed_allocate cluster.old.flat application response asks.now releases.now) }
-    ensures told { IfOk result (λ reported. option_map reported_of (kept_of application cluster.new.flat.apps) ≡ Some reported) }
+    requires { HasResponse cluster.old.flat app response }
+    ensures ok { OnOk result (cluster.new.flat ≡ after_processed_allocate cluster.old.flat app response asks.now releases.now) }
+    ensures told { IfOk result (λ reported. option_map reported_of (kept_of app cluster.new.flat.apps) ≡ Some reported) }
     ensures err { OnErr result (cluster.new.flat ≡ cluster.old.flat) }
 {
-    match cluster.room(application, asks.as_slice().len(), 0, 0) {
+    match cluster.room(app, asks.as_slice().len(), 0, 0) {
         Ok(()) => {}
         Err(NoMemory) => return Err(NoMemory),
     }
-    put_asks(cluster, application, asks.as_slice());
+    put_asks(cluster, app, asks.as_slice());
     let ignored = cluster.end_named(
-        Owner::Application(application),
+        Owner::Application(app),
         releases.as_slice(),
         Cause::Released,
     );
-    Ok(cluster.tell(application, ignored))
+    Ok(cluster.tell(app, ignored))
 }
 
 /// Puts the asks, one after the other, for which there is room.
-fn put_asks<const K: usize>(cluster: &mut Cluster<K>, application: u64, asks: &[Ask<K>])
-    requires { length asks.now ≤ ask_room application cluster.old.accounts }
-    ensures { cluster.new.flat ≡ after_asks application asks.now cluster.old.flat }
+fn put_asks<const K: usize>(cluster: &mut Cluster<K>, app: u64, asks: &[Ask<K>])
+    requires { length asks.now ≤ ask_room app cluster.old.accounts }
+    ensures { cluster.new.flat ≡ after_asks app asks.now cluster.old.flat }
 {
     for ask in asks {
-        cluster.put_ask(application, ask);
+        cluster.put_ask(app, ask);
     }
 }
 

@@ -9,14 +9,14 @@ use cap_model::{Refusal, Reply};
 /// The master of an application reports, once, and may ask and finish from then on; the reply gives the least and the most that a
 /// container may have, in MiB and vcores. Refused with `UnknownApplication` or `AlreadyRegistered`, which changes nothing. It
 /// takes no memory.
-pub fn register_master<const K: usize>(cluster: &mut Cluster<K>, application: u64) -> Reply<K>
-    ensures replies { RepliesInFullAlways cluster.old.flat (RegisterMaster application) result cluster.new.flat }
+pub fn register_master<const K: usize>(cluster: &mut Cluster<K>, app: u64) -> Reply<K>
+    ensures replies { RepliesInFullAlways cluster.old.flat (RegisterMaster app) result cluster.new.flat }
     ensures numbers { HasNumbers cluster.new.flat result }
 {
-    match refusal(cluster, application) {
+    match refusal(cluster, app) {
         Some(refusal) => Reply::Refused(refusal),
         None => {
-            cluster.register(application);
+            cluster.register(app);
             Reply::RegisterMaster {
                 minimum: cluster.settings().minimum_allocation,
                 maximum: cluster.settings().maximum_allocation,
@@ -26,10 +26,10 @@ pub fn register_master<const K: usize>(cluster: &mut Cluster<K>, application: u6
 }
 
 /// The first refusal that holds for the master of such an application.
-fn refusal<const K: usize>(cluster: &Cluster<K>, application: u64) -> Option<Refusal>
-    ensures { result ≡ register_master_refusal cluster.now.flat application }
+fn refusal<const K: usize>(cluster: &Cluster<K>, app: u64) -> Option<Refusal>
+    ensures { result ≡ register_master_refusal cluster.now.flat app }
 {
-    match cluster.apps().app(application) {
+    match cluster.apps().app(app) {
         None => Some(Refusal::UnknownApplication),
         Some(app) if app.is_registered() => Some(Refusal::AlreadyRegistered),
         Some(_) => None,

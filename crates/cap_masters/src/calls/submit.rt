@@ -21,7 +21,7 @@ pub fn submit<const K: usize>(
     match admit(cluster, path) {
         Err(refusal) => Reply::Refused(refusal),
         Ok(position) => match cluster.add_app(path, position, user) {
-            Ok(application) => Reply::Submit { application },
+            Ok(app) => Reply::Submit { app },
             Err(NoMemory) => Reply::Refused(Refusal::NoMemory),
         },
     }

@@ -16,7 +16,7 @@ use Rattle.cap_model.specs.Asks.{same_key}
 use Rattle.cap_model.specs.Flat.{Flat, ClusterNode, Container, Reservation, app_at, node_at, is_under}
 use Rattle.cap_model.specs.Uses.{use_of, queue_use, user_use, node_held, node_free}
 use Rattle.cap_model.specs.Sight.{sight_of, app_sight, node_sight, queue_sight, seen_app, seen_node, seen_queue, QueueSight, NodeSight}
-use Rattle.cap_model.specs.Admission.{NodeProposal, IsWithinLimits, leaf_path, user_name, replaced, use_after, fits_free}
+use Rattle.cap_model.specs.Admission.{NodeProposal, IsWithinLimits, leaf_path, user_name, room_replaced, use_after, fits_free}
 use Rattle.cap_model.specs.Events.{grant_proposal, reserve_proposal, after_grant, after_reserve}
 use Rattle.cap_model.specs.Bounds.{IsRising, FitsMaximum, IsNodeBounded, IsQueueBounded, IsWellFormed}
 use Rattle.cap_model.proofs.lists.Members.{IsIn, in_filter, each_of, of_each}
@@ -38,7 +38,7 @@ module _ {K : ℕ} (old new : Flat K) (p : NodeProposal) where
   abbrev pub IsGrown : Type 0
   IsGrown =
       (test : List ℕ → List ℕ → Bool) (k : ℕ) → k < K →
-      amount (use_of new (λ a. test a.leaf a.user)) k + counted old test k p.app (replaced (sight_of old) p) ≤ amount (use_of old (λ a. test a.leaf a.user)) k + counted old test k p.app p.resource
+      amount (use_of new (λ a. test a.leaf a.user)) k + counted old test k p.app (room_replaced (sight_of old) p) ≤ amount (use_of old (λ a. test a.leaf a.user)) k + counted old test k p.app p.resource
 
   module _ (grown : IsGrown) (formed : IsWellFormed old) (within : IsWithinLimits (sight_of old) p) where
     seen : IsSeen old p.app
@@ -62,7 +62,7 @@ module _ {K : ℕ} (old new : Flat K) (p : NodeProposal) where
         fits (use_of new (λ a. test a.leaf a.user)) most ≡ true
     inside test most e h =
         let used = use_of old (λ a. test a.leaf a.user) in
-        let back = replaced (sight_of old) p in
+        let back = room_replaced (sight_of old) p in
         amounts_fit (use_of new (λ a. test a.leaf a.user)) most
         (λ k. elim (cases_lt k K) [
           | inl b ↦
@@ -134,7 +134,7 @@ module _ {K : ℕ} (old : Flat K) where
 
   -- the reservations that stay, with what is replaced, are at most all
   without_replaced : (c : Container) (test : List ℕ → List ℕ → Bool) (k : ℕ) →
-      reserved_part old test k (filter (λ (r : Reservation). not (r.node == c.node)) old.nodes.reserved) + counted old test k c.app (replaced (sight_of old) (grant_proposal c)) ≤ reserved_part old test k old.nodes.reserved
+      reserved_part old test k (filter (λ (r : Reservation). not (r.node == c.node)) old.nodes.reserved) + counted old test k c.app (room_replaced (sight_of old) (grant_proposal c)) ≤ reserved_part old test k old.nodes.reserved
   without_replaced c test k = by (replaced_is old (grant_proposal c))
     where
       here : Reservation → Bool
@@ -147,16 +147,16 @@ module _ {K : ℕ} (old : Flat K) where
       parts = sum_by-filter_both here (λ r. not (here r)) (λ r. refl) weight old.nodes.reserved
 
       by : IsReplaced old (grant_proposal c) →
-          sum_by weight (filter (λ r. not (here r)) old.nodes.reserved) + counted old test k c.app (replaced (sight_of old) (grant_proposal c)) ≤ sum_by weight old.nodes.reserved
+          sum_by weight (filter (λ r. not (here r)) old.nodes.reserved) + counted old test k c.app (room_replaced (sight_of old) (grant_proposal c)) ≤ sum_by weight old.nodes.reserved
       by (IsReplaced.nothing e) =
-          let none : counted old test k c.app (replaced (sight_of old) (grant_proposal c)) ≡ 0 = ap (counted old test k c.app) e ∙ counted_nothing test k c.app in
+          let none : counted old test k c.app (room_replaced (sight_of old) (grant_proposal c)) ≡ 0 = ap (counted old test k c.app) e ∙ counted_nothing test k c.app in
           omega (arith, parts, none)
       by (IsReplaced.reservation g e) =
           let r = g.reservation in
           let node = g.node in
           let at : r.node == c.node ≡ true = grind (arith, nat_tests, node) in
           let app : r.app ≡ c.app = (let t = (and_parts (r.app == c.app) (same_key r.key c.key) g.for).0 in grind (arith, nat_tests, t)) in
-          let this : counted old test k c.app (replaced (sight_of old) (grant_proposal c)) ≡ weight r = λ i. counted old test k (sym app i) (e i) in
+          let this : counted old test k c.app (room_replaced (sight_of old) (grant_proposal c)) ≡ weight r = λ i. counted old test k (sym app i) (e i) in
           let some = in_sum weight (filter here old.nodes.reserved) r (in_filter here old.nodes.reserved r g.among at) in
           omega (arith, parts, this, some)
 

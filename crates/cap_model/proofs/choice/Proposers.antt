@@ -7,7 +7,7 @@ use Rattle.cap_model.specs.Settings.{QueueRow}
 use Rattle.cap_model.specs.Cascade.{holds_of}
 use Rattle.cap_model.specs.Flat.{Flat, App, ClusterNode, Reservation, app_at, node_at, is_under, is_for, reservation_on}
 use Rattle.cap_model.specs.Sight.{AppSight, NodeSight, QueueSight, sight_of, app_sight, node_sight, queue_sight, seen_app, seen_node, seen_queue, queues_to}
-use Rattle.cap_model.specs.Admission.{NodeProposal, is_grant, leaf_path, replaced, is_reserved_for, node_reservation, stays_in_maximum, stays_in_maxima}
+use Rattle.cap_model.specs.Admission.{NodeProposal, is_grant, leaf_path, room_replaced, is_reserved_for, node_reservation, stays_in_maximum, stays_in_maxima}
 use Rattle.cap_model.specs.Bounds.{IsRising, HasDistinctPaths}
 use Rattle.cap_model.proofs.lists.Members.{IsIn, found, of_filter, in_filter, of_map, in_map, all_in, none_in}
 use Rattle.std.proofs.lemmas.Bool.{cases_Bool}
@@ -98,8 +98,8 @@ module _ {K : ℕ} (old : Flat K) where
 
   -- what a proposal takes back: nothing, or the reservation on its node, for its application
   pub data IsReplaced (p : NodeProposal) : Type 0 where
-    nothing : replaced (sight_of old) p ≡ [] → IsReplaced p
-    reservation : (h : IsHeldFor p) → replaced (sight_of old) p ≡ h.reservation.resource → IsReplaced p
+    nothing : room_replaced (sight_of old) p ≡ [] → IsReplaced p
+    reservation : (h : IsHeldFor p) → room_replaced (sight_of old) p ≡ h.reservation.resource → IsReplaced p
 
   pub replaced_is : (p : NodeProposal) → IsReplaced p
   replaced_is p = by (is_grant p.kind) (is_reserved_for (sight_of old) p) refl refl

@@ -7,7 +7,7 @@ use Rattle.std.proofs.lemmas.List.{append_assoc, append-nil}
 use Rattle.cap_model.specs.Flat.{Container}
 use Rattle.cap_model.specs.Ending.{is_among}
 use Rattle.cap_model.specs.Bounds.{IsRising}
-use Rattle.cap_model.specs.EngineLaws.{numbers_of}
+use Rattle.cap_model.specs.EngineLaws.{container_numbers}
 use Rattle.cap_model.proofs.lists.Members.{IsIn, of_filter, found}
 use Rattle.cap_model.proofs.lists.Numbered.{rising_kept, rising_from_low}
 use Rattle.cap_model.proofs.ending.EndsInOrder.{first_passes, none_pass}
@@ -16,7 +16,7 @@ use Rattle.cap_model.proofs.ending.EndsInOrder.{first_passes, none_pass}
 pub record IsDrained (t : Container → Bool) (all gone live : List Container) (after next : ℕ) : Type 0 where
   pub split : filter t all ≡ gone ++ filter t live
   pub above : (c : Container) → IsIn c live → t c ≡ true → after < c.number
-  pub rising : IsRising 1 (numbers_of live) next
+  pub rising : IsRising 1 (container_numbers live) next
 
 module _ (t : Container → Bool) where
   -- where all that pass are above, the first of them is the first above
@@ -28,11 +28,11 @@ module _ (t : Container → Bool) where
       by true e i = let up = h c (inl refl) e in let yes : nat_lt after c.number ≡ true = grind (arith, nat_tests, up) in ap (λ b. cond b (Some c) (find (λ d. t d && nat_lt after d.number) live)) yes
       by false e i = i
 
-  pub drain_start : (all : List Container) (next : ℕ) → IsRising 1 (numbers_of all) next → IsDrained t all [] all 0 next
+  pub drain_start : (all : List Container) (next : ℕ) → IsRising 1 (container_numbers all) next → IsDrained t all [] all 0 next
   drain_start all next r = record { split = refl; above = λ c m e. omega (arith, rising_from_low (λ (z : Container). z.number) 1 all next c r m); rising = r }
 
   -- in a list in order, those that pass after the first of them are above it
-  later_above : (low : ℕ) (live : List Container) (next : ℕ) (c : Container) → IsRising low (numbers_of live) next → find t live ≡ Some c → (d : Container) → IsIn d live → t d ≡ true → is_among (c ∷ []) d ≡ false → c.number < d.number
+  later_above : (low : ℕ) (live : List Container) (next : ℕ) (c : Container) → IsRising low (container_numbers live) next → find t live ≡ Some c → (d : Container) → IsIn d live → t d ≡ true → is_among (c ∷ []) d ≡ false → c.number < d.number
   later_above low [] next c r e d m p o = absurd m
   later_above low (x ∷ live) next c r e d m p o = by (t x) refl e m (λ f s. later_above (x.number + 1) live next c r.1 f d s p o)
     where

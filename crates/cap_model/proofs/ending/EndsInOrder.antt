@@ -10,7 +10,7 @@ use Rattle.cap_model.specs.declared.news.Cause.{Cause}
 use Rattle.cap_model.specs.Flat.{Flat, App, Container}
 use Rattle.cap_model.specs.Ending.{is_among, named_among, with_ends, after_ends}
 use Rattle.cap_model.specs.Bounds.{IsRising}
-use Rattle.cap_model.specs.EngineLaws.{numbers_of}
+use Rattle.cap_model.specs.EngineLaws.{container_numbers}
 use Rattle.cap_model.proofs.lists.Filters.{map_twice, filter_same, filter_twice, filter_whole}
 use Rattle.cap_model.proofs.lists.Numbered.{rising_kept, rising_from_low, none_before}
 use Rattle.cap_model.proofs.numbers.Balance.{among_some}
@@ -75,7 +75,7 @@ abbrev pub kept_if_passes : (Container → Bool) → Option Container → Option
 kept_if_passes t None = None
 kept_if_passes t (Some c) = if t c then Some c else None
 
-pub find_among_some : (t : Container → Bool) (n low : ℕ) (xs : List Container) (high : ℕ) → IsRising low (numbers_of xs) high →
+pub find_among_some : (t : Container → Bool) (n low : ℕ) (xs : List Container) (high : ℕ) → IsRising low (container_numbers xs) high →
     find (λ c. c.number == n) (filter t xs) ≡ kept_if_passes t (find (λ c. c.number == n) xs)
 find_among_some t n low [] high r = refl
 find_among_some t n low (x ∷ xs) high r = by (x.number == n) (t x) refl refl (find_among_some t n (x.number + 1) xs high r.1)
@@ -90,7 +90,7 @@ find_among_some t n low (x ∷ xs) high r = by (x.number == n) (t x) refl refl (
     by false true e p i = ap (λ b. cond b (Some x) (find (λ (c : Container). c.number == n) (filter t xs))) e ∙ i
     by false false e p i = i
 
-module _ {K : ℕ} (cause : Cause) (t : Container → Bool) (old : Flat K) (rising : IsRising 1 (numbers_of old.nodes.live) old.nodes.next_container) where
+module _ {K : ℕ} (cause : Cause) (t : Container → Bool) (old : Flat K) (rising : IsRising 1 (container_numbers old.nodes.live) old.nodes.next_container) where
   -- those of the live containers that pass the test and that some numbers name, and the cluster after their ends
   abbrev pub named : List ℕ → List Container
   named ns = named_among ns (filter t old.nodes.live)
@@ -114,7 +114,7 @@ module _ {K : ℕ} (cause : Cause) (t : Container → Bool) (old : Flat K) (risi
       turn false true = refl
       turn false false = refl
 
-  still_rising : (ns : List ℕ) → IsRising 1 (numbers_of (after_named ns).nodes.live) old.nodes.next_container
+  still_rising : (ns : List ℕ) → IsRising 1 (container_numbers (after_named ns).nodes.live) old.nodes.next_container
   still_rising ns = rising_kept (λ (x : Container). x.number) (λ c. not (is_among (named ns) c)) 1 old.nodes.live old.nodes.next_container rising
 
   -- one more number names the live container of that number, where it passes the test
@@ -140,11 +140,11 @@ module _ {K : ℕ} (cause : Cause) (t : Container → Bool) (old : Flat K) (risi
 
 -- the first that passes a test, and those that are left of them
 module _ (t : Container → Bool) where
-  others_pass : (x : Container) (low : ℕ) (xs : List Container) (high : ℕ) → IsRising (x.number + 1) (numbers_of xs) high → filter t (filter (λ d. not (is_among (x ∷ []) d)) xs) ≡ filter t xs
+  others_pass : (x : Container) (low : ℕ) (xs : List Container) (high : ℕ) → IsRising (x.number + 1) (container_numbers xs) high → filter t (filter (λ d. not (is_among (x ∷ []) d)) xs) ≡ filter t xs
   others_pass x low xs high r = ap (filter t) (filter_whole (λ d. not (is_among (x ∷ []) d)) xs
       (λ d m. let above = rising_from_low (λ (z : Container). z.number) (x.number + 1) xs high d r m in let no : x.number == d.number ≡ false = grind (arith, nat_tests, above) in ap (λ b. not (b || false)) no))
 
-  pub first_passes : (low : ℕ) (xs : List Container) (high : ℕ) (c : Container) → IsRising low (numbers_of xs) high → find t xs ≡ Some c →
+  pub first_passes : (low : ℕ) (xs : List Container) (high : ℕ) (c : Container) → IsRising low (container_numbers xs) high → find t xs ≡ Some c →
       filter t xs ≡ c ∷ filter t (filter (λ d. not (is_among (c ∷ []) d)) xs)
   first_passes low [] high c r e = absurd (cc e)
   first_passes low (x ∷ xs) high c r e = by (t x) refl e (λ f. first_passes (x.number + 1) xs high c r.1 f)

@@ -9,7 +9,7 @@ use Rattle.cap_model.specs.declared.news.End.{End}
 use Rattle.cap_model.specs.Flat.{Container}
 use Rattle.cap_model.specs.Ending.{is_among, named_among}
 use Rattle.cap_model.specs.Bounds.{IsRising}
-use Rattle.cap_model.specs.EngineLaws.{numbers_of}
+use Rattle.cap_model.specs.EngineLaws.{container_numbers}
 use Rattle.cap_model.specs.NewsLaws.{ends_of}
 use Rattle.cap_model.proofs.lists.Members.{IsIn, found}
 use Rattle.cap_model.proofs.lists.Numbered.{rising_kept, rising_from_low}
@@ -32,7 +32,7 @@ count_with g None xs = omega arith
 count_with g (Some c) xs = sum_by-cons (λ y. one_where (g y)) c xs
 
 -- of containers in order at most the one that is found has a number
-count_at : (g : Container → Bool) (n low : ℕ) (xs : List Container) (high : ℕ) → IsRising low (numbers_of xs) high → sum_by (λ (x : Container). one_where (x.number == n && g x)) xs ≡ of_found g (find (λ (x : Container). x.number == n) xs)
+count_at : (g : Container → Bool) (n low : ℕ) (xs : List Container) (high : ℕ) → IsRising low (container_numbers xs) high → sum_by (λ (x : Container). one_where (x.number == n && g x)) xs ≡ of_found g (find (λ (x : Container). x.number == n) xs)
 count_at g n low [] high r = refl
 count_at g n low (x ∷ xs) high r = by (x.number == n) refl (count_at g n (x.number + 1) xs high r.1)
   where
@@ -59,7 +59,7 @@ split_name true b g = omega arith
 split_name false b g = omega arith
 
 -- what some numbers name among containers in order, counted: those of them that are named
-pub count_named : (g : Container → Bool) (ns : List ℕ) (low : ℕ) (xs : List Container) (high : ℕ) → IsRising low (numbers_of xs) high → count_by g (named_among ns xs) ≡ count_by g (filter (is_named ns) xs)
+pub count_named : (g : Container → Bool) (ns : List ℕ) (low : ℕ) (xs : List Container) (high : ℕ) → IsRising low (container_numbers xs) high → count_by g (named_among ns xs) ≡ count_by g (filter (is_named ns) xs)
 count_named g [] low xs high r = sym (count_kept g (is_named []) xs ∙ sum_of_zeros (λ (x : Container). one_where (false && g x)) xs (λ x m. refl))
 count_named g (n ∷ ns) low xs high r =
     let others = filter (λ (x : Container). not (x.number == n)) xs in
@@ -159,7 +159,7 @@ among_named (n ∷ ns) xs c = by (c.number == n) refl (among_named ns (filter (�
         ∙ sym (is_false_or (c.number == n) (is_named ns c) (is_among xs c) e)
 
 -- those that are not left out of the live containers are those that some numbers name among some of them
-pub count_ended : (g t : Container → Bool) (ns : List ℕ) (low : ℕ) (live : List Container) (high : ℕ) → IsRising low (numbers_of live) high →
+pub count_ended : (g t : Container → Bool) (ns : List ℕ) (low : ℕ) (live : List Container) (high : ℕ) → IsRising low (container_numbers live) high →
     count_by g (named_among ns (filter t live)) ≡ count_by g (filter (λ c. not (not (is_among (named_among ns (filter t live)) c))) live)
 count_ended g t ns low live high r =
     count_named g ns low (filter t live) high (rising_kept (λ (x : Container). x.number) t low live high r)
@@ -175,7 +175,7 @@ count_ended g t ns low live high r =
     turn false true = refl
     turn false false = refl
 
-pub count_lost : (g t : Container → Bool) (low : ℕ) (live : List Container) (high : ℕ) → IsRising low (numbers_of live) high →
+pub count_lost : (g t : Container → Bool) (low : ℕ) (live : List Container) (high : ℕ) → IsRising low (container_numbers live) high →
     count_by g (filter t live) ≡ count_by g (filter (λ c. not (not (is_among (filter t live) c))) live)
 count_lost g t low live high r =
     ap (count_by g) (sym (filter_same (λ c. not (not (is_among (filter t live) c))) t live (λ c m. twice_not (is_among (filter t live) c) ∙ among_some t low live high c r m)))

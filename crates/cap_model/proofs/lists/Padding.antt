@@ -4,17 +4,17 @@ use Rattle.std.specs.Prelude.{replicate}
 use Rattle.std.proofs.lemmas.Bool.{cases_lt}
 use Rattle.std.proofs.lemmas.List.{ext_get_or, get_or-append_right, get_or_append_left, get_or-replicate, length-append, length-replicate, take_at}
 use Rattle.std.proofs.lemmas.Bool.Decides.{nat_tests}
-use Rattle.cap_model.specs.Texts.{is_text, padded, IsStored}
+use Rattle.cap_model.specs.Texts.{is_text, padded_text, IsStored}
 
 -- how far a text was copied into an array of zeros
 pub record IsCopied (n : ℕ) (text array : List ℕ) : Type 0 where
   pub copied : (k : ℕ) → k < n → get_or array k 0 ≡ get_or text k 0
   pub zero : (k : ℕ) → n ≤ k → get_or array k 0 ≡ 0
 
-pub padded_is : (most : ℕ) (text array : List ℕ) → length array ≡ most → length text ≤ most → IsCopied (length text) text array → array ≡ padded most text
+pub padded_is : (most : ℕ) (text array : List ℕ) → length array ≡ most → length text ≤ most → IsCopied (length text) text array → array ≡ padded_text most text
 padded_is most text array long short is =
-    let full : length (padded most text) ≡ most = omega (arith, length-append text (replicate (most - length text) 0), length-replicate {A = ℕ} (most - length text) 0) in
-    ext_get_or 0 array (padded most text) (omega arith)
+    let full : length (padded_text most text) ≡ most = omega (arith, length-append text (replicate (most - length text) 0), length-replicate {A = ℕ} (most - length text) 0) in
+    ext_get_or 0 array (padded_text most text) (omega arith)
     (λ k h. elim (cases_lt k (length text)) [
       | inl below ↦ is.copied k below ∙ sym (get_or_append_left text (replicate (most - length text) 0) 0 k below)
       | inr past ↦

@@ -14,7 +14,7 @@ use Rattle.cap_model.specs.Replies.{refused_or, refusal_of, granted_reply, grant
 use Rattle.cap_model.specs.declared.event.Event.{Event}
 use Rattle.cap_model.specs.Events.{Step, Run, after_event, granted_by, ever_granted, ended_between, ever_ended, is_no_memory}
 use Rattle.cap_model.specs.Bounds.{IsRising}
-use Rattle.cap_model.specs.EngineLaws.{numbers_of, HasDistinctNumbers, StepIsDetermined, ContainersBalance, EndedOnce, LiveIsWhatWasNotEnded}
+use Rattle.cap_model.specs.EngineLaws.{container_numbers, HasDistinctNumbers, StepIsDetermined, ContainersBalance, EndedOnce, LiveIsWhatWasNotEnded}
 use Rattle.cap_model.proofs.lists.Members.{IsIn, in_left}
 use Rattle.cap_model.proofs.numbers.ContainerNumbers.{IsThinned, reply_thins, numbers_stay_distinct, granted_once}
 use Rattle.cap_model.proofs.lists.Sums.{one_where, count_append, count_cons}
@@ -50,7 +50,7 @@ module _ {K : ℕ} (old : Flat K) where
 -- members of lists in order
 
 -- a container whose number is below all is not among some of them
-among_later : (t : Container → Bool) (low : ℕ) (cs : List Container) (high : ℕ) (c : Container) → IsRising low (numbers_of cs) high → c.number < low → is_among (filter t cs) c ≡ false
+among_later : (t : Container → Bool) (low : ℕ) (cs : List Container) (high : ℕ) (c : Container) → IsRising low (container_numbers cs) high → c.number < low → is_among (filter t cs) c ≡ false
 among_later t low [] high c r h = refl
 among_later t low (d ∷ cs) high c r h = by (t d) (among_later t (d.number + 1) cs high c r.1 (omega (arith, h, r.0)))
   where
@@ -59,7 +59,7 @@ among_later t low (d ∷ cs) high c r h = by (t d) (among_later t (d.number + 1)
     by false e = e
 
 -- of a list in order, a container is among those that pass a test exactly where it passes
-pub among_some : (t : Container → Bool) (low : ℕ) (cs : List Container) (high : ℕ) (c : Container) → IsRising low (numbers_of cs) high → IsIn c cs → is_among (filter t cs) c ≡ t c
+pub among_some : (t : Container → Bool) (low : ℕ) (cs : List Container) (high : ℕ) (c : Container) → IsRising low (container_numbers cs) high → IsIn c cs → is_among (filter t cs) c ≡ t c
 among_some t low [] high c r m = absurd m
 among_some t low (d ∷ cs) high c r (inl e) = subst (λ x. is_among (filter t (d ∷ cs)) x ≡ t x) e (by (t d) refl)
   where
@@ -100,7 +100,7 @@ abbrev is_numbered : ℕ → Container → Bool
 is_numbered n c = c.number == n
 
 -- of containers in order no number stands twice
-count_rising : (n low : ℕ) (cs : List Container) (high : ℕ) → IsRising low (numbers_of cs) high → (count_by (is_numbered n) cs ≤ 1) × (n < low → count_by (is_numbered n) cs ≡ 0)
+count_rising : (n low : ℕ) (cs : List Container) (high : ℕ) → IsRising low (container_numbers cs) high → (count_by (is_numbered n) cs ≤ 1) × (n < low → count_by (is_numbered n) cs ≡ 0)
 count_rising n low [] high r = (omega arith, λ h. refl)
 count_rising n low (c ∷ cs) high r = by (c.number == n) refl (count_rising n (c.number + 1) cs high r.1)
   where
@@ -116,7 +116,7 @@ count_rising n low (c ∷ cs) high r = by (c.number == n) refl (count_rising n (
         (omega (arith, count_cons (is_numbered n) c cs, head, h.0), λ g. omega (arith, count_cons (is_numbered n) c cs, head, h.1 (omega (arith, g, r.0))))
 
 -- two lists of numbers in order, the second from where the first ends
-rising_append : (low mid : ℕ) (cs ds : List Container) (high : ℕ) → IsRising low (numbers_of cs) mid → IsRising mid (numbers_of ds) high → IsRising low (numbers_of (cs ++ ds)) high
+rising_append : (low mid : ℕ) (cs ds : List Container) (high : ℕ) → IsRising low (container_numbers cs) mid → IsRising mid (container_numbers ds) high → IsRising low (container_numbers (cs ++ ds)) high
 rising_append low mid [] [] high r s = omega (arith, r, s)
 rising_append low mid [] (d ∷ ds) high r s = (omega (arith, r, s.0), s.1)
 rising_append low mid (c ∷ cs) ds high r s = (r.0, rising_append (c.number + 1) mid cs ds high r.1 s)
@@ -176,7 +176,7 @@ containers_balance K events old new r run test = run_balance events old new r ru
 pub ended_once : EndedOnce
 ended_once K events old new r run n =
     let balance = run_balance events old new r run (is_numbered n) in
-    let all : IsRising 1 (numbers_of (old.nodes.live ++ ever_granted events)) new.nodes.next_container =
+    let all : IsRising 1 (container_numbers (old.nodes.live ++ ever_granted events)) new.nodes.next_container =
     rising_append 1 old.nodes.next_container old.nodes.live (ever_granted events) new.nodes.next_container r (granted_once K events old new run) in
     let few = (count_rising n 1 (old.nodes.live ++ ever_granted events) new.nodes.next_container all).0 in
     omega (arith, balance, few, count_append (is_numbered n) old.nodes.live (ever_granted events))
@@ -188,7 +188,7 @@ neither true b c e = ap not e
 neither false b c e = ap not e
 
 -- a container whose number is above all is not among some of them
-among_earlier : (t : Container → Bool) (low : ℕ) (cs : List Container) (high : ℕ) (c : Container) → IsRising low (numbers_of cs) high → high ≤ c.number → is_among (filter t cs) c ≡ false
+among_earlier : (t : Container → Bool) (low : ℕ) (cs : List Container) (high : ℕ) (c : Container) → IsRising low (container_numbers cs) high → high ≤ c.number → is_among (filter t cs) c ≡ false
 among_earlier t low [] high c r h = refl
 among_earlier t low (d ∷ cs) high c r h = by (t d) (among_earlier t (d.number + 1) cs high c r.1 h)
   where

@@ -14,7 +14,7 @@ use Rattle.cap_model.specs.Replies.{refused_or, refusal_of, granted_cluster, Rep
 use Rattle.cap_model.specs.declared.event.Event.{Event}
 use Rattle.cap_model.specs.Events.{Step, Run, ever_granted}
 use Rattle.cap_model.specs.Bounds.{IsRising}
-use Rattle.cap_model.specs.EngineLaws.{numbers_of, HasDistinctNumbers, NumbersStayDistinct, GrantedOnce}
+use Rattle.cap_model.specs.EngineLaws.{container_numbers, HasDistinctNumbers, NumbersStayDistinct, GrantedOnce}
 use Rattle.cap_model.proofs.lists.Filters.{filter_whole}
 use Rattle.cap_model.proofs.lists.Numbered.{rising_kept, rising_more}
 
@@ -69,9 +69,9 @@ module _ {K : ℕ} where
 
   thinned_numbers : (old new : Flat K) → IsThinned old new → HasDistinctNumbers old → HasDistinctNumbers new
   thinned_numbers old new t r =
-      let a : IsRising 1 (numbers_of (filter t.test old.nodes.live)) old.nodes.next_container = rising_kept (λ (z : Container). z.number) t.test 1 old.nodes.live old.nodes.next_container r in
-      let b : IsRising 1 (numbers_of new.nodes.live) old.nodes.next_container = subst (λ cs. IsRising 1 (numbers_of cs) old.nodes.next_container) (sym t.live) a in
-      subst (λ n. IsRising 1 (numbers_of new.nodes.live) n) (sym t.next) b
+      let a : IsRising 1 (container_numbers (filter t.test old.nodes.live)) old.nodes.next_container = rising_kept (λ (z : Container). z.number) t.test 1 old.nodes.live old.nodes.next_container r in
+      let b : IsRising 1 (container_numbers new.nodes.live) old.nodes.next_container = subst (λ cs. IsRising 1 (container_numbers cs) old.nodes.next_container) (sym t.live) a in
+      subst (λ n. IsRising 1 (container_numbers new.nodes.live) n) (sym t.next) b
 
   step_numbers : (old new : Flat K) (event : Event K) → HasDistinctNumbers old → Step old event new → HasDistinctNumbers new
   step_numbers old new (Event.Call by request reply) r s = thinned_numbers old new (reply_thins old new request reply s) r
@@ -79,18 +79,18 @@ module _ {K : ℕ} where
       subst (λ cluster. HasDistinctNumbers cluster) (sym after) (rising_more (λ (z : Container). z.number) 1 old.nodes.live c old.nodes.next_container number r)
   step_numbers old new (Event.Reserve reservation) r (admissible, after) = subst (λ cluster. HasDistinctNumbers cluster) (sym after) r
 
-  run_numbers : (events : List (Event K)) (old new : Flat K) → Run old events new → IsRising old.nodes.next_container (numbers_of (ever_granted events)) new.nodes.next_container
+  run_numbers : (events : List (Event K)) (old new : Flat K) → Run old events new → IsRising old.nodes.next_container (container_numbers (ever_granted events)) new.nodes.next_container
   run_numbers [] old new e = let n : old.nodes.next_container ≡ new.nodes.next_container = ap (λ (c : Flat K). c.nodes.next_container) e in omega (arith, n)
   run_numbers (Event.Call by request reply ∷ events) old new (mid, step, run) =
       let t = reply_thins old mid request reply step in
-      subst (λ n. IsRising n (numbers_of (ever_granted events)) new.nodes.next_container) t.next (run_numbers events mid new run)
+      subst (λ n. IsRising n (container_numbers (ever_granted events)) new.nodes.next_container) t.next (run_numbers events mid new run)
   run_numbers (Event.Grant c ∷ events) old new (mid, (admissible, number, after), run) =
       let n : mid.nodes.next_container ≡ old.nodes.next_container + 1 = ap (λ (x : Flat K). x.nodes.next_container) after in
       let rest = run_numbers events mid new run in
-      (omega (arith, number), subst (λ m. IsRising m (numbers_of (ever_granted events)) new.nodes.next_container) (omega (arith, n, number)) rest)
+      (omega (arith, number), subst (λ m. IsRising m (container_numbers (ever_granted events)) new.nodes.next_container) (omega (arith, n, number)) rest)
   run_numbers (Event.Reserve r ∷ events) old new (mid, (admissible, after), run) =
       let n : mid.nodes.next_container ≡ old.nodes.next_container = ap (λ (x : Flat K). x.nodes.next_container) after in
-      subst (λ m. IsRising m (numbers_of (ever_granted events)) new.nodes.next_container) n (run_numbers events mid new run)
+      subst (λ m. IsRising m (container_numbers (ever_granted events)) new.nodes.next_container) n (run_numbers events mid new run)
 
 pub numbers_stay_distinct : NumbersStayDistinct
 numbers_stay_distinct K old new event r step = step_numbers old new event r step

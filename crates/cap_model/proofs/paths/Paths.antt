@@ -76,7 +76,7 @@ abbrev pub before_dot : List ℕ → List ℕ
 before_dot [] = []
 before_dot (b ∷ bs) = if b == 46 then [] else b ∷ before_dot bs
 
-before_no_dot : (name : List ℕ) → has_dot name ≡ false → before_dot name ≡ name
+pub before_no_dot : (name : List ℕ) → has_dot name ≡ false → before_dot name ≡ name
 before_no_dot [] h = refl
 before_no_dot (b ∷ name) h =
     ap (λ c. cond c [] (b ∷ before_dot name)) (or_left (b == 46) (has_dot name) h) ∙ ap (λ n. b ∷ n) (before_no_dot name (or_right (b == 46) (has_dot name) h))

@@ -31,7 +31,7 @@ use Rattle.cap_model.proofs.telling.Telling.{its_number, its_test, allocate_tell
 
 pub map_same : {K : ℕ} {A : Type 0} (reply : ReplyWith K A) → map_reply (λ x. x) reply ≡ reply
 map_same (Reply.Refused refusal) = refl
-map_same (Reply.Submit application) = refl
+map_same (Reply.Submit app) = refl
 map_same (Reply.RegisterMaster minimum maximum) = refl
 map_same (Reply.Allocate reply) = refl
 map_same (Reply.FinishMaster ended) = refl

@@ -21,7 +21,7 @@ use Rattle.cap_model.specs.Replies.{refused_or, granted_reply, reply_to}
 use Rattle.cap_model.specs.declared.event.Event.{Event}
 use Rattle.cap_model.specs.Events.{Step, Run, after_event, news_of, granted_by, ever_granted}
 use Rattle.cap_model.specs.Bounds.{AreThere, IsWellFormed}
-use Rattle.cap_model.specs.EngineLaws.{numbers_of, HasAppNumbers}
+use Rattle.cap_model.specs.EngineLaws.{container_numbers, HasAppNumbers}
 use Rattle.cap_model.specs.NewsLaws.{untold_grants, told_grants, new_grants, ever_told_grants, ever_new_grants, GrantsAreToldOverRuns, NewGrantsAreOfTheGranted, untold_ends, told_ends, new_ends, ends_of, ever_told_ends, ever_new_ends, EndsAreToldOverRuns}
 use Rattle.cap_model.proofs.lists.Members.{IsIn, found, of_filter, each_of}
 use Rattle.cap_model.proofs.lists.Filters.{filter_none}
@@ -260,22 +260,22 @@ ends_are_told_over_runs K events old new n w run = run_tells _ _ _ _ _ _ ends_ov
 
 -- the grants that are added are those of the containers granted
 
-added_by : {K : ℕ} (old : Flat K) (n : ℕ) (event : Event K) → map (λ g. g.container) (new_grants old n event) ≡ numbers_of (filter (λ c. c.app == n) (granted_by event))
+added_by : {K : ℕ} (old : Flat K) (n : ℕ) (event : Event K) → map (λ g. g.container) (new_grants old n event) ≡ container_numbers (filter (λ c. c.app == n) (granted_by event))
 added_by old n (Event.Call by request reply) = refl
 added_by old n (Event.Grant c) = by (c.app == n)
   where
-    by : (b : Bool) → map (λ g. g.container) (cond b (news_of old c ∷ []) []) ≡ numbers_of (cond b (c ∷ []) [])
+    by : (b : Bool) → map (λ g. g.container) (cond b (news_of old c ∷ []) []) ≡ container_numbers (cond b (c ∷ []) [])
     by true = refl
     by false = refl
 added_by old n (Event.Reserve r) = refl
 
-added : {K : ℕ} (events : List (Event K)) (old : Flat K) (n : ℕ) → map (λ g. g.container) (ever_new_grants old n events) ≡ numbers_of (filter (λ c. c.app == n) (ever_granted events))
+added : {K : ℕ} (events : List (Event K)) (old : Flat K) (n : ℕ) → map (λ g. g.container) (ever_new_grants old n events) ≡ container_numbers (filter (λ c. c.app == n) (ever_granted events))
 added [] old n = refl
 added (event ∷ events) old n =
     map-append (λ (g : Grant). g.container) (new_grants old n event) (ever_new_grants (after_event old event) n events)
     ∙ (λ i. added_by old n event i ++ added events (after_event old event) n i)
     ∙ sym (map-append (λ (c : Container). c.number) (filter (λ c. c.app == n) (granted_by event)) (filter (λ c. c.app == n) (ever_granted events)))
-    ∙ ap numbers_of (sym (filter-append (λ (c : Container). c.app == n) (granted_by event) (ever_granted events)))
+    ∙ ap container_numbers (sym (filter-append (λ (c : Container). c.app == n) (granted_by event) (ever_granted events)))
 
 pub new_grants_are_of_the_granted : NewGrantsAreOfTheGranted
 new_grants_are_of_the_granted K events old n = added events old n

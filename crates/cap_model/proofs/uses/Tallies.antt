@@ -13,7 +13,7 @@ use Rattle.cap_model.specs.Flat.{Flat, App, Container, Reservation, app_at}
 use Rattle.cap_model.specs.Uses.{Holding, holdings, use_of}
 use Rattle.cap_model.specs.Ending.{is_among, after_ends}
 use Rattle.cap_model.specs.Bounds.{IsRising}
-use Rattle.cap_model.specs.EngineLaws.{numbers_of}
+use Rattle.cap_model.specs.EngineLaws.{container_numbers}
 use Rattle.cap_model.proofs.lists.Members.{IsIn}
 use Rattle.cap_model.proofs.lists.Filters.{filter_whole}
 use Rattle.cap_model.proofs.lists.Sums.{count_cons, sum_by_agree}
@@ -47,16 +47,16 @@ count_changed f k test (a ∷ active) =
     ∙ sym (count_cons (λ (x : App). test x.leaf x.user) a active)
 
 -- of containers in order, one of another number than the first is not the first
-not_first : (c d : Container) (low : ℕ) (cs : List Container) (high : ℕ) → IsRising (d.number + 1) (numbers_of cs) high → IsIn c cs → is_among (c ∷ []) d ≡ false
+not_first : (c d : Container) (low : ℕ) (cs : List Container) (high : ℕ) → IsRising (d.number + 1) (container_numbers cs) high → IsIn c cs → is_among (c ∷ []) d ≡ false
 not_first c d low cs high r m = let above = rising_from_low (λ (z : Container). z.number) (d.number + 1) cs high c r m in let t : c.number == d.number ≡ false = grind (arith, nat_tests, above) in ap (λ b. b || false) t
 
-all_later : (d : Container) (cs : List Container) (high : ℕ) → IsRising (d.number + 1) (numbers_of cs) high → filter (λ c. not (is_among (d ∷ []) c)) cs ≡ cs
+all_later : (d : Container) (cs : List Container) (high : ℕ) → IsRising (d.number + 1) (container_numbers cs) high → filter (λ c. not (is_among (d ∷ []) c)) cs ≡ cs
 all_later d cs high r =
     filter_whole (λ c. not (is_among (d ∷ []) c)) cs
     (λ c m. let above = rising_from_low (λ (z : Container). z.number) (d.number + 1) cs high c r m in let t : d.number == c.number ≡ false = grind (arith, nat_tests, above) in ap (λ b. not (b || false)) t)
 
 -- a sum over containers in order is the sum without one of them, and what that one gives
-pub sum_without : (f : Container → ℕ) (low : ℕ) (cs : List Container) (high : ℕ) (c : Container) → IsRising low (numbers_of cs) high → IsIn c cs →
+pub sum_without : (f : Container → ℕ) (low : ℕ) (cs : List Container) (high : ℕ) (c : Container) → IsRising low (container_numbers cs) high → IsIn c cs →
     sum_by f cs ≡ sum_by f (filter (λ d. not (is_among (c ∷ []) d)) cs) + f c
 sum_without f low [] high c r m = absurd m
 sum_without f low (d ∷ cs) high c r (inl e) = subst (λ x. sum_by f (d ∷ cs) ≡ sum_by f (filter (λ y. not (is_among (x ∷ []) y)) (d ∷ cs)) + f x) e here
@@ -120,7 +120,7 @@ module _ {K : ℕ} (old new : Flat K) where
     apps = λ app node s. ap standing (ap (find (λ (x : App). x.number == app)) e ∙ find_others (λ (x : App). x.number) n app (p app node s) old.apps.active);
   }
 
-module _ {K : ℕ} (old : Flat K) (cause : Cause) (c : Container) (rising : IsRising 1 (numbers_of old.nodes.live) old.nodes.next_container) (there : IsIn c old.nodes.live) (test : Test) where
+module _ {K : ℕ} (old : Flat K) (cause : Cause) (c : Container) (rising : IsRising 1 (container_numbers old.nodes.live) old.nodes.next_container) (there : IsIn c old.nodes.live) (test : Test) where
   -- the cluster after the container has ended
   abbrev pub ended : Flat K
   ended = after_ends cause (c ∷ []) old

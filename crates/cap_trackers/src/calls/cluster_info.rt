@@ -14,7 +14,7 @@ pub fn cluster_info<const K: usize>(cluster: &Cluster<K>) -> Reply<K>
     Reply::ClusterInfo {
         report: ClusterReport {
             nodes: nodes.count() as u32,
-            applications: cluster.apps().count() as u32,
+            apps: cluster.apps().count() as u32,
             containers: nodes.live_count() as u32,
             totals: nodes.total(),
             used: cluster.root_use(),

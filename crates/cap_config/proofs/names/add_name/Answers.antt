@@ -1,7 +1,7 @@
 use Rattle.std.proofs.Common.{◌≡◌, ◌++◌, ◌∷◌, [], true, not, sym, ap, ◌∙◌, refl, ℕ, List}
 use Rattle.std.specs.Prelude.{◌||◌}
 use Rattle.std.specs.Str.{bytes_eq}
-use Rattle.cap_config.specs.Seen.{is_among}
+use Rattle.cap_config.specs.Seen.{contains_bytes}
 use Rattle.cap_config.proofs.Among.{among_push}
 use Rattle.cap_config.proofs.NameLists.{name_under_some, name_under_none}
 use Rattle.cap_config.proofs.names.add_name.Goals as goal
@@ -14,7 +14,7 @@ returns-in_default-clause-taken c =
 pub returns-clause-taken : goal.returns-clause-taken
 returns-clause-taken c =
     let yes = name_under_some c.args.path.now c.args.bytes.now c.in-Some.name (sym c.name_under.ensures ∙ c.in-Some.is) in
-    let new : not (is_among c.args.names.now.items c.args.bytes.now) ≡ true =
+    let new : not (contains_bytes c.args.names.now.items c.args.bytes.now) ≡ true =
     ap not (sym (c.requires c.args.bytes.now)) ∙ sym c.in_ok-add_new.ensures.new ∙ c.if-not-branch.false in
     rw (yes.0, new) refl
 
@@ -28,4 +28,4 @@ returns-clause-seen c = λ h q.
     c.in_ok-add_new.ensures.after q
     ∙ ap (λ b. b || bytes_eq c.args.bytes.now q) (c.requires q)
     ∙ sym (among_push c.args.names.now.items c.args.bytes.now q)
-    ∙ ap (λ (ns : List (List ℕ)). is_among ns q) (sym (returns-clause-names c h))
+    ∙ ap (λ (ns : List (List ℕ)). contains_bytes ns q) (sym (returns-clause-names c h))

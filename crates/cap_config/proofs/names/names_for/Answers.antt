@@ -1,7 +1,7 @@
 use Rattle.std.proofs.Common.{◌≡◌, ◌++◌, ◌∷◌, [], ◌<◌, length, true, false, Some, sym, ap, ◌∙◌, arith, eqb, List, ℕ}
 use Rattle.std.specs.List.{slice_split}
 use Rattle.std.proofs.lemmas.Bool.Decides.{nat_tests}
-use Rattle.cap_text.specs.Pieces.{trimmed}
+use Rattle.cap_text.specs.Pieces.{trimmed_bytes}
 use Rattle.cap_config.specs.Values.{is_next}
 use Rattle.cap_text.proofs.Cuts.{cut_shorter}
 use Rattle.cap_config.proofs.NameLists.{names_from, names_for_is, cut_yes, cut_no, last_yes, last_no}
@@ -12,9 +12,9 @@ loop-part-smaller c = cut_shorter 44 c.loop-part.rest.now c.in-Some.part.now c.i
 
 pub loop-part-preserved : goal.loop-part-preserved
 loop-part-preserved c =
-    let next : is_next c.args.path.now c.loop-part.names.items (trimmed c.in-Some.part.now) ≡ true =
+    let next : is_next c.args.path.now c.loop-part.names.items (trimmed_bytes c.in-Some.part.now) ≡ true =
     ap (is_next c.args.path.now c.loop-part.names.items) (sym c.trimmed.ensures) ∙ sym c.in_ok-add_name.ensures.taken ∙ c.if-not-branch.false in
-    let all : c.add_name.new.names.items ≡ c.loop-part.names.items ++ trimmed c.in-Some.part.now ∷ [] =
+    let all : c.add_name.new.names.items ≡ c.loop-part.names.items ++ trimmed_bytes c.in-Some.part.now ∷ [] =
     c.in_ok-add_name.ensures.names c.if-not-branch.false ∙ ap (λ (n : List ℕ). c.loop-part.names.items ++ n ∷ []) c.trimmed.ensures in
     record {
       seen = c.in_ok-add_name.ensures.seen c.if-not-branch.false;
@@ -27,22 +27,22 @@ loop-part-preserved c =
 pub returns-then-not-branch : goal.returns-then-not-branch
 returns-then-not-branch c =
     let full : 0 < length c.args.bytes.now = grind (arith, nat_tests) in
-    let no : is_next c.args.path.now c.loop-part.names.items (trimmed c.in-Some.part.now) ≡ false =
+    let no : is_next c.args.path.now c.loop-part.names.items (trimmed_bytes c.in-Some.part.now) ≡ false =
     ap (is_next c.args.path.now c.loop-part.names.items) (sym c.trimmed.ensures) ∙ sym c.in_ok-add_name.ensures.taken ∙ c.if-not-branch.true in
     sym (sym (names_for_is c.args.path.now c.args.bytes.now full) ∙ c.loop-part.invariant.so_far ∙ cut_no _ _ _ _ _ c.in-Some.ensures.found no)
 
 pub returns-then-not-branch-2 : goal.returns-then-not-branch-2
 returns-then-not-branch-2 c =
     let full : 0 < length c.args.bytes.now = grind (arith, nat_tests) in
-    let no : is_next c.args.path.now c.loop-part.names.items (trimmed c.loop-part.rest.now) ≡ false =
+    let no : is_next c.args.path.now c.loop-part.names.items (trimmed_bytes c.loop-part.rest.now) ≡ false =
     ap (is_next c.args.path.now c.loop-part.names.items) (sym c.trimmed-2.ensures) ∙ sym c.in_ok-add_name-2.ensures.taken ∙ c.if-not-branch-2.true in
     sym (sym (names_for_is c.args.path.now c.args.bytes.now full) ∙ c.loop-part.invariant.so_far ∙ last_no _ _ _ c.in_default.ensures.none no)
 
 pub returns : goal.returns
 returns c =
     let full : 0 < length c.args.bytes.now = grind (arith, nat_tests) in
-    let yes : is_next c.args.path.now c.loop-part.names.items (trimmed c.loop-part.rest.now) ≡ true =
+    let yes : is_next c.args.path.now c.loop-part.names.items (trimmed_bytes c.loop-part.rest.now) ≡ true =
     ap (is_next c.args.path.now c.loop-part.names.items) (sym c.trimmed-2.ensures) ∙ sym c.in_ok-add_name-2.ensures.taken ∙ c.if-not-branch-2.false in
-    let all : c.add_name-2.new.names.items ≡ c.loop-part.names.items ++ trimmed c.loop-part.rest.now ∷ [] =
+    let all : c.add_name-2.new.names.items ≡ c.loop-part.names.items ++ trimmed_bytes c.loop-part.rest.now ∷ [] =
     c.in_ok-add_name-2.ensures.names c.if-not-branch-2.false ∙ ap (λ (n : List ℕ). c.loop-part.names.items ++ n ∷ []) c.trimmed-2.ensures in
     ap Some all ∙ sym (sym (names_for_is c.args.path.now c.args.bytes.now full) ∙ c.loop-part.invariant.so_far ∙ last_yes _ _ _ c.in_default.ensures.none yes)

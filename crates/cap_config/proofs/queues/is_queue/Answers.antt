@@ -1,5 +1,5 @@
 use Rattle.std.proofs.Common.{◌≡◌, sym, ◌∙◌, true, false}
-use Rattle.cap_config.specs.Seen.{is_among}
+use Rattle.cap_config.specs.Seen.{contains_bytes}
 use Rattle.cap_config.specs.Queues.{names_below}
 use Rattle.cap_config.proofs.Above.{parent_is, no_parent}
 use Rattle.cap_config.proofs.Trees.{queue_not_listed, queue_listed, queue_at_top}
@@ -8,7 +8,7 @@ use Rattle.cap_config.proofs.queues.is_queue.Goals as goal
 pub returns-then-not-lists : goal.returns-then-not-lists
 returns-then-not-lists c =
     let entries = c.args.index.now.entries.now in
-    let out : is_among (names_below entries c.in-Some.parent.now) c.in-Some.name.now ≡ false = sym c.lists.ensures ∙ c.if-not-lists.true in
+    let out : contains_bytes (names_below entries c.in-Some.parent.now) c.in-Some.name.now ≡ false = sym c.lists.ensures ∙ c.if-not-lists.true in
     sym (c.loop-parent.invariant ∙ queue_not_listed entries c.loop-parent.rest.now c.in-Some.parent.now c.in-Some.name.now (sym c.in-Some.ensures) out)
 
 pub loop-parent-smaller : goal.loop-parent-smaller
@@ -17,7 +17,7 @@ loop-parent-smaller c = (parent_is c.loop-parent.rest.now c.in-Some.parent.now _
 pub loop-parent-preserved : goal.loop-parent-preserved
 loop-parent-preserved c =
     let entries = c.args.index.now.entries.now in
-    let inside : is_among (names_below entries c.in-Some.parent.now) c.in-Some.name.now ≡ true = sym c.lists.ensures ∙ c.if-not-lists.false in
+    let inside : contains_bytes (names_below entries c.in-Some.parent.now) c.in-Some.name.now ≡ true = sym c.lists.ensures ∙ c.if-not-lists.false in
     c.loop-parent.invariant ∙ queue_listed entries c.loop-parent.rest.now c.in-Some.parent.now c.in-Some.name.now (sym c.in-Some.ensures) inside
 
 pub returns : goal.returns

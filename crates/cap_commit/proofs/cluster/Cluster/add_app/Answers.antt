@@ -3,7 +3,7 @@ use Rattle.cap_model.specs.Submit.{add_app}
 use Rattle.cap_tree.specs.Rows.{queues_of, entered_row}
 use Rattle.cap_commit.proofs.Holding.{held_entered, held_same, with_table}
 use Rattle.cap_commit.proofs.Moving.{moved_settings}
-use Rattle.cap_tree.specs.Count.{nothing, one_application}
+use Rattle.cap_tree.specs.Count.{zero_count, one_app}
 use Rattle.cap_commit.proofs.RowsAt.{all_few}
 use Rattle.cap_commit.proofs.Sizes.{tree_fits}
 use Rattle.cap_commit.proofs.cluster.Cluster.add_app.Goals as goal
@@ -36,4 +36,4 @@ returns-clause-ok g c =
     let at = rw (← c.self.view_is) at c.requires.position in
     let rows = (rw c.deref_mut-tree.ensures.value at c.in-Ok-enter.ensures.ok) ∙ ap (λ p. map (entered_row g.row.K p c.args.user.now) x.tree.value) at.path_is in
     let table = c.in-Ok-submit.ensures.table ∙ ap (add_app c.args.path.now c.args.user.now) c.in-Ok.ensures.table in
-    rw (← c.self.view_is) (with_table (record { rows = x.tree.value; limits = x.limits; apps = x.apps; nodes = x.nodes }) c.enter.new.self c.submit.new.self _ (ap queues_of rows ∙ moved_settings g.row.K c.args.path.now c.args.user.now (nothing g.row.K) (one_application g.row.K) x.tree.value) table)
+    rw (← c.self.view_is) (with_table (record { rows = x.tree.value; limits = x.limits; apps = x.apps; nodes = x.nodes }) c.enter.new.self c.submit.new.self _ (ap queues_of rows ∙ moved_settings g.row.K c.args.path.now c.args.user.now (zero_count g.row.K) (one_app g.row.K) x.tree.value) table)

@@ -5,7 +5,7 @@ use Rattle.cap_model.specs.Flat.{change_app}
 use Rattle.cap_commit.proofs.Ending.{has_owner, some_live, may_give_back, held_ended, ended_is}
 use Rattle.cap_commit.proofs.Holding.{placed_at, position_is}
 use Rattle.cap_commit.proofs.Moving.{moved_settings}
-use Rattle.cap_tree.specs.Count.{nothing, use_alone}
+use Rattle.cap_tree.specs.Count.{zero_count, use_alone}
 use Rattle.cap_commit.proofs.Sizes.{tree_fits}
 use Rattle.cap_commit.proofs.cluster.Cluster.end.Goals as goal
 
@@ -55,7 +55,7 @@ returns g c =
     let x = c.self.inside in
     let one = c.args.container.now in
     let rows = rw c.deref_mut-tree.ensures.value at c.give_back.ensures in
-    let settings = ap queues_of rows ∙ moved_settings g.row.K _ c.user.result.now (use_alone c.resource.result) (nothing g.row.K) x.tree.value in
+    let settings = ap queues_of rows ∙ moved_settings g.row.K _ c.user.result.now (use_alone c.resource.result) (zero_count g.row.K) x.tree.value in
     let told = c.add_end.ensures.table ∙ ap (λ n. change_app c.app-3.result (λ app. record app { ends = app.ends ++ record { container = n; cause = c.args.cause } ∷ [] }) x.apps.table) c.number.ensures in
     rw (← c.self.view_is)
     (ended_is _ c.self.invariant one.number one (rw (← c.self.view_is) at c.requires) c.args.cause c.give_back.new.self c.add_end.new.self.table c.lift.new.self c.app-3.result settings c.lift.ensures c.app-3.ensures told)

@@ -9,7 +9,7 @@ use Rattle.cap_commit.specs.Held.{Held, Parts, flat_of}
 use Rattle.cap_commit.proofs.Holding.{finished_is, held_left, may_go, placed_at, position_is, with_table}
 use Rattle.cap_commit.proofs.Dropping.{keep_none, none_stay}
 use Rattle.cap_commit.proofs.Moving.{moved_settings}
-use Rattle.cap_tree.specs.Count.{nothing, one_application}
+use Rattle.cap_tree.specs.Count.{zero_count, one_app}
 use Rattle.cap_commit.proofs.Owning.{still_active}
 use Rattle.cap_commit.proofs.Sizes.{tree_fits}
 use Rattle.cap_commit.proofs.cluster.Cluster.finish.Goals as goal
@@ -58,7 +58,7 @@ returns-clause-finished g c =
     let x = c.self.inside in
     let p : Parts g.row.K = (record { rows = x.tree.value; limits = x.limits; apps = x.apps; nodes = x.nodes }) in
     let rows = rw c.deref_mut-tree.ensures.value at c.leave.ensures in
-    let settings = ap queues_of rows ∙ moved_settings g.row.K _ c.user.result.now (one_application g.row.K) (nothing g.row.K) x.tree.value in
+    let settings = ap queues_of rows ∙ moved_settings g.row.K _ c.user.result.now (one_app g.row.K) (zero_count g.row.K) x.tree.value in
     let ended = c.end_all-ended.new.self.flat in
     let dropped = ap (λ (h : Held g.row.K). h.flat) c.self.view_is ∙ c.keep_first.ensures.flat ∙ ap (λ rs. with_reserved rs ended) (keep_none (λ r. r.app == c.args.number) ended.nodes.reserved) in
     finished_is Released c.args.self.now.flat ended _ c.args.number c.end_all-ended.ensures.ended

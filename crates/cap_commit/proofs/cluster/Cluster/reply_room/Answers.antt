@@ -14,5 +14,5 @@ returns-in-Some g c =
     let is = c.in-Allocate.is in
     let found = c.in-Some.ensures.found in
     IfOk-weaker c.reply_room.result _ (λ room. HasRoomForReplies c.args.self.now.flat c.args.request.now room)
-    (λ room most. has_some c.args.self.now.flat c.in-Allocate.application c.in-Allocate.response c.in-Allocate.asks c.in-Allocate.releases c.apps.result.now.table c.in-Some.app.now.app room c.args.request.now is c.apps.ensures.table (sym found)
+    (λ room most. has_some c.args.self.now.flat c.in-Allocate.app c.in-Allocate.response c.in-Allocate.asks c.in-Allocate.releases c.apps.result.now.table c.in-Some.app.now.app room c.args.request.now is c.apps.ensures.table (sym found)
     (most ∙ ap (λ rs. news_most c.in-Some.app.now.app c.in-Allocate.response (length rs)) c.as_slice.ensures.value)) c.reply_room.ensures

@@ -4,7 +4,7 @@ use Rattle.cap_tree.specs.Spot.{path_at}
 use Rattle.cap_commit.proofs.Unreserving.{has_holder, may_give_reserved, held_dropped, dropped_is}
 use Rattle.cap_commit.proofs.Holding.{placed_at, position_is}
 use Rattle.cap_commit.proofs.Moving.{moved_settings}
-use Rattle.cap_tree.specs.Count.{nothing, use_alone}
+use Rattle.cap_tree.specs.Count.{zero_count, use_alone}
 use Rattle.cap_commit.proofs.Sizes.{tree_fits}
 use Rattle.cap_commit.proofs.cluster.Cluster.unreserve.Goals as goal
 
@@ -53,6 +53,6 @@ returns-clause-flat g c =
     let one = c.index-reservations-index.result in
     let at = c.index-reservations-index.is ∙ ap (λ rs. get_or rs c.args.index one) c.reservations.ensures in
     let rows = rw c.deref_mut-tree.ensures.value at c.give_back.ensures in
-    let settings = ap queues_of rows ∙ moved_settings g.row.K _ c.user.result.now (use_alone c.resource.result) (nothing g.row.K) x.tree.value in
+    let settings = ap queues_of rows ∙ moved_settings g.row.K _ c.user.result.now (use_alone c.resource.result) (zero_count g.row.K) x.tree.value in
     rw (← c.self.view_is)
     (dropped_is _ c.self.invariant c.args.index one (rw (← c.self.view_is) at c.requires) at c.give_back.new.self c.unreserve.new.self settings c.unreserve.ensures)

@@ -6,12 +6,12 @@ returns-clause-ok g c =
     let put = rw (c.as_slice-2.ensures.value, c.room.ensures.flat) at c.put_asks.ensures in
     let ended = rw (c.as_slice-3.ensures.value) at c.end_named-ignored.ensures.ended in
     let ignored = rw (c.as_slice-3.ensures.value) at c.end_named-ignored.ensures.ignored in
-    processed c.args.cluster.now.flat c.put_asks.new.cluster.flat c.end_named-ignored.new.self.flat c.tell.new.self.flat c.args.application c.args.response c.end_named-ignored.result c.args.asks.now c.args.releases.now
+    processed c.args.cluster.now.flat c.put_asks.new.cluster.flat c.end_named-ignored.new.self.flat c.tell.new.self.flat c.args.app c.args.response c.end_named-ignored.result c.args.asks.now c.args.releases.now
     c.requires put ended ignored c.tell.ensures.told
 
 pub returns-clause-told : goal.returns-clause-told
 returns-clause-told g c =
     let put = rw (c.as_slice-2.ensures.value, c.room.ensures.flat) at c.put_asks.ensures in
     let ended = rw (c.as_slice-3.ensures.value) at c.end_named-ignored.ensures.ended in
-    let at = ended_at c.args.cluster.now.flat c.put_asks.new.cluster.flat c.end_named-ignored.new.self.flat c.args.application c.args.response c.args.asks.now c.args.releases.now c.requires put ended in
-    c.tell.ensures.reply (is_there c.end_named-ignored.new.self.flat c.args.application c.args.response at)
+    let at = ended_at c.args.cluster.now.flat c.put_asks.new.cluster.flat c.end_named-ignored.new.self.flat c.args.app c.args.response c.args.asks.now c.args.releases.now c.requires put ended in
+    c.tell.ensures.reply (is_there c.end_named-ignored.new.self.flat c.args.app c.args.response at)

@@ -5,4 +5,4 @@ use Rattle.cap_masters.proofs.calls.finish_master.finish_master.Goals as goal
 pub finish-requires : goal.finish-requires
 finish-requires g c =
     let kinds = c.refusal.ensures.resources in
-    (omega (arith, kinds), finish_there c.args.cluster.now.flat c.args.application (sym c.refusal.ensures.refusal ∙ c.in-None.is))
+    (omega (arith, kinds), finish_there c.args.cluster.now.flat c.args.app (sym c.refusal.ensures.refusal ∙ c.in-None.is))

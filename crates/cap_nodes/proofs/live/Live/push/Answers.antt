@@ -2,7 +2,7 @@ use Rattle.std.proofs.Common.{◌+◌, ◌<◌, ap, sym, subst, refl, List, leng
 use Rattle.std.specs.Map.{values_of}
 use Rattle.cap_model.specs.Limits.{live_max}
 use Rattle.cap_model.specs.Flat.{Container}
-use Rattle.cap_nodes.specs.Places.{LiveTable, IsOwnerIndex}
+use Rattle.cap_nodes.specs.Loads.{LiveTable, IsOwnerIndex}
 use Rattle.cap_nodes.proofs.Lives.{pushed, fresh}
 use Rattle.cap_nodes.proofs.Owned.{index_pushed, index_back}
 use Rattle.cap_nodes.proofs.live.Live.push.Goals as goal

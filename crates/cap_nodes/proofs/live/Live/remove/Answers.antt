@@ -2,7 +2,7 @@ use Rattle.std.proofs.Common.{◌≡◌, ◌∙◌, ap, sym, subst, List, Some}
 use Rattle.std.specs.Prelude.{find, ◌==◌}
 use Rattle.std.specs.Map.{values_of}
 use Rattle.cap_model.specs.Flat.{Container}
-use Rattle.cap_nodes.specs.Places.{LiveTable, IsOwnerIndex}
+use Rattle.cap_nodes.specs.Loads.{LiveTable, IsOwnerIndex}
 use Rattle.cap_nodes.proofs.Lives.{removed, found}
 use Rattle.cap_nodes.proofs.Owned.{index_left}
 use Rattle.cap_nodes.proofs.live.Live.remove.Goals as goal

@@ -1,6 +1,6 @@
 use Rattle.std.proofs.Common.{[], sym}
 use Rattle.cap_model.proofs.uses.NodeTotals.{totals-none}
-use Rattle.cap_nodes.specs.Places.{AreTied}
+use Rattle.cap_nodes.specs.Loads.{AreTied}
 use Rattle.cap_nodes.proofs.nodes.Nodes.new.Goals as goal
 
 pub invariant_of-result : goal.invariant_of-result

@@ -1,21 +1,21 @@
 use Rattle.std.proofs.Common.{sym}
-use Rattle.cap_nodes.proofs.Changes.{node_of_place, node_of_none, held_all, rising_nodes}
+use Rattle.cap_nodes.proofs.Changes.{node_of_load, node_of_none, held_all, rising_nodes}
 use Rattle.cap_nodes.proofs.nodes.Nodes.node.Goals as goal
 
 pub returns-in-Some-clause-found : goal.returns-in-Some-clause-found
-returns-in-Some-clause-found g c = rw (← c.self.view_is, c.node.ensures) (sym (node_of_place c.self.inside.present.places c.args.number c.in-Some.place.now (sym c.in-Some.ensures.found)))
+returns-in-Some-clause-found g c = rw (← c.self.view_is, c.node.ensures) (sym (node_of_load c.self.inside.present.loads c.args.number c.in-Some.load.now (sym c.in-Some.ensures.found)))
 
 pub returns-in-None-clause-found : goal.returns-in-None-clause-found
-returns-in-None-clause-found g c = rw (← c.self.view_is) (sym (node_of_none c.self.inside.present.places c.args.number (sym c.in-None.ensures.found)))
+returns-in-None-clause-found g c = rw (← c.self.view_is) (sym (node_of_none c.self.inside.present.loads c.args.number (sym c.in-None.ensures.found)))
 
 pub returns-in-Some-clause-rising : goal.returns-in-Some-clause-rising
-returns-in-Some-clause-rising g c = rw (← c.self.view_is) (rising_nodes c.self.inside.present.places c.self.inside.present.next c.in-Some.ensures.rising)
+returns-in-Some-clause-rising g c = rw (← c.self.view_is) (rising_nodes c.self.inside.present.loads c.self.inside.present.next c.in-Some.ensures.rising)
 
 pub returns-in-Some-clause-held : goal.returns-in-Some-clause-held
-returns-in-Some-clause-held g c = rw (← c.self.view_is) (held_all g.row.K c.self.inside.live.live c.self.inside.present.places c.self.invariant.0.ties)
+returns-in-Some-clause-held g c = rw (← c.self.view_is) (held_all g.row.K c.self.inside.live.live c.self.inside.present.loads c.self.invariant.0.ties)
 
 pub returns-in-None-clause-rising : goal.returns-in-None-clause-rising
-returns-in-None-clause-rising g c = rw (← c.self.view_is) (rising_nodes c.self.inside.present.places c.self.inside.present.next c.in-None.ensures.rising)
+returns-in-None-clause-rising g c = rw (← c.self.view_is) (rising_nodes c.self.inside.present.loads c.self.inside.present.next c.in-None.ensures.rising)
 
 pub returns-in-None-clause-held : goal.returns-in-None-clause-held
-returns-in-None-clause-held g c = rw (← c.self.view_is) (held_all g.row.K c.self.inside.live.live c.self.inside.present.places c.self.invariant.0.ties)
+returns-in-None-clause-held g c = rw (← c.self.view_is) (held_all g.row.K c.self.inside.live.live c.self.inside.present.loads c.self.invariant.0.ties)

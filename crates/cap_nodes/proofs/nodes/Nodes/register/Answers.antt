@@ -4,18 +4,18 @@ use Rattle.cap_vector.proofs.AmountLemmas.{amount-plus}
 use Rattle.cap_model.specs.Flat.{ClusterNode}
 use Rattle.cap_model.specs.RegisterNode.{sum_of_totals}
 use Rattle.cap_model.proofs.uses.NodeTotals.{totals-push}
-use Rattle.cap_nodes.specs.Places.{Place}
+use Rattle.cap_nodes.specs.Loads.{Load}
 use Rattle.cap_nodes.proofs.Changes.{nodes_of, with_node, nodes_pushed}
 use Rattle.cap_nodes.proofs.nodes.Nodes.register.Goals as goal
 
 pub invariant_of-self-2 : goal.invariant_of-self-2
 invariant_of-self-2 g c =
     let node : ClusterNode = record { number = c.self.inside.present.next; host = c.args.host.now; rack = c.args.rack.now; total = c.args.total.now; response = 0; kept = None } in
-    let place : Place = record { node = node; held = zeros g.row.K; live = 0 } in
-    let within : IsWithin amount_max (plus (sum_of_totals g.row.K (nodes_of c.self.inside.present.places)) c.args.total.now) = rw (← c.self.view_is) at c.requires.within in
-    let small : IsWithin amount_max c.args.total.now = λ k. omega (arith, within k, amount-plus (sum_of_totals g.row.K (nodes_of c.self.inside.present.places)) c.args.total.now k) in
-    let count : length (plus (sum_of_totals g.row.K (nodes_of c.self.inside.present.places)) c.args.total.now) ≡ g.row.K = rw c.self.invariant.1 at c.in-Some.ensures.count in
+    let load : Load = record { node = node; held = zeros g.row.K; live = 0 } in
+    let within : IsWithin amount_max (plus (sum_of_totals g.row.K (nodes_of c.self.inside.present.loads)) c.args.total.now) = rw (← c.self.view_is) at c.requires.within in
+    let small : IsWithin amount_max c.args.total.now = λ k. omega (arith, within k, amount-plus (sum_of_totals g.row.K (nodes_of c.self.inside.present.loads)) c.args.total.now k) in
+    let count : length (plus (sum_of_totals g.row.K (nodes_of c.self.inside.present.loads)) c.args.total.now) ≡ g.row.K = rw c.self.invariant.1 at c.in-Some.ensures.count in
     rw c.in-Ok.ensures.ok.1 (
-      with_node g.row.K c.self.inside.present.places c.self.inside.live.live c.self.invariant.0 c.self.inside.present.next node c.in-Ok.ensures.rising refl small,
-      c.in-Some.ensures.some ∙ ap (λ v. plus v c.args.total.now) c.self.invariant.1 ∙ sym (totals-push g.row.K (nodes_of c.self.inside.present.places) node count) ∙ ap (sum_of_totals g.row.K) (sym (nodes_pushed c.self.inside.present.places place)),
+      with_node g.row.K c.self.inside.present.loads c.self.inside.live.live c.self.invariant.0 c.self.inside.present.next node c.in-Ok.ensures.rising refl small,
+      c.in-Some.ensures.some ∙ ap (λ v. plus v c.args.total.now) c.self.invariant.1 ∙ sym (totals-push g.row.K (nodes_of c.self.inside.present.loads) node count) ∙ ap (sum_of_totals g.row.K) (sym (nodes_pushed c.self.inside.present.loads load)),
     )

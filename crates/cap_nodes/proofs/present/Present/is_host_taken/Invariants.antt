@@ -1,12 +1,12 @@
 use Rattle.std.proofs.Common.{◌≡◌}
 use Rattle.std.specs.Prelude.{bytes_eq}
 use Rattle.std.specs.List.{list_any}
-use Rattle.cap_nodes.specs.Places.{Place}
+use Rattle.cap_nodes.specs.Loads.{Load}
 use Rattle.cap_nodes.proofs.present.Present.is_host_taken.Given as goal
 
--- no place so far has the host
-abbrev pub invariant-loop-place : goal.invariant-loop-place
-invariant-loop-place g l =
-    (goal.iterator-loop-place g).can_next l.place-iterator ×
-    (goal.iterator-loop-place g).is_finite l.place-iterator ×
-    (list_any (λ (p : Place). bytes_eq p.node.host l.host) l.self.places ≡ list_any (λ (p : Place). bytes_eq p.node.host l.host) l.place-iterator)
+-- no load so far has the host
+abbrev pub invariant-loop-load : goal.invariant-loop-load
+invariant-loop-load g l =
+    (goal.iterator-loop-load g).can_next l.load-iterator ×
+    (goal.iterator-loop-load g).is_finite l.load-iterator ×
+    (list_any (λ (p : Load). bytes_eq p.node.host l.host) l.self.loads ≡ list_any (λ (p : Load). bytes_eq p.node.host l.host) l.load-iterator)

@@ -1,6 +1,5 @@
 use Rattle.std.proofs.Common.{refl, ◌∙◌, ap, ap₂, sym, subst, ◌≡◌, ◌++◌, ◌∷◌, [], ℕ, List, Option, None, Some}
 use Rattle.cap_frames.specs.Stream.{frame_of}
-
 use Rattle.cap_messages.specs.Spelling.{IsReply, reply_bytes}
 use Rattle.cap_session.specs.Session.{SessionState, OpenRequest, after_answer, SpellsAnswer}
 use Rattle.cap_session.specs.Kept.{IsKept, SpellsRequest, open_of, state_inside}

@@ -1,5 +1,5 @@
 use Rattle.std.proofs.Common.{◌∙◌, ap, sym}
-use Rattle.cap_vector.specs.Vector.{exchanged}
+use Rattle.cap_vector.specs.Vector.{amounts_exchanged}
 use Rattle.cap_model.specs.Admission.{fits_maximum}
 use Rattle.cap_tree.specs.Queue.{Queue}
 use Rattle.cap_tree.proofs.Within.{fits_once}
@@ -7,6 +7,6 @@ use Rattle.cap_tree.proofs.queue.Queue.stays_in_maximum.Goals as goal
 
 pub returns : goal.returns
 returns g c =
-    let after = exchanged c.args.old.now c.args.new.now in
+    let after = amounts_exchanged c.args.old.now c.args.new.now in
     fits_once c.fits_exchanged.result (after c.used.result) c.in-Some.maximum c.fits_exchanged.ensures
     ∙ (λ i. fits_maximum (sym c.in-Some.is i) (after (c.used.ensures i))) ∙ ap (λ (q : Queue). fits_maximum q.maximum (after c.args.self.now.used)) c.self.view_is

@@ -1,11 +1,11 @@
 use Rattle.std.proofs.Common.{◌∙◌}
-use Rattle.cap_vector.specs.Vector.{exchanged}
+use Rattle.cap_vector.specs.Vector.{amounts_exchanged}
 use Rattle.cap_model.specs.Admission.{fits_user_limit}
 use Rattle.cap_tree.proofs.Within.{fits_times}
 use Rattle.cap_tree.proofs.queue.Queue.stays_in_user_limit.Goals as goal
 
 pub returns : goal.returns
 returns g c =
-    let after = exchanged c.args.old.now c.args.new.now in
+    let after = amounts_exchanged c.args.old.now c.args.new.now in
     fits_times c.fits_exchanged.result (after c.user_use-used.result) c.self.inside.factor c.self.inside.guaranteed c.fits_exchanged.ensures
     ∙ (λ i. fits_user_limit (c.self.view_is i).factor (c.self.view_is i).guaranteed (after (c.user_use-used.ensures i)))

@@ -10,6 +10,6 @@ change-requires g c =
     let rows = c.args.self.now in
     let row = user_row_at c.args.path.now.items c.args.user.now rows in
     let position = c.requires.position in
-    let fits = subst (λ (part : Count). IsPart part (count_in g.row.K row)) (sym c.nothing.ensures) (entering_part g.row.K row) in
-    let within : HasRoomAtRoot c.nothing.result c.application.result rows = rw (c.nothing.ensures, c.application.ensures) (room_entering g.row.K rows c.requires.few) in
+    let fits = subst (λ (part : Count). IsPart part (count_in g.row.K row)) (sym c.zero.ensures) (entering_part g.row.K row) in
+    let within : HasRoomAtRoot c.zero.result c.app.result rows = rw (c.zero.ensures, c.app.ensures) (room_entering g.row.K rows c.requires.few) in
     (search rules, (search rules, (search rules, (position, (fits, within)))))

@@ -11,7 +11,7 @@ change-requires g c =
     let row = user_row_at c.args.path.now.items c.args.user.now rows in
     let position = there_holds c.args.user.now c.args.path.now.items rows (MayGive c.args.r.now) (λ h. h) c.requires in
     let fits = subst (λ (part : Count). IsPart part (count_in g.row.K row)) (sym c.use_alone.ensures) (giving_part g.row.K c.args.r.now row c.requires) in
-    let within = subst (λ (part : Count). HasRoomAtRoot c.use_alone.result part rows) (sym c.nothing.ensures) (room_falling g.row.K c.use_alone.result rows) in
+    let within = subst (λ (part : Count). HasRoomAtRoot c.use_alone.result part rows) (sym c.zero.ensures) (room_falling g.row.K c.use_alone.result rows) in
     (search rules, (search rules, (search rules, (position, (fits, within)))))
 
 pub unreachable-requires : goal.unreachable-requires

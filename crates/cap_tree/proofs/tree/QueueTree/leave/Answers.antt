@@ -10,8 +10,8 @@ change-requires g c =
     let rows = c.args.self.now in
     let row = user_row_at c.args.path.now.items c.args.user.now rows in
     let position = there_holds c.args.user.now c.args.path.now.items rows (MayLeave) (λ h. h) c.requires in
-    let fits = subst (λ (part : Count). IsPart part (count_in g.row.K row)) (sym c.application.ensures) (leaving_part g.row.K row c.requires) in
-    let within = subst (λ (part : Count). HasRoomAtRoot c.application.result part rows) (sym c.nothing.ensures) (room_falling g.row.K c.application.result rows) in
+    let fits = subst (λ (part : Count). IsPart part (count_in g.row.K row)) (sym c.app.ensures) (leaving_part g.row.K row c.requires) in
+    let within = subst (λ (part : Count). HasRoomAtRoot c.app.result part rows) (sym c.zero.ensures) (room_falling g.row.K c.app.result rows) in
     (search rules, (search rules, (search rules, (position, (fits, within)))))
 
 pub unreachable-requires : goal.unreachable-requires

@@ -1,6 +1,6 @@
 ghost use Rattle.std.specs.Prelude.{◌≡◌, Some, length};
 ghost use Rattle.cap_vector.specs.Vector.{Fits, plus, less};
-ghost use Rattle.cap_nodes.specs.Places.{CanHold, HasOne, held_more, held_less, beaten_place};
+ghost use Rattle.cap_nodes.specs.Loads.{CanHold, HasOne, held_more, held_less, beaten_load};
 
 use crate::node::Node;
 use cap_model::HeartbeatReply;
@@ -9,24 +9,24 @@ use std::marker::Model;
 
 /// A node, with what its live containers hold, and how many they are.
 #[derive(Debug, Drop)]
-pub(crate) struct Place<const K: usize> {
+pub(crate) struct Load<const K: usize> {
     pub(crate) node: Node<K>,
     pub(crate) held: Resource<K>,
     pub(crate) live: u32,
 }
 
-impl<const K: usize> Model for Place<K> {
-    ghost use Rattle.cap_nodes.specs.Places.{Place as Row};
+impl<const K: usize> Model for Load<K> {
+    ghost use Rattle.cap_nodes.specs.Loads.{Load as Row};
 
     ghost Value = { Row };
 
     ghost view = { λ p. record { node = p.node; held = p.held; live = p.live } };
 }
 
-impl<const K: usize> Place<K> {
-    /// A place of no node.
-    pub(crate) fn blank() -> Place<K> {
-        Place {
+impl<const K: usize> Load<K> {
+    /// The load of no node.
+    pub(crate) fn blank() -> Load<K> {
+        Load {
             node: Node::blank(),
             held: Resource::zero(),
             live: 0,
@@ -80,7 +80,7 @@ impl<const K: usize> Place<K> {
     /// One more heartbeat of it is answered, of which so many ends named no container that was live on it. The result is the reply,
     /// which is kept.
     pub(crate) fn beat(&mut self, ignored: u16) -> HeartbeatReply
-        ensures place { self.new ≡ beaten_place ignored self.old }
+        ensures load { self.new ≡ beaten_load ignored self.old }
         ensures kept { self.new.node.kept ≡ Some result }
     {
         self.node.beat(ignored, self.live)

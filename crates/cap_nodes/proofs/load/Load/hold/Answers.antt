@@ -1,5 +1,5 @@
 use Rattle.std.proofs.Common.{◌≡◌, true, false}
-use Rattle.cap_nodes.proofs.place.Place.hold.Goals as goal
+use Rattle.cap_nodes.proofs.load.Load.hold.Goals as goal
 
 pub unreachable-requires : goal.unreachable-requires
 unreachable-requires g c =

@@ -1,0 +1,132 @@
+-- The nodes with what their containers hold, and the live containers.
+use Rattle.std.specs.Prelude.{◌≡◌, ℕ, ◌+◌, ◌-◌, ◌<◌, ◌≤◌, List, length, not, ◌&&◌, ◌||◌, Option, None, Some, Bool, false, IsSome, map, find, count_by, ◌==◌, if◌then◌else◌, ◌++◌, ◌∷◌, []}
+use Rattle.std.specs.List.{AllByRecursion, list_any}
+use Rattle.std.specs.BTreeMap.{is_at}
+use Rattle.std.specs.Map.{values_of}
+use Rattle.std.specs.Ordering.{nat_cmp, ordering_then}
+use Rattle.std.specs.declared.cmp.Ordering.{Ordering}
+use Rattle.cap_vector.specs.Vector.{Fits, IsWithin, amount_max, plus, less, zeros}
+use Rattle.cap_model.specs.Limits.{live_max}
+use Rattle.cap_model.specs.Amounts.{sum_where}
+use Rattle.cap_model.specs.Bounds.{IsRising}
+use Rattle.cap_model.specs.Flat.{ClusterNode, Container, NodeTable, Reservation, change_node, containers_on}
+use Rattle.cap_model.specs.Heartbeat.{after_beat}
+use Rattle.cap_model.specs.declared.ask.Key.{Key}
+use Rattle.cap_model.specs.Events.{launch}
+use Rattle.cap_model.specs.RegisterNode.{new_node}
+
+-- a node, what its live containers hold, and how many they are
+pub record Load : Type 0 where
+  pub node : ClusterNode
+  pub held : List ℕ
+  pub live : ℕ
+
+-- the nodes in order of number, and the number of the next
+pub record LoadTable : Type 0 where
+  pub loads : List Load
+  pub next : ℕ
+
+-- the live containers in order of number, and the number of the next
+pub record LiveTable : Type 0 where
+  pub live : List Container
+  pub next : ℕ
+
+abbrev pub load_at : List Load → ℕ → Option Load
+load_at loads n = find (λ p. p.node.number == n) loads
+
+abbrev pub change_load : ℕ → (Load → Load) → List Load → List Load
+change_load n change loads = map (λ p. if p.node.number == n then change p else p) loads
+
+-- a node with one more container, of this resource, with one less, and after a heartbeat
+abbrev pub held_more : List ℕ → Load → Load
+held_more resource p = record p { held = plus p.held resource; live = p.live + 1 }
+
+abbrev pub held_less : List ℕ → Load → Load
+held_less resource p = record p { held = less p.held resource; live = p.live - 1 }
+
+abbrev pub beaten_load : ℕ → Load → Load
+beaten_load ignored p = record p { node = after_beat ignored p.live p.node }
+
+-- a container and a reservation of these
+abbrev pub new_container : ℕ → ℕ → Key → ℕ → List ℕ → Container
+new_container number app key node resource = record { number = number; app = app; key = key; node = node; resource = resource }
+
+abbrev pub new_reservation : ℕ → Key → ℕ → List ℕ → Reservation
+new_reservation app key node resource = record { app = app; key = key; node = node; resource = resource }
+
+-- the live containers with one more, of the next number
+abbrev pub add_live : ℕ → Key → ℕ → List ℕ → LiveTable → LiveTable
+add_live app key node resource table =
+    record { live = table.live ++ new_container table.next app key node resource ∷ []; next = table.next + 1 }
+
+-- the nodes with one more of K resources, of the next number, which holds nothing, and with one of them changed
+abbrev pub add_load : ℕ → List ℕ → List ℕ → List ℕ → LoadTable → LoadTable
+add_load K host rack total table =
+    record { loads = table.loads ++ record { node = new_node table.next host rack total; held = zeros K; live = 0 } ∷ []; next = table.next + 1 }
+
+abbrev pub with_load : ℕ → (Load → Load) → LoadTable → LoadTable
+with_load n change table = record table { loads = change_load n change table.loads }
+
+-- the table of a cluster with one more container, of the next number, and after one more heartbeat of a node
+abbrev pub add_container : ℕ → Key → ℕ → List ℕ → NodeTable → NodeTable
+add_container app key node resource table = launch (new_container table.next_container app key node resource) table
+
+abbrev pub after_beat_of : ℕ → ℕ → NodeTable → NodeTable
+after_beat_of n ignored table = change_node n (after_beat ignored (length (containers_on table n))) table
+
+-- room for one more container of this resource
+pub record CanHold (resource : List ℕ) (p : Load) : Type 0 where
+  pub within : IsWithin amount_max (plus p.held resource)
+  pub few : p.live < live_max
+
+-- one container of this resource
+pub record HasOne (resource : List ℕ) (p : Load) : Type 0 where
+  pub held : Fits resource p.held
+  pub some : 0 < p.live
+
+-- items by their numbers
+abbrev pub tagged_items : {X : Type 0} → (X → ℕ) → List X → List (ℕ × X)
+tagged_items num xs = map (λ x. (num x, x)) xs
+
+-- a node holds what the live containers on it hold, which fits its total
+pub record IsTied (K : ℕ) (live : List Container) (p : Load) : Type 0 where
+  pub held : p.held ≡ sum_where K (λ c. c.node == p.node.number) (λ c. c.resource) live
+  pub count : p.live ≡ count_by (λ c. c.node == p.node.number) live
+  pub fits : Fits p.held p.node.total
+  pub within : IsWithin amount_max p.node.total
+
+-- so does each node, and each live container is on one of them
+pub record AreTied (K : ℕ) (loads : List Load) (live : List Container) : Type 0 where
+  pub ties : AllByRecursion (IsTied K live) loads
+  pub homes : AllByRecursion (λ c. IsSome (load_at loads c.node)) live
+
+-- pairs in the order of their firsts, then of their seconds
+abbrev pub pair_cmp : ℕ × ℕ → ℕ × ℕ → Ordering
+pair_cmp x y = ordering_then (nat_cmp x.0 y.0) (nat_cmp x.1 y.1)
+
+-- whether an owner has the container of a number, by pairs of both
+abbrev pub has_pair : List (ℕ × ℕ) → ℕ → ℕ → Bool
+has_pair pairs owner number = list_any (is_at (pair_cmp (owner, number))) pairs
+
+-- the pairs with one more, and without it
+abbrev pub HasMore : ℕ → ℕ → List (ℕ × ℕ) → List (ℕ × ℕ) → Type 0
+HasMore owner number old new = (o n : ℕ) → has_pair new o n ≡ (owner == o && number == n || has_pair old o n)
+
+abbrev pub HasLess : ℕ → ℕ → List (ℕ × ℕ) → List (ℕ × ℕ) → Type 0
+HasLess owner number old new = (o n : ℕ) → has_pair new o n ≡ (not (owner == o && number == n) && has_pair old o n)
+
+-- whether a container is an owner's
+abbrev pub is_of : (Container → ℕ) → Option Container → ℕ → Bool
+is_of key None owner = false
+is_of key (Some c) owner = key c == owner
+
+-- each owner has its live containers by the pairs
+abbrev pub IsOwnerIndex : (Container → ℕ) → List Container → List (ℕ × ℕ) → Type 0
+IsOwnerIndex key live pairs = (owner number : ℕ) → has_pair pairs owner number ≡ is_of key (find (λ c. c.number == number) live) owner
+
+-- the entries are the containers by number, which rise and are few
+abbrev pub IsLive : List (ℕ × Container) → ℕ → Type 0
+IsLive entries next =
+    (entries ≡ tagged_items (λ c. c.number) (values_of entries))
+    × IsRising 1 (map (λ c. c.number) (values_of entries)) next
+    × (length (values_of entries) ≤ live_max)
