@@ -4,14 +4,15 @@ use Rattle.std.specs.Option.{option_map_or}
 use Rattle.std.specs.Map.{lookup}
 use Rattle.cap_model.specs.Flat.{AppTable, app_in, App}
 use Rattle.cap_model.specs.News.{AllocateReply, Grant}
-use Rattle.cap_asks.specs.Held.{Account, HeldApp, reply_numbers}
+use Rattle.cap_asks.specs.Held.{Account, HeldApp}
+use Rattle.cap_model.specs.Reporting.{reported_of}
 use Rattle.cap_model.specs.declared.ask.Key.{Key}
 use Rattle.cap_model.specs.declared.news.End.{End}
 use Rattle.cap_model.specs.Asks.{Ask}
 use Rattle.cap_model.specs.Asking.{put_ask}
 use Rattle.cap_model.specs.Events.{take_one}
 use Rattle.cap_model.specs.Allocate.{after_telling}
-use Rattle.cap_asks.specs.declared.app.Reported.{Reported}
+use Rattle.cap_model.specs.declared.replies.Reported.{Reported}
 
 -- the active applications, the account of each by its number, and how many more there is room for
 pub record HeldApps : Type 0 where
@@ -29,7 +30,7 @@ kept_of n table = option_and_then (λ app. app.kept) (app_in table n)
 
 -- the application keeps a reply of these numbers
 abbrev pub KeepsNumbers : ℕ → AppTable → Reported → Type 0
-KeepsNumbers n table reported = option_map reply_numbers (kept_of n table) ≡ Some reported
+KeepsNumbers n table reported = option_map reported_of (kept_of n table) ≡ Some reported
 
 -- an application after an ask of it was put, and after one container less is wanted for a key
 abbrev pub with_ask_put : Ask → App → App

@@ -7,8 +7,7 @@ ghost use Rattle.cap_model.specs.Bounds.{IsRising};
 ghost use Rattle.cap_model.specs.Submit.{add_app};
 ghost use Rattle.cap_model.specs.FinishMaster.{remove_app};
 ghost use Rattle.cap_model.specs.Flat.{change_app, no_apps, app_in};
-ghost use Rattle.cap_asks.specs.Apps.{IsLeft, account_of, ask_room, live_of, UsesRoom, HasRooms, kept_of, Enters, with_ask_put, with_one_less, with_waiting_grant, with_waiting_end, after_next_reply};
-ghost use Rattle.cap_model.specs.Reporting.{reported_of};
+ghost use Rattle.cap_asks.specs.Apps.{IsLeft, account_of, ask_room, live_of, UsesRoom, HasRooms, kept_of, KeepsNumbers, Enters, with_ask_put, with_one_less, with_waiting_grant, with_waiting_end, after_next_reply};
 
 use crate::app::{App, Position};
 use cap_model::{AllocateView, Ask, End, Grant, Key, NoMemory, PathText, Reported, ShortText};
@@ -217,7 +216,7 @@ impl<const K: usize> Apps<K> {
         ensures rising { IsRising 1 (map (λ app. app.number) self.old.table.active) self.old.table.next }
         ensures table { self.new.table ≡ change_app n (after_next_reply ignored) self.old.table }
         ensures accounts { UsesRoom n 0 0 0 self.old.accounts self.new.accounts }
-        ensures told { IsSome (app_in self.old.table n) → option_map reported_of (kept_of n self.new.table) ≡ Some result }
+        ensures told { IsSome (app_in self.old.table n) → KeepsNumbers n self.new.table result }
     {
         let Some(app) = self.active.get_mut(&n) else {
             return Reported {
@@ -233,7 +232,7 @@ impl<const K: usize> Apps<K> {
     /// The reply of these numbers to the master of an application, with the grants and ends that it was told last. Where none of
     /// this number is active, there are none.
     pub fn reply(&self, n: u64, reported: &Reported) -> AllocateView<'_, K>
-        ensures { option_map reported_of (kept_of n self.now.table) ≡ Some reported.now → kept_of n self.now.table ≡ Some result }
+        ensures { KeepsNumbers n self.now.table reported.now → kept_of n self.now.table ≡ Some result }
     {
         match self.active.get(&n) {
             Some(app) => app.reply(reported),

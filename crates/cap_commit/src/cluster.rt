@@ -1,4 +1,4 @@
-ghost use Rattle.std.specs.Prelude.{◌≡◌, ◌≤◌, ◌+◌, ◌==◌, ◌&&◌, ◌∷◌, [], Some, None, IfOk, OnOk, OnErr, IsOk, IfSome, IsSome, is_some, length, find, nat_lt, ◌<◌, option_map, option_and_then};
+ghost use Rattle.std.specs.Prelude.{◌≡◌, ◌≤◌, ◌+◌, ◌==◌, ◌&&◌, ◌∷◌, [], Some, None, IfOk, OnOk, OnErr, IsOk, IfSome, IsSome, is_some, length, find, nat_lt, ◌<◌};
 ghost use Rattle.std.specs.List.{All, remove};
 ghost use Rattle.cap_model.specs.Limits.{applications_max, resources_max};
 ghost use Rattle.cap_model.specs.Flat.{opened_cluster, queue_at, app_at, node_at, with_app, with_node, with_reserved, containers_on, containers_of};
@@ -16,8 +16,7 @@ ghost use Rattle.cap_model.specs.NodeGone.{without_node};
 ghost use Rattle.cap_model.specs.Heartbeat.{after_beat};
 ghost use Rattle.cap_tree.specs.Rows.{IsAt, queues_of};
 ghost use Rattle.cap_tree.specs.Spot.{IsPosition, path_at};
-ghost use Rattle.cap_asks.specs.Apps.{kept_of, ask_room, HasRooms, UsesRoom};
-ghost use Rattle.cap_model.specs.Reporting.{reported_of};
+ghost use Rattle.cap_asks.specs.Apps.{KeepsNumbers, ask_room, HasRooms, UsesRoom};
 ghost use Rattle.cap_commit.specs.Held.{IsRowOf};
 ghost use Rattle.cap_commit.specs.Reservations.{kept_by_ask};
 ghost use Rattle.cap_commit.specs.Owners.{owns, containers_owned, containers_named};
@@ -255,7 +254,7 @@ impl<const K: usize> Cluster<K> {
         ensures told { IfSome (app_at self.old.flat number) (λ app. self.new.flat ≡ with_app number (after_telling app.response ignored) self.old.flat) }
         ensures unknown { app_at self.old.flat number ≡ None → self.new.flat ≡ self.old.flat }
         ensures room { UsesRoom number 0 0 0 self.old.accounts self.new.accounts }
-        ensures reply { IsSome (app_at self.old.flat number) → option_map reported_of (kept_of number self.new.flat.apps) ≡ Some result }
+        ensures reply { IsSome (app_at self.old.flat number) → KeepsNumbers number self.new.flat.apps result }
     {
         self.apps.tell(number, ignored)
     }

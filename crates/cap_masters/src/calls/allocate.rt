@@ -1,11 +1,11 @@
-ghost use Rattle.std.specs.Prelude.{◌≡◌, ◌≤◌, ◌+◌, Some, None, option_map, IfOk, IfErr, OnOk, OnErr, length, true};
+ghost use Rattle.std.specs.Prelude.{◌≡◌, ◌≤◌, ◌+◌, Some, None, IfOk, IfErr, OnOk, OnErr, length, true};
 ghost use Rattle.std.specs.List.{list_any};
 ghost use Rattle.cap_model.specs.declared.request.Request.TheVariants.{Allocate};
-ghost use Rattle.cap_model.specs.Reporting.{HasNumbers, RepliesInFull, reported_of};
+ghost use Rattle.cap_model.specs.Reporting.{HasNumbers, RepliesInFull};
 ghost use Rattle.cap_model.specs.declared.reply.ReplyWith.TheVariants as Reply;
 ghost use Rattle.cap_model.specs.Limits.{resources_max};
 ghost use Rattle.cap_model.specs.Asking.{after_asks};
-ghost use Rattle.cap_asks.specs.Apps.{kept_of, ask_room};
+ghost use Rattle.cap_asks.specs.Apps.{KeepsNumbers, ask_room};
 ghost use Rattle.cap_model.specs.Allocate.{allocate_refusal, is_too_large, after_processed_allocate};
 ghost use Rattle.cap_masters.specs.Processed.{HasResponse, repeated_at};
 
@@ -100,7 +100,7 @@ fn process<const K: usize>(
 ) -> Result<Reported, NoMemory>
     requires { HasResponse cluster.old.flat app response }
     ensures ok { OnOk result (cluster.new.flat ≡ after_processed_allocate cluster.old.flat app response asks.now releases.now) }
-    ensures told { IfOk result (λ reported. option_map reported_of (kept_of app cluster.new.flat.apps) ≡ Some reported) }
+    ensures told { IfOk result (λ reported. KeepsNumbers app cluster.new.flat.apps reported) }
     ensures err { OnErr result (cluster.new.flat ≡ cluster.old.flat) }
 {
     match cluster.room(app, asks.as_slice().len(), 0, 0) {

@@ -1,0 +1,86 @@
+#!/usr/bin/env bash
+# Counts the instructions of four works by valgrind's callgrind, from the difference of two sizes: a ClusterInfo on one of 16 connections, a heartbeat, an
+# allocate of 20 asks among 256 applications, and a queue that is opened from its lines and shown. Prints them a request, with those that clear and copy
+# memory apart, of which callgrind counts about one a byte; fails where both together are past the bound beside each. Needs valgrind, a package of most
+# distributions. Counts depend a little on the C library and the processor.
+. "$(dirname "${BASH_SOURCE[0]}")/common.sh"
+command -v valgrind >/dev/null || { echo "valgrind is not installed: it is a package of most distributions" >&2; exit 1; }
+build_capsched
+
+# n ClusterInfos over 16 connections
+cluster_info() {
+  awk -v n="$1" 'BEGIN {
+    for (c = 1; c <= 16; c++) print "open " c
+    for (i = 0; i < n; i++) printf "bytes %d 00000006010a%08x\n", i % 16 + 1, i
+  }'
+}
+
+# n heartbeats of one node
+heartbeat() {
+  awk -v n="$1" 'BEGIN {
+    print "open 1"
+    print "bytes 1 0000001d0105%08x" "026e31" "032f7231" "0000000000002000" "0000000000000008"
+    for (i = 0; i < n; i++) printf "bytes 1 00000014" "0106%08x" "%016x" "%08x" "0000\n", i, 1, i
+  }' | sed 's/%08x/00000001/'
+}
+
+# n allocates of 20 asks, in turn of 256 applications, and where they are registered before them
+allocate() {
+  awk -v n="$1" 'BEGIN {
+    print "conf yarn.scheduler.capacity.root.queues=a"
+    print "open 1"
+    for (i = 1; i <= 256; i++) {
+      printf "bytes 1 00000010" "0101%08x" "06726f6f742e61" "027531\n", i
+      printf "bytes 1 0000000e" "0102%08x" "%016x\n", i, i
+    }
+    asks = ""
+    for (k = 1; k <= 20; k++) asks = asks sprintf("%08x%016x%08x%016x%016x%s", 1, k, 2, 1024, 1, "012a")
+    for (i = 0; i < n; i++) printf "bytes 1 000002be" "0103%08x" "%016x" "%08x" "0014" "%s" "0000\n", i, i % 256 + 1, int(i / 256), asks
+  }'
+}
+
+# n queues, each with its capacity, and a QueueInfo for each
+queue() {
+  awk -v n="$1" 'BEGIN {
+    root = "conf yarn.scheduler.capacity.root"
+    list = "a0001"
+    for (i = 2; i <= n; i++) list = list "," sprintf("a%04d", i)
+    print root ".queues=" list
+    for (i = 1; i <= n; i++) printf "%s.a%04d.capacity=[memory=1024,vcores=1]\n", root, i
+    print "open 1"
+    for (i = 1; i <= n; i++) {
+      digits = sprintf("%04d", i)
+      name = "61"
+      for (k = 1; k <= 4; k++) name = name "3" substr(digits, k, 1)
+      printf "bytes 1 00000011" "0108%08x" "0a" "726f6f742e" "%s\n", i, name
+    }
+  }'
+}
+
+# the instructions of a run, those that clear and copy memory, and all others: `moved` and `other`
+count() {
+  valgrind --tool=callgrind --callgrind-out-file="$work/counts" "$program" replay <"$work/script" >"$work/output" 2>"$work/messages" || { tail -n 5 "$work/messages" >&2; exit 1; }
+  read -r moved other < <(callgrind_annotate --threshold=100 "$work/counts" | awk '
+    /^ *[0-9,]+ \(.*\)/ { n = $1; gsub(",", "", n); if (/PROGRAM TOTALS/) total = n; else if (/mem(set|move|cpy)/) moved += n }
+    END { print moved + 0, total - moved }')
+}
+
+broken=0
+# measure WORK SIZE BOUND ANSWERS: of a work at a size and at twice the size, where so many lines of output match
+measure() {
+  for size in "$2" $((2 * $2)); do
+    "$1" "$size" >"$work/script"
+    count
+    [ "$(grep -c "$4" "$work/output")" = "$size" ] || { echo "$1: not every request is answered with success" >&2; exit 1; }
+    if [ "$size" = "$2" ]; then first=("$moved" "$other"); fi
+  done
+  moved=$(((moved - first[0]) / $2)) other=$(((other - first[1]) / $2))
+  echo "$1: $other instructions, and $moved that clear and copy (together at most $3)"
+  [ $((moved + other)) -le "$3" ] || broken=1
+}
+
+measure cluster_info 2000 3500 '^out [0-9]* 00000033010a'
+measure heartbeat 2000 4000 '^out 1 000000110106[0-9a-f]\{8\}00'
+measure allocate 1024 45000 '^out 1 0000000f0103[0-9a-f]\{8\}00'
+measure queue 500 40000 '^out 1 000000[0-9a-f]\{2\}0108[0-9a-f]\{8\}00'
+exit "$broken"
