@@ -33,6 +33,13 @@ open_answers (Some c) s is a = absurd cc
 pub answers_open : (s : SessionState) → s.ended ≡ None → HasAnswered s → Answers s.answered s.calls (all_answers s)
 answers_open s is a = open_answers s.ended s is a
 
+-- or not for a length that no frame has
+pub answers_unless : (c : Option Cause) (s : SessionState) → (c ≡ Some causes.BadLength → ⊥) → AnswersBy c s → Answers s.answered s.calls (all_answers s)
+answers_unless None s fine a = a
+answers_unless (Some causes.NoMemory) s fine a = a
+answers_unless (Some causes.WriteFault) s fine a = a
+answers_unless (Some causes.BadLength) s fine a = absurd (fine refl)
+
 pub answered_open : (s : SessionState) → s.ended ≡ None → Answers s.answered s.calls (all_answers s) → HasAnswered s
 answered_open s is a = subst (λ (c : Option Cause). AnswersBy c s) (sym is) a
 

@@ -1,5 +1,5 @@
 mod Logs
-mod Answering
+pub mod Answering
 mod Steps
 pub mod Continuing
 mod Unanswered

@@ -1,5 +1,5 @@
 -- What each connection heard of the steps that were made, and what it was answered for it.
-use Rattle.std.proofs.Common.{◌≡◌, ◌≢◌, ℕ, ◌+◌, ◌<◌, Bool, true, false, List, [], ◌∷◌, ◌++◌, length, get_or, take, Option, Some, None, Ok, IsSome, refl, sym, ap, subst, ◌∙◌, append_assoc, inl, inr, ◌⊎◌}
+use Rattle.std.proofs.Common.{◌≡◌, ◌≢◌, ℕ, ◌+◌, ◌<◌, Bool, true, false, List, [], ◌∷◌, ◌++◌, length, get_or, take, Option, Some, None, Ok, IsSome, refl, sym, ap, subst, ◌∙◌, append_assoc, append-nil, inl, inr, ◌⊎◌}
 use Rattle.std.specs.Prelude.{◌==◌, if◌then◌else◌, MatchBool}
 use Rattle.std.proofs.lemmas.Bool.{cases_Bool, eqb-true}
 use Rattle.std.proofs.lemmas.List.{take_more}
@@ -9,13 +9,16 @@ use Rattle.cap_model.specs.declared.event.Event.{Event}
 use Rattle.cap_model.specs.Flat.{Flat}
 use Rattle.cap_frames.specs.Stream.{rest, fault, IsStream, IsBytes}
 use Rattle.cap_frames.proofs.Streams.{stream_goes_on}
-use Rattle.cap_world.specs.declared.session.Standing.{Standing}
-use Rattle.cap_world.specs.declared.session.Standing.TheVariants as standings
+use Rattle.cap_world.specs.declared.connection.Standing.{Standing}
+use Rattle.cap_world.specs.declared.connection.Standing.TheVariants as standings
 use Rattle.cap_world.specs.declared.step.Step.{Step}
 use Rattle.cap_world.specs.declared.step.Step.TheVariants as steps
 use Rattle.cap_world.specs.declared.step.Did.{Did}
 use Rattle.cap_world.specs.declared.step.Did.TheVariants as dids
-use Rattle.cap_world.specs.Answers.{Call}
+use Rattle.cap_session.specs.declared.session.Cause.{Cause}
+use Rattle.cap_session.specs.declared.session.Cause.TheVariants as causes
+use Rattle.cap_session.specs.Answers.{Call}
+use Rattle.cap_session.specs.Session.{SessionState, AnswersBy, IsSession}
 use Rattle.cap_world.specs.Connection.{Connection, new_connection, is_open_standing, AnswersAs, AnswersSome, HasAnswers}
 use Rattle.cap_world.specs.Serving.{Feeds, StandsAfter}
 use Rattle.cap_world.specs.World.{WorldState, connection_at, is_open, is_open_connection, output_of, output_from, Changes, HasAnswersAt}
@@ -33,9 +36,9 @@ abbrev pub Agrees : Hearing → Option Connection → Type 0
 Agrees unopened None = Unit {0}
 Agrees unopened (Some is) = ⊥
 Agrees (live taken) None = ⊥
-Agrees (live taken) (Some is) = (is.standing ≡ standings.Open) × (is.taken ≡ taken)
+Agrees (live taken) (Some is) = (is.standing ≡ standings.Open) × (is.session.fed ≡ taken)
 Agrees (over taken) None = ⊥
-Agrees (over taken) (Some is) = IsOver is.standing × (is.taken ≡ taken)
+Agrees (over taken) (Some is) = IsOver is.standing × (is.session.fed ≡ taken)
 
 -- what a connection hears next
 abbrev Next : (Hearing → Type 0) → Option Connection → Type 0
@@ -74,25 +77,30 @@ ends unopened was lives a = absurd a
 ends (live taken) was lives a = (over taken, refl, (tt, a.1))
 ends (over taken) was lives a = absurd (subst IsOver lives a.0)
 
-abbrev Takes : List ℕ → List ℕ → List ℕ → Standing → List (List ℕ) → Type 0
-Takes before piece after standing payloads = (after ≡ before ++ piece) ⊎ ((after ≡ before) × (standing ≡ standings.Starved) × (payloads ≡ []))
+-- all of a piece was taken, or none of it for want of memory
+abbrev Takes : List ℕ → List ℕ → Standing → Type 0
+Takes piece more standing = (more ≡ piece) ⊎ ((more ≡ []) × (standing ≡ standings.Starved))
 
 -- an open connection hears a piece
-hears : (standing : Standing) (before piece after output more : List ℕ) (earlier payloads : List (List ℕ)) → standing ≢ standings.Starved → StandsAfter standing (before ++ piece) earlier more → Takes before piece after standing payloads
-    → Next (HearsPiece piece (live before)) (Some (record { standing = standing; taken = after; output = output }))
-hears standings.Open before piece after output more earlier payloads fine stands (inl is) = (live (before ++ piece), inl ((earlier, stands.0, stands.1), refl), (refl, is))
-hears standings.Faulted before piece after output more earlier payloads fine stands (inl is) = (over (before ++ piece), inr ((earlier, stands.0, stands.1), refl), (tt, is))
-hears standings.Ended before piece after output more earlier payloads fine stands taken = absurd stands
-hears standings.Starved before piece after output more earlier payloads fine stands taken = absurd (fine refl)
-hears standings.Open before piece after output more earlier payloads fine stands (inr stuck) = absurd (fine stuck.1)
-hears standings.Faulted before piece after output more earlier payloads fine stands (inr stuck) = absurd (fine stuck.1)
+hears : (standing : Standing) (s : SessionState) (before piece more last : List ℕ) → standing ≢ standings.Starved → StandsAfter standing s last → IsSession s → s.fed ≡ before ++ more → Takes piece more standing → Next (HearsPiece piece (live before)) (Some (record { standing = standing; session = s }))
+hears standings.Open s before piece more last fine stands session fed (inl is) =
+    let taken : s.fed ≡ before ++ piece = fed ∙ ap (λ (x : List ℕ). before ++ x) is in
+    (live (before ++ piece), inl ((s.answered, stands.3.0, subst (λ (x : List ℕ). IsStream x s.answered (rest stands.3.0)) taken stands.3.1), refl), (refl, taken))
+hears standings.Faulted s before piece more last fine stands session fed (inl is) =
+    let taken : s.fed ≡ before ++ piece = fed ∙ ap (λ (x : List ℕ). before ++ x) is in
+    let at : AnswersBy (Some causes.BadLength) s = subst (λ (c : Option Cause). AnswersBy c s) stands.0 session.answers in
+    (over (before ++ piece), inr ((s.answered, at.0, subst (λ (x : List ℕ). IsStream x s.answered (fault at.0)) taken at.2), refl), (tt, taken))
+hears standings.Ended s before piece more last fine stands session fed taken = absurd stands
+hears standings.Starved s before piece more last fine stands session fed taken = absurd (fine refl)
+hears standings.Open s before piece more last fine stands session fed (inr stuck) = absurd (fine stuck.1)
+hears standings.Faulted s before piece more last fine stands session fed (inr stuck) = absurd (fine stuck.1)
 
 hears_piece : (by : ℕ) (piece : List ℕ) (from to : Flat 2) (before after : List (Event 2)) (heard : Hearing) (was is : Connection) → was.standing ≡ standings.Open → Agrees heard (Some was) → is.standing ≢ standings.Starved → Feeds by piece from to before after was is → Next (HearsPiece piece heard) (Some is)
 hears_piece by piece from to before after unopened was is lives a fine f = absurd a
 hears_piece by piece from to before after (over taken) was is lives a fine f = absurd (subst IsOver lives a.0)
 hears_piece by piece from to before after (live taken) was is lives a fine f =
     subst (λ (x : List ℕ). Next (HearsPiece piece (live x)) (Some is)) a.1
-    (hears is.standing was.taken piece is.taken is.output f.more (f.earlier ++ f.payloads) f.payloads fine f.stands f.taken)
+    (hears is.standing is.session was.session.fed piece f.more f.last fine f.stands f.session f.serves.continues.fed f.taken)
 
 -- its own step or another's
 own_or_other : (c d : ℕ) (is : Connection) (old new : List (ℕ × Connection)) (heard : Hearing) (Own : Hearing → Type 0) → Changes d is old new → Agrees heard (connection_at c old) → (c ≡ d → Next Own (Some is)) → Next (λ next. MatchBool (d == c) (Own next) (next ≡ heard)) (connection_at c new)
@@ -155,11 +163,11 @@ is_heard unopened calls None a has = (has, refl, refl)
 is_heard unopened calls (Some is) a has = absurd a
 is_heard (live taken) calls None a has = absurd a
 is_heard (live taken) calls (Some is) a has =
-    let all : AnswersAs standings.Open taken calls is.output = subst (λ (x : List ℕ). AnswersAs standings.Open x calls is.output) a.1 (subst (λ (s : Standing). AnswersAs s is.taken calls is.output) a.0 has) in
+    let all : AnswersAs standings.Open taken calls is.session.unsent = subst (λ (x : List ℕ). AnswersAs standings.Open x calls is.session.unsent) a.1 (subst (λ (s : Standing). AnswersAs s is.session.fed calls is.session.unsent) a.0 has.answers) in
     (rest all.0, all.1, ap is_open_standing a.0)
 is_heard (over taken) calls None a has = absurd a
 is_heard (over taken) calls (Some is) a has =
-    subst (λ (x : List ℕ). IsHeard (over x) calls is.output (is_open_standing is.standing)) a.1 (over_heard is.standing is.taken calls is.output a.0 has)
+    subst (λ (x : List ℕ). IsHeard (over x) calls is.session.unsent (is_open_standing is.standing)) a.1 (over_heard is.standing is.session.fed calls is.session.unsent a.0 has.answers)
   where
     over_heard : (standing : Standing) (taken : List ℕ) (calls : List Call) (output : List ℕ) → IsOver standing → AnswersAs standing taken calls output → IsHeard (over taken) calls output (is_open_standing standing)
     over_heard standings.Open taken calls output is has = absurd is
@@ -167,33 +175,26 @@ is_heard (over taken) calls (Some is) a has =
     over_heard standings.Faulted taken calls output is has = (fault has.0, has.1, refl)
     over_heard standings.Starved taken calls output is has = absurd is
 
-piece_fits : (before piece : List ℕ) → IsBytes (before ++ piece) → IsBytes piece
-piece_fits before piece fits = subst IsBytes (drop_at before piece (length before) refl) (All-drop (λ b. b < 256) (length before) (before ++ piece) fits)
-
 -- a beginning of the payloads is one also with more bytes
 some_more : (taken piece : List ℕ) (calls : List Call) (output : List ℕ) → IsBytes piece → AnswersSome taken calls output → AnswersSome (taken ++ piece) calls output
 some_more taken piece calls output fits has =
     let on = stream_goes_on taken piece (has.0 ++ has.1) has.2 has.3 fits in
     (has.0, has.1 ++ on.0, on.1, subst (λ (x : List (List ℕ)). IsStream (taken ++ piece) x on.1) (append_assoc has.0 has.1 on.0) on.2, has.4)
 
-starved_fits : (by : ℕ) (piece : List ℕ) (from to : Flat 2) (before after : List (Event 2)) (was is : Connection) → is.standing ≡ standings.Starved → Feeds by piece from to before after was is → IsBytes piece
-starved_fits by piece from to before after was is starved f =
-    let stands = subst (λ (s : Standing). StandsAfter s (was.taken ++ piece) (f.earlier ++ f.payloads) f.more) starved f.stands in
-    piece_fits was.taken piece stands.2.fits
-
 cut_short : (by : ℕ) (piece : List ℕ) (from to : Flat 2) (before after : List (Event 2)) (heard : Hearing) (calls : List Call) (was is : Connection) → was.standing ≡ standings.Open → Agrees heard (Some was) → is.standing ≡ standings.Starved → Feeds by piece from to before after was is → HasAnswers calls is
-    → IsCutShort piece heard calls is.output (is_open_standing is.standing)
+    → IsCutShort piece heard calls is.session.unsent (is_open_standing is.standing)
 cut_short by piece from to before after unopened calls was is lives a starved f has = absurd a
 cut_short by piece from to before after (over taken) calls was is lives a starved f has = absurd (subst IsOver lives a.0)
 cut_short by piece from to before after (live taken) calls was is lives a starved f has =
-    let some : AnswersSome is.taken calls is.output = subst (λ (s : Standing). AnswersAs s is.taken calls is.output) starved has in
-    let fits = starved_fits by piece from to before after was is starved f in
-    let all : AnswersSome (was.taken ++ piece) calls is.output =
+    let some : AnswersSome is.session.fed calls is.session.unsent = subst (λ (s : Standing). AnswersAs s is.session.fed calls is.session.unsent) starved has.answers in
+    let fed : is.session.fed ≡ was.session.fed ++ f.more = f.serves.continues.fed in
+    let all : AnswersSome (was.session.fed ++ piece) calls is.session.unsent =
     elim f.taken [
-      | inl whole ↦ subst (λ (x : List ℕ). AnswersSome x calls is.output) whole some
-      | inr stuck ↦ some_more was.taken piece calls is.output fits (subst (λ (x : List ℕ). AnswersSome x calls is.output) stuck.0 some)
+      | inl whole ↦ subst (λ (x : List ℕ). AnswersSome x calls is.session.unsent) (fed ∙ ap (λ (x : List ℕ). was.session.fed ++ x) whole) some
+      | inr stuck ↦
+          some_more was.session.fed piece calls is.session.unsent f.fits (subst (λ (x : List ℕ). AnswersSome x calls is.session.unsent) (fed ∙ ap (λ (x : List ℕ). was.session.fed ++ x) stuck.0 ∙ append-nil was.session.fed) some)
     ] in
-    (subst (λ (x : List ℕ). AnswersSome (x ++ piece) calls is.output) a.1 all, ap is_open_standing starved)
+    (subst (λ (x : List ℕ). AnswersSome (x ++ piece) calls is.session.unsent) a.1 all, ap is_open_standing starved)
 
 pub heard_starved : (c : ℕ) (step : Step) (old new : WorldState) (before after : List (Event 2)) (heard : Hearing) (calls : List Call) → Starves step old new before after → Agrees heard (connection_at c old.connections) → HasAnswersAt calls (connection_at c new.connections)
     → IsHeardBefore (Some step) c heard calls (output_of c new) (is_open c new)

@@ -7,20 +7,20 @@ use Rattle.cap_model.specs.declared.event.Event.{Event}
 use Rattle.cap_model.specs.Flat.{Flat}
 use Rattle.cap_frames.specs.Stream.{rest, IsStream, IsPayload, IsBytes}
 use Rattle.cap_frames.proofs.Streams.{written_is_read}
-use Rattle.cap_world.specs.declared.session.Standing.{Standing}
-use Rattle.cap_world.specs.declared.session.Standing.TheVariants as standings
+use Rattle.cap_world.specs.declared.connection.Standing.{Standing}
+use Rattle.cap_world.specs.declared.connection.Standing.TheVariants as standings
 use Rattle.cap_world.specs.declared.step.Step.{Step}
 use Rattle.cap_world.specs.declared.step.Step.TheVariants as steps
 use Rattle.cap_world.specs.declared.step.Did.{Did}
 use Rattle.cap_world.specs.declared.step.Did.TheVariants as dids
 use Rattle.cap_model.specs.declared.no_memory.NoMemory.{NoMemory}
-use Rattle.cap_world.specs.Answers.{nothing, Call, call_by, calls_by, as_events}
+use Rattle.cap_session.specs.Answers.{nothing, Call}
+use Rattle.cap_world.specs.Answers.{call_by, calls_by, as_events}
 use Rattle.cap_world.specs.Connection.{Connection, new_connection, AnswersAs, HasAnswers}
 use Rattle.cap_world.specs.Serving.{Feeds}
 use Rattle.cap_world.specs.World.{WorldState, connection_at, Changes, HasAnswersAt, IsLawful}
 use Rattle.cap_world.specs.Steps.{Fed, Outcome}
-use Rattle.cap_world.proofs.Served.{run_more}
-use Rattle.cap_world.proofs.Feeding.{answered_more}
+use Rattle.cap_world.proofs.Serving.{run_more, answered_more}
 
 -- Whatever run has led to old, with what a step adds leads to new.
 abbrev pub Goes : WorldState → WorldState → List (Event 2) → List (Event 2) → Type 0
@@ -64,17 +64,17 @@ keeps_one c old new is change one d calls a =
 opens : (calls : List Call) → calls ≡ [] → HasAnswers calls new_connection
 opens calls e =
     let empty : IsStream [] [] (rest []) = written_is_read [] (All-nil IsPayload) (All-nil IsBytes) in
-    ([], ([], empty, ([], rw e nothing, refl)))
+    record { made = sym e; answers = ([], ([], empty, ([], rw e nothing, refl))) }
 
 ends_so : (was : Connection) → was.standing ≡ standings.Open → (calls : List Call) → HasAnswers calls was → HasAnswers calls (record was { standing = standings.Ended })
-ends_so was live calls has = subst (λ (s : Standing). AnswersAs s was.taken calls was.output) live has
+ends_so was live calls has = record { made = has.made; answers = subst (λ (s : Standing). AnswersAs s was.session.fed calls was.session.unsent) live has.answers }
 
 -- ---- bytes
 
 fed_own : (c : ℕ) (piece : List ℕ) (old new : List (ℕ × Connection)) (from to : Flat 2) (before after : List (Event 2)) (was is : Connection) → connection_at c old ≡ Some was → was.standing ≡ standings.Open → Changes c is old new → (f : Feeds c piece from to before after was is)
     → (calls : List Call) → HasAnswersAt calls (connection_at c old) → HasAnswersAt (calls ++ f.serves.calls) (connection_at c new)
 fed_own c piece old new from to before after was is at live change f calls a =
-    rw (change c, eq-eqb c c refl) (answered_more c piece calls from to before after was is live (rw at at a) f)
+    rw (change c, eq-eqb c c refl) (answered_more c piece calls from to before after was is (rw at at a) f)
 
 fed_goes : (c : ℕ) (piece : List ℕ) (old new : WorldState) (before after : List (Event 2)) (was is : Connection) → connection_at c old.connections ≡ Some was → was.standing ≡ standings.Open → Changes c is old.connections new.connections → (f : Feeds c piece old.cluster new.cluster before after was is)
     → (opening : Flat 2) (events : List (Event 2)) → IsLawful opening events old → IsLawful opening (events ++ as_events c f.serves.calls) new

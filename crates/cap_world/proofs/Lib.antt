@@ -1,5 +1,5 @@
-pub mod Served
-pub mod Feeding
+mod Serving
+mod Tables
 pub mod Lawful
 pub mod Keeping
 pub mod Heard

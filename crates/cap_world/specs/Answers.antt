@@ -1,32 +1,10 @@
--- What a connection is answered.
-use Rattle.std.specs.Prelude.{◌≡◌, ℕ, List, [], ◌∷◌, ◌++◌, Option, Some, None, map, ◌==◌, if◌then◌else◌}
+-- The calls of connections among the events.
+use Rattle.std.specs.Prelude.{ℕ, List, Option, Some, None, map, ◌==◌, if◌then◌else◌}
 use Rattle.std.specs.List.{filter_map}
 use Rattle.cap_model.specs.declared.request.Request.{Request}
 use Rattle.cap_model.specs.News.{Reply}
 use Rattle.cap_model.specs.declared.event.Event.{Event}
-use Rattle.cap_frames.specs.Stream.{frame_of, Tail, rest, fault}
-use Rattle.cap_messages.specs.Spelling.{IsRequest, IsNoRequest, kind_of, reply_bytes, fault_reply}
-
--- a request with its reply
-pub record Call : Type 0 where
-  pub request : Request 2
-  pub reply : Reply 2
-
--- The frames that answer these payloads, one each. A payload that is a request is the next call's, and the frame spells that call's
--- reply under the payload's call id and kind; for a payload that is none the frame is the fault reply 41. No call is left over.
-pub data Answers : List (List ℕ) → List Call → List ℕ → Type 0 where
-  nothing : Answers [] [] []
-  replied : {payload : List ℕ} {payloads : List (List ℕ)} {id : ℕ} {call : Call} {calls : List Call} {output : List ℕ} → IsRequest payload id call.request → Answers payloads calls output → Answers (payload ∷ payloads) (call ∷ calls) (frame_of (reply_bytes id (kind_of call.request) call.reply) ++ output)
-  refused : {payload : List ℕ} {payloads : List (List ℕ)} {calls : List Call} {output : List ℕ} → IsNoRequest payload → Answers payloads calls output → Answers (payload ∷ payloads) calls (frame_of (fault_reply 41) ++ output)
-
--- what answers the end of a stream: the fault reply 40 where a length comes that no frame has
-abbrev pub tail_answer : Tail → List ℕ
-tail_answer (rest bytes) = []
-tail_answer (fault bytes) = frame_of (fault_reply 40)
-
--- the output answers the payloads and then the tail
-abbrev pub IsAnswered : List (List ℕ) → Tail → List Call → List ℕ → Type 0
-IsAnswered payloads tail calls output = (frames : List ℕ) × Answers payloads calls frames × (output ≡ frames ++ tail_answer tail)
+use Rattle.cap_session.specs.Answers.{Call}
 
 abbrev pub call_event : ℕ → Request 2 → Reply 2 → Event 2
 call_event by request reply = Event.Call by request reply

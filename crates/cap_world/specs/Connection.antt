@@ -1,20 +1,19 @@
 -- A connection, as far as anybody can see it.
-use Rattle.std.specs.Prelude.{◌≡◌, ℕ, List, [], ◌++◌, Bool, true, false}
+use Rattle.std.specs.Prelude.{◌≡◌, ℕ, List, [], ◌++◌, Bool, true, false, None}
 use Rattle.cap_frames.specs.Stream.{Tail, rest, fault, IsStream}
-use Rattle.cap_frames.specs.History.{History, IsAtRest}
-use Rattle.cap_world.specs.declared.session.Standing.{Standing}
-use Rattle.cap_world.specs.declared.session.Standing.TheVariants as standings
-use Rattle.cap_world.specs.Answers.{Call, Answers, IsAnswered}
+use Rattle.cap_session.specs.Answers.{Call, Answers, IsAnswered}
+use Rattle.cap_session.specs.Session.{SessionState, new_session}
+use Rattle.cap_world.specs.declared.connection.Standing.{Standing}
+use Rattle.cap_world.specs.declared.connection.Standing.TheVariants as standings
 
--- how it stands, the bytes of the pieces that it took, joined, and all that it was answered
+-- how it stands, and its session: the bytes of the pieces that it took are those that the session was fed, and all that it was answered is unsent
 pub record Connection : Type 0 where
   pub standing : Standing
-  pub taken : List ℕ
-  pub output : List ℕ
+  pub session : SessionState
 
 -- a connection that was opened just now
 abbrev pub new_connection : Connection
-new_connection = record { standing = standings.Open; taken = []; output = [] }
+new_connection = record { standing = standings.Open; session = new_session }
 
 abbrev pub is_open_standing : Standing → Bool
 is_open_standing standings.Open = true
@@ -38,13 +37,13 @@ AnswersAs standings.Ended taken calls output = (left : List ℕ) × AnswersAll t
 AnswersAs standings.Faulted taken calls output = (after : List ℕ) × AnswersAll taken (fault after) calls output
 AnswersAs standings.Starved taken calls output = AnswersSome taken calls output
 
--- the calls answered the connection so
-abbrev pub HasAnswers : List Call → Connection → Type 0
-HasAnswers calls connection = AnswersAs connection.standing connection.taken calls connection.output
+-- the calls are those of its session, and answered the connection so
+pub record HasAnswers (calls : List Call) (connection : Connection) : Type 0 where
+  pub made : connection.session.calls ≡ calls
+  pub answers : AnswersAs connection.standing connection.session.fed calls connection.session.unsent
 
--- an open connection waits for bytes: all that came was cut into frames, and memory was not refused
-abbrev pub WaitsIfOpen : Standing → History → Type 0
-WaitsIfOpen standings.Open history = (history.is_spent ≡ false) × IsAtRest history
-WaitsIfOpen standings.Ended history = Unit {0}
-WaitsIfOpen standings.Faulted history = Unit {0}
-WaitsIfOpen standings.Starved history = Unit {0}
+-- nothing is written out, and an open connection waits for bytes
+pub record WritesNothingOut (standing : Standing) (session : SessionState) : Type 0 where
+  pub sent : session.sent ≡ []
+  pub ended : standing ≡ standings.Open → session.ended ≡ None
+  pub none_open : standing ≡ standings.Open → session.open_request ≡ None

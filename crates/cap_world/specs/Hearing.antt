@@ -6,7 +6,8 @@ use Rattle.cap_model.specs.Events.{Run}
 use Rattle.cap_frames.specs.Stream.{Tail, rest, fault, IsStream}
 use Rattle.cap_world.specs.declared.step.Step.{Step}
 use Rattle.cap_world.specs.declared.step.Step.TheVariants as steps
-use Rattle.cap_world.specs.Answers.{Call, calls_by}
+use Rattle.cap_session.specs.Answers.{Call}
+use Rattle.cap_world.specs.Answers.{calls_by}
 use Rattle.cap_world.specs.Connection.{AnswersAll, AnswersSome}
 use Rattle.cap_world.specs.World.{WorldState, is_open, output_of}
 

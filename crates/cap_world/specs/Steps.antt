@@ -2,8 +2,8 @@
 use Rattle.std.specs.Prelude.{◌≡◌, ◌≢◌, ℕ, List, Some, None, Result, Ok, Err, false, IsSome}
 use Rattle.cap_model.specs.declared.event.Event.{Event}
 use Rattle.cap_model.specs.Flat.{Flat}
-use Rattle.cap_world.specs.declared.session.Standing.{Standing}
-use Rattle.cap_world.specs.declared.session.Standing.TheVariants as standings
+use Rattle.cap_world.specs.declared.connection.Standing.{Standing}
+use Rattle.cap_world.specs.declared.connection.Standing.TheVariants as standings
 use Rattle.cap_world.specs.declared.step.Step.{Step}
 use Rattle.cap_world.specs.declared.step.Step.TheVariants as steps
 use Rattle.cap_world.specs.declared.step.Did.{Did}

@@ -8,7 +8,8 @@ use Rattle.cap_model.specs.Settings.{Settings}
 use Rattle.cap_commit.specs.Held.{Held}
 use Rattle.cap_model.specs.Flat.{Flat, opened_cluster}
 use Rattle.cap_model.specs.Events.{Run}
-use Rattle.cap_world.specs.Answers.{Call, calls_by}
+use Rattle.cap_session.specs.Answers.{Call}
+use Rattle.cap_world.specs.Answers.{calls_by}
 use Rattle.cap_world.specs.Connection.{Connection, HasAnswers, is_open_standing}
 
 -- what is seen of a world: the cluster, and the connections that were ever opened, by number
@@ -29,7 +30,7 @@ is_open c sight = is_open_connection (connection_at c sight.connections)
 
 abbrev pub output_from : Option Connection → List ℕ
 output_from None = []
-output_from (Some connection) = connection.output
+output_from (Some connection) = connection.session.unsent
 
 -- all bytes that the connection was ever answered
 abbrev pub output_of : ℕ → WorldState → List ℕ

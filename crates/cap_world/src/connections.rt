@@ -1,25 +1,25 @@
 //! The connections that were ever opened, by number.
-ghost use Rattle.std.specs.Prelude.{◌≡◌, List, Ok, true};
+ghost use Rattle.std.specs.Prelude.{◌≡◌, List, Ok};
 ghost use Rattle.cap_model.specs.declared.event.Event.{Event};
 ghost use Rattle.cap_model.specs.Flat.{Flat};
 ghost use Rattle.cap_world.specs.World.{connection_at, is_open_connection, output_from};
-ghost use Rattle.cap_world.specs.Steps.{Outcome, Ended, Fed};
+ghost use Rattle.cap_world.specs.Steps.{Outcome};
 
-use crate::session::{Session, Standing};
+use crate::connection::{Connection, Standing};
 use crate::step::{Did, Step};
 use cap_commit::Cluster;
 use cap_model::{Event, NoMemory};
 use indexmap::IndexMap;
 use std::alloc::Global;
 
-pub(crate) type Connections = IndexMap<u32, Session>;
+pub(crate) type Connections = IndexMap<u32, Connection>;
 
 /// Whether the connection is open.
 pub(crate) fn is_open(connections: &Connections, number: u32) -> bool
     ensures { result ≡ is_open_connection (connection_at number connections.now.entries) }
 {
     match connections.get(&number) {
-        Some(session) => session.is_open(),
+        Some(connection) => connection.is_open(),
         None => false,
     }
 }
@@ -29,7 +29,7 @@ pub(crate) fn output(connections: &Connections, number: u32) -> &[u8]
     ensures { result.now ≡ output_from (connection_at number connections.now.entries) }
 {
     match connections.get(&number) {
-        Some(session) => session.output(),
+        Some(connection) => connection.output(),
         None => &[],
     }
 }
@@ -47,10 +47,8 @@ pub(crate) fn open(
     if connections.contains_key(&number) {
         return Ok(Did::Idle);
     }
-    let Ok(session) = Session::open(alloc) else {
-        return Err(NoMemory);
-    };
-    match connections.insert(number, session) {
+    let connection = Connection::open(alloc)?;
+    match connections.insert(number, connection) {
         Ok(_) => Ok(Did::Done),
         Err(_) => Err(NoMemory),
     }
@@ -62,21 +60,14 @@ pub(crate) fn end(connections: &mut Connections, number: u32) -> Did
         (record { cluster = cluster; connections = connections.old.entries })
         (record { cluster = cluster; connections = connections.new.entries }) events events }
 {
-    if !is_open(connections, number) {
+    let Some(connection) = connections.get_mut(&number) else {
+        return Did::Idle;
+    };
+    if !connection.is_open() {
         return Did::Idle;
     }
-    end_open(connections, number);
+    connection.end();
     Did::Done
-}
-
-fn end_open(connections: &mut Connections, number: u32)
-    requires { is_open_connection (connection_at number connections.old.entries) ≡ true }
-    ensures { Ended number connections.old.entries connections.new.entries }
-{
-    match connections.get_mut(&number) {
-        Some(session) => session.end(),
-        None => unreachable!(),
-    }
 }
 
 /// Brings a piece of bytes on a connection, if it is open.
@@ -92,31 +83,14 @@ pub(crate) fn feed(
         (record { cluster = cluster.old.flat; connections = connections.old.entries })
         (record { cluster = cluster.new.flat; connections = connections.new.entries }) events.old.items events.new.items }
 {
-    if !is_open(connections, number) {
+    let Some(connection) = connections.get_mut(&number) else {
+        return Ok(Did::Idle);
+    };
+    if !connection.is_open() {
         return Ok(Did::Idle);
     }
-    if feed_open(alloc, connections, number, piece, cluster, events) == Standing::Starved {
-        return Err(NoMemory);
-    }
-    Ok(Did::Done)
-}
-
-fn feed_open(
-    alloc: Global,
-    connections: &mut Connections,
-    number: u32,
-    piece: &[u8],
-    cluster: &mut Cluster<2>,
-    events: &mut Vec<Event<2>>,
-) -> Standing
-    requires { is_open_connection (connection_at number connections.old.entries) ≡ true }
-    ensures { Fed number piece.now result connections.old.entries connections.new.entries cluster.old.flat cluster.new.flat events.old.items events.new.items }
-{
-    match connections.get_mut(&number) {
-        Some(session) => {
-            session.feed(alloc, number, piece, cluster, events);
-            session.standing()
-        }
-        None => unreachable!(),
+    match connection.feed(alloc, number, piece, cluster, events) {
+        Standing::Starved => Err(NoMemory),
+        _ => Ok(Did::Done),
     }
 }

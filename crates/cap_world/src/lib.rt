@@ -1,11 +1,11 @@
 //! Any order of steps over one cluster: connections that open, bring bytes in pieces, and end.
 #![tactic(auto)]
 
+mod connection;
 mod connections;
 mod laws;
 mod run;
 mod service;
-mod session;
 mod step;
 mod world;
 

@@ -1,0 +1,16 @@
+use Rattle.std.proofs.Common.{◌≡◌, [], None}
+use Rattle.cap_session.specs.Session.{bytes_unanswered}
+use Rattle.cap_world.specs.Serving.{Serves}
+use Rattle.cap_world.proofs.service.answer_all.Given as goal
+
+-- the requests so far were answered
+abbrev pub invariant-loop-request : goal.invariant-loop-request
+invariant-loop-request l = record {
+  serves : Serves l.by [] l.fn.session l.session l.fn.cluster.flat l.cluster.flat l.fn.events.items l.events.items [];
+  sent : l.session.sent ≡ l.fn.session.sent;
+  none_open : l.session.open_request ≡ None;
+  ended : l.session.ended ≡ None;
+}
+
+abbrev pub decreases-loop-request : goal.decreases-loop-request
+decreases-loop-request l = bytes_unanswered l.session
