@@ -39,22 +39,34 @@ allocate() {
   }'
 }
 
-# n queues, each with its capacity, and a QueueInfo for each
+# n queues, in parents of 31 leaf queues, each with its capacity, and a QueueInfo for each
 queue() {
-  awk -v n="$1" 'BEGIN {
-    root = "conf yarn.scheduler.capacity.root"
-    list = "a0001"
-    for (i = 2; i <= n; i++) list = list "," sprintf("a%04d", i)
-    print root ".queues=" list
-    for (i = 1; i <= n; i++) printf "%s.a%04d.capacity=[memory=1024,vcores=1]\n", root, i
-    print "open 1"
-    for (i = 1; i <= n; i++) {
-      digits = sprintf("%04d", i)
-      name = "61"
-      for (k = 1; k <= 4; k++) name = name "3" substr(digits, k, 1)
-      printf "bytes 1 00000011" "0108%08x" "0a" "726f6f742e" "%s\n", i, name
+  awk -v n="$1" '
+    function text(path,  i, hex) {
+      for (i = 1; i <= length(path); i++) hex = hex sprintf("%02x", index(ascii, substr(path, i, 1)) + 31)
+      return sprintf("%02x", length(path)) hex
     }
-  }'
+    function names(letter, count,  list, i) {
+      for (i = 1; i <= count; i++) list = list (i > 1 ? "," : "") letter i
+      return list
+    }
+    function show(path) { shown[++requests] = text(path) }
+    BEGIN {
+      for (i = 32; i < 127; i++) ascii = ascii sprintf("%c", i)
+      print "conf yarn.scheduler.capacity.root.queues=" names("a", n / 32)
+      for (a = 1; a <= n / 32; a++) {
+        parent = "root.a" a
+        print "conf yarn.scheduler.capacity." parent ".queues=" names("b", 31)
+        print "conf yarn.scheduler.capacity." parent ".capacity=[memory=32768,vcores=32]"
+        show(parent)
+        for (b = 1; b <= 31; b++) {
+          print "conf yarn.scheduler.capacity." parent ".b" b ".capacity=[memory=1024,vcores=1]"
+          show(parent ".b" b)
+        }
+      }
+      print "open 1"
+      for (i = 1; i <= requests; i++) printf "bytes 1 %08x" "0108%08x" "%s\n", 6 + length(shown[i]) / 2, i, shown[i]
+    }'
 }
 
 # the instructions of a run, those that clear and copy memory, and all others: `moved` and `other`
@@ -82,5 +94,5 @@ measure() {
 measure cluster_info 2000 3500 '^out [0-9]* 00000033010a'
 measure heartbeat 2000 4000 '^out 1 000000110106[0-9a-f]\{8\}00'
 measure allocate 1024 45000 '^out 1 0000000f0103[0-9a-f]\{8\}00'
-measure queue 500 40000 '^out 1 000000[0-9a-f]\{2\}0108[0-9a-f]\{8\}00'
+measure queue 480 40000 '^out 1 000000[0-9a-f]\{2\}0108[0-9a-f]\{8\}00'
 exit "$broken"
