@@ -4,7 +4,7 @@ use Rattle.std.specs.Option.{option_map_or}
 use Rattle.std.specs.Map.{lookup}
 use Rattle.cap_model.specs.Flat.{AppTable, app_in, App}
 use Rattle.cap_model.specs.News.{AllocateReply, Grant}
-use Rattle.cap_asks.specs.Held.{Account, HeldApp, reply_numbers}
+use Rattle.cap_asks.specs.Held.{Account, HeldApp}
 use Rattle.cap_model.specs.Reporting.{reported_of}
 use Rattle.cap_model.specs.declared.ask.Key.{Key}
 use Rattle.cap_model.specs.declared.news.End.{End}
@@ -13,7 +13,6 @@ use Rattle.cap_model.specs.Asking.{put_ask}
 use Rattle.cap_model.specs.Events.{take_one}
 use Rattle.cap_model.specs.Allocate.{after_telling}
 use Rattle.cap_model.specs.declared.replies.Reported.{Reported}
-use Rattle.cap_asks.specs.declared.app.Reported.{Reported}
 
 -- the active applications, the account of each by its number, and how many more there is room for
 pub record HeldApps : Type 0 where
