@@ -2,7 +2,7 @@
 use Rattle.std.specs.Prelude.{◌≡◌, ℕ, Some, Option, option_and_then}
 use Rattle.cap_model.specs.Flat.{Flat, App, app_at}
 use Rattle.cap_asks.specs.Held.{repeated_numbers}
-use Rattle.cap_asks.specs.declared.app.Reported.{Reported}
+use Rattle.cap_model.specs.declared.replies.Reported.{Reported}
 
 -- an application is active, and this is the response id that it was given last
 abbrev pub HasResponse : {K : ℕ} → Flat K → ℕ → ℕ → Type 0

@@ -36,3 +36,8 @@ returns-in-Ended c =
     let i = c.loop-request.invariant in
     rw c.standing_after.ensures
     (served_ended c.args.by c.in-Ended.cause c.args.session.now c.loop-request.session c.next_request.new.self c.args.cluster.now.flat c.loop-request.cluster.flat c.args.events.now.items c.loop-request.events.items i.serves i.sent i.ended c.in-Ended.ensures.gives c.in-Ended.ensures.session)
+
+pub returns-in_default : goal.returns-in_default
+returns-in_default c =
+    let i = c.loop-request.invariant in
+    served_starved c.args.by c.args.session.now c.loop-request.session c.next_request.new.self c.in-Request.request c.args.cluster.now.flat c.loop-request.cluster.flat c.args.events.now.items c.loop-request.events.items i.serves i.sent c.in-Request.ensures.gives c.in-Request.ensures.session
