@@ -2,3 +2,4 @@ pub mod Commands
 pub mod Results
 pub mod Scripts
 pub mod Lines
+pub mod Reading

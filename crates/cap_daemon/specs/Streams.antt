@@ -1,15 +1,33 @@
 -- Streams whose failed calls are counted.
-use Rattle.std.specs.Prelude.{ℕ, ◌-◌, ◌^◌, ◌<◌, Result, Err}
+use Rattle.std.specs.Prelude.{◌≡◌, ◌⊎◌, ℕ, ◌+◌, ◌^◌, ◌<◌, ◌≤◌, ◌++◌, List, length, Option, Result, Err, is_err, if◌then◌else◌}
+use Rattle.std.specs.Io.KnownBytes.{Consumes, IsAtEnd}
+use Rattle.cap_session.specs.declared.counted.Counted.{Counted}
+use Rattle.cap_session.specs.Counted.{StreamState, CanCount, state_of, inner_of}
 use Rattle.cap_daemon.specs.declared.stop.Stop.{Stop}
 use Rattle.cap_daemon.specs.declared.stop.Stop.TheVariants.{BadLine, Config, Input, Output}
 
--- no count passes this
-abbrev pub failures_max : ℕ
-failures_max = 2 ^ 64 - 1
-
--- how many reads a reader gives at most
+-- how many reads are made at most
 abbrev pub reads_max : ℕ
 reads_max = 2 ^ 32
+
+-- how often a reader failed or was quiet
+abbrev pub misses : StreamState → ℕ
+misses s = s.failures + s.quiets
+
+-- all that a reader gave since is this text
+pub record IsRead {T : Type 0} (remaining : T → Option (List ℕ)) (old new : Counted T) (text : List ℕ) : Type 0 where
+  pub given : (state_of new).given ≡ (state_of old).given ++ text
+  pub consumed : Consumes (remaining (inner_of old)) (remaining (inner_of new)) text
+
+-- a reader has come to its end since
+pub record HasEnded {T : Type 0} (remaining : T → Option (List ℕ)) (old new : Counted T) : Type 0 where
+  pub counted : (state_of old).ends < (state_of new).ends
+  pub at_end : IsAtEnd (remaining (inner_of new))
+
+-- Input is why it stopped where the reader has failed or was quiet, or so many reads were made, each of at least one byte; and nowhere else
+abbrev pub CountsReads : {X : Type 0} → Result X Stop → StreamState → StreamState → Type 0
+CountsReads (Err Input) old new = (misses old < misses new) ⊎ (length old.given + reads_max ≤ length new.given)
+CountsReads _ old new = misses new ≡ misses old
 
 -- 1 where a read has failed, and where a write has
 abbrev pub input_failures : {X : Type 0} → Result X Stop → ℕ
@@ -20,10 +38,16 @@ abbrev pub output_failures : {X : Type 0} → Result X Stop → ℕ
 output_failures (Err Output) = 1
 output_failures _ = 0
 
--- where no write has failed, one more may be counted
-abbrev pub MayWrite : {X : Type 0} → Result X Stop → ℕ → Type 0
-MayWrite (Err Output) failures = Unit {0}
-MayWrite _ failures = failures < failures_max
+-- a failed write is counted, and nothing else
+pub record CountsWrite {X E : Type 0} (r : Result X E) (old new : StreamState) : Type 0 where
+  pub failures : new.failures ≡ (if is_err r then old.failures + 1 else old.failures)
+  pub quiets : new.quiets ≡ old.quiets
+  pub ends : new.ends ≡ old.ends
+
+-- where no write has failed, more may be counted
+abbrev pub MayWrite : {X : Type 0} → Result X Stop → StreamState → Type 0
+MayWrite (Err Output) s = Unit {0}
+MayWrite _ s = CanCount s
 
 -- a script that is refused for what it says
 abbrev pub IsRefused : {X : Type 0} → Result X Stop → Type 0

@@ -2,13 +2,13 @@
 #![tactic(auto)]
 
 mod command;
-mod counted;
 mod frames;
+mod output;
 mod player;
 mod report;
 mod script;
 mod settings;
 mod stop;
 
-pub use counted::{Counted, StreamFailed};
+pub use cap_session::Counted;
 pub use player::replay;

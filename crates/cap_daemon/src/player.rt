@@ -1,5 +1,4 @@
 ghost use Rattle.std.specs.Prelude.{◌≡◌, ◌<◌, ◌≤◌, ◌+◌, ◌++◌, ◌∷◌, ◌⊎◌, ◌↔◌, [], ℕ, List, true, false, length, Ok, Err, OnOk, IfOk, IfErr, IfSome, IfNone, is_some, None};
-ghost use Rattle.std.specs.Io.KnownBytes.{Consumes, IsAtEnd};
 ghost use Rattle.std.specs.Str.Lines.{strip_carriage_return};
 ghost use Rattle.cap_text.specs.Pieces.{lacks};
 ghost use Rattle.cap_config.specs.declared.fault.ConfigFault.{ConfigFault};
@@ -7,12 +6,13 @@ ghost use Rattle.cap_daemon.specs.declared.stop.Stop.TheVariants.{BadLine, Confi
 ghost use Rattle.cap_daemon.specs.Script.{HasBadLine, IsScript};
 ghost use Rattle.cap_daemon.specs.Settings.{HasSettingsFault, IsDone};
 ghost use Rattle.cap_daemon.specs.Progress.{IsPlayed, Stands, StopsAtStep};
-ghost use Rattle.cap_daemon.specs.Streams.{failures_max, reads_max, input_failures, output_failures, IsOfScript};
+ghost use Rattle.cap_session.specs.Counted.{state_of, CanCount};
+ghost use Rattle.cap_daemon.specs.Streams.{reads_max, misses, IsRead, HasEnded, CountsReads, MayWrite, input_failures, output_failures, IsOfScript};
 
-use crate::counted::Counted;
 use crate::report::finish;
 use crate::script::Script;
 use crate::stop::Stop;
+use cap_session::{Counted, Got};
 use cap_text::{split_once, without_return};
 use std::alloc::{AllocError, Global};
 use std::io::{Read, Write};
@@ -20,24 +20,37 @@ use std::io::{Read, Write};
 /// How many bytes are read at once.
 const CHUNK: usize = 65536;
 
+/// How many reads are made at most.
+const READS_MAX: u64 = 1 << 32;
+
 /// Plays the script that the reader gives, one step of a world a line, and writes what its connections are answered. What was
 /// printed is written out before each read. The result is the exit status: 0 done; 1 the reader or the writer failed, a reader
-/// also where the input did not end within 2^32 reads; 2 after a line `bad line N`, or `config LINE NUMBER` for the first fault
-/// of the settings; 3 after a line `no memory`. What was printed before stays.
+/// also where it was quiet, or where the input did not end within 2^32 reads; 2 after a line `bad line N`, or `config LINE NUMBER`
+/// for the first fault of the settings; 3 after a line `no memory`. What was printed before stays.
 pub fn replay<R: Read, W: Write>(
     alloc: Global,
     reader: &mut Counted<R>,
     writer: &mut Counted<W>,
 ) -> u8
-    requires reader { reader.old.failures < failures_max }
-    requires writer { writer.old.failures < failures_max }
+    requires reader { CanCount (state_of reader.old) }
+    requires writer { CanCount (state_of writer.old) }
     ensures status { result < 4 }
     // It is done only where the input has ended, each of its lines stands where it may, and the settings have no fault.
-    ensures done { result ≡ 0 → (text : List ℕ) × Consumes (R.remaining reader.old.inner) (R.remaining reader.new.inner) text × IsAtEnd (R.remaining reader.new.inner) × IsDone text }
+    ensures done { result ≡ 0 → (text : List ℕ)
+        × IsRead R.remaining reader.old reader.new text
+        × HasEnded R.remaining reader.old reader.new × IsDone text }
     // It answers 2 only where what was read has a line that may not stand there, or settings with a fault.
-    ensures refused { result ≡ 2 → (text : List ℕ) × Consumes (R.remaining reader.old.inner) (R.remaining reader.new.inner) text × (HasBadLine text ⊎ ((fault : ConfigFault) × HasSettingsFault text (IsAtEnd (R.remaining reader.new.inner)) fault)) }
-    // It answers 1 exactly where a read or a write has failed.
-    ensures failed { result ≡ 1 ↔ ((reader.old.failures < reader.new.failures) ⊎ (writer.old.failures < writer.new.failures)) }
+    ensures refused { result ≡ 2 → (text : List ℕ)
+        × IsRead R.remaining reader.old reader.new text
+        × (HasBadLine text ⊎ ((fault : ConfigFault)
+        × HasSettingsFault text (HasEnded R.remaining reader.old reader.new) fault)) }
+    // It answers 1 wherever a read or a write has failed, or a read was quiet,
+    ensures failed { ((misses (state_of reader.old) < misses (state_of reader.new))
+        ⊎ ((state_of writer.old).failures < (state_of writer.new).failures)) → result ≡ 1 }
+    // and else only where 2^32 reads gave no end, each at least one byte.
+    ensures only { result ≡ 1 → (misses (state_of reader.old) < misses (state_of reader.new))
+        ⊎ (((state_of writer.old).failures < (state_of writer.new).failures)
+        ⊎ (length (state_of reader.old).given + reads_max ≤ length (state_of reader.new).given)) }
 {
     let mut script = Script::new(alloc);
     let played = play_all(alloc, reader, writer, &mut script);
@@ -51,19 +64,25 @@ fn play_all<R: Read, W: Write>(
     writer: &mut Counted<W>,
     script: &mut Script,
 ) -> Result<(), Stop>
-    requires reader { reader.old.failures < failures_max }
-    requires writer { writer.old.failures < failures_max }
+    requires reader { CanCount (state_of reader.old) }
+    requires writer { CanCount (state_of writer.old) }
     requires settings { script.old.settings ≡ None }
     requires world { is_some script.old.world ≡ false }
-    ensures done { OnOk result ((text : List ℕ) × Consumes (R.remaining reader.old.inner) (R.remaining reader.new.inner) text × IsAtEnd (R.remaining reader.new.inner) × IsDone text) }
-    ensures bad { (n : ℕ) → result ≡ Err (BadLine n) → (text : List ℕ) × Consumes (R.remaining reader.old.inner) (R.remaining reader.new.inner) text × HasBadLine text }
-    ensures fault { (fault : ConfigFault) → result ≡ Err (bad_config fault) → (text : List ℕ) × Consumes (R.remaining reader.old.inner) (R.remaining reader.new.inner) text × HasSettingsFault text (IsAtEnd (R.remaining reader.new.inner)) fault }
-    ensures reads { reader.new.failures ≡ reader.old.failures + input_failures result }
-    ensures writes { writer.new.failures ≡ writer.old.failures + output_failures result }
+    ensures done { OnOk result ((text : List ℕ) × IsRead R.remaining reader.old reader.new text
+        × HasEnded R.remaining reader.old reader.new × IsDone text) }
+    ensures bad { (n : ℕ) → result ≡ Err (BadLine n) → (text : List ℕ)
+        × IsRead R.remaining reader.old reader.new text × HasBadLine text }
+    ensures fault { (fault : ConfigFault) → result ≡ Err (bad_config fault) → (text : List ℕ)
+        × IsRead R.remaining reader.old reader.new text
+        × HasSettingsFault text (HasEnded R.remaining reader.old reader.new) fault }
+    ensures reads { CountsReads result (state_of reader.old) (state_of reader.new) }
+    ensures writes { (state_of writer.new).failures
+        ≡ (state_of writer.old).failures + output_failures result }
+    ensures counts { MayWrite result (state_of writer.new) }
 {
     let mut chunk = [0u8; CHUNK];
     let mut begun = Vec::new(alloc);
-    loop {
+    for _reads in 0..READS_MAX {
         match script.write_out(writer) {
             Ok(()) => {}
             Err(stop) => return Err(stop),
@@ -80,6 +99,7 @@ fn play_all<R: Read, W: Write>(
             Err(stop) => return Err(stop),
         }
     }
+    Err(Stop::Input)
 }
 
 /// The next bytes of the input; none where it has ended.
@@ -87,17 +107,20 @@ fn read_piece<'a, R: Read>(
     reader: &mut Counted<R>,
     chunk: &'a mut [u8; CHUNK],
 ) -> Result<&'a [u8], Stop>
-    requires { reader.old.failures < failures_max }
-    ensures read { IfOk result (λ piece. Consumes (R.remaining reader.old.inner) (R.remaining reader.new.inner) piece.now) }
-    ensures ended { IfOk result (λ piece. length piece.now ≡ 0 → IsAtEnd (R.remaining reader.new.inner)) }
+    requires { CanCount (state_of reader.old) }
+    ensures read { IfOk result (λ piece. IsRead R.remaining reader.old reader.new piece.now) }
+    ensures ended { IfOk result (λ piece. length piece.now ≡ 0
+        → HasEnded R.remaining reader.old reader.new) }
     ensures failed { IfErr result (λ stop. stop ≡ read_failed) }
-    ensures failures { reader.new.failures ≡ reader.old.failures + input_failures result }
-    ensures count { OnOk result (reader.new.reads ≡ reader.old.reads + 1) }
-    ensures few { OnOk result (reader.new.reads ≤ reads_max) }
+    ensures reads { misses (state_of reader.new)
+        ≡ misses (state_of reader.old) + input_failures result }
+    ensures more { IfOk result (λ piece. 0 < length piece.now → state_of reader.new
+        ≡ record (state_of reader.old) { given = (state_of reader.old).given ++ piece.now }) }
 {
     match reader.read(chunk) {
-        Ok(n) => Ok(&chunk[..n]),
-        Err(_) => Err(Stop::Input),
+        Got::Bytes(n) => Ok(&chunk[..n]),
+        Got::End => Ok(&chunk[..0]),
+        Got::Quiet | Got::Fault => Err(Stop::Input),
     }
 }
 

@@ -1,9 +1,11 @@
 ghost use Rattle.std.specs.Prelude.{◌≡◌, ◌≢◌, ◌↔◌, ◌<◌, ◌≤◌, ◌+◌, Ok, Err, IsOk, OnOk, OnErr};
-ghost use Rattle.cap_daemon.specs.Streams.{failures_max, input_failures, output_failures, MayWrite, IsRefused};
+ghost use Rattle.cap_session.specs.Counted.{state_of, CanCount};
+ghost use Rattle.cap_daemon.specs.Streams.{input_failures, output_failures, MayWrite, IsRefused};
 
-use crate::counted::Counted;
+use crate::output::write_out;
 use crate::script::Script;
 use crate::stop::Stop;
+use cap_session::Counted;
 use std::io::Write;
 
 /// Prints why a script was played no further, and says the exit status.
@@ -12,12 +14,13 @@ pub(crate) fn finish<W: Write>(
     script: &mut Script,
     writer: &mut Counted<W>,
 ) -> u8
-    requires { MayWrite played writer.old.failures }
+    requires { MayWrite played (state_of writer.old) }
     ensures status { result < 4 }
     ensures done { result ≡ 0 → IsOk played }
     ensures refused { result ≡ 2 → IsRefused played }
-    ensures failed { result ≡ 1 ↔ (writer.old.failures < writer.new.failures + input_failures played + output_failures played) }
-    ensures counted { writer.old.failures ≤ writer.new.failures }
+    ensures failed { result ≡ 1 ↔ ((state_of writer.old).failures
+        < (state_of writer.new).failures + input_failures played + output_failures played) }
+    ensures counted { (state_of writer.old).failures ≤ (state_of writer.new).failures }
 {
     let status = match played {
         Err(Stop::Output) => return 1,
@@ -43,9 +46,10 @@ fn refused(printed: Result<(), Stop>) -> u8
 
 /// Writes out what was printed, and after it that memory was refused, where that is the status. The status is 1 where this fails.
 fn tell<W: Write>(status: u8, script: &mut Script, writer: &mut Counted<W>) -> u8
-    requires { writer.old.failures < failures_max }
-    ensures told { writer.new.failures ≡ writer.old.failures → result ≡ status }
-    ensures failed { writer.new.failures ≢ writer.old.failures → (writer.new.failures ≡ writer.old.failures + 1) × (result ≡ 1) }
+    requires { CanCount (state_of writer.old) }
+    ensures told { (state_of writer.new).failures ≡ (state_of writer.old).failures → result ≡ status }
+    ensures failed { (state_of writer.new).failures ≢ (state_of writer.old).failures
+        → ((state_of writer.new).failures ≡ (state_of writer.old).failures + 1) × (result ≡ 1) }
 {
     match script.write_out(writer) {
         Ok(()) => {}
@@ -54,7 +58,7 @@ fn tell<W: Write>(status: u8, script: &mut Script, writer: &mut Counted<W>) -> u
     if status != 3 {
         return status;
     }
-    match writer.write_out(b"no memory\n") {
+    match write_out(writer, b"no memory\n") {
         Ok(()) => 3,
         Err(_) => 1,
     }

@@ -4,15 +4,17 @@ ghost use Rattle.cap_daemon.specs.declared.stop.Stop.TheVariants.{BadLine, Confi
 ghost use Rattle.cap_daemon.specs.Script.{IsPiece, IsScript};
 ghost use Rattle.cap_daemon.specs.Settings.{with_line};
 ghost use Rattle.cap_daemon.specs.Progress.{Stands, StopsAtStep, Begins, FailsToBegin};
-ghost use Rattle.cap_daemon.specs.Streams.{failures_max, IsOfScript};
+ghost use Rattle.cap_session.specs.Counted.{state_of, CanCount};
+ghost use Rattle.cap_daemon.specs.Streams.{IsOfScript, CountsWrite};
 
 use crate::command::{Command, command_of};
-use crate::counted::Counted;
 use crate::frames::print_frames;
+use crate::output::write_out;
 use crate::settings::Settings;
 use crate::stop::Stop;
 use cap_config::ConfigFault;
 use cap_model::{Event, NoMemory};
+use cap_session::Counted;
 use cap_world::{Did, Step, World};
 use hex::FromHexError;
 use std::alloc::Global;
@@ -208,16 +210,16 @@ impl Script {
 
     /// Writes out what was printed.
     pub(crate) fn write_out<W: Write>(&mut self, writer: &mut Counted<W>) -> Result<(), Stop>
-        requires { writer.old.failures < failures_max }
+        requires { CanCount (state_of writer.old) }
         ensures stop { IfErr result (λ stop. stop ≡ write_failed) }
-        ensures failures { writer.new.failures ≡ (if is_err result then writer.old.failures + 1 else writer.old.failures) }
+        ensures counts { CountsWrite result (state_of writer.old) (state_of writer.new) }
         ensures settings { self.new.settings ≡ self.old.settings }
         ensures world { self.new.world ≡ self.old.world }
     {
         if self.printed.is_empty() {
             return Ok(());
         }
-        let written = writer.write_out(self.printed.as_bytes());
+        let written = write_out(writer, self.printed.as_bytes());
         self.printed.clear();
         match written {
             Ok(()) => Ok(()),

@@ -5,11 +5,12 @@ use Rattle.cap_model.specs.News.{Reply}
 use Rattle.cap_frames.specs.Stream.{frame_of, fault, IsStream}
 use Rattle.cap_messages.specs.Spelling.{IsRequest, IsNoRequest, IsReply, kind_of, fault_reply}
 use Rattle.cap_session.specs.Answers.{Call, Answers, nothing, replied, refused}
-use Rattle.cap_session.specs.Session.{SessionState, OpenRequest, SpellsAnswer, all_answers, answer_bytes, with_answer, after_sent, ended_after, sent_count, AnswersBy, HasAnswered}
+use Rattle.cap_session.specs.Counted.{sent_count}
+use Rattle.cap_session.specs.Session.{SessionState, OpenRequest, SpellsAnswer, all_answers, answer_bytes, with_answer, after_sent, ended_after, AnswersBy, HasAnswered}
 use Rattle.cap_session.specs.declared.session.Cause.{Cause}
 use Rattle.cap_session.specs.declared.session.Cause.TheVariants as causes
-use Rattle.cap_session.specs.declared.session.Sent.{Sent}
-use Rattle.cap_session.specs.declared.session.Sent.TheVariants as sents
+use Rattle.cap_session.specs.declared.counted.Sent.{Sent}
+use Rattle.cap_session.specs.declared.counted.Sent.TheVariants as sents
 
 pub answers_more : {ps qs : List (List ℕ)} {cs ds : List Call} {output more : List ℕ} → Answers ps cs output → Answers qs ds more → Answers (ps ++ qs) (cs ++ ds) (output ++ more)
 answers_more nothing b = b

@@ -1,10 +1,6 @@
 -- Bytes that were written out in parts.
 use Rattle.std.proofs.Common.{◌≡◌, ℕ, ◌+◌, List, [], ◌∷◌, ◌++◌, Option, Some, None, ap, sym, ◌∙◌, append_assoc, append-nil, take, drop}
-use Rattle.std.proofs.lemmas.List.{drop-drop}
 use Rattle.std.proofs.Math.Seq.{take-add}
-use Rattle.bytes.specs.Filled.{Filled}
-use Rattle.cap_session.specs.Kept.{sent_in}
-use Rattle.cap_session.proofs.Logs.{sent_more}
 use Rattle.std.specs.Io.KnownBytes.{Appends}
 
 pub appends_then : (u v w : Option (List ℕ)) (a b : List ℕ) → Appends u v a → Appends v w b → Appends u w (a ++ b)
@@ -21,12 +17,6 @@ appends_none (Some xs) = sym (append-nil xs)
 pub took : (u v : List ℕ) (n m : ℕ) → v ≡ drop n u → take n u ++ take m v ≡ take (n + m) u
 took u v n m is = ap (λ (x : List ℕ). take n u ++ take m x) is ∙ sym (take-add n m u)
 
-pub dropped : (u v w : List ℕ) (n m : ℕ) → v ≡ drop n u → w ≡ drop m v → w ≡ drop (n + m) u
-dropped u v w n m is more = more ∙ ap (drop m) is ∙ drop-drop m n u
-
 -- bytes before, then n first ones, and then m
 pub took_after : (before u v x : List ℕ) (n m : ℕ) → x ≡ before ++ take n u → v ≡ drop n u → x ++ take m v ≡ before ++ take (n + m) u
 took_after before u v x n m was is = ap (λ (y : List ℕ). y ++ take m v) was ∙ append_assoc before (take n u) (take m v) ∙ ap (λ (y : List ℕ). before ++ y) (took u v n m is)
-
-pub sent_then : (g h : List (Filled × ℕ)) (b : Filled) (u : List ℕ) (n m : ℕ) → sent_in h ≡ sent_in g ++ take n u → b.items ≡ drop n u → sent_in (h ++ (b, m) ∷ []) ≡ sent_in g ++ take (n + m) u
-sent_then g h b u n m was is = sent_more h b m ∙ took_after (sent_in g) u b.items (sent_in h) n m was is

@@ -1,5 +1,5 @@
 -- What is seen of a reader or a writer whose failures are counted.
-use Rattle.std.specs.Prelude.{ℕ, ◌+◌, ◌<◌, ◌≤◌, ◌++◌, List, [], take, length, map, Option, Result, Ok, Err, ◌==◌, if◌then◌else◌}
+use Rattle.std.specs.Prelude.{◌≡◌, ℕ, ◌+◌, ◌<◌, ◌≤◌, ◌++◌, List, [], take, length, map, Option, Result, Ok, Err, ◌==◌, if◌then◌else◌}
 use Rattle.std.specs.IoError.{error_kind}
 use Rattle.std.specs.declared.io.Error.{Error}
 use Rattle.std.specs.declared.io.ErrorKind.{ErrorKind}
@@ -10,6 +10,8 @@ use Rattle.cap_session.specs.declared.counted.Got.{Got}
 use Rattle.cap_session.specs.declared.counted.Got.TheVariants as got
 use Rattle.cap_session.specs.declared.counted.Put.{Put}
 use Rattle.cap_session.specs.declared.counted.Put.TheVariants as put
+use Rattle.cap_session.specs.declared.counted.Sent.{Sent}
+use Rattle.cap_session.specs.declared.counted.Sent.TheVariants as sents
 
 -- how many calls failed, how many reads were quiet and how many found the end, the bytes that the reads gave and those that the
 -- writes took
@@ -63,6 +65,25 @@ after_read s got.Fault buf = one_failure s
 abbrev pub after_write : StreamState → Put → List ℕ → StreamState
 after_write s (put.Bytes n) buf = record s { taken = s.taken ++ take n buf }
 after_write s put.Fault buf = one_failure s
+
+-- how many bytes were written out
+abbrev pub sent_count : Sent → ℕ
+sent_count (sents.All n) = n
+sent_count (sents.Fault n) = n
+
+-- all of the bytes, or less
+abbrev pub IsSentCount : List ℕ → Sent → Type 0
+IsSentCount bytes (sents.All n) = n ≡ length bytes
+IsSentCount bytes (sents.Fault n) = n < length bytes
+
+-- after writes that took these bytes together, up to one that failed or to the last
+abbrev pub after_writes : StreamState → List ℕ → Sent → StreamState
+after_writes s bytes (sents.All n) = record s { taken = s.taken ++ bytes }
+after_writes s bytes (sents.Fault n) = one_failure (record s { taken = s.taken ++ bytes })
+
+abbrev pub after_flush : {X E : Type 0} → StreamState → Result X E → StreamState
+after_flush s (Ok x) = s
+after_flush s (Err e) = one_failure s
 
 -- what a read gave, and what it did to the bytes that the reader has left, where those are known
 abbrev pub Gives : Option (List ℕ) → Option (List ℕ) → List ℕ → Got → Type 0

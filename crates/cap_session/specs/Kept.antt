@@ -1,5 +1,5 @@
 -- What the parts of a session keep.
-use Rattle.std.specs.Prelude.{◌≡◌, ℕ, ◌≤◌, List, [], ◌∷◌, ◌++◌, Option, Some, None, Result, Ok, Err, false, flat_map, map, take, drop}
+use Rattle.std.specs.Prelude.{◌≡◌, ℕ, ◌≤◌, List, [], ◌∷◌, ◌++◌, Option, Some, None, Result, Ok, Err, false, flat_map, map, take}
 use Rattle.bytes.specs.Filled.{Filled}
 use Rattle.http_server.specs.declared.log.Log.{Log}
 use Rattle.cap_model.specs.declared.request.Request.{Request}
@@ -9,8 +9,7 @@ use Rattle.cap_frames.specs.History.{History, IsReading, IsAtRest, IsAtFault}
 use Rattle.cap_messages.specs.declared.fault.MessageFault.{MessageFault}
 use Rattle.cap_messages.specs.Spelling.{IsRequest, kind_of, fault_reply}
 use Rattle.cap_session.specs.Answers.{Call, Answers}
-use Rattle.cap_session.specs.Session.{SessionState, OpenRequest, open_payload, HasAnswered, IsSentCount, sent_count}
-use Rattle.cap_session.specs.declared.session.Sent.{Sent}
+use Rattle.cap_session.specs.Session.{SessionState, OpenRequest, open_payload, HasAnswered}
 use Rattle.cap_session.specs.declared.session.Cause.TheVariants as causes
 use Rattle.cap_session.specs.declared.session.Session.TheInside.{Inside}
 use Rattle.cap_session.specs.declared.find.TheConstants.{FRAME_ROOM}
@@ -119,10 +118,3 @@ EndsWith u v (found.Request head opened request) = ⊥
 EndsWith u v found.Rest = ⊥
 EndsWith u v found.BadLength = v ≡ u ++ frame_of (fault_reply 40)
 EndsWith u v found.NoMemory = v ≡ u
-
--- so many first bytes were written out
-pub record IsWrittenOut (u v : Filled) (before after : List (Filled × ℕ)) (sent : Sent) : Type 0 where
-  pub count : IsSentCount u.items sent
-  pub items : v.items ≡ drop (sent_count sent) u.items
-  pub spare : v.spare ≡ u.spare
-  pub history : sent_in after ≡ sent_in before ++ take (sent_count sent) u.items

@@ -4,7 +4,7 @@ use Rattle.cap_model.specs.declared.request.Request.{Request}
 use Rattle.cap_model.specs.News.{Reply}
 use Rattle.cap_frames.specs.Stream.{frame_of, frames_of, Tail, rest, fault, IsStream}
 use Rattle.cap_messages.specs.Spelling.{IsRequest, IsReply, IsOfKind, kind_of, reply_bytes, fault_reply}
-use Rattle.cap_session.specs.Counted.{StreamState, one_failure}
+use Rattle.cap_session.specs.Counted.{sent_count}
 use Rattle.cap_session.specs.Answers.{Call, Answers, IsAnswered}
 use Rattle.cap_session.specs.declared.session.Cause.{Cause}
 use Rattle.cap_session.specs.declared.session.Cause.TheVariants as causes
@@ -12,8 +12,8 @@ use Rattle.cap_session.specs.declared.session.Fed.{Fed}
 use Rattle.cap_session.specs.declared.session.Fed.TheVariants as feds
 use Rattle.cap_session.specs.declared.session.Next.{Next}
 use Rattle.cap_session.specs.declared.session.Next.TheVariants as nexts
-use Rattle.cap_session.specs.declared.session.Sent.{Sent}
-use Rattle.cap_session.specs.declared.session.Sent.TheVariants as sents
+use Rattle.cap_session.specs.declared.counted.Sent.{Sent}
+use Rattle.cap_session.specs.declared.counted.Sent.TheVariants as sents
 
 -- a payload that was handed out as a request and is not answered yet
 pub record OpenRequest : Type 0 where
@@ -135,16 +135,6 @@ SpellsAnswer (Some o) reply = IsRequest o.payload o.call_id o.request × IsReply
 
 -- ---- writing out
 
--- how many bytes were written out
-abbrev pub sent_count : Sent → ℕ
-sent_count (sents.All n) = n
-sent_count (sents.Fault n) = n
-
--- all of the bytes, or less
-abbrev pub IsSentCount : List ℕ → Sent → Type 0
-IsSentCount bytes (sents.All n) = n ≡ length bytes
-IsSentCount bytes (sents.Fault n) = n < length bytes
-
 -- the first cause stays
 abbrev pub first_cause : Option Cause → Cause → Option Cause
 first_cause None cause = Some cause
@@ -157,8 +147,3 @@ ended_after ended (sents.Fault n) = first_cause ended causes.WriteFault
 -- so many first bytes were written out, and the session has ended where the writer failed
 abbrev pub after_sent : SessionState → Sent → SessionState
 after_sent s sent = record s { sent = s.sent ++ take (sent_count sent) s.unsent; unsent = drop (sent_count sent) s.unsent; ended = ended_after s.ended sent }
-
--- the writer took the bytes, and has failed once more where it failed
-abbrev pub after_write_out : StreamState → List ℕ → Sent → StreamState
-after_write_out w bytes (sents.All n) = record w { taken = w.taken ++ bytes }
-after_write_out w bytes (sents.Fault n) = one_failure (record w { taken = w.taken ++ bytes })

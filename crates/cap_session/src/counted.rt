@@ -1,6 +1,7 @@
 //! Readers and writers whose failures are counted.
-ghost use Rattle.std.specs.Prelude.{◌≡◌, ◌<◌, ◌++◌, length};
-ghost use Rattle.cap_session.specs.Counted.{state_of, inner_of, new_stream, bytes_in, CanCount, after_read, after_write, Gives, Takes, got_of, put_of};
+ghost use Rattle.std.specs.Prelude.{◌≡◌, ◌<◌, ◌++◌, length, take};
+ghost use Rattle.std.specs.Io.KnownBytes.{Appends, Keeps};
+ghost use Rattle.cap_session.specs.Counted.{state_of, inner_of, new_stream, bytes_in, CanCount, after_read, after_write, after_writes, after_flush, Gives, Takes, sent_count, IsSentCount, got_of, put_of};
 
 use http_server::Log;
 use std::io;
@@ -40,6 +41,31 @@ pub enum Put {
     /// The writer failed.
     Fault,
 }
+
+/// What was written out of some bytes.
+#[derive(Clone, Copy, Debug, PartialEq, Eq)]
+pub enum Sent {
+    /// All, so many bytes.
+    All(usize),
+    /// So many first bytes, and then the writer failed.
+    Fault { sent: usize },
+}
+
+impl Sent {
+    /// How many bytes were written out.
+    pub fn count(self) -> usize
+        ensures { result ≡ sent_count self }
+    {
+        match self {
+            Sent::All(count) => count,
+            Sent::Fault { sent } => sent,
+        }
+    }
+}
+
+/// A writer did not pass on what it held back.
+#[derive(Clone, Copy, Debug, PartialEq, Eq)]
+pub struct StreamFailed;
 
 impl<T> Counted<T> {
     /// The reader or writer, with nothing counted yet.
@@ -113,6 +139,40 @@ impl<W: Write> Counted<W> {
             Put::Fault => self.failures += 1,
         }
         put
+    }
+
+    /// Writes all of the bytes, in as many writes as it takes, up to the first that fails, which is counted.
+    pub fn write_all(&mut self, bytes: &[u8]) -> Sent
+        requires { CanCount (state_of self.old) }
+        ensures count { IsSentCount bytes.now result }
+        ensures state { state_of self.new
+            ≡ after_writes (state_of self.old) (take (sent_count result) bytes.now) result }
+        ensures bytes { Appends (W.contents (inner_of self.old)) (W.contents (inner_of self.new))
+            (take (sent_count result) bytes.now) }
+    {
+        let mut sent = 0;
+        while sent < bytes.len() {
+            match self.write(&bytes[sent..]) {
+                Put::Bytes(n) => sent += n,
+                Put::Fault => return Sent::Fault { sent },
+            }
+        }
+        Sent::All(sent)
+    }
+
+    /// Passes on what the writer holds back. Where that fails it is counted.
+    pub fn flush(&mut self) -> Result<(), StreamFailed>
+        requires { CanCount (state_of self.old) }
+        ensures state { state_of self.new ≡ after_flush (state_of self.old) result }
+        ensures bytes { Keeps (W.contents (inner_of self.old)) (W.contents (inner_of self.new)) }
+    {
+        match self.inner.flush() {
+            Ok(()) => Ok(()),
+            Err(_) => {
+                self.failures += 1;
+                Err(StreamFailed)
+            }
+        }
     }
 }
 

@@ -6,5 +6,5 @@ mod find;
 mod session;
 
 pub use cap_model::{NoMemory, OwnedReply, Request};
-pub use counted::{Counted, Got, Put};
-pub use session::{Cause, Fed, Next, Sent, Session};
+pub use counted::{Counted, Got, Put, Sent, StreamFailed};
+pub use session::{Cause, Fed, Next, Session};

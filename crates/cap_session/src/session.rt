@@ -1,11 +1,10 @@
 //! A session.
 ghost use Rattle.std.specs.Prelude.{◌≡◌, ◌<◌, ◌≤◌, IfOk, take, None};
 ghost use Rattle.std.specs.Io.KnownBytes.{Appends};
-ghost use Rattle.cap_session.specs.Counted.{state_of, inner_of, CanCount};
-ghost use Rattle.cap_session.specs.Session.{new_session, FeedGives, NextGives, MayAnswer, after_answer, SpellsAnswer, after_sent, sent_count, IsSentCount, after_write_out, IsSession, bytes_unanswered};
-ghost use Rattle.cap_session.specs.Kept.{IsWrittenOut};
+ghost use Rattle.cap_session.specs.Counted.{state_of, inner_of, CanCount, after_writes, sent_count, IsSentCount};
+ghost use Rattle.cap_session.specs.Session.{new_session, FeedGives, NextGives, MayAnswer, after_answer, SpellsAnswer, after_sent, IsSession, bytes_unanswered};
 
-use crate::counted::{Counted, Put};
+use crate::counted::{Counted, Sent};
 use crate::find::{Answered, Found, Head, ReadPayload, find, put_reply};
 use bytes::BytesMut;
 use cap_frames::Framer;
@@ -44,15 +43,6 @@ pub enum Next {
     Need,
     /// Nothing more: the session has ended.
     Ended(Cause),
-}
-
-/// What was written out.
-#[derive(Clone, Copy, Debug, PartialEq, Eq)]
-pub enum Sent {
-    /// All, so many bytes.
-    All(usize),
-    /// So many first bytes, and then the writer failed.
-    Fault { sent: usize },
 }
 
 /// One connection. Contracts see the bytes that it was fed, the payloads that it answered, the request that is open, its calls
@@ -186,11 +176,14 @@ impl Session {
         ensures count { IsSentCount self.old.unsent result }
         ensures session { self.new ≡ after_sent self.old result }
         ensures writer { state_of writer.new
-            ≡ after_write_out (state_of writer.old) (take (sent_count result) self.old.unsent) result }
+            ≡ after_writes (state_of writer.old) (take (sent_count result) self.old.unsent) result }
         ensures bytes { Appends (W.contents (inner_of writer.old)) (W.contents (inner_of writer.new))
             (take (sent_count result) self.old.unsent) }
     {
-        let sent = write_all(&mut self.unsent, &mut self.sent, writer);
+        let sent = writer.write_all(self.unsent.as_slice());
+        let count = sent.count();
+        self.sent = self.sent.and(&self.unsent, &count);
+        self.unsent.advance(count);
         if let Sent::Fault { .. } = sent
             && self.ended.is_none()
         {
@@ -198,32 +191,4 @@ impl Session {
         }
         sent
     }
-}
-
-// Writes all bytes, or so many first ones before the writer failed.
-fn write_all<W: Write>(
-    unsent: &mut BytesMut,
-    history: &mut Log<BytesMut, usize>,
-    writer: &mut Counted<W>,
-) -> Sent
-    requires { CanCount (state_of writer.old) }
-    ensures written { IsWrittenOut unsent.old unsent.new history.old.items history.new.items result }
-    ensures writer { state_of writer.new
-        ≡ after_write_out (state_of writer.old) (take (sent_count result) unsent.old.items) result }
-    ensures bytes { Appends (W.contents (inner_of writer.old)) (W.contents (inner_of writer.new))
-        (take (sent_count result) unsent.old.items) }
-{
-    let _most = unsent.len();
-    let mut count = 0;
-    while !unsent.is_empty() {
-        match writer.write(unsent.as_slice()) {
-            Put::Bytes(n) => {
-                *history = history.and(unsent, &n);
-                unsent.advance(n);
-                count += n;
-            }
-            Put::Fault => return Sent::Fault { sent: count },
-        }
-    }
-    Sent::All(count)
 }

@@ -1,5 +1,6 @@
-use Rattle.std.proofs.Common.{inl, inr}
-use Rattle.cap_daemon.proofs.Results.{by_refusal}
+use Rattle.std.proofs.Common.{inl, inr, arith}
+use Rattle.cap_session.specs.Counted.{state_of}
+use Rattle.cap_daemon.proofs.Results.{by_refusal, input_stopped, stopped_input}
 use Rattle.cap_daemon.proofs.player.replay.Goals as goal
 
 pub returns-clause-refused : goal.returns-clause-refused
@@ -7,3 +8,17 @@ returns-clause-refused g c = λ e.
     by_refusal c.play_all-played.result (c.finish.ensures.refused e)
     (λ n is. let seen = c.play_all-played.ensures.bad n is in (seen.0, seen.1, inl seen.2))
     (λ fault is. let seen = c.play_all-played.ensures.fault fault is in (seen.0, seen.1, inr (fault, seen.2)))
+
+pub returns-clause-failed : goal.returns-clause-failed
+returns-clause-failed g c = λ some. c.finish.ensures.failed.1 (elim some [
+  | inl missed ↦ omega (arith, c.finish.ensures.counted, input_stopped c.play_all-played.result (state_of c.args.reader.now) (state_of c.play_all-played.new.reader) c.play_all-played.ensures.reads missed)
+  | inr failed ↦ omega (arith, c.play_all-played.ensures.writes, failed)
+])
+
+pub returns-clause-only : goal.returns-clause-only
+returns-clause-only g c = λ one.
+    let more = c.finish.ensures.failed.0 one in
+    elim (stopped_input c.play_all-played.result (state_of c.args.reader.now) (state_of c.play_all-played.new.reader) c.play_all-played.ensures.reads) [
+      | inl none ↦ inr (inl (omega (arith, more, none, c.play_all-played.ensures.writes)))
+      | inr x ↦ elim x [ inl missed ↦ inl missed | inr many ↦ inr (inr many) ]
+    ]
