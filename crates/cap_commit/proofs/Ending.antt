@@ -27,7 +27,7 @@ use Rattle.cap_tree.proofs.OneUser.{count_where}
 use Rattle.cap_tree.specs.Rows.{Row, lowered_row, queues_of, user_row_at}
 use Rattle.cap_asks.specs.Apps.{HeldApps, UsesRoom, live_of, position_of}
 use Rattle.cap_nodes.proofs.Lives.{turned}
-use Rattle.cap_commit.specs.Held.{Parts, IsHeld, IsInLeaf, flat_of, of_cluster}
+use Rattle.cap_commit.specs.Held.{AreReserved, Parts, IsHeld, IsInLeaf, flat_of, of_cluster}
 use Rattle.cap_commit.proofs.Counting.{count_positive}
 use Rattle.cap_commit.proofs.Holding.{leaf_same, still_placed}
 use Rattle.cap_commit.proofs.Moving.{HasMoved, gives, may_give, moved_settings, moved_stays, tied_moved}
@@ -148,6 +148,7 @@ module _ {K : ℕ} (p : Parts K) (h : IsHeld p) (number : ℕ) (c : Container) (
           counted = λ m. (let r = h.counted m in let e = room.live m in let w = count_left nodes' live m in let t : weight (c.app == m) ≡ weight (m == n) = ap weight (turned c.app m) ∙ ap (λ k. weight (m == k)) (sym same) in let z = none_where (m == n) in omega (arith, r, e, w, t, z));
           owned = owned_stands (λ (c : Container). c.app) p.nodes.live nodes'.live old (flat_of q) (change_stands old (flat_of q) change) (λ d i. (of_filter (λ x. not (is_among (c ∷ []) x)) p.nodes.live d (subst (IsIn d) live i)).1) h.owned;
           reserved = owned_stands (λ (r : Reservation). r.app) p.nodes.reserved nodes'.reserved old (flat_of q) (change_stands old (flat_of q) change) (λ r i. subst (IsIn r) (ap (λ (t : NodeTable). t.reserved) lift) i) h.reserved;
+          reservations = subst (λ (t : NodeTable). AreReserved t.present t.reserved) (sym lift) h.reservations;
           numbers = rw (lift) (rising_kept (λ (z : Container). z.number) (λ d. not (is_among (c ∷ []) d)) 1 p.nodes.live p.nodes.next_container h.numbers);
           limit = h.limit;
           few = (let w = h.few in let k = ap length active in let l = length-map p.apps.table.active f in omega (arith, w, k, l));

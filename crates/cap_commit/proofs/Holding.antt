@@ -36,9 +36,10 @@ use Rattle.cap_tree.specs.Rows.{Row, IsAt, entered_row, left_row, with_state, qu
 use Rattle.cap_tree.proofs.Listings.{any_kept, path_kept, set_running, same_path, state_in_settings}
 use Rattle.cap_asks.specs.Held.{Account, HeldApp}
 use Rattle.cap_asks.specs.Apps.{HeldApps, UsesRoom, IsEntered, IsLeft, account_of, live_of, position_of}
-use Rattle.cap_commit.specs.Held.{Parts, IsHeld, IsInLeaf, flat_of, of_cluster}
+use Rattle.cap_commit.specs.Held.{AreReserved, Parts, IsHeld, IsInLeaf, flat_of, of_cluster}
 use Rattle.cap_commit.proofs.Counting.{count_entered, count_without, only_one, unused}
 use Rattle.cap_commit.proofs.Owning.{IsOwned, IsReservedFor, count_for, live_kept, none_left, none_of, none_reserved, owned_after, owned_stands, sites_owned}
+use Rattle.cap_commit.proofs.Reserved.{none_reserved_yet}
 use Rattle.cap_commit.proofs.RowsAt.{row_at, still_at}
 use Rattle.cap_commit.proofs.Moving.{HasOneMore, enters, leaves, may_leave, moved_settings, moved_stays, tied_moved}
 use Rattle.cap_commit.proofs.Ties.{of_user_in, unused_tied, tied_stays, tied_state}
@@ -88,6 +89,7 @@ module _ {K : ℕ} where
         few = (let n = ap length none in omega (arith, n));
         few_live = (let n = ap length live in omega (arith, n));
         reserved = of_each (IsReservedFor (flat_of p)) p.nodes.reserved (λ r m. absurd (subst (λ xs. IsIn r xs) reserved m));
+        reservations = none_reserved_yet p.nodes.present p.nodes.reserved reserved;
         resources = k;
       }
 
@@ -99,8 +101,9 @@ module _ {K : ℕ} where
     owners = sites_owned old h.owned h.reserved
 
     -- after a change of the nodes that keeps what is live
-    pub held_nodes : (nodes' : NodeTable) → nodes'.live ≡ p.nodes.live → nodes'.reserved ≡ p.nodes.reserved → nodes'.next_container ≡ p.nodes.next_container → IsHeld (record p { nodes = nodes' })
-    held_nodes nodes' live reserved next =
+    pub held_nodes : (nodes' : NodeTable) → nodes'.live ≡ p.nodes.live → nodes'.reserved ≡ p.nodes.reserved → nodes'.next_container ≡ p.nodes.next_container →
+        AreReserved nodes'.present nodes'.reserved → IsHeld (record p { nodes = nodes' })
+    held_nodes nodes' live reserved next fit =
         let q : Parts K = record p { nodes = nodes' } in
         record {
           tied = tied_stays old (flat_of q) (record { counts = λ t. refl; uses = same_use old (flat_of q) (record { live = live; reserved = reserved; apps = λ app node s. refl }) }) p.rows h.tied;
@@ -108,6 +111,7 @@ module _ {K : ℕ} where
           counted = λ n. h.counted n ∙ sym (ap (count_for n) live);
           owned = owned_stands (λ (c : Container). c.app) p.nodes.live nodes'.live old (flat_of q) (λ n. refl) (λ c i. subst (IsIn c) live i) h.owned;
           reserved = owned_stands (λ (r : Reservation). r.app) p.nodes.reserved nodes'.reserved old (flat_of q) (λ n. refl) (λ r i. subst (IsIn r) reserved i) h.reserved;
+          reservations = fit;
           numbers = rw (live, next) h.numbers;
           limit = h.limit;
           few = h.few;
@@ -132,6 +136,7 @@ module _ {K : ℕ} where
           counted = λ n. live n ∙ h.counted n;
           owned = owned_stands (λ (c : Container). c.app) p.nodes.live p.nodes.live old (flat_of q) (change_stands old (flat_of q) change) (λ c i. i) h.owned;
           reserved = owned_stands (λ (r : Reservation). r.app) p.nodes.reserved p.nodes.reserved old (flat_of q) (change_stands old (flat_of q) change) (λ r i. i) h.reserved;
+          reservations = h.reservations;
           numbers = h.numbers;
           limit = h.limit;
           few = (let w = h.few in let n = ap length e in let l = length-map p.apps.table.active f in omega (arith, w, n, l));
@@ -171,6 +176,7 @@ module _ {K : ℕ} where
           counted = h.counted;
           owned = owned_stands (λ (c : Container). c.app) p.nodes.live p.nodes.live old (flat_of q) (λ n. refl) (λ c i. i) h.owned;
           reserved = owned_stands (λ (r : Reservation). r.app) p.nodes.reserved p.nodes.reserved old (flat_of q) (λ n. refl) (λ r i. i) h.reserved;
+          reservations = h.reservations;
           numbers = h.numbers;
           limit = h.limit;
           few = h.few;
@@ -205,6 +211,7 @@ module _ {K : ℕ} where
           counted = λ m. live_entered (m == n) m refl;
           owned = owned_after (λ (c : Container). c.app) p.nodes.live p.nodes.live old (flat_of q) still (λ c i. i) h.owned;
           reserved = owned_after (λ (r : Reservation). r.app) p.nodes.reserved p.nodes.reserved old (flat_of q) still (λ r i. i) h.reserved;
+          reservations = h.reservations;
           numbers = h.numbers;
           limit = h.limit;
           few = (let f = may.few in let w = h.limit in let k = ap length active in let l = length-append p.apps.table.active (a ∷ []) in omega (arith, f, w, k, l));
@@ -307,6 +314,7 @@ module _ {K : ℕ} where
             counted = λ m. live_left (m == n) m refl;
             owned = of_each (IsOwned (flat_of q)) p.nodes.live (λ c m. remains c.app (none_of n p.nodes.live none_live c m) (each_of (IsOwned old) p.nodes.live h.owned c m));
             reserved = of_each (IsReservedFor (flat_of q)) p.nodes.reserved (λ r m. remains r.app (none_reserved n p.nodes.reserved bare r m) (each_of (IsReservedFor old) p.nodes.reserved h.reserved r m));
+            reservations = h.reservations;
             numbers = h.numbers;
             limit = h.limit;
             few = (let f = h.few in let l = ap length active in let g = length-kept (λ (a : App). not (a.number == n)) p.apps.table.active in omega (arith, f, l, g));

@@ -6,6 +6,8 @@ pub mod RowsAt
 pub mod Ties
 pub mod Moving
 pub mod Sizes
+pub mod Reserved
+pub mod Seen
 pub mod Holding
 pub mod Ending
 pub mod Unreserving
@@ -13,3 +15,7 @@ pub mod Dropping
 pub mod Reporting
 pub mod Naming
 pub mod Viewing
+pub mod Limiting
+pub mod Granting
+pub mod Granted
+pub mod Keeping

@@ -46,7 +46,7 @@ under_it : (leaf path : List ℕ) → bytes_eq path leaf ≡ true → is_under p
 under_it leaf path e = subst (λ p. is_under path p ≡ true) ((bytes_eq-Decides path leaf).0 e) (under_itself path)
 
 -- what the rows of one user count is what that user's row counts
-own_count : (K : ℕ) (user : List ℕ) (us : List UserRow) (m : Measure) → of_one user (λ _. 1) us ≤ 1 → of_one user (of_user m) us ≡ of_count (count_in K (user_row user us)) m
+pub own_count : (K : ℕ) (user : List ℕ) (us : List UserRow) (m : Measure) → of_one user (λ _. 1) us ≤ 1 → of_one user (of_user m) us ≡ of_count (count_in K (user_row user us)) m
 own_count K user us m s = by (user_row user us) refl
   where
     by : (o : Option UserRow) → user_row user us ≡ o → of_one user (of_user m) us ≡ of_count (count_in K o) m

@@ -21,6 +21,7 @@ use Rattle.cap_commit.proofs.Counting.{count_positive}
 use Rattle.cap_commit.proofs.Holding.{leaf_same, still_placed}
 use Rattle.cap_commit.proofs.Moving.{HasMoved, gives, may_give, moved_settings, moved_stays, tied_moved}
 use Rattle.cap_commit.proofs.Owning.{IsReservedFor, owned_stands}
+use Rattle.cap_commit.proofs.Reserved.{part_reserved, part_removed}
 use Rattle.cap_commit.proofs.RowsAt.{row_at}
 use Rattle.cap_commit.proofs.Ties.{of_user_in}
 
@@ -99,6 +100,7 @@ module _ {K : ℕ} (p : Parts K) (h : IsHeld p) (i : ℕ) (r : Reservation) (bel
           counted = h.counted;
           owned = h.owned;
           reserved = owned_stands (λ (x : Reservation). x.app) p.nodes.reserved (remove p.nodes.reserved i) old (flat_of q) (λ n. refl) (λ x m. in_removed p.nodes.reserved i x m) h.reserved;
+          reservations = part_reserved p.nodes.present p.nodes.reserved (remove p.nodes.reserved i) (part_removed p.nodes.reserved i) h.reservations;
           numbers = h.numbers;
           limit = h.limit;
           few = h.few;

@@ -1,11 +1,13 @@
 -- What a cluster keeps: its parts, the flat cluster that they are, and what they have to do with each other.
-use Rattle.std.specs.Prelude.{◌≡◌, ℕ, ◌≤◌, ◌&&◌, ◌==◌, IsSome, List, [], length, count_by, bytes_eq}
+use Rattle.std.specs.Prelude.{◌≡◌, ℕ, ◌≤◌, ◌&&◌, ◌==◌, Bool, true, IsSome, List, [], length, find, count_by, bytes_eq}
 use Rattle.std.specs.List.{All}
 use Rattle.cap_vector.specs.Vector.{amount}
 use Rattle.cap_model.specs.Limits.{applications_max, resources_max, live_max}
-use Rattle.cap_model.specs.Flat.{Flat, App, NodeTable, app_at, is_under}
+use Rattle.cap_model.specs.Cascade.{holds_of}
+use Rattle.cap_model.specs.Amounts.{fits}
+use Rattle.cap_model.specs.Flat.{Flat, App, ClusterNode, NodeTable, Reservation, app_at, is_under}
 use Rattle.cap_model.specs.Uses.{queue_use, user_use}
-use Rattle.cap_model.specs.Bounds.{IsLeaf}
+use Rattle.cap_model.specs.Bounds.{AreApart, IsLeaf}
 use Rattle.cap_model.specs.EngineLaws.{HasDistinctNumbers}
 use Rattle.cap_tree.specs.Measure.{Measure}
 use Rattle.cap_tree.specs.Queue.{of_user, of_one}
@@ -26,6 +28,15 @@ pub record Parts (K : ℕ) : Type 0 where
   pub limits : Limits K
   pub apps : HeldApps
   pub nodes : NodeTable
+
+-- whether the node of a reservation is present, and has as much in all
+abbrev pub fits_its_node : List ClusterNode → Reservation → Bool
+fits_its_node present r = holds_of (λ node. fits r.resource node.total) (find (λ node. node.number == r.node) present)
+
+-- reservations are on different nodes, each on one that is present and has as much in all
+pub record AreReserved (present : List ClusterNode) (reserved : List Reservation) : Type 0 where
+  pub apart : AreApart reserved
+  pub fit : All (λ r. fits_its_node present r ≡ true) reserved
 
 module _ {K : ℕ} where
   -- the flat cluster of these parts
@@ -67,14 +78,15 @@ module _ {K : ℕ} where
     pub position : IsAt p.rows app.leaf (position_of app.number p.apps.accounts)
 
   -- each row keeps what the flat cluster counts; each application is in a leaf, whose position it knows, and knows how many of its
-  -- containers are live; each live container and each reservation is an active application's; the numbers of containers are
-  -- distinct; no more than allowed of each
+  -- containers are live; each live container and each reservation is an active application's; reservations are on different nodes,
+  -- each on one that has as much; the numbers of containers are distinct; no more than allowed of each
   pub record IsHeld (p : Parts K) : Type 0 where
     pub tied : All (IsRowOf (flat_of p)) p.rows
     pub placed : All (IsInLeaf p) p.apps.table.active
     pub counted : (n : ℕ) → live_of n p.apps.accounts ≡ live_for n (flat_of p)
     pub owned : All (λ c. IsSome (app_at (flat_of p) c.app)) p.nodes.live
     pub reserved : All (λ r. IsSome (app_at (flat_of p) r.app)) p.nodes.reserved
+    pub reservations : AreReserved p.nodes.present p.nodes.reserved
     pub numbers : HasDistinctNumbers (flat_of p)
     pub limit : p.limits.application_limit ≤ applications_max
     pub few : length p.apps.table.active ≤ applications_max

@@ -1,3 +1,4 @@
 pub mod Held
 pub mod Owners
 pub mod Reservations
+pub mod Admission

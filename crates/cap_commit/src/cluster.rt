@@ -40,10 +40,10 @@ use std::marker::Model;
 /// see it as the flat cluster, and beside it the rows of the tree and the accounts of the applications.
 #[derive(Drop)]
 pub struct Cluster<const K: usize> {
-    tree: Box<QueueTree<K, Global>>,
+    pub(crate) tree: Box<QueueTree<K, Global>>,
     limits: Limits<K>,
-    apps: Apps<K>,
-    nodes: Nodes<K>,
+    pub(crate) apps: Apps<K>,
+    pub(crate) nodes: Nodes<K>,
 }
 
 impl<const K: usize> Model for Cluster<K> {

@@ -1,7 +1,9 @@
 //! The cluster: its queues, applications and nodes, and the changes that calls make of it. Contracts see it as the flat cluster.
 #![tactic(auto)]
 
+mod admission;
 mod cluster;
+mod commit;
 mod limits;
 mod owner;
 mod replies;
@@ -10,7 +12,8 @@ mod reservations;
 
 pub use cap_asks::{App, Apps, Position};
 pub use cap_model::{
-    AllocateReply, Event, HeartbeatReply, QueueReport, Reply, ReplyView, Reported, Request,
+    AllocateReply, Event, HeartbeatReply, Proposal, ProposalKind, QueueReport, Reason, Reply,
+    ReplyView, Reported, Request, Verdict,
 };
 pub use cap_nodes::{Container, Node, Nodes};
 pub use cap_tree::{Found, QueueTree};

@@ -7,14 +7,13 @@ use Rattle.cap_model.specs.Cascade.{earliest, holds_of}
 use Rattle.cap_model.specs.Amounts.{fits, times}
 use Rattle.cap_model.specs.Texts.{star}
 use Rattle.cap_model.specs.declared.ask.Key.{Key}
+use Rattle.cap_model.specs.declared.proposal.ProposalKind.{ProposalKind}
+use Rattle.cap_model.specs.declared.proposal.ProposalKind.TheVariants.{Grant, Reserve}
+use Rattle.cap_model.specs.declared.proposal.Reason.{Reason}
+use Rattle.cap_model.specs.declared.proposal.Reason.TheVariants.{NoApp, NoAsk, OtherAsk, NoNode, WrongPlace, ReservedByOther, NoRoom, OverMaximum, OverUser, TooManyLive, FitsNow, NeverFits, NumbersSpent}
 use Rattle.cap_model.specs.Asks.{Ask}
 use Rattle.cap_model.specs.Flat.{Reservation, is_for, ask_at}
 use Rattle.cap_model.specs.Sight.{Sight, QueueSight, NodeSight, seen_app, seen_node, seen_queue, queues_to, still_wanted}
-
--- a proposal grants a container at once, or reserves room for one
-pub data ProposalKind : Type 0 where
-  grant : ProposalKind
-  reserve : ProposalKind
 
 -- a proposal: a container of this resource for the application's ask under the key, on the node
 pub record NodeProposal : Type 0 where
@@ -24,41 +23,25 @@ pub record NodeProposal : Type 0 where
   pub node : ℕ
   pub resource : List ℕ
 
--- why a proposal is rejected
-pub data RejectReason : Type 0 where
-  no_app : RejectReason
-  no_ask : RejectReason
-  other_ask : RejectReason
-  no_node : RejectReason
-  wrong_place : RejectReason
-  reserved_by_other : RejectReason
-  no_room : RejectReason
-  over_maximum : (level : ℕ) → RejectReason
-  over_user : RejectReason
-  too_many_live : RejectReason
-  fits_now : RejectReason
-  never_fits : RejectReason
-  numbers_spent : RejectReason
-
 -- the number of a reason
-abbrev pub reason_number : RejectReason → ℕ
-reason_number no_app = 1
-reason_number no_ask = 2
-reason_number other_ask = 3
-reason_number no_node = 4
-reason_number wrong_place = 5
-reason_number reserved_by_other = 6
-reason_number no_room = 7
-reason_number (over_maximum level) = 8
-reason_number over_user = 9
-reason_number too_many_live = 10
-reason_number fits_now = 11
-reason_number never_fits = 12
-reason_number numbers_spent = 13
+abbrev pub reason_number : Reason → ℕ
+reason_number NoApp = 1
+reason_number NoAsk = 2
+reason_number OtherAsk = 3
+reason_number NoNode = 4
+reason_number WrongPlace = 5
+reason_number ReservedByOther = 6
+reason_number NoRoom = 7
+reason_number (OverMaximum level) = 8
+reason_number OverUser = 9
+reason_number TooManyLive = 10
+reason_number FitsNow = 11
+reason_number NeverFits = 12
+reason_number NumbersSpent = 13
 
 abbrev pub is_grant : ProposalKind → Bool
-is_grant grant = true
-is_grant reserve = false
+is_grant Grant = true
+is_grant Reserve = false
 
 -- whether a use is within the maximum of a queue, where it has one
 abbrev pub fits_maximum : Option (List ℕ) → List ℕ → Bool
@@ -148,11 +131,11 @@ module _ {K : ℕ} where
 
   -- A grant needs room, and either a node without reservation and a container that is still wanted, or the node's reservation.
   abbrev pub NeedsOf : Sight K → NodeProposal → ProposalKind → Type 0
-  NeedsOf sight p grant =
+  NeedsOf sight p Grant =
       (fits_free sight p ≡ true)
       × (((node_reservation sight p ≡ None) × (is_wanted sight p ≡ true)) ⊎ (is_reserved_for sight p ≡ true))
   -- A reservation needs a container that is still wanted, a node without one, and a resource that fits the node, but not now.
-  NeedsOf sight p reserve =
+  NeedsOf sight p Reserve =
       (is_wanted sight p ≡ true)
       × (node_reservation sight p ≡ None)
       × (fits_free sight p ≡ false)
@@ -163,23 +146,23 @@ module _ {K : ℕ} where
   IsAdmissible sight p = IsWithinLimits sight p × NeedsOf sight p p.kind
 
   -- the tests of a proposal in their order, each with the reason where it holds
-  abbrev pub reasons : Sight K → NodeProposal → List (Bool × RejectReason)
+  abbrev pub reasons : Sight K → NodeProposal → List (Bool × Reason)
   reasons sight p =
-      (is_none (seen_app sight p.app), no_app)
-      ∷ (is_none (proposed_ask sight p) || not (is_wanted sight p || is_grant p.kind && is_reserved_for sight p), no_ask)
-      ∷ (not (asks_resource sight p), other_ask)
-      ∷ (is_none (seen_node sight p.node), no_node)
-      ∷ (not (suits_place sight p), wrong_place)
-      ∷ (is_some (node_reservation sight p) && not (is_grant p.kind && is_reserved_for sight p), reserved_by_other)
-      ∷ (is_grant p.kind && not (fits_free sight p), no_room)
-      ∷ (not (stays_in_maxima sight p), over_maximum (unwrap_or (broken_level sight p) 0))
-      ∷ (not (stays_in_user_limit sight p), over_user)
-      ∷ (nat_le live_max sight.live, too_many_live)
-      ∷ (not (is_grant p.kind) && fits_free sight p, fits_now)
-      ∷ (not (is_grant p.kind) && not (fits_total sight p), never_fits)
-      ∷ (nat_le number_end sight.next_container, numbers_spent)
+      (is_none (seen_app sight p.app), NoApp)
+      ∷ (is_none (proposed_ask sight p) || not (is_wanted sight p || is_grant p.kind && is_reserved_for sight p), NoAsk)
+      ∷ (not (asks_resource sight p), OtherAsk)
+      ∷ (is_none (seen_node sight p.node), NoNode)
+      ∷ (not (suits_place sight p), WrongPlace)
+      ∷ (is_some (node_reservation sight p) && not (is_grant p.kind && is_reserved_for sight p), ReservedByOther)
+      ∷ (is_grant p.kind && not (fits_free sight p), NoRoom)
+      ∷ (not (stays_in_maxima sight p), OverMaximum (unwrap_or (broken_level sight p) 0))
+      ∷ (not (stays_in_user_limit sight p), OverUser)
+      ∷ (nat_le live_max sight.live, TooManyLive)
+      ∷ (not (is_grant p.kind) && fits_free sight p, FitsNow)
+      ∷ (not (is_grant p.kind) && not (fits_total sight p), NeverFits)
+      ∷ (nat_le number_end sight.next_container, NumbersSpent)
       ∷ []
 
   -- the first reason why a proposal is rejected, none where it is admissible
-  abbrev pub reason_of : Sight K → NodeProposal → Option RejectReason
+  abbrev pub reason_of : Sight K → NodeProposal → Option Reason
   reason_of sight p = earliest (reasons sight p)

@@ -3,14 +3,15 @@ use Rattle.std.specs.Prelude.{ℕ, List, [], ◌∷◌, Option, Some, None, is_n
 use Rattle.std.specs.Option.{option_or}
 use Rattle.cap_model.specs.Asks.{Ask}
 use Rattle.cap_model.specs.Sight.{Sight, AppSight, NodeSight}
-use Rattle.cap_model.specs.Admission.{NodeProposal, ProposalKind, reason_of}
+use Rattle.cap_model.specs.Admission.{NodeProposal, reason_of}
+use Rattle.cap_model.specs.declared.proposal.ProposalKind.{ProposalKind}
 use Rattle.cap_model.specs.Choice.{is_after, ring_from}
 
 -- an ask as a proposal of either kind on the node
 abbrev pub proposals_of : ℕ → AppSight → Ask → List NodeProposal
 proposals_of n app ask =
-    record { kind = ProposalKind.grant; app = app.number; key = ask.key; node = n; resource = ask.resource }
-    ∷ record { kind = ProposalKind.reserve; app = app.number; key = ask.key; node = n; resource = ask.resource }
+    record { kind = ProposalKind.Grant; app = app.number; key = ask.key; node = n; resource = ask.resource }
+    ∷ record { kind = ProposalKind.Reserve; app = app.number; key = ask.key; node = n; resource = ask.resource }
     ∷ []
 
 module _ {K : ℕ} where

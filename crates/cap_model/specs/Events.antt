@@ -9,16 +9,17 @@ use Rattle.cap_model.specs.declared.refusal.Refusal.{Refusal}
 use Rattle.cap_model.specs.Flat.{Flat, Container, NodeTable, Reservation, node_at, with_app, with_reserved}
 use Rattle.cap_model.specs.Ending.{is_among}
 use Rattle.cap_model.specs.Sight.{sight_of}
-use Rattle.cap_model.specs.Admission.{NodeProposal, ProposalKind, IsAdmissible}
+use Rattle.cap_model.specs.Admission.{NodeProposal, IsAdmissible}
+use Rattle.cap_model.specs.declared.proposal.ProposalKind.{ProposalKind}
 use Rattle.cap_model.specs.Replies.{Replies, after_request}
 use Rattle.cap_model.specs.declared.event.Event.{Event}
 
 -- the proposals that an event of a grant or of a reservation came from
 abbrev pub grant_proposal : Container → NodeProposal
-grant_proposal c = record { kind = ProposalKind.grant; app = c.app; key = c.key; node = c.node; resource = c.resource }
+grant_proposal c = record { kind = ProposalKind.Grant; app = c.app; key = c.key; node = c.node; resource = c.resource }
 
 abbrev pub reserve_proposal : Reservation → NodeProposal
-reserve_proposal r = record { kind = ProposalKind.reserve; app = r.app; key = r.key; node = r.node; resource = r.resource }
+reserve_proposal r = record { kind = ProposalKind.Reserve; app = r.app; key = r.key; node = r.node; resource = r.resource }
 
 -- the asks with one container less to want under a key; an ask that comes to 0 goes
 abbrev pub take_one : Key → List Ask → List Ask

@@ -6,7 +6,8 @@ use Rattle.cap_model.specs.declared.ask.Key.{Key}
 use Rattle.cap_model.specs.Asks.{Ask}
 use Rattle.cap_model.specs.declared.request.Request.{Request}
 use Rattle.cap_model.specs.Flat.{Flat, Container, opened_cluster}
-use Rattle.cap_model.specs.Admission.{NodeProposal, ProposalKind}
+use Rattle.cap_model.specs.Admission.{NodeProposal}
+use Rattle.cap_model.specs.declared.proposal.ProposalKind.{ProposalKind}
 use Rattle.cap_model.specs.Replies.{after_request}
 use Rattle.cap_model.specs.Events.{after_grant, after_reserve}
 
@@ -63,10 +64,10 @@ asks_of app id asks = Request.Allocate app id asks []
 
 -- a proposal to grant, and one to reserve
 abbrev pub grant_of : ℕ → Key → ℕ → List ℕ → NodeProposal
-grant_of app k node resource = record { kind = ProposalKind.grant; app = app; key = k; node = node; resource = resource }
+grant_of app k node resource = record { kind = ProposalKind.Grant; app = app; key = k; node = node; resource = resource }
 
 abbrev pub reserve_of : ℕ → Key → ℕ → List ℕ → NodeProposal
-reserve_of app k node resource = record { kind = ProposalKind.reserve; app = app; key = k; node = node; resource = resource }
+reserve_of app k node resource = record { kind = ProposalKind.Reserve; app = app; key = k; node = node; resource = resource }
 
 -- a container of that number, and the cluster after it was granted
 abbrev pub container : ℕ → ℕ → Key → ℕ → List ℕ → Container

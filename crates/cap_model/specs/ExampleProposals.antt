@@ -6,7 +6,8 @@ use Rattle.cap_model.specs.declared.reply.ReplyWith.TheVariants as Reply
 use Rattle.cap_model.specs.Flat.{Flat, opened_cluster}
 use Rattle.cap_model.specs.Uses.{queue_use}
 use Rattle.cap_model.specs.Sight.{sight_of}
-use Rattle.cap_model.specs.Admission.{RejectReason, reason_of}
+use Rattle.cap_model.specs.Admission.{reason_of}
+use Rattle.cap_model.specs.declared.proposal.Reason.{Reason}
 use Rattle.cap_model.specs.Candidates.{choice_from}
 use Rattle.cap_model.specs.Bounds.{is_tree}
 use Rattle.cap_model.specs.Replies.{reply_to, after_request}
@@ -42,7 +43,7 @@ MiddleMaximum =
     let once = after_grants 1 1 (key 1 0) 1 (mb_and_vcores 1024 1) under_middle in
     (reason_of (sight_of under_middle) (grant_of 1 (key 1 0) 1 (mb_and_vcores 1024 1)) ≡ None)
     × (queue_use once (codes "root.g") ≡ mb_and_vcores 3072 3)
-    × (reason_of (sight_of once) (grant_of 1 (key 1 0) 1 (mb_and_vcores 1024 1)) ≡ Some (RejectReason.over_maximum 1))
+    × (reason_of (sight_of once) (grant_of 1 (key 1 0) 1 (mb_and_vcores 1024 1)) ≡ Some (Reason.OverMaximum 1))
 
 -- application 1 holds six containers of (1024, 1) on the only node, and asks for one of (3072, 1)
 abbrev pub crowded_cluster : Flat 2
@@ -62,7 +63,7 @@ RoomIsReserved =
 abbrev pub ReservationKeepsOthersOut : Type 0
 ReservationKeepsOthersOut =
     (choice_from (sight_of crowded_reserved) 0 ≡ None)
-    × (reason_of (sight_of crowded_reserved) (grant_of 2 (key 1 0) 1 (mb_and_vcores 1024 1)) ≡ Some RejectReason.reserved_by_other)
+    × (reason_of (sight_of crowded_reserved) (grant_of 2 (key 1 0) 1 (mb_and_vcores 1024 1)) ≡ Some Reason.ReservedByOther)
 
 -- the first container ends on the node
 abbrev pub one_ended : Request 2
@@ -112,7 +113,7 @@ ChangedAskDropsAll =
 abbrev pub UserLimit : Type 0
 UserLimit =
     let full = after_calls (after_grants 2 2 (key 0 0) 1 (mb_and_vcores 1024 1) small) (asks_of 2 0 (ask_anywhere (key 1 0) 1 (mb_and_vcores 1024 1) ∷ []) ∷ []) in
-    reason_of (sight_of full) (grant_of 2 (key 1 0) 1 (mb_and_vcores 1024 1)) ≡ Some RejectReason.over_user
+    reason_of (sight_of full) (grant_of 2 (key 1 0) 1 (mb_and_vcores 1024 1)) ≡ Some Reason.OverUser
 
 -- application 1 asks for one container of (1024, 1)
 abbrev pub one_asked : Flat 2
@@ -124,7 +125,7 @@ SecondProposalRejected =
     let after = after_grants 1 1 (key 1 0) 1 (mb_and_vcores 1024 1) one_asked in
     (choice_from (sight_of one_asked) 0 ≡ Some (grant_of 1 (key 1 0) 1 (mb_and_vcores 1024 1)))
     × (reason_of (sight_of one_asked) (grant_of 1 (key 1 0) 1 (mb_and_vcores 1024 1)) ≡ None)
-    × (reason_of (sight_of after) (grant_of 1 (key 1 0) 1 (mb_and_vcores 1024 1)) ≡ Some RejectReason.no_ask)
+    × (reason_of (sight_of after) (grant_of 1 (key 1 0) 1 (mb_and_vcores 1024 1)) ≡ Some Reason.NoAsk)
     × (queue_use after (codes "root.a") ≡ mb_and_vcores 1024 1)
 
 -- the ask was replaced by one of another resource since the proposal was made
@@ -134,7 +135,7 @@ ReplacedAskRejected =
     asks_of 1 1 (ask_anywhere (key 1 0) 0 (mb_and_vcores 1024 1) ∷ [])
     ∷ asks_of 1 2 (ask_anywhere (key 1 0) 1 (mb_and_vcores 2048 1) ∷ [])
     ∷ []) in
-    reason_of (sight_of replaced) (grant_of 1 (key 1 0) 1 (mb_and_vcores 1024 1)) ≡ Some RejectReason.other_ask
+    reason_of (sight_of replaced) (grant_of 1 (key 1 0) 1 (mb_and_vcores 1024 1)) ≡ Some Reason.OtherAsk
 
 -- the node went and came back under a new number, so an old proposal names no node
 abbrev pub ReturnedNodeIsAnother : Type 0
@@ -142,7 +143,7 @@ ReturnedNodeIsAnother =
     let gone = after_request one_asked (Request.NodeGone 1) in
     let back = Request.RegisterNode (codes "n1") (codes "/r1") (mb_and_vcores 8192 8) in
     (reply_to gone back ≡ Reply.RegisterNode 2)
-    × (reason_of (sight_of (after_request gone back)) (grant_of 1 (key 1 0) 1 (mb_and_vcores 1024 1)) ≡ Some RejectReason.no_node)
+    × (reason_of (sight_of (after_request gone back)) (grant_of 1 (key 1 0) 1 (mb_and_vcores 1024 1)) ≡ Some Reason.NoNode)
     × (choice_from (sight_of (after_request gone back)) 0 ≡ Some (grant_of 1 (key 1 0) 2 (mb_and_vcores 1024 1)))
 
 -- application 1 asks for five containers of (4096, 1); the node has room for two, and when it goes both end
@@ -151,7 +152,7 @@ NodeFillsUp =
     let asked = after_calls small (asks_of 1 0 (ask_anywhere (key 1 0) 5 (mb_and_vcores 4096 1) ∷ []) ∷ []) in
     let full = after_grants 2 1 (key 1 0) 1 (mb_and_vcores 4096 1) asked in
     (reason_of (sight_of (after_grants 1 1 (key 1 0) 1 (mb_and_vcores 4096 1) asked)) (grant_of 1 (key 1 0) 1 (mb_and_vcores 4096 1)) ≡ None)
-    × (reason_of (sight_of full) (grant_of 1 (key 1 0) 1 (mb_and_vcores 4096 1)) ≡ Some RejectReason.no_room)
+    × (reason_of (sight_of full) (grant_of 1 (key 1 0) 1 (mb_and_vcores 4096 1)) ≡ Some Reason.NoRoom)
     × (reply_to full (Request.NodeGone 1) ≡ Reply.NodeGone 2)
     × (queue_use (after_request full (Request.NodeGone 1)) (codes "root") ≡ mb_and_vcores 0 0)
 
@@ -174,13 +175,13 @@ OtherReasons =
     ∷ Request.RegisterMaster 1
     ∷ asks_of 1 0 (ask_anywhere (key 1 0) 1 (mb_and_vcores 8192 1) ∷ [])
     ∷ [])) in
-    (reason_of sight (grant_of 3 (key 1 0) 1 (mb_and_vcores 1024 1)) ≡ Some RejectReason.no_app)
-    × (reason_of placed (grant_of 1 (key 1 0) 1 (mb_and_vcores 1024 1)) ≡ Some RejectReason.wrong_place)
-    × (reason_of (record sight { live = 65536 }) (grant_of 1 (key 1 0) 1 (mb_and_vcores 1024 1)) ≡ Some RejectReason.too_many_live)
-    × (reason_of sight (reserve_of 1 (key 1 0) 1 (mb_and_vcores 1024 1)) ≡ Some RejectReason.fits_now)
-    × (reason_of large (reserve_of 1 (key 1 0) 1 (mb_and_vcores 8192 1)) ≡ Some RejectReason.never_fits)
-    × (reason_of (record sight { next_container = 4611686018427387904 }) (grant_of 1 (key 1 0) 1 (mb_and_vcores 1024 1)) ≡ Some RejectReason.numbers_spent)
-    × (reason_of sight (grant_of 3 (key 9 9) 7 (mb_and_vcores 9999 9)) ≡ Some RejectReason.no_app)
+    (reason_of sight (grant_of 3 (key 1 0) 1 (mb_and_vcores 1024 1)) ≡ Some Reason.NoApp)
+    × (reason_of placed (grant_of 1 (key 1 0) 1 (mb_and_vcores 1024 1)) ≡ Some Reason.WrongPlace)
+    × (reason_of (record sight { live = 65536 }) (grant_of 1 (key 1 0) 1 (mb_and_vcores 1024 1)) ≡ Some Reason.TooManyLive)
+    × (reason_of sight (reserve_of 1 (key 1 0) 1 (mb_and_vcores 1024 1)) ≡ Some Reason.FitsNow)
+    × (reason_of large (reserve_of 1 (key 1 0) 1 (mb_and_vcores 8192 1)) ≡ Some Reason.NeverFits)
+    × (reason_of (record sight { next_container = 4611686018427387904 }) (grant_of 1 (key 1 0) 1 (mb_and_vcores 1024 1)) ≡ Some Reason.NumbersSpent)
+    × (reason_of sight (grant_of 3 (key 9 9) 7 (mb_and_vcores 9999 9)) ≡ Some Reason.NoApp)
 
 -- the queues of the examples are trees; without the queue between two others they are none
 abbrev pub ExamplesAreTrees : Type 0

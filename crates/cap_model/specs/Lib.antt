@@ -29,6 +29,7 @@ pub mod QueueCalls
 pub mod Replies
 pub mod Reporting
 pub mod Events
+pub mod Verdicts
 pub mod Bounds
 pub mod ExampleClusters
 pub mod ExampleShares

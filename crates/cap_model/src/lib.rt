@@ -12,6 +12,7 @@ mod list;
 mod news;
 mod no_memory;
 mod owned;
+mod proposal;
 mod refusal;
 mod replies;
 mod reply;
@@ -27,6 +28,7 @@ pub use list::{Asks, List, Numbers};
 pub use news::{Cause, End, Grant};
 pub use no_memory::NoMemory;
 pub use owned::ReplyRoom;
+pub use proposal::{Proposal, ProposalKind, Reason, Verdict, first_reason};
 pub use refusal::{Refusal, first_refusal};
 pub use replies::{
     AllocateNumbers, AllocateReply, AllocateView, HeartbeatReply, NEWS_MAX, Reported,
@@ -42,3 +44,6 @@ pub const NUMBER_END: u64 = 1 << 62;
 
 /// The greatest number of nodes that are present at once.
 pub const NODES_MAX: usize = 4096;
+
+/// The greatest number of containers that are live at once.
+pub const LIVE_MAX: usize = 65_536;

@@ -6,3 +6,4 @@ pub mod Presents
 pub mod Sums
 pub mod Ties
 pub mod Changes
+pub mod Reserved

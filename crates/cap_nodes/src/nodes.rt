@@ -1,17 +1,17 @@
-ghost use Rattle.std.specs.Prelude.{◌≡◌, ◌<◌, ◌≤◌, ◌==◌, ◌&&◌, nat_lt, [], ◌∷◌, IsSome, Some, IfOk, IfSome, OnOk, OnErr, bytes_eq, length, map, find, true, option_and_then};
+ghost use Rattle.std.specs.Prelude.{◌≡◌, ◌+◌, ◌<◌, ◌≤◌, ◌==◌, ◌&&◌, nat_lt, [], ◌∷◌, IsSome, Some, IfOk, IfSome, OnOk, OnErr, bytes_eq, length, map, find, filter, not, true, false, is_none, option_and_then};
 ghost use Rattle.std.specs.List.{All, list_any, remove};
 ghost use Rattle.std.specs.Option.{option_copied};
 ghost use Rattle.cap_vector.specs.Vector.{Fits, IsWithin, amount_max, plus};
 ghost use Rattle.cap_model.specs.Limits.{live_max, nodes_max, number_end};
 ghost use Rattle.cap_model.specs.Amounts.{fits};
-ghost use Rattle.cap_model.specs.Bounds.{IsRising};
+ghost use Rattle.cap_model.specs.Bounds.{AreApart, IsRising};
 ghost use Rattle.cap_model.specs.RegisterNode.{sum_of_totals, add_node};
-ghost use Rattle.cap_model.specs.Flat.{no_nodes, node_in, container_in, containers_on};
+ghost use Rattle.cap_model.specs.Flat.{no_nodes, node_in, container_in, containers_on, is_for};
 ghost use Rattle.cap_model.specs.Events.{add_reservation};
 ghost use Rattle.cap_model.specs.Ending.{complete};
 ghost use Rattle.cap_model.specs.NodeGone.{remove_node};
 ghost use Rattle.cap_model.specs.Uses.{held_on};
-ghost use Rattle.cap_nodes.specs.Tables.{free_on};
+ghost use Rattle.cap_nodes.specs.Tables.{IsReservedAt, free_on};
 ghost use Rattle.cap_nodes.specs.Loads.{add_container, new_reservation, after_beat_of};
 
 use crate::live::Live;
@@ -58,13 +58,17 @@ impl<const K: usize> Nodes<K> {
         }
     }
 
-    /// The node of this number, none where none is present. All have numbers from 1 that rise and are below the next, and what the
-    /// live containers on each hold fits its total.
+    /// The node of this number, none where none is present. All have numbers from 1 that rise and are below the next, what the
+    /// live containers on each hold fits its total, each live container is on one of them, and they have at most 2^40 together in
+    /// each resource.
     pub fn node(&self, number: u64) -> Option<&Node<K>>
         ensures found { option_copied result ≡ node_in self.now number }
         ensures rising { IsRising 1 (map (λ node. node.number) self.now.present) self.now.next_node }
         ensures held { All (λ node. fits (held_on K self.now node.number) node.total ≡ true) self.now.present }
+        ensures homes { All (λ c. IsSome (node_in self.now c.node)) self.now.live }
+        ensures totals { IsWithin amount_max (sum_of_totals K self.now.present) }
     {
+        let _amounts = self.total.amounts();
         match self.present.get(number) {
             Some(load) => Some(load.node()),
             None => None,
@@ -125,6 +129,33 @@ impl<const K: usize> Nodes<K> {
         ensures { result.now ≡ self.now.reserved }
     {
         &self.reserved
+    }
+
+    /// The reservation that a node holds, none where it holds none.
+    pub fn reservation_on(&self, node: u64) -> Option<Reservation<K>>
+        ensures { result ≡ find (λ r. r.node == node) self.now.reserved }
+    {
+        for reservation in &self.reserved {
+            if reservation.node() == node {
+                return Some(*reservation);
+            }
+        }
+        None
+    }
+
+    /// How many reservations there are for a key of an application. All nodes have numbers from 1 that rise and are below the next.
+    pub fn reserved_for(&self, app: u64, key: &Key) -> usize
+        ensures count { result ≡ length (filter (is_for app key.now) self.now.reserved) }
+        ensures rising { IsRising 1 (map (λ node. node.number) self.now.present) self.now.next_node }
+    {
+        let _next = self.present.next();
+        let mut count = 0;
+        for reservation in &self.reserved {
+            if reservation.app() == app && reservation.key().is_same(key) {
+                count += 1;
+            }
+        }
+        count
     }
 
     /// How many containers are live.
@@ -246,6 +277,29 @@ impl<const K: usize> Nodes<K> {
         ensures { self.new ≡ record self.old { reserved = remove self.old.reserved index } }
     {
         self.reserved.remove(index);
+    }
+
+    /// The index, in order of making, of the reservation that a node holds, none where it holds none.
+    fn index_on(&self, node: u64) -> Option<usize>
+        ensures some { IfSome result (λ index. IsReservedAt node index self.now.reserved) }
+        ensures none { is_none result ≡ true → list_any (λ r. r.node == node) self.now.reserved ≡ false }
+    {
+        for (index, reservation) in self.reserved.iter().enumerate() {
+            if reservation.node() == node {
+                return Some(index);
+            }
+        }
+        None
+    }
+
+    /// Drops the reservation that a node holds. Where it holds none, nothing changes.
+    pub fn unreserve_on(&mut self, node: u64)
+        requires { AreApart self.old.reserved }
+        ensures { self.new ≡ record self.old { reserved = filter (λ r. not (r.node == node)) self.old.reserved } }
+    {
+        if let Some(index) = self.index_on(node) {
+            self.unreserve(index);
+        }
     }
 
     /// One more heartbeat of a present node is answered, of which so many ends named no container that was live there: the response

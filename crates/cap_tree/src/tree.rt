@@ -201,6 +201,7 @@ impl<const K: usize, A: Allocator + Copy> QueueTree<K, A> {
         requires { IsPosition self.now path.now.items }
         ensures ok { OnOk result (over_limit K path.now.items user.now old.now new.now self.now ≡ None) }
         ensures err { IfErr result (λ e. over_limit K path.now.items user.now old.now new.now self.now ≡ Some e) }
+        ensures rows { AreRows self.now }
     {
         let test = InMaximum { old, new };
         if let Some(level) = self.root.first_failing(path.as_slice(), &test) {

@@ -8,6 +8,8 @@ mod asks;
 #[cfg(test)]
 mod cluster;
 #[cfg(test)]
+mod commits;
+#[cfg(test)]
 mod masters;
 #[cfg(test)]
 mod nodes;

@@ -8,7 +8,9 @@ use Rattle.cap_model.specs.Asks.{Ask, same_key}
 use Rattle.cap_model.specs.Flat.{ask_at}
 use Rattle.cap_model.specs.Cascade.{holds_of}
 use Rattle.cap_model.specs.Sight.{Sight, AppSight, NodeSight, seen_app}
-use Rattle.cap_model.specs.Admission.{NodeProposal, ProposalKind, RejectReason, IsAdmissible, reason_of}
+use Rattle.cap_model.specs.Admission.{NodeProposal, IsAdmissible, reason_of}
+use Rattle.cap_model.specs.declared.proposal.ProposalKind.{ProposalKind}
+use Rattle.cap_model.specs.declared.proposal.Reason.{Reason}
 use Rattle.cap_model.specs.Choice.{rank_cmp, rank_of, is_after, ring_from, IsNodeChoice, IsFirstChoice}
 use Rattle.cap_model.specs.Candidates.{proposals_of, admissible_on, sooner, first_served, choice_on, first_choice}
 use Rattle.cap_model.specs.EngineLaws.{ChoiceIsComputed, ChoiceFromIsComputed}
@@ -59,8 +61,8 @@ module _ {K : ℕ} (sight : Sight K) where
 
     module _ (p : NodeProposal) (at : p.node ≡ n) where
       made : (app : AppSight) (ask : Ask) → app.number ≡ p.app → ask.key ≡ p.key → ask.resource ≡ p.resource → (k : ProposalKind) → k ≡ p.kind → IsIn p (proposals_of n app ask)
-      made app ask a b c ProposalKind.grant e = inl (λ i. record { kind = e i; app = a i; key = b i; node = sym at i; resource = c i })
-      made app ask a b c ProposalKind.reserve e = inr (inl (λ i. record { kind = e i; app = a i; key = b i; node = sym at i; resource = c i }))
+      made app ask a b c ProposalKind.Grant e = inl (λ i. record { kind = e i; app = a i; key = b i; node = sym at i; resource = c i })
+      made app ask a b c ProposalKind.Reserve e = inr (inl (λ i. record { kind = e i; app = a i; key = b i; node = sym at i; resource = c i }))
 
       key_is : (ask : Ask) → same_key ask.key p.key ≡ true → ask.key ≡ p.key
       key_is ask h =
@@ -88,7 +90,7 @@ module _ {K : ℕ} (sight : Sight K) where
           in_filter (λ (x : NodeProposal). is_none (reason_of sight x)) (flat_map (λ app. flat_map (proposals_of n app) app.asks) sight.apps) p
           (asked (seen_app sight p.app) refl a.0.resource) (ap is_none ((rejected_exactly K sight p).1 a))
 
-    nothing_is : (o : Option RejectReason) → is_none o ≡ true → o ≡ None
+    nothing_is : (o : Option Reason) → is_none o ≡ true → o ≡ None
     nothing_is None h = refl
     nothing_is (Some x) h = absurd (cc h)
 

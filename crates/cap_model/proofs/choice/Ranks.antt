@@ -11,7 +11,8 @@ use Rattle.cap_model.specs.Flat.{ask_at}
 use Rattle.cap_model.specs.Amounts.{fits}
 use Rattle.cap_model.specs.Cascade.{holds_of}
 use Rattle.cap_model.specs.Sight.{Sight, seen_app, seen_node}
-use Rattle.cap_model.specs.Admission.{NodeProposal, ProposalKind, NeedsOf, IsAdmissible, proposed_ask, fits_free}
+use Rattle.cap_model.specs.Admission.{NodeProposal, NeedsOf, IsAdmissible, proposed_ask, fits_free}
+use Rattle.cap_model.specs.declared.proposal.ProposalKind.{ProposalKind}
 use Rattle.cap_model.specs.Choice.{rank_cmp, rank_of}
 use Rattle.cap_model.specs.EngineLaws.{OneOfEachRank}
 
@@ -35,10 +36,10 @@ same_resource (Some ask) r s h g = sym ((bytes_eq-Decides ask.resource r).0 h) �
 module _ {K : ℕ} (sight : Sight K) (p q : NodeProposal) where
   -- a resource that fits what the node has left is granted, one that does not is reserved
   same_kind : (k l : ProposalKind) → fits_free sight p ≡ fits_free sight q → NeedsOf sight p k → NeedsOf sight q l → k ≡ l
-  same_kind ProposalKind.grant ProposalKind.grant e a b = refl
-  same_kind ProposalKind.reserve ProposalKind.reserve e a b = refl
-  same_kind ProposalKind.grant ProposalKind.reserve e a b = absurd (cc (a.0, b.2, e))
-  same_kind ProposalKind.reserve ProposalKind.grant e a b = absurd (cc (a.2, b.0, e))
+  same_kind ProposalKind.Grant ProposalKind.Grant e a b = refl
+  same_kind ProposalKind.Reserve ProposalKind.Reserve e a b = refl
+  same_kind ProposalKind.Grant ProposalKind.Reserve e a b = absurd (cc (a.0, b.2, e))
+  same_kind ProposalKind.Reserve ProposalKind.Grant e a b = absurd (cc (a.2, b.0, e))
 
   pub same_proposal : IsAdmissible sight p → IsAdmissible sight q → p.node ≡ q.node → rank_cmp (rank_of sight p) (rank_of sight q) ≡ Equal → p ≡ q
   same_proposal a b node e =

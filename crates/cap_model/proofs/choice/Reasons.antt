@@ -6,7 +6,8 @@ use Rattle.std.proofs.lemmas.Bool.Decides.{nat_tests}
 use Rattle.cap_model.specs.Cascade.{earliest}
 use Rattle.cap_model.specs.Events.{grant_proposal, reserve_proposal}
 use Rattle.cap_model.specs.Sight.{Sight, sight_of, seen_app, seen_node}
-use Rattle.cap_model.specs.Admission.{NodeProposal, ProposalKind, is_grant, IsAdmissible, NeedsOf, reasons, proposed_ask, asks_resource, suits_place, fits_free, fits_total, is_wanted, is_reserved_for, node_reservation, stays_in_maxima, stays_in_user_limit}
+use Rattle.cap_model.specs.Admission.{NodeProposal, is_grant, IsAdmissible, NeedsOf, reasons, proposed_ask, asks_resource, suits_place, fits_free, fits_total, is_wanted, is_reserved_for, node_reservation, stays_in_maxima, stays_in_user_limit}
+use Rattle.cap_model.specs.declared.proposal.ProposalKind.{ProposalKind}
 use Rattle.cap_model.specs.EngineLaws.{RejectedExactly, PassedIsStep}
 use Rattle.cap_model.proofs.lists.Tests.{or_left, true_of_none}
 
@@ -86,12 +87,12 @@ module _ {K : ℕ} (sight : Sight K) (p : NodeProposal) where
   KindTests k = AreKindTests (is_grant k) (is_none (proposed_ask sight p)) (is_wanted sight p) (is_reserved_for sight p) (fits_free sight p) (fits_total sight p) (node_reservation sight p)
 
   needs : (k : ProposalKind) → KindTests k → NeedsOf sight p k
-  needs ProposalKind.grant t = grant_needs (is_none (proposed_ask sight p)) (is_wanted sight p) (is_reserved_for sight p) (fits_free sight p) (fits_total sight p) (node_reservation sight p) t.ask t.reserved t.room
-  needs ProposalKind.reserve t = reserve_needs (is_none (proposed_ask sight p)) (is_wanted sight p) (is_reserved_for sight p) (fits_free sight p) (fits_total sight p) (node_reservation sight p) t.ask t.reserved t.fits_now t.never_fits
+  needs ProposalKind.Grant t = grant_needs (is_none (proposed_ask sight p)) (is_wanted sight p) (is_reserved_for sight p) (fits_free sight p) (fits_total sight p) (node_reservation sight p) t.ask t.reserved t.room
+  needs ProposalKind.Reserve t = reserve_needs (is_none (proposed_ask sight p)) (is_wanted sight p) (is_reserved_for sight p) (fits_free sight p) (fits_total sight p) (node_reservation sight p) t.ask t.reserved t.fits_now t.never_fits
 
   tests : (k : ProposalKind) → is_none (proposed_ask sight p) ≡ false → NeedsOf sight p k → KindTests k
-  tests ProposalKind.grant n e = grant_tests (is_none (proposed_ask sight p)) (is_wanted sight p) (is_reserved_for sight p) (fits_free sight p) (fits_total sight p) (node_reservation sight p) n e
-  tests ProposalKind.reserve n e = reserve_tests (is_none (proposed_ask sight p)) (is_wanted sight p) (is_reserved_for sight p) (fits_free sight p) (fits_total sight p) (node_reservation sight p) n e
+  tests ProposalKind.Grant n e = grant_tests (is_none (proposed_ask sight p)) (is_wanted sight p) (is_reserved_for sight p) (fits_free sight p) (fits_total sight p) (node_reservation sight p) n e
+  tests ProposalKind.Reserve n e = reserve_tests (is_none (proposed_ask sight p)) (is_wanted sight p) (is_reserved_for sight p) (fits_free sight p) (fits_total sight p) (node_reservation sight p) n e
 
   admitted : NoneHolds (reasons sight p) → IsAdmissible sight p
   admitted (app, (ask, (other, (node, (place, (reserved, (room, (maximum, (user, (live, (now, (never, (numbers, _))))))))))))) = (

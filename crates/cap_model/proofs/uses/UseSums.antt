@@ -22,16 +22,16 @@ use Rattle.cap_model.proofs.bounds.Growing.{in_sum}
 use Rattle.cap_model.proofs.lists.Tests.{value_of}
 use Rattle.cap_model.proofs.bounds.Wanting.{none_there}
 
-if_less : (b : Bool) (n : ℕ) → (if b then n else 0) ≤ n
+pub if_less : (b : Bool) (n : ℕ) → (if b then n else 0) ≤ n
 if_less true n = omega arith
 if_less false n = omega arith
 
-sum_below : {A : Type 0} (f g : A → ℕ) (xs : List A) → ((x : A) → IsIn x xs → f x ≤ g x) → sum_by f xs ≤ sum_by g xs
+pub sum_below : {A : Type 0} (f g : A → ℕ) (xs : List A) → ((x : A) → IsIn x xs → f x ≤ g x) → sum_by f xs ≤ sum_by g xs
 sum_below f g [] e = omega arith
 sum_below f g (x ∷ xs) e = omega (arith, sum_by-cons f x xs, sum_by-cons g x xs, e x (inl refl), sum_below f g xs (λ y m. e y (inr m)))
 
 -- what runs on the nodes together is what runs
-on_some_node : (k : ℕ) (nodes : List ClusterNode) (live : List Container) → ((c : Container) → IsIn c live → (x : ClusterNode) × IsIn x nodes × (x.number ≡ c.node)) →
+pub on_some_node : (k : ℕ) (nodes : List ClusterNode) (live : List Container) → ((c : Container) → IsIn c live → (x : ClusterNode) × IsIn x nodes × (x.number ≡ c.node)) →
     sum_by (λ (c : Container). amount c.resource k) live ≤ sum_by (λ (x : ClusterNode). sum_by (λ (c : Container). if c.node == x.number then amount c.resource k else 0) live) nodes
 on_some_node k nodes [] at = omega arith
 on_some_node k nodes (c ∷ live) at =
@@ -50,7 +50,7 @@ on_some_node k nodes (c ∷ live) at =
     omega (arith, both, two, here, one, more, first)
 
 -- what the found reservation takes
-abbrev taken : ℕ → Option Reservation → ℕ
+abbrev pub taken : ℕ → Option Reservation → ℕ
 taken k None = 0
 taken k (Some r) = amount r.resource k
 
@@ -58,7 +58,7 @@ taken_here : (k : ℕ) (r : Reservation) (b : Bool) (o : Option Reservation) →
 taken_here k r true o f = let none : taken k o ≡ 0 = ap (taken k) (f refl) in omega (arith, none)
 taken_here k r false o f = omega arith
 
-reserved_on_nodes : (k : ℕ) (nodes : List ClusterNode) (rs : List Reservation) → AreApart rs → ((r : Reservation) → IsIn r rs → (x : ClusterNode) × IsIn x nodes × (x.number ≡ r.node)) →
+pub reserved_on_nodes : (k : ℕ) (nodes : List ClusterNode) (rs : List Reservation) → AreApart rs → ((r : Reservation) → IsIn r rs → (x : ClusterNode) × IsIn x nodes × (x.number ≡ r.node)) →
     sum_by (λ (r : Reservation). amount r.resource k) rs ≤ sum_by (λ (x : ClusterNode). taken k (find (λ (r : Reservation). r.node == x.number) rs)) nodes
 reserved_on_nodes k nodes [] a at = omega arith
 reserved_on_nodes k nodes (r ∷ rs) a at =

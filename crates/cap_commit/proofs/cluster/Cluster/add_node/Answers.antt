@@ -5,6 +5,7 @@ use Rattle.cap_model.specs.Flat.{NodeTable}
 use Rattle.cap_model.proofs.calls.Registering.{may_join}
 use Rattle.cap_commit.specs.Held.{flat_of}
 use Rattle.cap_commit.proofs.Holding.{held_nodes}
+use Rattle.cap_commit.proofs.Reserved.{reserved_joined}
 use Rattle.cap_commit.proofs.cluster.Cluster.add_node.Goals as goal
 
 pub register-requires : goal.register-requires
@@ -27,3 +28,4 @@ invariant_of-self g c =
     (stays (λ t. t.live) c.register.result nodes new _ _ c.register.ensures.ok c.register.ensures.err refl)
     (stays (λ t. t.reserved) c.register.result nodes new _ _ c.register.ensures.ok c.register.ensures.err refl)
     (stays (λ t. t.next_container) c.register.result nodes new _ _ c.register.ensures.ok c.register.ensures.err refl)
+    (reserved_joined c.register.result nodes new _ _ _ _ c.register.ensures.ok c.register.ensures.err c.self.invariant.reservations)

@@ -1,7 +1,8 @@
-use Rattle.std.proofs.Common.{ap}
+use Rattle.std.proofs.Common.{ap, refl}
 use Rattle.cap_model.specs.Flat.{NodeTable}
 use Rattle.cap_commit.proofs.Holding.{held_nodes}
 use Rattle.cap_commit.proofs.Sizes.{nodes_fit}
+use Rattle.cap_commit.proofs.Reserved.{reserved_changed}
 use Rattle.cap_commit.proofs.cluster.Cluster.beat.Goals as goal
 
 pub beat-requires : goal.beat-requires
@@ -10,3 +11,4 @@ beat-requires g c = (nodes_fit _ c.self.invariant.resources, rw (← c.self.view
 pub invariant_of-self : goal.invariant_of-self
 invariant_of-self g c =
     held_nodes _ c.self.invariant c.beat.new.self (ap (λ (t : NodeTable). t.live) c.beat.ensures.table) (ap (λ (t : NodeTable). t.reserved) c.beat.ensures.table) (ap (λ (t : NodeTable). t.next_container) c.beat.ensures.table)
+    (reserved_changed c.args.number _ (λ x. refl) (λ x. refl) c.self.inside.nodes c.beat.new.self c.beat.ensures.table c.self.invariant.reservations)

@@ -1,11 +1,12 @@
 use Rattle.std.proofs.Common.{ap, sym, subst, not, ◌∙◌}
-use Rattle.std.specs.Prelude.{IsSome, ◌==◌, ◌≡◌, []}
-use Rattle.cap_model.specs.Flat.{Flat, NodeTable, containers_on, node_at, with_reserved}
+use Rattle.std.specs.Prelude.{IsSome, filter, ◌==◌, ◌≡◌, []}
+use Rattle.cap_model.specs.Flat.{Flat, NodeTable, Reservation, containers_on, node_at, with_reserved}
 use Rattle.cap_model.specs.NodeGone.{remove_node}
 use Rattle.cap_commit.specs.Held.{Held, Parts, flat_of}
-use Rattle.cap_commit.proofs.Dropping.{keep_none}
+use Rattle.cap_commit.proofs.Dropping.{keep_none, none_stay}
 use Rattle.cap_commit.proofs.Holding.{held_nodes}
 use Rattle.cap_commit.proofs.Sizes.{nodes_fit}
+use Rattle.cap_commit.proofs.Reserved.{reserved_gone}
 use Rattle.cap_commit.proofs.cluster.Cluster.drop_node.Goals as goal
 
 pub gone-requires : goal.gone-requires
@@ -16,7 +17,10 @@ gone-requires g c =
 
 pub invariant_of-self : goal.invariant_of-self
 invariant_of-self g c =
+    let kept = ap (λ (h : Held g.row.K). h.flat.nodes.reserved) c.self.view_is ∙ ap (λ (f : Flat g.row.K). f.nodes.reserved) c.keep_first.ensures.flat in
+    let none = ap (filter (λ (r : Reservation). r.node == c.args.number)) kept ∙ none_stay (λ (r : Reservation). r.node == c.args.number) c.args.self.now.flat.nodes.reserved in
     held_nodes _ c.self.invariant c.gone.new.self (ap (λ (t : NodeTable). t.live) c.gone.ensures) (ap (λ (t : NodeTable). t.reserved) c.gone.ensures) (ap (λ (t : NodeTable). t.next_container) c.gone.ensures)
+    (reserved_gone c.args.number c.self.inside.nodes c.gone.new.self none c.gone.ensures c.self.invariant.reservations)
 
 pub returns-clause-flat : goal.returns-clause-flat
 returns-clause-flat g c =

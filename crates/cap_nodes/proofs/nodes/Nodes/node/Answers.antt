@@ -1,5 +1,5 @@
 use Rattle.std.proofs.Common.{sym}
-use Rattle.cap_nodes.proofs.Changes.{node_of_load, node_of_none, held_all, rising_nodes}
+use Rattle.cap_nodes.proofs.Changes.{homes_all, node_of_load, node_of_none, held_all, rising_nodes}
 use Rattle.cap_nodes.proofs.nodes.Nodes.node.Goals as goal
 
 pub returns-in-Some-clause-found : goal.returns-in-Some-clause-found
@@ -19,3 +19,15 @@ returns-in-None-clause-rising g c = rw (← c.self.view_is) (rising_nodes c.self
 
 pub returns-in-None-clause-held : goal.returns-in-None-clause-held
 returns-in-None-clause-held g c = rw (← c.self.view_is) (held_all g.row.K c.self.inside.live.live c.self.inside.present.loads c.self.invariant.0.ties)
+
+pub returns-in-Some-clause-homes : goal.returns-in-Some-clause-homes
+returns-in-Some-clause-homes g c = rw (← c.self.view_is) (homes_all g.row.K c.self.inside.present.loads c.self.inside.live.live c.self.invariant.0)
+
+pub returns-in-Some-clause-totals : goal.returns-in-Some-clause-totals
+returns-in-Some-clause-totals g c = rw (← c.self.view_is, ← c.self.invariant.1) c.amounts-amounts.ensures.vector.within
+
+pub returns-in-None-clause-homes : goal.returns-in-None-clause-homes
+returns-in-None-clause-homes g c = rw (← c.self.view_is) (homes_all g.row.K c.self.inside.present.loads c.self.inside.live.live c.self.invariant.0)
+
+pub returns-in-None-clause-totals : goal.returns-in-None-clause-totals
+returns-in-None-clause-totals g c = rw (← c.self.view_is, ← c.self.invariant.1) c.amounts-amounts.ensures.vector.within

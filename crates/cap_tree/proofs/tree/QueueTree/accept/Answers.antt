@@ -48,3 +48,12 @@ first_failing-requires-room-C-Test g c κs within = search rules
 
 pub first_failing-requires-room-C-Test-2 : goal.first_failing-requires-room-C-Test-2
 first_failing-requires-room-C-Test-2 g c κs within = search rules
+
+pub returns-in-Some-clause-rows : goal.returns-in-Some-clause-rows
+returns-in-Some-clause-rows g c = rw (← c.self.view_is) c.self.invariant.rows_are
+
+pub returns-then-not-stays_in_user_limit-clause-rows : goal.returns-then-not-stays_in_user_limit-clause-rows
+returns-then-not-stays_in_user_limit-clause-rows g c = rw (← c.self.view_is) c.self.invariant.rows_are
+
+pub returns-clause-rows : goal.returns-clause-rows
+returns-clause-rows g c = rw (← c.self.view_is) c.self.invariant.rows_are

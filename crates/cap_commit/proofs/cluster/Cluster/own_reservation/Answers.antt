@@ -1,0 +1,20 @@
+use Rattle.std.proofs.Common.{refl, sym, ap, ◌∙◌, cond, Some, None}
+use Rattle.std.specs.Prelude.{find, ◌==◌}
+use Rattle.cap_model.specs.Flat.{Reservation}
+use Rattle.cap_commit.proofs.Seen.{own_is, none_either}
+use Rattle.cap_commit.proofs.cluster.Cluster.own_reservation.Goals as goal
+
+pub returns-in_default : goal.returns-in_default
+returns-in_default g c =
+    let at = sym (c.in_default.ensures ∙ ap (λ n. find (λ (r : Reservation). r.node == n) c.self.inside.nodes.reserved) c.node.ensures) in
+    rw (← c.self.view_is) (sym (own_is _ c.self.invariant c.args.proposal.now None at ∙ none_either _ None refl))
+
+pub returns-then-not-converts : goal.returns-then-not-converts
+returns-then-not-converts g c =
+    let at = sym (c.in-Some.ensures ∙ ap (λ n. find (λ (r : Reservation). r.node == n) c.self.inside.nodes.reserved) c.node.ensures) in
+    rw (← c.self.view_is) (sym (own_is _ c.self.invariant c.args.proposal.now (Some c.in-Some.reservation) at ∙ ap (λ b. cond b (Some c.in-Some.reservation) None) (sym c.converts.ensures ∙ c.if-not-converts.true)))
+
+pub returns : goal.returns
+returns g c =
+    let at = sym (c.in-Some.ensures ∙ ap (λ n. find (λ (r : Reservation). r.node == n) c.self.inside.nodes.reserved) c.node.ensures) in
+    rw (← c.self.view_is) (sym (own_is _ c.self.invariant c.args.proposal.now (Some c.in-Some.reservation) at ∙ ap (λ b. cond b (Some c.in-Some.reservation) None) (sym c.converts.ensures ∙ c.if-not-converts.false)))

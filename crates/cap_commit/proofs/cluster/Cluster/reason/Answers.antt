@@ -1,0 +1,19 @@
+use Rattle.std.proofs.Common.{sym, ap, ◌∙◌}
+use Rattle.cap_model.specs.Sight.{sight_of, app_sight}
+use Rattle.cap_commit.proofs.Limiting.{by_place, by_limit, by_size}
+use Rattle.cap_commit.proofs.cluster.Cluster.reason.Goals as goal
+
+pub returns-in-Some-place_reason : goal.returns-in-Some-place_reason
+returns-in-Some-place_reason g c =
+    let seen = sym (rw c.app.ensures at c.in-Some.ensures.seen) in
+    sym (by_place (sight_of c.args.self.now.flat) c.args.proposal.now (app_sight c.in-Some.app.now.app) seen c.in-Some-place_reason.reason (sym c.in-Some-place_reason.ensures))
+
+pub returns-in-Some-limit_reason : goal.returns-in-Some-limit_reason
+returns-in-Some-limit_reason g c =
+    let seen = sym (rw c.app.ensures at c.in-Some.ensures.seen) in
+    sym (by_limit (sight_of c.args.self.now.flat) c.args.proposal.now (app_sight c.in-Some.app.now.app) seen c.in-Some-limit_reason.reason (sym c.in_default-place_reason.ensures) (sym c.in-Some-limit_reason.ensures))
+
+pub returns : goal.returns
+returns g c =
+    let seen = sym (rw c.app.ensures at c.in-Some.ensures.seen) in
+    c.size_reason.ensures ∙ sym (by_size (sight_of c.args.self.now.flat) c.args.proposal.now (app_sight c.in-Some.app.now.app) seen (sym c.in_default-place_reason.ensures) (sym c.in_default-limit_reason.ensures))

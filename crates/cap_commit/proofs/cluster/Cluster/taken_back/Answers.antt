@@ -1,0 +1,11 @@
+use Rattle.std.proofs.Common.{subst, sym, arith}
+use Rattle.std.proofs.lemmas.List.{length-replicate}
+use Rattle.cap_vector.specs.Vector.{IsResource}
+use Rattle.cap_vector.proofs.AmountLemmas.{amount-zeros}
+use Rattle.cap_commit.proofs.cluster.Cluster.taken_back.Goals as goal
+
+pub returns-in-None-clause-vector : goal.returns-in-None-clause-vector
+returns-in-None-clause-vector g c = subst (IsResource g.row.K) (sym c.zero.ensures) (record { count = length-replicate g.row.K 0; within = λ k. let z = amount-zeros g.row.K k in omega (arith, z) })
+
+pub returns-in-Some-clause-vector : goal.returns-in-Some-clause-vector
+returns-in-Some-clause-vector g c = subst (IsResource g.row.K) (sym c.resource.ensures.value) c.resource.ensures.vector

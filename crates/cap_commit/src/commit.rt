@@ -1,0 +1,126 @@
+//! Making a proposal: a grant or a reservation.
+ghost use Rattle.std.specs.Prelude.{◌≡◌, ◌+◌, None, IsSome, IfOk, OnOk, OnErr, true, false};
+ghost use Rattle.cap_model.specs.Flat.{app_at};
+ghost use Rattle.cap_model.specs.Sight.{sight_of};
+ghost use Rattle.cap_model.specs.Admission.{IsAdmissible, is_grant, reason_of};
+ghost use Rattle.cap_model.specs.Verdicts.{IsVerdict};
+ghost use Rattle.cap_model.specs.Events.{after_grant, after_reserve, grant_proposal, reserve_proposal};
+ghost use Rattle.cap_asks.specs.Apps.{HasRooms, UsesRoom, live_of};
+
+use crate::cluster::Cluster;
+use cap_model::{Container, Event, Grant, NoMemory, Proposal, Reservation, Verdict};
+use cap_vector::Resource;
+
+impl<const K: usize> Cluster<K> {
+    /// Makes room for one more grant of an active application, and for the ends of all its live containers and of one more.
+    /// `NoMemory` changes nothing that calls see.
+    fn room_for_grant(&mut self, number: u64) -> Result<(), NoMemory>
+        requires { IsSome (app_at self.old.flat number) }
+        ensures flat { self.new.flat ≡ self.old.flat }
+        ensures rows { self.new.rows ≡ self.old.rows }
+        ensures ok { OnOk result (HasRooms number 0 1 (live_of number self.new.accounts + 1) self.new.accounts) }
+    {
+        let Some(app) = self.apps.app(number) else {
+            unreachable!()
+        };
+        let ends = app.live() as usize + 1;
+        self.room(number, 0, 1, ends)
+    }
+
+    /// Makes a grant that may be made: the container takes the next number and becomes live, the reservation of its node is
+    /// converted, its ask falls by one, and its application is to be told of it. `NoMemory` changes nothing that calls see.
+    fn grant(&mut self, proposal: &Proposal<K>) -> Result<Container<K>, NoMemory>
+        requires kind { is_grant proposal.now.kind ≡ true }
+        requires passes { reason_of (sight_of self.old.flat) proposal.now ≡ None }
+        ensures proposed { IfOk result (λ c. grant_proposal c ≡ proposal.now) }
+        ensures number { IfOk result (λ c. c.number ≡ self.old.flat.nodes.next_container) }
+        ensures ok { IfOk result (λ c. self.new.flat ≡ after_grant self.old.flat c) }
+        ensures err { OnErr result (self.new.flat ≡ self.old.flat) }
+    {
+        let _ = &self.nodes;
+        let (app, key, node) = (proposal.app(), proposal.key(), proposal.node());
+        let resource = proposal.resource();
+        let old = self.taken_back(proposal);
+        match self.room_for_grant(app) {
+            Ok(()) => {}
+            Err(NoMemory) => return Err(NoMemory),
+        }
+        let number = match self.nodes.place(app, &key, node, &resource) {
+            Ok(number) => number,
+            Err(NoMemory) => return Err(NoMemory),
+        };
+        self.nodes.unreserve_on(node);
+        let Some(home) = self.nodes.node(node) else {
+            unreachable!()
+        };
+        let grant = Grant::new(number, &key, node, home.host(), &resource);
+        let Some(owner) = self.apps.app(app) else {
+            unreachable!()
+        };
+        let tree = &mut *self.tree;
+        tree.apply(owner.position(), owner.user(), &old, &resource);
+        self.apps.take_one(app, &key);
+        self.apps.add_grant(app, &grant);
+        Ok(Container {
+            number,
+            app,
+            key,
+            node,
+            resource,
+        })
+    }
+
+    /// Makes a reservation that may be made, after all others. `NoMemory` changes nothing.
+    fn reserve(&mut self, proposal: &Proposal<K>) -> Result<Reservation<K>, NoMemory>
+        requires kind { is_grant proposal.now.kind ≡ false }
+        requires passes { reason_of (sight_of self.old.flat) proposal.now ≡ None }
+        ensures proposed { IfOk result (λ r. reserve_proposal r ≡ proposal.now) }
+        ensures ok { IfOk result (λ r. self.new.flat ≡ after_reserve self.old.flat r) }
+        ensures err { OnErr result (self.new.flat ≡ self.old.flat) }
+    {
+        let (app, key, node) = (proposal.app(), proposal.key(), proposal.node());
+        let resource = proposal.resource();
+        match self.nodes.reserve(app, &key, node, &resource) {
+            Ok(()) => {}
+            Err(NoMemory) => return Err(NoMemory),
+        }
+        let Some(_home) = self.nodes.node(node) else {
+            unreachable!()
+        };
+        let Some(owner) = self.apps.app(app) else {
+            unreachable!()
+        };
+        let old = Resource::zero();
+        let tree = &mut *self.tree;
+        tree.apply(owner.position(), owner.user(), &old, &resource);
+        Ok(Reservation {
+            app,
+            key,
+            node,
+            resource,
+        })
+    }
+
+    /// Tries a proposal: it is made exactly where it is admissible now, whatever was seen before. Else it is rejected for the first
+    /// reason that holds, and nothing changes. `NoMemory` comes only where it is admissible, and changes nothing that calls see.
+    pub fn try_commit(&mut self, proposal: Proposal<K>) -> Result<Verdict<K>, NoMemory>
+        ensures ok { IfOk result (IsVerdict proposal.entry self.old.flat self.new.flat) }
+        ensures admissible { OnErr result (IsAdmissible (sight_of self.old.flat) proposal.entry) }
+        ensures err { OnErr result (self.new.flat ≡ self.old.flat) }
+    {
+        if let Some(reason) = self.reason(&proposal) {
+            return Ok(Verdict::Rejected(reason));
+        }
+        if proposal.is_grant() {
+            match self.grant(&proposal) {
+                Ok(container) => Ok(Verdict::Done(Event::Grant { container })),
+                Err(NoMemory) => Err(NoMemory),
+            }
+        } else {
+            match self.reserve(&proposal) {
+                Ok(reservation) => Ok(Verdict::Done(Event::Reserve { reservation })),
+                Err(NoMemory) => Err(NoMemory),
+            }
+        }
+    }
+}

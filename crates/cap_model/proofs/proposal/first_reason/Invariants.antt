@@ -1,0 +1,7 @@
+use Rattle.std.proofs.Common.{◌≡◌, drop}
+use Rattle.cap_model.specs.Cascade.{earliest}
+use Rattle.cap_model.proofs.proposal.first_reason.Given as goal
+
+-- no test so far holds
+abbrev pub invariant-loop-holds : goal.invariant-loop-holds
+invariant-loop-holds l = earliest l.tests ≡ earliest (drop l.holds-index l.tests)
