@@ -112,7 +112,8 @@ impl<R: Read> Counted<R> {
         requires counts { CanCount (state_of self.old) }
         requires room { 0 < length buf.old }
         ensures state { state_of self.new ≡ after_read (state_of self.old) result buf.new }
-        ensures bytes { Gives (R.remaining (inner_of self.old)) (R.remaining (inner_of self.new)) buf.new result }
+        ensures bytes { Gives (R.remaining (inner_of self.old)) (R.remaining (inner_of self.new))
+            buf.new result }
     {
         let got = classify_read(&self.inner.read(buf));
         match got {
@@ -131,7 +132,8 @@ impl<W: Write> Counted<W> {
         requires counts { CanCount (state_of self.old) }
         requires some { 0 < length buf.now }
         ensures state { state_of self.new ≡ after_write (state_of self.old) result buf.now }
-        ensures bytes { Takes (W.contents (inner_of self.old)) (W.contents (inner_of self.new)) buf.now result }
+        ensures bytes { Takes (W.contents (inner_of self.old)) (W.contents (inner_of self.new))
+            buf.now result }
     {
         let put = classify_write(&self.inner.write(buf));
         match put {

@@ -50,7 +50,8 @@ pub(crate) fn find(
     answered: &mut Answered,
 ) -> Found
     requires { framer.old.is_spent ≡ false }
-    ensures { Finds framer.old framer.new unsent.old unsent.new answered.old.items answered.new.items result }
+    ensures { Finds framer.old framer.new unsent.old unsent.new
+        answered.old.items answered.new.items result }
 {
     loop {
         let payload = match framer.next() {
@@ -92,7 +93,8 @@ fn end(unsent: &mut BytesMut) -> Found
 
 /// Appends the frame of the fault reply of this status. An `Err` changes nothing.
 fn put_fault(status: u8, unsent: &mut BytesMut) -> Result<(), NoMemory>
-    ensures ok { OnOk result (unsent.new.items ≡ unsent.old.items ++ frame_of (fault_reply status)) }
+    ensures ok { OnOk result (unsent.new.items
+        ≡ unsent.old.items ++ frame_of (fault_reply status)) }
     ensures err { OnErr result (unsent.new.items ≡ unsent.old.items) }
 {
     unsent.reserve(FRAME_ROOM).map_err(|_| NoMemory)?;
@@ -106,8 +108,10 @@ fn put_fault(status: u8, unsent: &mut BytesMut) -> Result<(), NoMemory>
 pub(crate) fn put_reply(head: Head, reply: &OwnedReply<2>, unsent: &mut BytesMut)
     requires kind { IsOfKind head.kind reply.now }
     requires room { FRAME_ROOM ≤ unsent.old.spare }
-    ensures appends { unsent.new.items ≡ unsent.old.items ++ frame_of (reply_bytes head.call_id head.kind reply.now) }
-    ensures spells { IsReply (reply_bytes head.call_id head.kind reply.now) head.call_id head.kind reply.now }
+    ensures appends { unsent.new.items
+        ≡ unsent.old.items ++ frame_of (reply_bytes head.call_id head.kind reply.now) }
+    ensures spells { IsReply (reply_bytes head.call_id head.kind reply.now)
+        head.call_id head.kind reply.now }
 {
     let start = open_frame(unsent);
     write_reply(head.call_id, head.kind, &reply.view(), unsent);

@@ -177,7 +177,8 @@ impl Session {
         ensures session { self.new ≡ after_sent self.old result }
         ensures writer { state_of writer.new
             ≡ after_writes (state_of writer.old) (take (sent_count result) self.old.unsent) result }
-        ensures bytes { Appends (W.contents (inner_of writer.old)) (W.contents (inner_of writer.new))
+        ensures bytes { Appends
+            (W.contents (inner_of writer.old)) (W.contents (inner_of writer.new))
             (take (sent_count result) self.old.unsent) }
     {
         let sent = writer.write_all(self.unsent.as_slice());

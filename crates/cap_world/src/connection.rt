@@ -80,7 +80,8 @@ impl Connection {
         events: &mut Vec<Event<2>>,
     ) -> Standing
         requires { self.old.standing ≡ Standing.Open }
-        ensures fed { Feeds by piece.now cluster.old.flat cluster.new.flat events.old.items events.new.items self.old self.new }
+        ensures fed { Feeds by piece.now cluster.old.flat cluster.new.flat
+            events.old.items events.new.items self.old self.new }
         ensures standing { self.new.standing ≡ result }
     {
         if let Fed::Ended(_) = self.session.feed(piece) {

@@ -23,7 +23,8 @@ pub(crate) fn answer_all(
 ) -> Standing
     requires open { session.old.open_request ≡ None }
     requires ended { session.old.ended ≡ None }
-    ensures { IsServed by result session.old session.new cluster.old.flat cluster.new.flat events.old.items events.new.items }
+    ensures { IsServed by result session.old session.new
+        cluster.old.flat cluster.new.flat events.old.items events.new.items }
 {
     loop {
         match session.next_request() {
@@ -66,7 +67,8 @@ fn perform(
     requires room { vec_len events.old < vec_capacity events.old }
     requires news { HasRoomForReplies cluster.old.flat request room }
     ensures performed { (reply : Reply 2) × Replies cluster.old.flat request reply cluster.new.flat
-        × (session.new ≡ after_answer session.old reply) × SpellsAnswer session.old.open_request reply
+        × (session.new ≡ after_answer session.old reply)
+        × SpellsAnswer session.old.open_request reply
         × (events.new.items ≡ events.old.items ++ call_event by request reply ∷ []) }
     ensures less { bytes_unanswered session.new < bytes_unanswered session.old }
 {
