@@ -44,24 +44,31 @@ fn join(cluster: &mut Cluster<2>, host: &str, rack: &str, total: [u64; 2]) -> Op
     Some(())
 }
 
-fn asks_of(alloc: Global, app: u64) -> Option<Asks<2>> {
+fn one_ask(alloc: Global, priority: u32, resource: [u64; 2], place: &str) -> Option<Asks<2>> {
+    let resource = Resource::new(resource)?;
+    let place = ShortText::new(place.as_bytes())?;
     let mut asks = Vec::new(alloc);
-    for (owner, priority, resource, place) in ASKS {
-        if owner == app {
-            let resource = Resource::new(resource)?;
-            let place = ShortText::new(place.as_bytes())?;
-            asks.push(Ask::new(&key(priority), 1, &resource, &place))
-                .ok()?;
-        }
-    }
+    asks.push(Ask::new(&key(priority), 1, &resource, &place))
+        .ok()?;
     Some(List::of(asks))
 }
 
-fn ask(alloc: Global, cluster: &mut Cluster<2>, app: u64) -> Option<()> {
-    let asks = asks_of(alloc, app)?;
+/// An allocate of an application with these asks, under the response id that it was given last.
+fn call(alloc: Global, cluster: &mut Cluster<2>, app: u64, asks: &Asks<2>) -> Option<()> {
+    let response = cluster.apps().app(app)?.response();
     let releases: Numbers = List::of(Vec::new(alloc));
+    let _reply = allocate(cluster, app, response, asks, &releases);
+    Some(())
+}
+
+fn ask(alloc: Global, cluster: &mut Cluster<2>, app: u64) -> Option<()> {
     let _reply = register_master(cluster, app);
-    let _reply = allocate(cluster, app, 0, &asks, &releases);
+    for (owner, priority, resource, place) in ASKS {
+        if owner == app {
+            let asks = one_ask(alloc, priority, resource, place)?;
+            call(alloc, cluster, app, &asks)?;
+        }
+    }
     Some(())
 }
 
@@ -159,10 +166,11 @@ fn propose(
 fn release(alloc: Global, cluster: &mut Cluster<2>, number: u64) -> Option<()> {
     let mut numbers = Vec::new(alloc);
     numbers.push(number).ok()?;
+    let response = cluster.apps().app(1)?.response();
     let _reply = allocate(
         cluster,
         1,
-        1,
+        response,
         &List::of(Vec::new(alloc)),
         &List::of(numbers),
     );
