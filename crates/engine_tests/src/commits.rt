@@ -23,21 +23,26 @@ const ASKS: [(u64, u32, [u64; 2], &str); 5] = [
     (2, 2, [2048, 1], "/r2"),
 ];
 
-fn key(priority: u32) -> Key {
+pub(crate) fn key(priority: u32) -> Key {
     Key {
         priority,
         request: 0,
     }
 }
 
-fn enter(cluster: &mut Cluster<2>, path: &str, user: &str) -> Option<()> {
+pub(crate) fn enter(cluster: &mut Cluster<2>, path: &str, user: &str) -> Option<()> {
     let path = PathText::new(path.as_bytes())?;
     let user = ShortText::new(user.as_bytes())?;
     let _reply = submit(cluster, &path, &user);
     Some(())
 }
 
-fn join(cluster: &mut Cluster<2>, host: &str, rack: &str, total: [u64; 2]) -> Option<()> {
+pub(crate) fn join(
+    cluster: &mut Cluster<2>,
+    host: &str,
+    rack: &str,
+    total: [u64; 2],
+) -> Option<()> {
     let host = ShortText::new(host.as_bytes())?;
     let rack = ShortText::new(rack.as_bytes())?;
     let _reply = register_node(cluster, &host, &rack, &Resource::new(total)?);
@@ -143,7 +148,7 @@ enum Change {
     Release(u64),
 }
 
-fn propose(
+pub(crate) fn propose(
     cluster: &mut Cluster<2>,
     kind: ProposalKind,
     of: (u64, u32, u64),

@@ -16,6 +16,8 @@ mod nodes;
 #[cfg(test)]
 mod pieces;
 #[cfg(test)]
+mod scenarios;
+#[cfg(test)]
 mod settings;
 #[cfg(test)]
 mod texts;
