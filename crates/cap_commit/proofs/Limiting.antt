@@ -31,7 +31,7 @@ use Rattle.cap_tree.specs.declared.limits.OverLimit.{OverLimit}
 use Rattle.cap_tree.specs.declared.limits.OverLimit.TheVariants.{Maximum, User}
 use Rattle.cap_commit.specs.Held.{Parts, IsHeld, IsRowOf, flat_of}
 use Rattle.cap_commit.specs.Admission.{limit_tests, place_tests, size_tests, taken_back}
-use Rattle.cap_commit.proofs.Moving.{own_count}
+use Rattle.cap_tree.specs.QueueLaws.{user_counts}
 use Rattle.cap_commit.proofs.RowsAt.{IsRowAt, row_at, found_row}
 
 -- the reason that is a limit
@@ -164,7 +164,7 @@ module _ {K : ℕ} (p : Parts K) (h : IsHeld p) (q : NodeProposal) where
 
     -- what the user uses there
     uses_same : (k : ℕ) → amount (use_of K (user_row app.user it.row.item.users)) k ≡ amount (user_use cluster it.row.path app.user) k
-    uses_same k = sym (own_count K app.user it.row.item.users (Measure.uses k) (tied.single app.user)) ∙ tied.users app.user (Measure.uses k)
+    uses_same k = sym (user_counts K app.user it.row.item.users (Measure.uses k)) ∙ tied.users app.user (Measure.uses k)
 
     same_fit : (most : List ℕ) → fits (amounts_exchanged (taken_back sight q) q.resource (user_use cluster it.row.path app.user)) most ≡ fits (amounts_exchanged (taken_back sight q) q.resource (use_of K (user_row app.user it.row.item.users))) most
     same_fit most =

@@ -16,12 +16,12 @@ use Rattle.cap_model.proofs.lists.Tests.{bytes_turned}
 use Rattle.cap_tree.specs.Measure.{Measure}
 use Rattle.cap_tree.specs.Spot.{item_at}
 use Rattle.cap_tree.specs.Count.{Count, IsPart, count_moved, of_count, zero_count, one_app, use_alone}
-use Rattle.cap_tree.specs.Queue.{Queue, UserRow, MayGive, MayLeave, count_in, moved_above, moved_at, of_one, of_user, user_count, user_row}
-use Rattle.cap_tree.specs.QueueLaws.{zero_counts}
+use Rattle.cap_tree.specs.Queue.{Queue, MayGive, MayLeave, count_in, moved_above, moved_at, of_user, user_row}
+use Rattle.cap_tree.specs.QueueLaws.{zero_counts, user_counts}
 use Rattle.cap_tree.specs.Rows.{Row, IsAt, moved_row, queues_of, user_row_at}
 use Rattle.cap_tree.proofs.Listings.{settings_stay}
 use Rattle.cap_model.proofs.paths.Paths.{under_itself}
-use Rattle.cap_tree.proofs.OneUser.{count_where, moved_own, moved_single, none_there, single_row, some_row}
+use Rattle.cap_tree.proofs.OneUser.{count_where, moved_own, some_row}
 use Rattle.cap_commit.specs.Held.{IsRowOf, of_cluster}
 use Rattle.cap_commit.proofs.RowsAt.{still_at}
 use Rattle.cap_commit.proofs.Ties.{changed_path, changed_position, changed_row, changed_rows, in_queue, of_user_in}
@@ -44,14 +44,6 @@ moved_settings K leaf user old new rows = settings_stay (moved_above old new) (m
 -- a leaf is under itself
 under_it : (leaf path : List ℕ) → bytes_eq path leaf ≡ true → is_under path leaf ≡ true
 under_it leaf path e = subst (λ p. is_under path p ≡ true) ((bytes_eq-Decides path leaf).0 e) (under_itself path)
-
--- what the rows of one user count is what that user's row counts
-pub own_count : (K : ℕ) (user : List ℕ) (us : List UserRow) (m : Measure) → of_one user (λ _. 1) us ≤ 1 → of_one user (of_user m) us ≡ of_count (count_in K (user_row user us)) m
-own_count K user us m s = by (user_row user us) refl
-  where
-    by : (o : Option UserRow) → user_row user us ≡ o → of_one user (of_user m) us ≡ of_count (count_in K o) m
-    by None e = none_there user (of_user m) us e ∙ sym (zero_counts K m)
-    by (Some row) e = single_row user (of_user m) us row s e
 
 module _ {K : ℕ} (before after : Flat K) (leaf user : List ℕ) (old new : Count) (h : HasMoved before after leaf user old new) where
   -- where the move counts, what is counted moves, and elsewhere it stays
@@ -102,7 +94,7 @@ module _ {K : ℕ} (before after : Flat K) (leaf user : List ℕ) (old new : Cou
       let o : count_where (of_user_in r.path user leaf user) old m ≡ of_count old m = ap (λ b. count_where b old m) me in
       let u = t.users user m in
       let is = is_of_user r.path user m before in
-      let own = own_count K user r.item.users m (t.single user) in
+      let own = user_counts K user r.item.users m in
       omega (arith, f, o, u, is, own)
 
   row_moves : (r : Row) → IsRowOf before r → IsRowOf after (moved_row K leaf user old new r)
@@ -112,19 +104,16 @@ module _ {K : ℕ} (before after : Flat K) (leaf user : List ℕ) (old new : Cou
         active = ap (λ n. (n - old.active) + new.active) t.active ∙ sym (count_there (in_queue r.path) Measure.active (under_it leaf r.path e));
         used = ap (λ v. amounts_exchanged old.used new.used v) t.used ∙ sym (used_there r.path (under_it leaf r.path e));
         users = λ owner m. (let own = moved_own K user old new r.item.users (own_part r e t) owner m in let there = user_there r.path owner m e in let was = t.users owner m in omega (arith, own, there, was));
-        single = λ owner. moved_single user (count_moved old new (count_in K (user_row user r.item.users))) r.item.users owner (t.single owner);
       })
       (λ e u. record {
         active = ap (λ n. (n - old.active) + new.active) t.active ∙ sym (count_there (in_queue r.path) Measure.active u);
         used = ap (λ v. amounts_exchanged old.used new.used v) t.used ∙ sym (used_there r.path u);
         users = λ owner m. t.users owner m ∙ sym (user_elsewhere r.path owner m e);
-        single = t.single;
       })
       (λ e u. record {
         active = t.active ∙ sym (count_elsewhere (in_queue r.path) Measure.active u);
         used = t.used ∙ sym (used_elsewhere r.path u);
         users = λ owner m. t.users owner m ∙ sym (user_elsewhere r.path owner m e);
-        single = t.single;
       })
 
   pub tied_moved : (rows : List Row) → All (IsRowOf before) rows → All (IsRowOf after) (map (moved_row K leaf user old new) rows)
@@ -132,18 +121,18 @@ module _ {K : ℕ} (before after : Flat K) (leaf user : List ℕ) (old new : Cou
 
   -- the row of the user, where the user has an application in the leaf
   pub record IsRowOfUser (r : Row) : Type 0 where
-    pub own : UserRow
+    pub own : Count
     pub found : user_row user r.item.users ≡ Some own
-    pub counts : (m : Measure) → of_count (user_count own) m ≡ of_cluster before leaf user m
+    pub counts : (m : Measure) → of_count own m ≡ of_cluster before leaf user m
 
   pub user_row_of : 1 ≤ of_cluster before leaf user Measure.active → (r : Row) → r.path ≡ leaf → IsRowOf before r → IsRowOfUser r
   user_row_of some r p t =
       let a = t.users user Measure.active ∙ ap (λ q. of_cluster before q user Measure.active) p in
-      let s = some_row user (of_user Measure.active) r.item.users (omega (arith, a, some)) in
+      let s = some_row user Measure.active r.item.users (omega (arith, a, some)) in
       record {
         own = s.0;
         found = s.1;
-        counts = λ m. sym (single_row user (of_user m) r.item.users s.0 (t.single user) s.1) ∙ t.users user m ∙ ap (λ q. of_cluster before q user m) p;
+        counts = λ m. sym (ap (λ o. option_map_or (λ (c : Count). of_count c m) o 0) s.1) ∙ t.users user m ∙ ap (λ q. of_cluster before q user m) p;
       }
 
   module _ (some : 1 ≤ of_cluster before leaf user Measure.active) (rows : List Row) (tied : All (IsRowOf before) rows) (position : List ℕ) (r : Row) (there : IsIn r rows) (path : r.path ≡ leaf) (item : item_at position rows ≡ Some r.item) where
@@ -153,7 +142,7 @@ module _ {K : ℕ} (before after : Flat K) (leaf user : List ℕ) (old new : Cou
     at_position : user_row_at position user rows ≡ Some it.own
     at_position = ap (λ o. option_map_or (λ (q : Queue). user_row user q.users) o None) item ∙ it.found
 
-    own_old : (m : Measure) → of_count old m ≤ of_count (user_count it.own) m
+    own_old : (m : Measure) → of_count old m ≤ of_count it.own m
     own_old m =
         let me : of_user_in leaf user leaf user ≡ true = ap (λ b. b && bytes_eq user user) ((bytes_eq-Decides leaf leaf).1 refl) ∙ (bytes_eq-Decides user user).1 refl in
         let f = h.fits (of_user_in leaf user) m in

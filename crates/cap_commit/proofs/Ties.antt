@@ -8,7 +8,8 @@ use Rattle.cap_model.specs.Flat.{Flat, is_under}
 use Rattle.cap_model.proofs.lists.Members.{each_of, of_each, of_map}
 use Rattle.cap_model.proofs.uses.Tallies.{Test, count_of, used_by}
 use Rattle.cap_tree.specs.Measure.{Measure}
-use Rattle.cap_tree.specs.Queue.{Queue, UserRow, IsUnused, of_one, of_user, with_running}
+use Rattle.cap_tree.specs.Queue.{Queue, IsUnused, of_user, with_running}
+use Rattle.cap_tree.specs.UserLaws.{no_user_counts}
 use Rattle.cap_tree.specs.Rows.{Row, changed_at, with_state}
 use Rattle.cap_commit.specs.Held.{IsRowOf, of_cluster}
 use Rattle.cap_commit.proofs.Idle.{idle_use}
@@ -32,8 +33,7 @@ unused_tied {K} cluster rows none live reserved a = of_each (IsRowOf cluster) ro
     tied r u = record {
       active = u.active ∙ sym (ap (count_of (in_queue r.path)) none);
       used = u.used ∙ sym (idle_use cluster (in_queue r.path) live reserved);
-      users = λ user m. ap (of_one user (of_user m)) u.users ∙ sym (nothing r.path user m);
-      single = λ user. subst (λ us. of_one user (λ (_ : UserRow). 1) us ≤ 1) (sym u.users) (omega arith);
+      users = λ user m. ap (of_user user m) u.users ∙ no_user_counts user m ∙ sym (nothing r.path user m);
     }
 
 -- the same is counted of two clusters
@@ -51,7 +51,6 @@ module _ {K : ℕ} (old new : Flat K) where
     active = h.active ∙ sym (s.counts (in_queue r.path));
     used = h.used ∙ sym (s.uses (in_queue r.path));
     users = λ user m. h.users user m ∙ sym (same_of s r.path user m);
-    single = h.single;
   }
 
   pub tied_stays : CountsSame old new → (rows : List Row) → All (IsRowOf old) rows → All (IsRowOf new) rows
@@ -65,7 +64,7 @@ tied_state cluster path running rows a =
     subst (IsRowOf cluster) (w.2) (by (w.0) (bytes_eq (w.0).path path) (each_of (IsRowOf cluster) rows a (w.0) (w.1))))
   where
     by : (r : Row) (b : Bool) → IsRowOf cluster r → IsRowOf cluster (if b then record r { item = with_running running r.item } else r)
-    by r true h = record { active = h.active; used = h.used; users = h.users; single = h.single }
+    by r true h = record { active = h.active; used = h.used; users = h.users }
     by r false h = h
 
 -- a change at the leaf of a path and at the queues above it

@@ -10,7 +10,7 @@ use Rattle.cap_model.specs.Uses.{queue_use, user_use}
 use Rattle.cap_model.specs.Bounds.{AreApart, IsLeaf}
 use Rattle.cap_model.specs.EngineLaws.{HasDistinctNumbers}
 use Rattle.cap_tree.specs.Measure.{Measure}
-use Rattle.cap_tree.specs.Queue.{of_user, of_one}
+use Rattle.cap_tree.specs.Queue.{of_user}
 use Rattle.cap_tree.specs.Rows.{Row, IsAt, queues_of}
 use Rattle.cap_asks.specs.Held.{Account}
 use Rattle.cap_asks.specs.Apps.{HeldApps, live_of, position_of}
@@ -61,12 +61,11 @@ module _ {K : ℕ} where
   of_cluster cluster leaf user Measure.active = count_by (λ app. bytes_eq leaf app.leaf && bytes_eq user app.user) cluster.apps.active
 
   -- a queue of the tree keeps what the flat cluster counts: how many applications are active in it and under it, what they use,
-  -- and both for each user of its own, who has one row at most
+  -- and both for each user of its own
   pub record IsRowOf (cluster : Flat K) (r : Row) : Type 0 where
     pub active : r.item.active ≡ count_by (λ app. is_under r.path app.leaf) cluster.apps.active
     pub used : r.item.used ≡ queue_use cluster r.path
-    pub users : (user : List ℕ) (m : Measure) → of_one user (of_user m) r.item.users ≡ of_cluster cluster r.path user m
-    pub single : (user : List ℕ) → of_one user (λ _. 1) r.item.users ≤ 1
+    pub users : (user : List ℕ) (m : Measure) → of_user user m r.item.users ≡ of_cluster cluster r.path user m
 
   -- how many live containers an application has
   abbrev pub live_for : ℕ → Flat K → ℕ

@@ -47,9 +47,13 @@ pub struct Cluster<const K: usize> {
 }
 
 impl<const K: usize> Model for Cluster<K> {
+    ghost use Rattle.std.specs.Coded.{codes};
+    ghost use Rattle.cap_tree.specs.Queue.{users_code};
     ghost use Rattle.cap_commit.specs.Held.{Held, held_of, IsHeld};
 
     ghost Value = { Held K };
+
+    ghost coded = { Prim.hlevel (codes, users_code) };
 
     ghost view = { λ c. held_of (record { rows = c.tree.value; limits = c.limits; apps = c.apps; nodes = c.nodes }) };
 

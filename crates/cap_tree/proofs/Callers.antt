@@ -7,12 +7,12 @@ use Rattle.cap_tree.specs.Spot.{item_at, HoldsOfItem, IsPosition}
 use Rattle.cap_tree.specs.Measure.{Measure}
 use Rattle.cap_tree.specs.Count.{Count, IsPart, zero_count, one_app, use_alone}
 use Rattle.cap_tree.specs.QueueLaws.{zero_counts}
-use Rattle.cap_tree.specs.Queue.{Queue, UserRow, MayLeave, MayGive, user_row, count_in}
+use Rattle.cap_tree.specs.Queue.{Queue, MayLeave, MayGive, user_row, count_in}
 use Rattle.cap_tree.specs.Rows.{Row, HasRoomAtRoot, active_in, user_row_at}
 
 -- what holds of a user's row at a position, and of the user's row in the queue there
 
-module _ (user position : List ℕ) (rows : List Row) (P : Option UserRow → Type 0) where
+module _ (user position : List ℕ) (rows : List Row) (P : Option Count → Type 0) where
   pub row_holds : IsPosition rows position → P (user_row_at position user rows) → HoldsOfItem (λ q. P (user_row user q.users)) (item_at position rows)
   row_holds i h = by (item_at position rows) i h
     where
@@ -45,15 +45,15 @@ never_grows position rows h = by (item_at position rows) h
 
 -- the parts that calls move are in the user's count
 
-pub entering_part : (K : ℕ) (row : Option UserRow) → IsPart (zero_count K) (count_in K row)
+pub entering_part : (K : ℕ) (row : Option Count) → IsPart (zero_count K) (count_in K row)
 entering_part K row m = omega (arith, zero_counts K m)
 
-pub leaving_part : (K : ℕ) (row : Option UserRow) → MayLeave row → IsPart (one_app K) (count_in K row)
+pub leaving_part : (K : ℕ) (row : Option Count) → MayLeave row → IsPart (one_app K) (count_in K row)
 leaving_part K None h m = absurd h
 leaving_part K (Some u) h (Measure.uses k) = omega (arith, amount-zeros K k)
 leaving_part K (Some u) h Measure.active = h.0
 
-pub giving_part : (K : ℕ) (r : List ℕ) (row : Option UserRow) → MayGive r row → IsPart (use_alone r) (count_in K row)
+pub giving_part : (K : ℕ) (r : List ℕ) (row : Option Count) → MayGive r row → IsPart (use_alone r) (count_in K row)
 giving_part K r None h m = absurd h
 giving_part K r (Some u) h (Measure.uses k) = h k
 giving_part K r (Some u) h Measure.active = omega arith

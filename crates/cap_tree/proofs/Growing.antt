@@ -22,7 +22,9 @@ use Rattle.cap_tree.specs.Spot.{leads_to, path_at, last_position, IsAddedAt, IsA
 use Rattle.cap_vector.specs.Vector.{amount}
 use Rattle.cap_vector.proofs.AmountLemmas.{amount-zeros}
 use Rattle.cap_tree.specs.Measure.{Measure}
-use Rattle.cap_tree.specs.Queue.{Queue, HasSettingsOf, IsUnused, of_queue, of_user, of_users}
+use Rattle.cap_tree.specs.Queue.{Queue, HasSettingsOf, IsUnused, of_queue, of_users}
+use Rattle.cap_tree.specs.Count.{of_count}
+use Rattle.cap_tree.specs.UserLaws.{sum_of, sum-no_users}
 use Rattle.cap_tree.specs.Rows.{Row, AreRows, PositionsArePaths, settings_of_row, queues_of}
 use Rattle.cap_tree.specs.Growth.{IsClosed, IsGrowing}
 use Rattle.cap_tree.proofs.RowPaths.{at_position, agree, same_row, leads_itself}
@@ -258,7 +260,7 @@ unused_stored K q (Measure.uses k) u = ap (λ v. amount v k) u.used ∙ amount-z
 unused_stored K q Measure.active u = u.active
 
 pub unused_own : (K : ℕ) (q : Queue) (m : Measure) → IsUnused K q → of_users q m ≡ 0
-unused_own K q m u = ap (sum_by (of_user m)) u.users
+unused_own K q m u = ap (sum_of (λ c. of_count c m)) u.users ∙ sum-no_users (λ c. of_count c m)
 
 -- so many levels down there is a dot
 pub has_level : (before : List ℕ) (q : QueueRow) (todo : List QueueRow) → IsListed before (q ∷ todo) → 1 ≤ depth q.path

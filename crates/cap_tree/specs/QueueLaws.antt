@@ -1,13 +1,14 @@
 -- What a move does to what is counted of a queue and of its users.
-use Rattle.std.proofs.Common.{◌≡◌, ℕ, ◌+◌, ◌-◌, ◌≤◌, Bool, true, List, Option, Some, None, refl, arith}
-use Rattle.std.specs.Prelude.{◌==◌, sum_by}
+use Rattle.std.proofs.Common.{◌≡◌, ℕ, ◌+◌, ◌-◌, ◌≤◌, Bool, true, List, Option, Some, None, refl, sym, arith}
+use Rattle.std.specs.Prelude.{◌==◌}
+use Rattle.std.specs.Option.{option_map_or}
 use Rattle.std.proofs.lemmas.Bool.{and_parts, eqb-true}
 use Rattle.cap_vector.specs.Vector.{amount, is_zero}
 use Rattle.cap_vector.proofs.AmountLemmas.{amount-exchanged, amount-is_zero, amount-zeros}
 use Rattle.cap_tree.specs.Measure.{Measure}
 use Rattle.cap_tree.specs.Count.{Count, IsPart, of_count, zero_count, is_zero_count, count_moved}
-use Rattle.cap_tree.specs.Queue.{Queue, UserRow, of_user, of_queue, user_row, count_in, with_count}
-use Rattle.cap_tree.specs.UserLaws.{row_counts, sum-with_count}
+use Rattle.cap_tree.specs.Queue.{Queue, Users, of_queue, of_user, user_row, count_in, with_count}
+use Rattle.cap_tree.specs.UserLaws.{row-le-sum, sum-with_count, sum_of}
 
 -- a part of a whole, before and after a move: the old part was in it
 pub record IsMoved (old new before after : ℕ) : Type 0 where
@@ -26,21 +27,26 @@ pub is_zero_counts : (c : Count) (m : Measure) → is_zero_count c ≡ true → 
 is_zero_counts c (Measure.uses k) h = amount-is_zero c.used k ((and_parts (c.active == 0) (is_zero c.used) h).1)
 is_zero_counts c Measure.active h = eqb-true c.active 0 ((and_parts (c.active == 0) (is_zero c.used) h).0)
 
-count_le_cases : (K : ℕ) (user : List ℕ) (us : List UserRow) (m : Measure) (o : Option UserRow) → user_row user us ≡ o → of_count (count_in K o) m ≤ sum_by (of_user m) us
-count_le_cases K user us m None e = omega (arith, zero_counts K m)
-count_le_cases K user us m (Some u) e = row_counts (of_user m) user us u e
+-- what is counted of a user is what its row counts
+pub user_counts : (K : ℕ) (user : List ℕ) (us : Users) (m : Measure) → of_user user m us ≡ of_count (count_in K (user_row user us)) m
+user_counts K user us m = by (user_row user us)
+  where
+    by : (o : Option Count) → option_map_or (λ (c : Count). of_count c m) o 0 ≡ of_count (count_in K o) m
+    by None = sym (zero_counts K m)
+    by (Some c) = refl
 
 -- a user's count is a part of that of all
-pub count_le_all : (K : ℕ) (user : List ℕ) (us : List UserRow) (m : Measure) → of_count (count_in K (user_row user us)) m ≤ sum_by (of_user m) us
-count_le_all K user us m = count_le_cases K user us m (user_row user us) refl
+pub count_le_all : (K : ℕ) (user : List ℕ) (us : Users) (m : Measure) → of_count (count_in K (user_row user us)) m ≤ sum_of (λ c. of_count c m) us
+count_le_all K user us m = omega (arith, user_counts K user us m, row-le-sum (λ (c : Count). of_count c m) user us)
 
-pub moved_sum : (K : ℕ) (user : List ℕ) (old new : Count) (us : List UserRow) (m : Measure) → IsPart old (count_in K (user_row user us)) →
-    IsMoved (of_count old m) (of_count new m) (sum_by (of_user m) us) (sum_by (of_user m) (with_count user (count_moved old new (count_in K (user_row user us))) us))
+pub moved_sum : (K : ℕ) (user : List ℕ) (old new : Count) (us : Users) (m : Measure) → IsPart old (count_in K (user_row user us)) →
+    IsMoved (of_count old m) (of_count new m) (sum_of (λ c. of_count c m) us) (sum_of (λ c. of_count c m) (with_count user (count_moved old new (count_in K (user_row user us))) us))
 moved_sum K user old new us m h =
     let c = count_in K (user_row user us) in
-    let s = sum-with_count (of_user m) K user (count_moved old new c) us (zero_counts K m) (is_zero_counts (count_moved old new c) m) in
+    let s = sum-with_count (λ (x : Count). of_count x m) user (count_moved old new c) us (is_zero_counts (count_moved old new c) m) in
     let l = count_le_all K user us m in
-    record { fits = omega (arith, h m, l); sum = omega (arith, h m, l, s, moved_counts old new c m) }
+    let own = user_counts K user us m in
+    record { fits = omega (arith, h m, l); sum = omega (arith, h m, l, s, own, moved_counts old new c m) }
 
 pub same_number : (n : ℕ) → n ≡ (n - 0) + 0
 same_number n = omega arith

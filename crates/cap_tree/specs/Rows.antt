@@ -12,7 +12,7 @@ use Rattle.cap_tree.specs.declared.found.Found.TheVariants.{Leaf, Parent, Missin
 use Rattle.cap_tree.specs.Spot.{Spot, first, first_of, leads_to, item_at, path_at, IsPosition}
 use Rattle.cap_tree.specs.Measure.{Measure, StaysBounded, most}
 use Rattle.cap_tree.specs.Count.{Count, of_count, zero_count, one_app, use_alone}
-use Rattle.cap_tree.specs.Queue.{Queue, UserRow, of_queue, user_row, moved_above, moved_at, with_running}
+use Rattle.cap_tree.specs.Queue.{Queue, of_queue, user_row, moved_above, moved_at, with_running}
 use Rattle.cap_model.specs.Texts.{dot}
 
 -- a row: the queue's position, its dotted path, and what it holds
@@ -64,7 +64,7 @@ abbrev pub with_state : List ℕ → Bool → Row → Row
 with_state path running r = if bytes_eq r.path path then record r { item = with_running running r.item } else r
 
 -- the row of a user in the queue of a position
-abbrev pub user_row_at : List ℕ → List ℕ → List Row → Option UserRow
+abbrev pub user_row_at : List ℕ → List ℕ → List Row → Option Count
 user_row_at position user rows = option_map_or (λ q. user_row user q.users) (item_at position rows) None
 
 -- how many applications are active in all

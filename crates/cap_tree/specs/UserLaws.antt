@@ -1,110 +1,139 @@
--- Sums over users' rows, with one of them replaced, added or removed.
-use Rattle.std.proofs.Common.{◌≡◌, ℕ, suc, ◌+◌, ◌≤◌, ◌<◌, Bool, true, false, cond, List, [], ◌∷◌, length, get_or, Option, Some, None, refl, sym, ◌∙◌, ap, subst, arith}
-use Rattle.std.specs.Prelude.{bytes_eq, not, nat_lt, find, swap_remove, if◌then◌else◌}
-use Rattle.std.specs.List.{position_or_len, sum_by}
+-- What is counted of users, with one count set or taken away.
+use Rattle.std.proofs.Common.{◌≡◌, ℕ, ◌+◌, ◌≤◌, Bool, true, false, cond, T, List, [], ◌∷◌, length, Option, Some, None, refl, sym, ◌∙◌, ap, subst, arith}
+use Rattle.std.specs.Prelude.{bytes_eq, if◌then◌else◌, ◌&&◌}
+use Rattle.std.specs.List.{sum_by}
 use Rattle.std.specs.Option.{option_map_or}
-use Rattle.std.proofs.lemmas.Bool.Decides.{nat_tests}
-use Rattle.std.proofs.lemmas.List.Sums.{sum_by-cons, sum_by-swap_remove}
+use Rattle.std.specs.Ordering.{nat_cmp, is_lt, is_eq, eq_by_cmp}
+use Rattle.std.specs.declared.cmp.Ordering.{Ordering}
+use Rattle.std.specs.declared.cmp.Ordering.TheVariants.{Less, Equal, Greater}
+use Rattle.std.specs.Cmp.{IsTotalOrder}
+use Rattle.std.specs.Cmp.Lexicographic.{slice_cmp, nat_list_cmp_total}
+use Rattle.std.specs.FinMap as finite
+use Rattle.std.specs.FinMap.Entries.{by_order, put, find, below_all, is_sorted}
+use Rattle.std.proofs.lemmas.List.Sums.{sum_by-cons}
+use Rattle.std.proofs.lemmas.Map.Text.{is_eq-slice_cmp}
 use Rattle.std.proofs.lemmas.Slice.Eq.{bytes_eq-Decides}
-use Rattle.indexmap.specs.IndexMap.{swap_remove_by}
-use Rattle.cap_tree.specs.Count.{Count, zero_count, is_zero_count}
-use Rattle.cap_tree.specs.Queue.{UserRow, user_row, user_count, count_in, with_count, with_row}
+use Rattle.cap_tree.specs.Measure.{Measure}
+use Rattle.cap_tree.specs.Count.{Count, of_count, is_zero_count}
+use Rattle.cap_tree.specs.Queue.{Users, of_user, user_row, with_count}
 
--- where a row is
-pub record IsPositionedAt (i : ℕ) (us : List UserRow) (u : UserRow) : Type 0 where
-  pub within : i < length us
-  pub here : (d : UserRow) → get_or us i d ≡ u
+-- an entry that is put into a list in order, in place of that of its key or as one more
 
-placed_cases : (c : Bool) (t : UserRow → Bool) (x u : UserRow) (us : List UserRow) → cond c (Some x) (find t us) ≡ Some u → (find t us ≡ Some u → IsPositionedAt (position_or_len t us) us u) → IsPositionedAt (cond (not c) (1 + position_or_len t us) 0) (x ∷ us) u
-placed_cases true t x u us h f = record { within = omega arith; here = λ d. cc }
-placed_cases false t x u us h f = let r = f h in let w = r.within in let z : 1 + position_or_len t us ≡ suc (position_or_len t us) = omega arith in subst (λ i. IsPositionedAt i (x ∷ us) u) (sym z) (record { within = omega arith; here = λ d. r.here d })
+first_holds : (a b : Bool) → T (a && b) → T a
+first_holds true b p = tt
+first_holds false b p = p
 
-placed : (t : UserRow → Bool) (us : List UserRow) (u : UserRow) → find t us ≡ Some u → IsPositionedAt (position_or_len t us) us u
-placed t [] u h = absurd (cc)
-placed t (x ∷ us) u h = placed_cases (t x) t x u us h (placed t us u)
+second_holds : (a b : Bool) → T (a && b) → T b
+second_holds true b p = p
+second_holds false b p = absurd p
 
--- sums over the rows
+both_hold : (a b : Bool) → T a → T b → T (a && b)
+both_hold true b p q = q
+both_hold false b p q = p
 
-sum-removed_at : (f : UserRow → ℕ) (t : UserRow → Bool) (x u : UserRow) (us : List UserRow) (i : ℕ) → position_or_len t (x ∷ us) ≡ i → IsPositionedAt i (x ∷ us) u → sum_by f (swap_remove_by t (x ∷ us)) + f u ≡ sum_by f (x ∷ us)
-sum-removed_at f t x u us i e p =
-    let w = p.within in
-    let l : nat_lt i (length (x ∷ us)) ≡ true = grind (arith, nat_tests, w) in
-    let whole : swap_remove_by t (x ∷ us) ≡ swap_remove (x ∷ us) i x = ap (λ k. option_map_or (λ j. swap_remove (x ∷ us) j x) (cond (nat_lt k (length (x ∷ us))) (Some k) None) (x ∷ us)) e ∙ ap (λ c. option_map_or (λ j. swap_remove (x ∷ us) j x) (cond c (Some i) None) (x ∷ us)) l in
-    let s = sum_by-swap_remove f (x ∷ us) i x w in
-    let h = ap f (p.here x) in
-    let b = ap (sum_by f) whole in
-    omega (arith, s, h, b)
+is_less : (r : Ordering) → T (is_lt r) → r ≡ Less
+is_less Less p = refl
+is_less Equal p = absurd p
+is_less Greater p = absurd p
 
-pub sum-removed : (f : UserRow → ℕ) (t : UserRow → Bool) (u : UserRow) (us : List UserRow) → find t us ≡ Some u → sum_by f (swap_remove_by t us) + f u ≡ sum_by f us
-sum-removed f t u [] h = absurd (cc)
-sum-removed f t u (x ∷ us) h = sum-removed_at f t x u us (position_or_len t (x ∷ us)) refl (placed t (x ∷ us) u h)
+module _ {K X : Type 0} (R : K → K → Ordering) (o : IsTotalOrder R) (f : X → ℕ) where
+  lower : (x y : K) (es : List (K × X)) → R x y ≡ Less → T (below_all R y es) → T (below_all R x es)
+  lower x y [] p h = tt
+  lower x y (e ∷ es) p h =
+      both_hold _ _ (subst (λ r. T (is_lt r)) (sym (o.trans x y e.0 p (is_less _ (first_holds _ _ h)))) tt) (lower x y es p (second_holds _ _ h))
 
-sum_put_cases : (c : Bool) (f : UserRow → ℕ) (row x u : UserRow) (us more : List UserRow) → cond c (Some x) (user_row row.user us) ≡ Some u → (user_row row.user us ≡ Some u → sum_by f more + f u ≡ sum_by f us + f row) →
-    sum_by f (if c then row ∷ us else x ∷ more) + f u ≡ sum_by f (x ∷ us) + f row
-sum_put_cases true f row x u us more h r = let e : x ≡ u = cc in let k = ap f e in omega (arith, k, sum_by-cons f row us, sum_by-cons f x us)
-sum_put_cases false f row x u us more h r = omega (arith, r h, sum_by-cons f x more, sum_by-cons f x us)
+  none_above : (x : K) (es : List (K × X)) → T (below_all R x es) → find R x es ≡ None
+  none_above x [] h = refl
+  none_above x (e ∷ es) h = ap (λ r. cond (is_eq r) (Some e.1) (find R x es)) (is_less _ (first_holds _ _ h)) ∙ none_above x es (second_holds _ _ h)
 
-pub sum-put : (f : UserRow → ℕ) (row u : UserRow) (us : List UserRow) → user_row row.user us ≡ Some u → sum_by f (with_row row us) + f u ≡ sum_by f us + f row
-sum-put f row u [] h = absurd (cc)
-sum-put f row u (x ∷ us) h = sum_put_cases (bytes_eq x.user row.user) f row x u us (with_row row us) h (sum-put f row u us)
+  sum-put : (k : K) (v : X) (es : List (K × X)) → T (is_sorted R es) → sum_by (λ e. f e.1) (put R k v es) + option_map_or f (find R k es) 0 ≡ sum_by (λ e. f e.1) es + f v
+  sum-put k v [] h = omega (arith, sum_by-cons (λ (e : K × X). f e.1) (k, v) [])
+  sum-put k v (e ∷ es) h = by (R k e.0) refl (sum-put k v es (second_holds _ _ h))
+    where
+      by : (r : Ordering) → R k e.0 ≡ r → sum_by (λ e. f e.1) (put R k v es) + option_map_or f (find R k es) 0 ≡ sum_by (λ e. f e.1) es + f v →
+          sum_by (λ e. f e.1) (by_order r ((k, v) ∷ e ∷ es) ((e.0, v) ∷ es) (e ∷ put R k v es)) + option_map_or f (cond (is_eq r) (Some e.1) (find R k es)) 0 ≡ sum_by (λ e. f e.1) (e ∷ es) + f v
+      by Less p s =
+          let none = ap (λ x. option_map_or f x 0) (none_above k es (lower k e.0 es p (first_holds _ _ h))) in
+          omega (arith, none, sum_by-cons (λ (e : K × X). f e.1) (k, v) (e ∷ es))
+      by Equal p s = omega (arith, sum_by-cons (λ (e : K × X). f e.1) (e.0, v) es, sum_by-cons (λ (e : K × X). f e.1) e es)
+      by Greater p s = omega (arith, s, sum_by-cons (λ (e : K × X). f e.1) e (put R k v es), sum_by-cons (λ (e : K × X). f e.1) e es)
 
-sum_new_cases : (c : Bool) (f : UserRow → ℕ) (row x : UserRow) (us more : List UserRow) → cond c (Some x) (user_row row.user us) ≡ None → (user_row row.user us ≡ None → sum_by f more ≡ sum_by f us + f row) →
-    sum_by f (if c then row ∷ us else x ∷ more) ≡ sum_by f (x ∷ us) + f row
-sum_new_cases true f row x us more h r = absurd (cc)
-sum_new_cases false f row x us more h r = omega (arith, r h, sum_by-cons f x more, sum_by-cons f x us)
+-- users are equal where each has the same row
 
-pub sum-new : (f : UserRow → ℕ) (row : UserRow) (us : List UserRow) → user_row row.user us ≡ None → sum_by f (with_row row us) ≡ sum_by f us + f row
-sum-new f row [] h = omega (arith, sum_by-cons f row [])
-sum-new f row (x ∷ us) h = sum_new_cases (bytes_eq x.user row.user) f row x us (with_row row us) h (sum-new f row us)
+pub same_users : (us vs : Users) → ((user : List ℕ) → user_row user us ≡ user_row user vs) → us ≡ vs
+same_users us vs same = finite.same_map nat_list_cmp_total (finite.slice_cmp-IsAntisymmetric finite.nat_cmp-IsAntisymmetric) us vs same
 
--- where no row passes, none goes
-first_is_none : (t : UserRow → Bool) (us : List UserRow) → find t us ≡ None → position_or_len t us ≡ length us
-first_is_none t [] h = refl
-first_is_none t (x ∷ us) h = by (t x) h (first_is_none t us)
+-- the row of a user once one of them is removed, or its count is set
+
+row-removed : (user one : List ℕ) (us : Users) → user_row user (finite.remove us one) ≡ cond (bytes_eq user one) None (user_row user us)
+row-removed user one us = finite.get-remove nat_list_cmp_total us one user ∙ ap (λ b. cond b None (user_row user us)) (is_eq-slice_cmp user one)
+
+row-set : (user one : List ℕ) (c : Count) (us : Users) → user_row user (finite.insert us one c) ≡ cond (bytes_eq user one) (Some c) (user_row user us)
+row-set user one c us = finite.get-insert nat_list_cmp_total us one c user ∙ ap (λ b. cond b (Some c) (user_row user us)) (is_eq-slice_cmp user one)
+
+pub user_row-with_count : (user one : List ℕ) (c : Count) (us : Users) → user_row user (with_count one c us) ≡ cond (bytes_eq user one) (if is_zero_count c then None else Some c) (user_row user us)
+user_row-with_count user one c us = by (is_zero_count c)
   where
-    by : (c : Bool) → cond c (Some x) (find t us) ≡ None → (find t us ≡ None → position_or_len t us ≡ length us) → cond (not c) (1 + position_or_len t us) 0 ≡ suc (length us)
-    by true h r = absurd (cc)
-    by false h r = let l = r h in omega (arith, l)
+    by : (b : Bool) → user_row user (if b then finite.remove us one else finite.insert us one c) ≡ cond (bytes_eq user one) (if b then None else Some c) (user_row user us)
+    by true = row-removed user one us
+    by false = row-set user one c us
 
-pub removed_none : (t : UserRow → Bool) (us : List UserRow) → find t us ≡ None → swap_remove_by t us ≡ us
-removed_none t [] h = refl
-removed_none t (x ∷ us) h =
-    let n = first_is_none t (x ∷ us) h in
-    let past : nat_lt (position_or_len t (x ∷ us)) (length (x ∷ us)) ≡ false = grind (arith, nat_tests, n) in
-    ap (λ c. option_map_or (λ i. swap_remove (x ∷ us) i x) (cond c (Some (position_or_len t (x ∷ us))) None) (x ∷ us)) past
+-- sums over users
 
--- a row is the user's, and counts among all
-row_cases : (c : Bool) (user : List ℕ) (x u : UserRow) (o : Option UserRow) → cond c (Some x) o ≡ Some u → (c ≡ true → x.user ≡ user) → (o ≡ Some u → u.user ≡ user) → u.user ≡ user
-row_cases true user x u o h f g = let e : x ≡ u = cc in sym (ap (λ r. r.user) e) ∙ f refl
-row_cases false user x u o h f g = g h
+abbrev pub sum_of : (Count → ℕ) → Users → ℕ
+sum_of f us = sum_by (λ e. f e.1) (finite.entries us)
 
-pub row_is_users : (user : List ℕ) (us : List UserRow) (u : UserRow) → user_row user us ≡ Some u → u.user ≡ user
-row_is_users user [] u h = absurd (cc)
-row_is_users user (x ∷ us) u h = row_cases (bytes_eq x.user user) user x u (user_row user us) h ((bytes_eq-Decides x.user user).0) (row_is_users user us u)
+sum-set : (f : Count → ℕ) (user : List ℕ) (c : Count) (us : Users) → sum_of f (finite.insert us user c) + option_map_or f (user_row user us) 0 ≡ sum_of f us + f c
+sum-set f user c us =
+    (λ i. sum_by (λ e. f e.1) (finite.entries-insert nat_list_cmp_total us user c i) + option_map_or f (finite.get-entries us user i) 0)
+    ∙ sum-put (slice_cmp nat_cmp) nat_list_cmp_total f user c (finite.entries us) (finite.entries_sorted us)
 
-counted_cases : (c : Bool) (f : UserRow → ℕ) (x u : UserRow) (us : List UserRow) (o : Option UserRow) → cond c (Some x) o ≡ Some u → (o ≡ Some u → f u ≤ sum_by f us) → f u ≤ sum_by f (x ∷ us)
-counted_cases true f x u us o h g = let e : x ≡ u = cc in let k = ap f e in omega (arith, k, sum_by-cons f x us)
-counted_cases false f x u us o h g = omega (arith, g h, sum_by-cons f x us)
+itself : (user : List ℕ) → bytes_eq user user ≡ true
+itself user = (bytes_eq-Decides user user).1 refl
 
-pub row_counts : (f : UserRow → ℕ) (user : List ℕ) (us : List UserRow) (u : UserRow) → user_row user us ≡ Some u → f u ≤ sum_by f us
-row_counts f user [] u h = absurd (cc)
-row_counts f user (x ∷ us) u h = counted_cases (bytes_eq x.user user) f x u us (user_row user us) h (row_counts f user us u)
+-- without a user's row, and with it again, they are as before
+set_again : (user : List ℕ) (c : Count) (us : Users) → user_row user us ≡ Some c → finite.insert (finite.remove us user) user c ≡ us
+set_again user c us e = same_users _ us (λ q. row-set q user c (finite.remove us user) ∙ ap (cond (bytes_eq q user) (Some c)) (row-removed q user us) ∙ by q (bytes_eq q user) refl)
+  where
+    by : (q : List ℕ) (b : Bool) → bytes_eq q user ≡ b → cond b (Some c) (cond b None (user_row q us)) ≡ user_row q us
+    by q true h = sym (ap (λ x. user_row x us) ((bytes_eq-Decides q user).0 h) ∙ e)
+    by q false h = refl
 
--- a count takes the position of a user's own in what counts nothing where nothing is
-abbrev pub row_for : List ℕ → Count → UserRow
-row_for user c = record { user = user; used = c.used; active = c.active }
+unset_none : (user : List ℕ) (us : Users) → user_row user us ≡ None → finite.remove us user ≡ us
+unset_none user us e = same_users _ us (λ q. row-removed q user us ∙ by q (bytes_eq q user) refl)
+  where
+    by : (q : List ℕ) (b : Bool) → bytes_eq q user ≡ b → cond b None (user_row q us) ≡ user_row q us
+    by q true h = sym (ap (λ x. user_row x us) ((bytes_eq-Decides q user).0 h) ∙ e)
+    by q false h = refl
 
-sum_with_cases : (f : UserRow → ℕ) (K : ℕ) (user : List ℕ) (c : Count) (us : List UserRow) (o : Option UserRow) (b : Bool) → user_row user us ≡ o → f (row_for user (zero_count K)) ≡ 0 → (b ≡ true → f (row_for user c) ≡ 0) →
-    sum_by f (if b then swap_remove_by (λ (u : UserRow). bytes_eq u.user user) us else with_row (row_for user c) us) + f (row_for user (count_in K o)) ≡ sum_by f us + f (row_for user c)
-sum_with_cases f K user c us None true e z h = let s = ap (sum_by f) (removed_none (λ (u : UserRow). bytes_eq u.user user) us e) in omega (arith, s, z, h refl)
-sum_with_cases f K user c us None false e z h = omega (arith, sum-new f (row_for user c) us e, z)
-sum_with_cases f K user c us (Some u) true e z h =
-    let own = ap (λ x. f (row_for x (user_count u))) (row_is_users user us u e) in
-    omega (arith, sum-removed f (λ (u : UserRow). bytes_eq u.user user) u us e, own, h refl)
-sum_with_cases f K user c us (Some u) false e z h =
-    let own = ap (λ x. f (row_for x (user_count u))) (row_is_users user us u e) in
-    omega (arith, sum-put f (row_for user c) u us e, own)
+sum-removed : (f : Count → ℕ) (user : List ℕ) (us : Users) → sum_of f (finite.remove us user) + option_map_or f (user_row user us) 0 ≡ sum_of f us
+sum-removed f user us = by (user_row user us) refl
+  where
+    by : (o : Option Count) → user_row user us ≡ o → sum_of f (finite.remove us user) + option_map_or f o 0 ≡ sum_of f us
+    by None e = let s = ap (sum_of f) (unset_none user us e) in omega (arith, s)
+    by (Some c) e =
+        let s = sum-set f user c (finite.remove us user) in
+        let gone = ap (λ x. option_map_or f x 0) (row-removed user user us ∙ ap (λ b. cond b None (user_row user us)) (itself user)) in
+        let again = ap (sum_of f) (set_again user c us e) in
+        omega (arith, s, gone, again)
 
-pub sum-with_count : (f : UserRow → ℕ) (K : ℕ) (user : List ℕ) (c : Count) (us : List UserRow) → f (row_for user (zero_count K)) ≡ 0 → (is_zero_count c ≡ true → f (row_for user c) ≡ 0) →
-    sum_by f (with_count user c us) + f (row_for user (count_in K (user_row user us))) ≡ sum_by f us + f (row_for user c)
-sum-with_count f K user c us z h = sum_with_cases f K user c us (user_row user us) (is_zero_count c) refl z h
+pub sum-with_count : (f : Count → ℕ) (user : List ℕ) (c : Count) (us : Users) → (is_zero_count c ≡ true → f c ≡ 0) → sum_of f (with_count user c us) + option_map_or f (user_row user us) 0 ≡ sum_of f us + f c
+sum-with_count f user c us nothing = by (is_zero_count c) nothing
+  where
+    by : (b : Bool) → (b ≡ true → f c ≡ 0) → sum_of f (if b then finite.remove us user else finite.insert us user c) + option_map_or f (user_row user us) 0 ≡ sum_of f us + f c
+    by true z = omega (arith, sum-removed f user us, z refl)
+    by false z = sum-set f user c us
+
+pub row-le-sum : (f : Count → ℕ) (user : List ℕ) (us : Users) → option_map_or f (user_row user us) 0 ≤ sum_of f us
+row-le-sum f user us = omega (arith, sum-removed f user us)
+
+pub sum-no_users : (f : Count → ℕ) → sum_of f finite.empty ≡ 0
+sum-no_users f = ap (sum_by (λ e. f e.1)) (none (finite.entries finite.empty) (sym (finite.len-entries finite.empty) ∙ finite.len-empty (slice_cmp nat_cmp) Count))
+  where
+    none : (es : List (List ℕ × Count)) → length es ≡ 0 → es ≡ []
+    none [] e = refl
+    none (x ∷ es) e = absurd (omega arith)
+
+-- where there are no users, nothing is counted of one
+pub no_user_counts : (user : List ℕ) (m : Measure) → of_user user m finite.empty ≡ 0
+no_user_counts user m = ap (λ o. option_map_or (λ (c : Count). of_count c m) o 0) (finite.get-empty (slice_cmp nat_cmp) user)

@@ -19,7 +19,7 @@ use std::marker::Model;
 type Users<const K: usize, A> = IndexMap<ShortText, Total<K>, BuildHasherDefault<FoldHasher>, A>;
 
 /// A queue: its settings, and what is used and active in it and under it. Contracts see it as the record of these and of
-/// its own users.
+/// what is counted of each of its own users, in no order.
 #[derive(Drop)]
 pub struct Queue<const K: usize, A: Allocator> {
     name: Vec<u8, A>,
@@ -32,12 +32,15 @@ pub struct Queue<const K: usize, A: Allocator> {
 }
 
 impl<const K: usize, A: Allocator> Model for Queue<K, A> {
-    ghost use Rattle.std.specs.Prelude.{map};
-    ghost use Rattle.cap_tree.specs.Queue.{Queue as Row};
+    ghost use Rattle.std.specs.Coded.{codes};
+    ghost use Rattle.std.specs.FinMap.{from_entries};
+    ghost use Rattle.cap_tree.specs.Queue.{Queue as Row, users_code};
 
     ghost Value = { Row };
 
-    ghost view = { λ q. record { name = q.name.items; guaranteed = q.guaranteed; maximum = q.maximum; factor = q.factor; running = q.running; used = q.count.used; active = q.count.active; users = map (λ e. record { user = e.0; used = e.1.used; active = e.1.active }) q.users.entries } };
+    ghost coded = { Prim.hlevel (codes, users_code) };
+
+    ghost view = { λ q. record { name = q.name.items; guaranteed = q.guaranteed; maximum = q.maximum; factor = q.factor; running = q.running; used = q.count.used; active = q.count.active; users = from_entries q.users.entries } };
 }
 
 impl<const K: usize, A: Allocator> Held for Queue<K, A> {

@@ -37,9 +37,13 @@ pub struct QueueTree<const K: usize, A: Allocator> {
 
 impl<const K: usize, A: Allocator> Model for QueueTree<K, A> {
     ghost use Rattle.std.specs.Prelude.{List};
+    ghost use Rattle.std.specs.Coded.{codes};
+    ghost use Rattle.cap_tree.specs.Queue.{users_code};
     ghost use Rattle.cap_tree.specs.Rows.{IsQueueTree, Row};
 
     ghost Value = { List Row };
+
+    ghost coded = { Prim.hlevel (codes, users_code) };
 
     ghost view = { λ t. t.root };
 

@@ -1,5 +1,7 @@
-use Rattle.std.proofs.Common.{rules, ◌∙◌, ap, arith, ◌-◌, ◌≡◌}
+use Rattle.std.proofs.Common.{rules, ◌∙◌, ap, arith, subst, ◌-◌, ◌≡◌}
+use Rattle.std.proofs.lemmas.List.{drop_all}
 use Rattle.cap_model.specs.Bounds.{depth}
+use Rattle.cap_tree.specs.Growth.{IsGrowing}
 use Rattle.cap_tree.proofs.Growing.{grow_next, next_level, unused_stored, unused_own}
 use Rattle.cap_tree.proofs.tree.add_all.Goals as goal
 
@@ -42,3 +44,6 @@ new-requires g c = (search rules, (search rules, c.path-path.ensures))
 
 pub add-requires-clause-own : goal.add-requires-clause-own
 add-requires-clause-own g c m = unused_own g.row.K c.in-Ok.queue m c.in-Ok.ensures.1
+
+pub returns-clause-grown : goal.returns-clause-grown
+returns-clause-grown g c = subst (IsGrowing g.row.K c.loop-row.root) (drop_all c.loop-row.row-index c.args.rows.now (omega arith)) c.loop-row.invariant.growing

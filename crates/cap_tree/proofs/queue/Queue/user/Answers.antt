@@ -1,13 +1,12 @@
 use Rattle.std.proofs.Common.{sym, ◌∙◌, ap}
-use Rattle.std.specs.Prelude.{option_map}
 use Rattle.cap_tree.specs.Queue.{count_in}
-use Rattle.cap_tree.proofs.Users.{row_of, user_row-entries}
+use Rattle.cap_tree.proofs.Users.{user_row-entries}
 use Rattle.cap_tree.proofs.queue.Queue.user.Goals as goal
 
 pub returns-in-None : goal.returns-in-None
 returns-in-None g c =
-    rw (← c.self.view_is) (c.zero.ensures ∙ sym (ap (count_in g.row.K) (user_row-entries c.args.user.now c.self.inside.users.entries ∙ ap (option_map (row_of c.args.user.now)) (sym c.in-None.ensures.value))))
+    rw (← c.self.view_is) (c.zero.ensures ∙ sym (ap (count_in g.row.K) (user_row-entries c.args.user.now c.self.inside.users.entries ∙ sym c.in-None.ensures.value)))
 
 pub returns-in-Some : goal.returns-in-Some
 returns-in-Some g c =
-    rw (← c.self.view_is) (sym (ap (count_in g.row.K) (user_row-entries c.args.user.now c.self.inside.users.entries ∙ ap (option_map (row_of c.args.user.now)) (sym c.in-Some.ensures.value))))
+    rw (← c.self.view_is) (sym (ap (count_in g.row.K) (user_row-entries c.args.user.now c.self.inside.users.entries ∙ sym c.in-Some.ensures.value)))
