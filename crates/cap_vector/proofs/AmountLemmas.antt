@@ -6,20 +6,7 @@ use Rattle.std.proofs.lemmas.List.FromFn.{length-map-range_with_len, get_or-map-
 use Rattle.std.proofs.lemmas.Bool.{cases_lt, and_parts, eqb-true, leb-true, le-leb}
 use Rattle.cap_vector.specs.Vector.{plus, less, amounts_exchanged, amount, zeros, is_zero, FitsTimes, IsWithin, is_within}
 use Rattle.cap_vector.specs.Rounding.{raised_amount, round_up}
-
-pub amount-plus : (a b : List ℕ) (k : ℕ) → get_or (plus a b) k 0 ≡ get_or a k 0 + get_or b k 0
-unfolding plus
-amount-plus [] b k = omega arith
-amount-plus (x ∷ a) [] k = omega arith
-amount-plus (x ∷ a) (y ∷ b) zero = refl
-amount-plus (x ∷ a) (y ∷ b) (suc k) = amount-plus a b k
-
-pub amount-less : (a b : List ℕ) (k : ℕ) → get_or (less a b) k 0 ≡ get_or a k 0 - get_or b k 0
-unfolding less
-amount-less [] b k = omega arith
-amount-less (x ∷ a) [] k = omega arith
-amount-less (x ∷ a) (y ∷ b) zero = refl
-amount-less (x ∷ a) (y ∷ b) (suc k) = amount-less a b k
+pub use Rattle.cap_vector.specs.AmountLaws.{amount-plus, amount-less, amount-exchanged, amount-zeros, amount-is_zero}
 
 pub length-plus : (a b : List ℕ) → length a ≡ length b → length (plus a b) ≡ length a
 unfolding plus
@@ -32,19 +19,6 @@ unfolding less
 length-less [] b = refl
 length-less (x ∷ a) [] = refl
 length-less (x ∷ a) (y ∷ b) = let r : length (less a b) ≡ length a = length-less a b in omega arith
-
-pub amount-exchanged : (old new v : List ℕ) (k : ℕ) → amount (amounts_exchanged old new v) k ≡ (amount v k - amount old k) + amount new k
-amount-exchanged old new v k = omega (arith, amount-plus (less v old) new k, amount-less v old k)
-
-pub amount-zeros : (n k : ℕ) → amount (zeros n) k ≡ 0
-amount-zeros zero k = refl
-amount-zeros (suc n) zero = refl
-amount-zeros (suc n) (suc k) = amount-zeros n k
-
-pub amount-is_zero : (v : List ℕ) (k : ℕ) → is_zero v ≡ true → amount v k ≡ 0
-amount-is_zero [] k h = refl
-amount-is_zero (x ∷ v) zero h = eqb-true x 0 ((and_parts (x == 0) (is_zero v) h).0)
-amount-is_zero (x ∷ v) (suc k) h = amount-is_zero v k ((and_parts (x == 0) (is_zero v) h).1)
 
 -- a list of the amounts of the sum is the sum
 pub is_plus : (a b r : List ℕ) (n : ℕ) → length a ≡ n → length b ≡ n → length r ≡ n →

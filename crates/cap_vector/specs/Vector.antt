@@ -1,5 +1,5 @@
 -- Vectors of amounts, as lists of numbers. A component that a list lacks counts as 0, so no definition here has a condition on lengths.
-use Rattle.std.specs.Prelude.{◌≡◌, ℕ, ◌+◌, ◌-◌, ◌*◌, ◌≤◌, List, [], ◌∷◌, length, slice_index, replicate, map, Bool, ◌==◌, nat_le}
+use Rattle.std.specs.Prelude.{◌≡◌, ℕ, ◌+◌, ◌-◌, ◌*◌, ◌≤◌, ◌⊎◌, List, [], ◌∷◌, length, slice_index, replicate, map, Bool, ◌==◌, nat_le}
 use Rattle.std.specs.List.{list_all, range_with_len}
 
 -- the greatest amount of a resource vector, and of a sum of use
@@ -36,6 +36,10 @@ Fits a b = (k : ℕ) → amount a k ≤ amount b k
 -- each amount of a is at most so many times that of b
 abbrev pub FitsTimes : List ℕ → ℕ → List ℕ → Type 0
 FitsTimes a factor b = (k : ℕ) → amount a k ≤ factor * amount b k
+
+-- with old taken away and new added, each amount grows no more, or stays within the bound
+abbrev pub StaysWithin : ℕ → List ℕ → List ℕ → List ℕ → Type 0
+StaysWithin bound old new v = (k : ℕ) → (amount new k ≤ amount old k) ⊎ ((amount v k - amount old k) + amount new k ≤ bound)
 
 -- whether each amount is at most the bound
 abbrev pub is_within : ℕ → List ℕ → Bool

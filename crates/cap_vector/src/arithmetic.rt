@@ -1,5 +1,5 @@
-ghost use Rattle.std.specs.Prelude.{◌≡◌, ℕ, ◌+◌, ◌-◌, ◌⊎◌, ◌↔◌, ◌≤◌, IfSome, IsSome, IsTrue, length};
-ghost use Rattle.cap_vector.specs.Vector.{Fits, FitsTimes, IsVector, amount, amounts_exchanged, plus, less, amount_max};
+ghost use Rattle.std.specs.Prelude.{◌≡◌, ◌↔◌, ◌≤◌, IfSome, IsSome, IsTrue, length};
+ghost use Rattle.cap_vector.specs.Vector.{Fits, FitsTimes, IsVector, StaysWithin, amounts_exchanged, plus, less, amount_max};
 ghost use Rattle.cap_vector.specs.Rounding.{raised_amount, round_up};
 
 use crate::vector::{Amounts, Resource};
@@ -63,7 +63,7 @@ pub fn exchanged<const K: usize, const A: u64, const B: u64>(
     new: &Amounts<K, B>,
 ) -> Amounts<K, A>
     requires fits { Fits old.now a.now }
-    requires within { (k : ℕ) → (amount new.now k ≤ amount old.now k) ⊎ ((amount a.now k - amount old.now k) + amount new.now k ≤ A) }
+    requires within { StaysWithin A old.now new.now a.now }
     ensures { result ≡ amounts_exchanged old.now new.now a.now }
 {
     let mut amounts = [0; K];
@@ -82,7 +82,8 @@ pub fn fits_exchanged<const K: usize, const A: u64, const B: u64>(
     factor: u64,
     most: &Amounts<K, B>,
 ) -> bool
-    ensures { IsTrue result ↔ FitsTimes (amounts_exchanged old.now new.now used.now) factor most.now }
+    ensures { IsTrue result ↔
+        FitsTimes (amounts_exchanged old.now new.now used.now) factor most.now }
 {
     for k in 0..K {
         let left = used.amounts[k].saturating_sub(old.amounts[k]);

@@ -9,6 +9,10 @@ pub const AMOUNT_MAX: u64 = 1 << 40;
 /// The greatest amount of a sum of use, which reservations can take above `AMOUNT_MAX`.
 pub const SUM_MAX: u64 = 1 << 41;
 
+const _: () = prove!(AMOUNT_MAX == 1_099_511_627_776);
+
+const _: () = prove!(SUM_MAX == 2_199_023_255_552);
+
 /// K amounts, each at most `MAX`. Contracts see it as the list of its amounts.
 #[derive(Clone, Copy, Debug, PartialEq, Eq)]
 pub struct Amounts<const K: usize, const MAX: u64> {
