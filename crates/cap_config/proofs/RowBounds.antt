@@ -17,6 +17,7 @@ use Rattle.cap_config.specs.Keys.{root}
 use Rattle.cap_config.specs.Queues.{entry_for, is_entry_for, is_path_at, same_setting, names_below, names_or_none, names_in_value, child}
 use Rattle.cap_config.specs.Tests.{listed_by, line_past, whole_fault}
 use Rattle.cap_config.specs.Entries.{read_lines}
+use Rattle.cap_config.specs.Bounds.{are_bounded}
 use Rattle.cap_config.specs.Rows.{rows_under, row_of, settings_of}
 use Rattle.cap_config.proofs.Kept.{lines_kept}
 use Rattle.cap_config.proofs.RowPaths.{shape_of, rows_of_settings}
@@ -166,12 +167,16 @@ rows_count entries (suc n) p =
     omega (arith, l, e, g)
 
 -- the settings have at most 1,024 rows
-pub rows_are_few : (text : List ℕ) (entries : List Entry) → read_lines (lines text) ≡ Ok entries → whole_fault entries ≡ None → length (settings_of entries).queues ≤ 1024
-rows_are_few text entries is none =
+pub few_rows : (entries : List Entry) → are_bounded entries ≡ true → whole_fault entries ≡ None → length (rows_under 16 entries root) ≤ 1024
+few_rows entries all none =
     let rows = rows_under 16 entries root in
     let a = rows_count entries 16 root in
     let b = sum_le (λ (row : QueueRow). length (names_below entries row.path)) (λ row. sum_by (listed_for row.path) entries) rows (λ row. below_within entries row.path) in
-    let c = rows_weigh entries rows (λ q. rows_at_most entries (lines_kept (lines text) entries is) 16 root q) in
+    let c = rows_weigh entries rows (λ q. rows_at_most entries all 16 root q) in
     let d = few_listed 1 entries (omega arith) ((shape_of entries none).many) in
-    let few : length rows ≤ 1024 = omega (arith, a, b, c, d) in
+    omega (arith, a, b, c, d)
+
+pub rows_are_few : (text : List ℕ) (entries : List Entry) → read_lines (lines text) ≡ Ok entries → whole_fault entries ≡ None → length (settings_of entries).queues ≤ 1024
+rows_are_few text entries is none =
+    let few = few_rows entries (lines_kept (lines text) entries is) none in
     subst (λ (rs : List QueueRow). length rs ≤ 1024) (sym (rows_of_settings entries)) few

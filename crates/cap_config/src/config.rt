@@ -1,6 +1,6 @@
-ghost use Rattle.std.specs.Prelude.{◌≡◌, ◌≤◌, ◌++◌, ◌∷◌, [], IfOk, None, OnOk, true};
+ghost use Rattle.std.specs.Prelude.{◌≡◌, ◌≤◌, ◌++◌, ◌∷◌, [], IfOk, None, OnOk, true, length};
 ghost use Rattle.cap_vector.specs.Vector.{amount_max};
-ghost use Rattle.cap_model.specs.Limits.{applications_max, resources_max};
+ghost use Rattle.cap_model.specs.Limits.{applications_max, queues_max, resources_max};
 ghost use Rattle.cap_config.specs.Bounds.{are_bounded, most_of};
 ghost use Rattle.cap_model.specs.Listing.{IsListing};
 ghost use Rattle.cap_config.specs.Tests.{cluster_entry, number_or, whole_fault};
@@ -33,9 +33,21 @@ impl<const K: usize> Model for QueueRow<K> {
 
     ghost Value = { Row };
 
-    ghost view = { λ r. record { path = r.path; guaranteed = r.guaranteed; maximum = r.maximum; factor = r.factor; running = r.running } };
+    ghost view = { λ r. record {
+      path = r.path;
+      guaranteed = r.guaranteed;
+      maximum = r.maximum;
+      factor = r.factor;
+      running = r.running;
+    } };
 
-    ghost inverse = { λ r. record { path = r.path; guaranteed = r.guaranteed; maximum = r.maximum; factor = r.factor; running = r.running } };
+    ghost inverse = { λ r. record {
+      path = r.path;
+      guaranteed = r.guaranteed;
+      maximum = r.maximum;
+      factor = r.factor;
+      running = r.running;
+    } };
 }
 
 impl<const K: usize> QueueRow<K> {
@@ -86,24 +98,32 @@ pub struct Config<const K: usize> {
 }
 
 impl<const K: usize> Model for Config<K> {
-    ghost use Rattle.std.specs.Prelude.{◌≤◌};
-    ghost use Rattle.cap_model.specs.Limits.{applications_max, resources_max};
+    ghost use Rattle.std.specs.Prelude.{◌≤◌, length};
+    ghost use Rattle.cap_model.specs.Limits.{applications_max, queues_max, resources_max};
     ghost use Rattle.cap_model.specs.Settings.{Settings};
     ghost use Rattle.cap_model.specs.Listing.{IsListing};
 
     ghost Value = { Settings };
 
-    ghost view = { λ c. record { queues = c.queues.items; minimum_allocation = c.minimum_allocation; maximum_allocation = c.maximum_allocation; application_limit = c.application_limit } };
+    ghost view = { λ c. record {
+      queues = c.queues.items;
+      minimum_allocation = c.minimum_allocation;
+      maximum_allocation = c.maximum_allocation;
+      application_limit = c.application_limit;
+    } };
 
-    ghost invariant = { λ c. (c.application_limit ≤ applications_max) × IsListing c.queues.items × (K ≤ resources_max) };
+    ghost invariant = { λ c. (c.application_limit ≤ applications_max)
+        × IsListing c.queues.items × (K ≤ resources_max)
+        × (length c.queues.items ≤ queues_max) };
 }
 
 impl<const K: usize> Config<K> {
     /// The queues: `root`, and each queue before those under it, siblings in the order of their parent's list. They are
-    /// a tree of at most 16 levels, and each follows its parent or a queue under its parent.
+    /// a tree of at most 16 levels and 1,024 queues, and each follows its parent or a queue under its parent.
     pub fn queues(&self) -> &[QueueRow<K>]
         ensures rows { result.now ≡ self.now.queues }
         ensures listing { IsListing self.now.queues }
+        ensures few { length result.now ≤ queues_max }
     {
         &self.queues
     }
@@ -193,7 +213,8 @@ fn add_queues(
 ) -> Result<(), AllocError>
     requires index { IsIndex index.now }
     requires bounded { are_bounded index.now.entries.now ≡ true }
-    ensures { OnOk result (queues.new.items ≡ queues.old.items ++ rows_under levels index.now.entries.now path) }
+    ensures { OnOk result (queues.new.items ≡ queues.old.items
+        ++ rows_under levels index.now.entries.now path) }
 {
     if levels == 0 {
         return Ok(());

@@ -52,8 +52,10 @@ fn entry_of<'a>(
     line: usize,
     bytes: &'a [u8],
 ) -> Result<Entry<'a>, ConfigFault>
-    ensures entry { (before : List (List ℕ)) → HasAll keys.old before → Gives (λ entry. entry) result (entry_of before line bytes.now) }
-    ensures keys { (before : List (List ℕ)) → HasAll keys.old before → OnOk result (HasAll keys.new (before ++ key_text bytes.now ∷ [])) }
+    ensures entry { (before : List (List ℕ)) → HasAll keys.old before →
+        Gives (λ entry. entry) result (entry_of before line bytes.now) }
+    ensures keys { (before : List (List ℕ)) → HasAll keys.old before →
+        OnOk result (HasAll keys.new (before ++ key_text bytes.now ∷ [])) }
 {
     let Some((key_bytes, value_bytes)) = parts_of(bytes) else {
         return Err(ConfigFault {

@@ -94,7 +94,8 @@ fn is_over_parent(alloc: Global, index: &Index, entry: &Entry) -> Result<bool, A
 
 fn is_over_parts(index: &Index, amounts: &Resource<2>, path: &[u8]) -> bool
     requires { IsIndex index.now }
-    ensures { result ≡ is_over_parts index.now.entries.now amounts.now (parts_at_last_dot path.now) }
+    ensures { result ≡ is_over_parts index.now.entries.now amounts.now
+        (parts_at_last_dot path.now) }
 {
     match split_last_dot(path) {
         Some((parent, _)) => exceeds_limit(amounts, maximum(index, parent)),
@@ -126,7 +127,8 @@ fn overspends(
     names: &[ShortText],
 ) -> Result<bool, AllocError>
     requires { IsIndex index.now }
-    ensures { IfOk result (λ over. over ≡ exceeds (guaranteed_below index.now.entries.now path.now names.now) most) }
+    ensures { IfOk result (λ over. over ≡
+        exceeds (guaranteed_below index.now.entries.now path.now names.now) most) }
 {
     let mut left = most;
     for name in names {

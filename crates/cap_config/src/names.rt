@@ -97,7 +97,8 @@ fn add_name<'a>(
 ) -> Result<bool, AllocError>
     requires { HasAll seen.old names.old.items }
     ensures taken { IfOk result (λ taken. taken ≡ is_next path.now names.old.items bytes.now) }
-    ensures names { IfOk result (λ taken. taken ≡ true → names.new.items ≡ names.old.items ++ bytes.now ∷ []) }
+    ensures names { IfOk result (λ taken. taken ≡ true →
+        names.new.items ≡ names.old.items ++ bytes.now ∷ []) }
     ensures seen { IfOk result (λ taken. taken ≡ true → HasAll seen.new names.new.items) }
 {
     let Some(name) = name_under(path, bytes) else {

@@ -123,7 +123,8 @@ fn pair_line(
     most: Option<&Entry>,
     most_default: u64,
 ) -> Option<usize>
-    ensures { result ≡ pair_line (option_copied least.entry) least_default (option_copied most.entry) most_default }
+    ensures { result ≡ pair_line (option_copied least.entry) least_default
+        (option_copied most.entry) most_default }
 {
     if number_or(most, most_default) < number_or(least, least_default) {
         Some(line_or_zero(least).max(line_or_zero(most)))

@@ -37,6 +37,10 @@ name_max = 64
 abbrev pub path_max : ℕ
 path_max = 255
 
+-- the greatest number of queues that settings may have, root among them
+abbrev pub queues_max : ℕ
+queues_max = 1024
+
 -- the greatest number of applications that settings may allow to be active, of levels below the root, and the greatest user limit factor
 abbrev pub applications_max : ℕ
 applications_max = 1000000

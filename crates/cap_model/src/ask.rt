@@ -39,15 +39,30 @@ impl<const K: usize> Model for Ask<K> {
 
     ghost Value = { Wish };
 
-    ghost view = { λ a. record { key = a.key; count = a.count; resource = a.resource; place = a.place } };
+    ghost view = { λ a. record {
+      key = a.key;
+      count = a.count;
+      resource = a.resource;
+      place = a.place;
+    } };
 
-    ghost inverse = { λ a. record { key = a.key; count = a.count; resource = a.resource; place = a.place } };
+    ghost inverse = { λ a. record {
+      key = a.key;
+      count = a.count;
+      resource = a.resource;
+      place = a.place;
+    } };
 }
 
 impl<const K: usize> Ask<K> {
     /// The ask for so many containers of this resource, in MiB and vcores, at this place.
     pub fn new(key: &Key, count: u32, resource: &Resource<K>, place: &ShortText) -> Ask<K>
-        ensures { result ≡ record { key = key.now; count = count; resource = resource.now; place = place.now } }
+        ensures { result ≡ record {
+          key = key.now;
+          count = count;
+          resource = resource.now;
+          place = place.now;
+        } }
     {
         Ask {
             key: *key,

@@ -25,9 +25,21 @@ impl<const K: usize> Model for Container<K> {
 
     ghost Value = { Row };
 
-    ghost view = { λ c. record { number = c.number; app = c.app; key = c.key; node = c.node; resource = c.resource } };
+    ghost view = { λ c. record {
+      number = c.number;
+      app = c.app;
+      key = c.key;
+      node = c.node;
+      resource = c.resource;
+    } };
 
-    ghost inverse = { λ c. record { number = c.number; app = c.app; key = c.key; node = c.node; resource = c.resource } };
+    ghost inverse = { λ c. record {
+      number = c.number;
+      app = c.app;
+      key = c.key;
+      node = c.node;
+      resource = c.resource;
+    } };
 }
 
 impl<const K: usize> Container<K> {
@@ -89,7 +101,12 @@ impl<const K: usize> Model for Reservation<K> {
 
     ghost view = { λ r. record { app = r.app; key = r.key; node = r.node; resource = r.resource } };
 
-    ghost inverse = { λ r. record { app = r.app; key = r.key; node = r.node; resource = r.resource } };
+    ghost inverse = { λ r. record {
+      app = r.app;
+      key = r.key;
+      node = r.node;
+      resource = r.resource;
+    } };
 }
 
 impl<const K: usize> Reservation<K> {

@@ -1,7 +1,12 @@
 //! Laws of the definitions in `specs/`, for callers to cite. The functions do nothing.
+ghost use Rattle.std.specs.Prelude.{◌≡◌};
+ghost use Rattle.cap_model.specs.Limits.{live_max, news_max, nodes_max, number_end};
 ghost use Rattle.cap_model.specs.EngineLaws.{RejectedExactly, NumbersStayDistinct, GrantedOnce, StepIsDetermined, ContainersBalance, EndedOnce, LiveIsWhatWasNotEnded, OneOfEachRank, ChoiceIsComputed, ChoiceFromIsComputed, AppNumbersStayDistinct, ReasonsAreInOrder, PassedIsStep};
 ghost use Rattle.cap_model.specs.NewsLaws.{GrantsAreToldInOrder, EndsAreToldInOrder, GrantsAreToldOverRuns, NewGrantsAreOfTheGranted, EndsAreToldOverRuns, NewEndsAreOfTheEnded};
 ghost use Rattle.cap_model.specs.BoundLaws.{ParentUsesChildren, StepStaysWellFormed, QueuesStayBounded, NodesStayBounded, ReservationsStayApart, ReservationsStayBounded, UnderByPath, TreesAddUp, StepStaysBounded, RunsStayBounded, OpenedIsBounded, WantedIsSeen, UsesAreSums, SizesStay, OpenedIsWithinSizes, NumbersAreNotUsedAgain, RunsStayWithinSizes, TreesAreTested, LevelsInOrder, ListingsStandBelow};
+
+use crate::replies::NEWS_MAX;
+use crate::{LIVE_MAX, NODES_MAX, NUMBER_END};
 
 /// A proposal has no reason to be rejected exactly where it is admissible, and of several the one of the smallest number.
 pub fn reason_says_why()
@@ -122,4 +127,12 @@ pub fn sizes_stay_bounded()
     ensures opened { OpenedIsWithinSizes }
     ensures steps { SizesStay }
     ensures runs { RunsStayWithinSizes }
+{}
+
+/// The limits that the code tests are those of the definitions.
+pub fn limits_are_the_definitions()
+    ensures numbers { NUMBER_END ≡ number_end }
+    ensures nodes { NODES_MAX ≡ nodes_max }
+    ensures live { LIVE_MAX ≡ live_max }
+    ensures news { NEWS_MAX ≡ news_max }
 {}

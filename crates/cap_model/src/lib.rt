@@ -47,3 +47,11 @@ pub const NODES_MAX: usize = 4096;
 
 /// The greatest number of containers that are live at once.
 pub const LIVE_MAX: usize = 65_536;
+
+const _: () = prove!(NUMBER_END == 4_611_686_018_427_387_904);
+
+const _: () = prove!(NODES_MAX == 4_096);
+
+const _: () = prove!(LIVE_MAX == 65_536);
+
+const _: () = prove!(NEWS_MAX == 64);

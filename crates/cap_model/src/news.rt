@@ -21,9 +21,21 @@ impl<const K: usize> Model for Grant<K> {
 
     ghost Value = { Row };
 
-    ghost view = { λ g. record { container = g.container; key = g.key; node = g.node; host = g.host; resource = g.resource } };
+    ghost view = { λ g. record {
+      container = g.container;
+      key = g.key;
+      node = g.node;
+      host = g.host;
+      resource = g.resource;
+    } };
 
-    ghost inverse = { λ g. record { container = g.container; key = g.key; node = g.node; host = g.host; resource = g.resource } };
+    ghost inverse = { λ g. record {
+      container = g.container;
+      key = g.key;
+      node = g.node;
+      host = g.host;
+      resource = g.resource;
+    } };
 }
 
 impl<const K: usize> Grant<K> {
@@ -35,7 +47,13 @@ impl<const K: usize> Grant<K> {
         host: &ShortText,
         resource: &Resource<K>,
     ) -> Grant<K>
-        ensures { result ≡ record { container = container; key = key.now; node = node; host = host.now; resource = resource.now } }
+        ensures { result ≡ record {
+          container = container;
+          key = key.now;
+          node = node;
+          host = host.now;
+          resource = resource.now;
+        } }
     {
         Grant {
             container,

@@ -38,9 +38,21 @@ impl<const K: usize> Model for Proposal<K> {
 
     ghost Value = { NodeProposal };
 
-    ghost view = { λ p. record { kind = p.kind; app = p.app; key = p.key; node = p.node; resource = p.resource } };
+    ghost view = { λ p. record {
+      kind = p.kind;
+      app = p.app;
+      key = p.key;
+      node = p.node;
+      resource = p.resource;
+    } };
 
-    ghost inverse = { λ p. record { kind = p.kind; app = p.app; key = p.key; node = p.node; resource = p.resource } };
+    ghost inverse = { λ p. record {
+      kind = p.kind;
+      app = p.app;
+      key = p.key;
+      node = p.node;
+      resource = p.resource;
+    } };
 }
 
 /// Why a proposal is rejected. Of several the first in this order is the answer.

@@ -48,7 +48,12 @@ impl<'a, const K: usize> Model for AllocateView<'a, K> {
 
     ghost Value = { Told };
 
-    ghost view = { λ r. record { response = r.response; ignored = r.ignored; grants = r.grants.now; ends = r.ends.now } };
+    ghost view = { λ r. record {
+      response = r.response;
+      ignored = r.ignored;
+      grants = r.grants.now;
+      ends = r.ends.now;
+    } };
 
     ghost invariant = { λ r. (length r.grants.now ≤ news_max) × (length r.ends.now ≤ news_max) };
 }
@@ -91,9 +96,15 @@ impl<const K: usize> Model for AllocateReply<K> {
 
     ghost Value = { Told };
 
-    ghost view = { λ r. record { response = r.response; ignored = r.ignored; grants = r.grants.items; ends = r.ends.items } };
+    ghost view = { λ r. record {
+      response = r.response;
+      ignored = r.ignored;
+      grants = r.grants.items;
+      ends = r.ends.items;
+    } };
 
-    ghost invariant = { λ r. (length r.grants.items ≤ news_max) × (length r.ends.items ≤ news_max) };
+    ghost invariant = { λ r. (length r.grants.items ≤ news_max)
+        × (length r.ends.items ≤ news_max) };
 }
 
 impl<const K: usize> AllocateReply<K> {

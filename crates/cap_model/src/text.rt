@@ -30,7 +30,10 @@ impl<const MAX: usize> Model for Text<MAX> {
 
     ghost inverse = { λ text. record { bytes = padded_text MAX text; len = length text } };
 
-    ghost inverse_ok = { λ t h i. record { bytes = sym h.padding i; len = length_held MAX t.len t.bytes h i } };
+    ghost inverse_ok = { λ t h i. record {
+      bytes = sym h.padding i;
+      len = length_held MAX t.len t.bytes h i;
+    } };
 }
 
 impl ShortText {

@@ -9,3 +9,7 @@ pub record IsBranch {T : Type 0} (stored own : T → Measure → ℕ) (item : T)
   pub sums : (m : Measure) → stored item m ≡ own item m + sum_by (first_of (λ x. stored x m)) kids
   pub filled : All (λ kid. 1 ≤ length kid) kids
   pub few : length kids ≤ 4294967295
+
+-- what the first spot counts
+abbrev pub root_count : {T : Type 0} → (T → Measure → ℕ) → List (Spot T) → Measure → ℕ
+root_count stored ss m = first_of (λ x. stored x m) ss

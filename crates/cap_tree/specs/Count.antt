@@ -1,7 +1,7 @@
 -- What is counted of a queue or of a user in it, and how a part of it moves.
 use Rattle.std.specs.Prelude.{ℕ, ◌+◌, ◌-◌, ◌≤◌, Bool, ◌==◌, ◌&&◌, List}
 use Rattle.cap_vector.specs.Vector.{amount, amounts_exchanged, is_zero, zeros}
-use Rattle.cap_tree.specs.Measure.{Measure, StaysBounded, most}
+use Rattle.cap_tree.specs.Measure.{Measure, MayChange}
 
 -- what is used, and how many applications are active
 pub record Count : Type 0 where
@@ -35,4 +35,4 @@ count_moved old new c = record { used = amounts_exchanged old.used new.used c.us
 
 -- where an old part is taken away and a new one added, it does not grow, or stays within the most
 abbrev pub MayMove : Count → Count → Count → Type 0
-MayMove old new c = (m : Measure) → StaysBounded (of_count c m) (of_count old m) (of_count new m) (most m)
+MayMove old new c = MayChange (of_count c) (of_count old) (of_count new)

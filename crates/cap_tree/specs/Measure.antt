@@ -6,10 +6,6 @@ pub data Measure : Type 0 where
   uses : ℕ → Measure
   active : Measure
 
--- active applications
-abbrev pub apps : Measure
-apps = Measure.active
-
 -- the most that is counted
 abbrev pub most : Measure → ℕ
 most (Measure.uses k) = sum_max
@@ -18,3 +14,7 @@ most Measure.active = 18446744073709551615
 -- where old goes away and new comes, it grows no more, or stays within the most
 abbrev pub StaysBounded : (stored old new bound : ℕ) → Type 0
 StaysBounded stored old new bound = (new ≤ old) ⊎ ((stored - old) + new ≤ bound)
+
+-- where an old count goes away and a new one comes, each number of what is stored grows no more, or stays within the most
+abbrev pub MayChange : (stored old new : Measure → ℕ) → Type 0
+MayChange stored old new = (m : Measure) → StaysBounded (stored m) (old m) (new m) (most m)

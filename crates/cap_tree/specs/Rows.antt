@@ -10,7 +10,8 @@ use Rattle.cap_tree.specs.Finding.{IsStart}
 use Rattle.cap_tree.specs.declared.found.Found.{Found}
 use Rattle.cap_tree.specs.declared.found.Found.TheVariants.{Leaf, Parent, Missing}
 use Rattle.cap_tree.specs.Spot.{Spot, first, first_of, leads_to, item_at, path_at, IsPosition}
-use Rattle.cap_tree.specs.Measure.{Measure, StaysBounded, most}
+use Rattle.cap_tree.specs.Branch.{root_count}
+use Rattle.cap_tree.specs.Measure.{MayChange}
 use Rattle.cap_tree.specs.Count.{Count, of_count, zero_count, one_app, use_alone}
 use Rattle.cap_tree.specs.Queue.{Queue, of_queue, user_row, moved_above, moved_at, with_running}
 use Rattle.cap_model.specs.Texts.{dot}
@@ -45,6 +46,10 @@ changed_at above at path r =
 abbrev pub moved_row : ℕ → List ℕ → List ℕ → Count → Count → Row → Row
 moved_row K path user old new = changed_at (moved_above old new) (moved_at K user old new) path
 
+-- the rows after a part of a user's count in the leaf at the position has moved
+abbrev pub moved_rows : ℕ → List ℕ → List ℕ → Count → Count → List Row → List Row
+moved_rows K position user old new rows = map (moved_row K (path_at position rows) user old new) rows
+
 -- after one more application of the user has entered there, after one has left, and after some of the user's use is given back
 abbrev pub entered_row : ℕ → List ℕ → List ℕ → Row → Row
 entered_row K path user = moved_row K path user (zero_count K) (one_app K)
@@ -73,7 +78,7 @@ active_in rows = first_of (λ q. q.active) rows
 
 -- where a part of what is counted at the root moves, it grows no more, or stays within the most
 abbrev pub HasRoomAtRoot : Count → Count → List Row → Type 0
-HasRoomAtRoot old new rows = (m : Measure) → StaysBounded (first_of (λ q. of_queue q m) rows) (of_count old m) (of_count new m) (most m)
+HasRoomAtRoot old new rows = MayChange (root_count of_queue rows) (of_count old) (of_count new)
 
 -- what is used at the queue of a position
 abbrev pub used_at : List ℕ → List Row → List ℕ

@@ -1,10 +1,10 @@
 //! A tree of items, seen as a list of its spots.
 ghost use Rattle.std.specs.Prelude.{◌≡◌, ◌+◌, ◌-◌, ◌≤◌, ◌∷◌, [], ℕ, List, Some, Bool, IfSome, IfOk, OnOk, OnErr, map, length};
 ghost use Rattle.std.specs.List.{All};
-ghost use Rattle.cap_tree.specs.Measure.{Measure, StaysBounded, most};
-ghost use Rattle.cap_tree.specs.Spot.{HoldsOfItem, IsAdded, IsPosition, along, change_along, first, first_failing, first_of, has_below, item_at, spots};
+ghost use Rattle.cap_tree.specs.Measure.{Measure, MayChange};
+ghost use Rattle.cap_tree.specs.Spot.{HoldsOfItem, IsAdded, IsPosition, along, change_along, first, first_failing, has_below, item_at, spots};
 ghost use Rattle.cap_tree.specs.Finding.{IsFound, IsStart, is_parent};
-ghost use Rattle.cap_tree.specs.Branch.{IsBranch};
+ghost use Rattle.cap_tree.specs.Branch.{IsBranch, root_count};
 
 use crate::found::{Kind, Path};
 use cap_model::NoMemory;
@@ -39,12 +39,12 @@ pub trait Change<T: Held> {
 
     fn change_above(&self, item: &mut T)
         requires fits { (m : Measure) → old self.now m ≤ T.stored item.old m }
-        requires within { (m : Measure) → StaysBounded (T.stored item.old m) (old self.now m) (new self.now m) (most m) }
+        requires within { MayChange (T.stored item.old) (old self.now) (new self.now) }
         ensures { item.new ≡ above self.now item.old };
 
     fn change_at(&self, item: &mut T) -> Result<(), NoMemory>
         requires can { can self.now item.old }
-        requires within { (m : Measure) → StaysBounded (T.stored item.old m) (old self.now m) (new self.now m) (most m) }
+        requires within { MayChange (T.stored item.old) (old self.now) (new self.now) }
         requires sums { (m : Measure) → T.own item.old m ≤ T.stored item.old m }
         ensures ok { OnOk result (item.new ≡ at self.now item.old) }
         ensures err { OnErr result (item.new ≡ item.old) }
@@ -54,13 +54,16 @@ pub trait Change<T: Held> {
 
     ghost name_at: { (c : Self) (x : T) → T.name (at c x) ≡ T.name x };
 
-    ghost stored_above: { (c : Self) (x : T) (m : Measure) → T.stored (above c x) m ≡ (T.stored x m - old c m) + new c m };
+    ghost stored_above: { (c : Self) (x : T) (m : Measure) →
+        T.stored (above c x) m ≡ (T.stored x m - old c m) + new c m };
 
-    ghost stored_at: { (c : Self) (x : T) (m : Measure) → T.stored (at c x) m ≡ (T.stored x m - old c m) + new c m };
+    ghost stored_at: { (c : Self) (x : T) (m : Measure) →
+        T.stored (at c x) m ≡ (T.stored x m - old c m) + new c m };
 
     ghost own_above: { (c : Self) (x : T) (m : Measure) → T.own (above c x) m ≡ T.own x m };
 
-    ghost own_at: { (c : Self) (x : T) (m : Measure) → can c x → T.own (at c x) m ≡ (T.own x m - old c m) + new c m };
+    ghost own_at: { (c : Self) (x : T) (m : Measure) → can c x →
+        T.own (at c x) m ≡ (T.own x m - old c m) + new c m };
 
     ghost old_fits: { (c : Self) (x : T) (m : Measure) → can c x → old c m ≤ T.own x m };
 }
@@ -97,7 +100,8 @@ impl<T: Held, A: Allocator> Model for Branch<T, A> {
 
     ghost size = { length };
 
-    ghost size_decreases = { λ b h. Prim.omega (arith, most_le-length-below (T.name b.item) 0 b.children.items) };
+    ghost size_decreases = { λ b h. Prim.omega
+        (arith, most_le-length-below (T.name b.item) 0 b.children.items) };
 }
 
 impl<T: Held + Drop, A: Allocator + Copy> Branch<T, A> {
@@ -113,13 +117,15 @@ impl<T: Held + Drop, A: Allocator + Copy> Branch<T, A> {
     }
 
     /// Adds the item as the last child of the queue so many levels down on the way to the last queue. `NoMemory` changes
-    /// nothing.
+    /// nothing, and comes only where an allocation fails.
     pub fn add(&mut self, alloc: A, levels: usize, item: T) -> Result<(), NoMemory>
         requires stored { (m : Measure) → T.stored item m ≡ 0 }
         requires own { (m : Measure) → T.own item m ≡ 0 }
+        requires few { length self.old ≤ 4294967295 }
         ensures ok { OnOk result (IsAdded levels (T.name item) item self.old self.new) }
         ensures err { OnErr result (self.new ≡ self.old) }
-        ensures kept { (m : Measure) → first_of (λ x. T.stored x m) self.new ≡ first_of (λ x. T.stored x m) self.old }
+        ensures kept { (m : Measure) →
+            root_count T.stored self.new m ≡ root_count T.stored self.old m }
         ensures filled { 1 ≤ length self.new }
     {
         if levels == 0 {
@@ -135,14 +141,13 @@ impl<T: Held + Drop, A: Allocator + Copy> Branch<T, A> {
     fn add_child(&mut self, alloc: A, item: T) -> Result<(), NoMemory>
         requires stored { (m : Measure) → T.stored item m ≡ 0 }
         requires own { (m : Measure) → T.own item m ≡ 0 }
+        requires few { length self.old ≤ 4294967295 }
         ensures ok { OnOk result (IsAdded 0 (T.name item) item self.old self.new) }
         ensures err { OnErr result (self.new ≡ self.old) }
-        ensures kept { (m : Measure) → first_of (λ x. T.stored x m) self.new ≡ first_of (λ x. T.stored x m) self.old }
+        ensures kept { (m : Measure) →
+            root_count T.stored self.new m ≡ root_count T.stored self.old m }
         ensures filled { 1 ≤ length self.new }
     {
-        if self.children.len() >= u32::MAX as usize {
-            return Err(NoMemory);
-        }
         match self.children.push(Branch::leaf(alloc, item)) {
             Ok(()) => {}
             Err(_) => return Err(NoMemory),
@@ -154,12 +159,18 @@ impl<T: Held + Drop, A: Allocator + Copy> Branch<T, A> {
     /// item grows.
     pub fn change<C: Change<T>>(&mut self, steps: &[u32], change: &C) -> Result<(), NoMemory>
         requires can { HoldsOfItem (C.can change.now) (item_at steps.now self.old) }
-        requires within { (m : Measure) → StaysBounded (first_of (λ x. T.stored x m) self.old) (C.old change.now m) (C.new change.now m) (most m) }
-        ensures changed { OnOk result (self.new ≡ map (change_along (C.above change.now) (C.at change.now) steps.now) self.old) }
+        requires within { MayChange (root_count T.stored self.old)
+            (C.old change.now) (C.new change.now) }
+        ensures changed { OnOk result
+            (self.new ≡
+                map (change_along (C.above change.now) (C.at change.now) steps.now) self.old) }
         ensures unchanged { OnErr result (self.new ≡ self.old) }
-        ensures grows { OnErr result (HoldsOfItem (C.grows change.now) (item_at steps.now self.old)) }
-        ensures fitted { (m : Measure) → C.old change.now m ≤ first_of (λ x. T.stored x m) self.old }
-        ensures moved { OnOk result ((m : Measure) → first_of (λ x. T.stored x m) self.new ≡ (first_of (λ x. T.stored x m) self.old - C.old change.now m) + C.new change.now m) }
+        ensures grows { OnErr result
+            (HoldsOfItem (C.grows change.now) (item_at steps.now self.old)) }
+        ensures fitted { (m : Measure) → C.old change.now m ≤ root_count T.stored self.old m }
+        ensures moved { OnOk result ((m : Measure) →
+            root_count T.stored self.new m
+            ≡ (root_count T.stored self.old m - C.old change.now m) + C.new change.now m) }
     {
         match steps {
             [] => change.change_at(&mut self.item),

@@ -1,6 +1,5 @@
 //! What a queue of the tree holds.
 ghost use Rattle.std.specs.Prelude.{◌≡◌, ◌==◌, ◌≤◌, None, IfOk, OnOk, OnErr};
-ghost use Rattle.std.specs.List.{list_any};
 ghost use Rattle.cap_model.specs.Flat.{name_of};
 ghost use Rattle.cap_tree.specs.Count.{IsPart, MayMove, of_count};
 ghost use Rattle.cap_tree.specs.Measure.{Measure};
@@ -40,7 +39,16 @@ impl<const K: usize, A: Allocator> Model for Queue<K, A> {
 
     ghost coded = { Prim.hlevel (codes, users_code) };
 
-    ghost view = { λ q. record { name = q.name.items; guaranteed = q.guaranteed; maximum = q.maximum; factor = q.factor; running = q.running; used = q.count.used; active = q.count.active; users = from_entries q.users.entries } };
+    ghost view = { λ q. record {
+      name = q.name.items;
+      guaranteed = q.guaranteed;
+      maximum = q.maximum;
+      factor = q.factor;
+      running = q.running;
+      used = q.count.used;
+      active = q.count.active;
+      users = from_entries q.users.entries;
+    } };
 }
 
 impl<const K: usize, A: Allocator> Held for Queue<K, A> {
@@ -171,7 +179,9 @@ impl<const K: usize, A: Allocator> Queue<K, A> {
     /// Sets what is counted of a user: where that is nothing, the user has no row any more. `NoMemory` changes nothing, and comes
     /// only where the user has no row.
     fn set_user(&mut self, user: &ShortText, count: Total<K>) -> Result<(), NoMemory>
-        ensures ok { OnOk result (self.new ≡ record self.old { users = with_count user.now count.entry self.old.users }) }
+        ensures ok { OnOk result
+            (self.new ≡
+                record self.old { users = with_count user.now count.entry self.old.users }) }
         ensures err { OnErr result (self.new ≡ self.old) }
         ensures absent { OnErr result (user_row user.now self.old.users ≡ None) }
     {
@@ -231,17 +241,9 @@ impl<const K: usize, A: Allocator> Queue<K, A> {
 fn last_name(path: &[u8]) -> &[u8]
     ensures { result.now ≡ name_of path.now }
 {
-    for i in 0..path.len() {
-        let rest = &path[i..];
-        if !has_dot(rest) {
-            return rest;
-        }
+    let mut start = path.len();
+    while start > 0 && path[start - 1] != b'.' {
+        start -= 1;
     }
-    &[]
-}
-
-fn has_dot(bytes: &[u8]) -> bool
-    ensures { result ≡ list_any (λ b. b == 46) bytes.now }
-{
-    bytes.iter().any(|b| *b == b'.')
+    &path[start..]
 }

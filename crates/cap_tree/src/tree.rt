@@ -1,8 +1,8 @@
 //! The tree of queues, seen as the list of its rows.
-ghost use Rattle.std.specs.Prelude.{◌≡◌, ◌<◌, ◌++◌, ◌∷◌, [], map, None, Some, IfErr, IfOk, OnOk, OnErr};
+ghost use Rattle.std.specs.Prelude.{◌≡◌, ◌<◌, ◌≤◌, ◌+◌, length, ◌++◌, ◌∷◌, [], map, None, Some, IfErr, IfOk, OnOk, OnErr};
 ghost use Rattle.std.specs.List.{All};
 ghost use Rattle.cap_vector.specs.Vector.{IsWithin, amounts_exchanged, sum_max};
-ghost use Rattle.cap_model.specs.Limits.{number_end};
+ghost use Rattle.cap_model.specs.Limits.{number_end, queues_max};
 ghost use Rattle.cap_model.specs.Bounds.{depth};
 ghost use Rattle.cap_model.specs.Cascade.{holds_of};
 ghost use Rattle.cap_tree.specs.Finding.{IsStart};
@@ -11,7 +11,7 @@ ghost use Rattle.cap_tree.specs.Limits.{over_limit};
 ghost use Rattle.cap_tree.specs.Paths.{TreeFitsInMemory};
 ghost use Rattle.cap_tree.specs.Count.{IsPart};
 ghost use Rattle.cap_tree.specs.Queue.{IsUnused, MayGive, MayLeave, count_in, stays_in_user_limit, use_of};
-ghost use Rattle.cap_tree.specs.Rows.{AreRows, FindsQueue, HasRoomAtRoot, active_in, applied_row, entered_row, is_running, left_row, lowered_row, moved_row, queues_of, root_use, used_at, user_row_at, with_state};
+ghost use Rattle.cap_tree.specs.Rows.{AreRows, FindsQueue, HasRoomAtRoot, active_in, applied_row, entered_row, is_running, left_row, lowered_row, moved_rows, queues_of, root_use, used_at, user_row_at, with_state};
 ghost use Rattle.cap_tree.specs.Spot.{HoldsOfItem, IsPosition, item_at, path_at};
 
 use crate::branch::Branch;
@@ -113,11 +113,14 @@ impl<const K: usize, A: Allocator + Copy> QueueTree<K, A> {
     /// one. `NoMemory` changes nothing, and comes only where the user has no row.
     fn change(&mut self, path: &Path<A>, change: &Move<'_, K>) -> Result<(), NoMemory>
         requires position { IsPosition self.old path.now.items }
-        requires fits { IsPart change.now.old (count_in K (user_row_at path.now.items change.now.user.now self.old)) }
+        requires fits { IsPart change.now.old
+            (count_in K (user_row_at path.now.items change.now.user.now self.old)) }
         requires within { HasRoomAtRoot change.now.old change.now.new self.old }
-        ensures ok { OnOk result (self.new ≡ map (moved_row K (path_at path.now.items self.old) change.now.user.now change.now.old change.now.new) self.old) }
+        ensures ok { OnOk result (self.new ≡ moved_rows K path.now.items
+            change.now.user.now change.now.old change.now.new self.old) }
         ensures err { OnErr result (self.new ≡ self.old) }
-        ensures absent { OnErr result (user_row_at path.now.items change.now.user.now self.old ≡ None) }
+        ensures absent { OnErr result
+            (user_row_at path.now.items change.now.user.now self.old ≡ None) }
     {
         match self.root.change(path.as_slice(), change) {
             Ok(()) => {}
@@ -131,7 +134,8 @@ impl<const K: usize, A: Allocator + Copy> QueueTree<K, A> {
     pub fn enter(&mut self, path: &Path<A>, user: &ShortText) -> Result<(), NoMemory>
         requires position { IsPosition self.old path.now.items }
         requires few { active_in self.old < number_end }
-        ensures ok { OnOk result (self.new ≡ map (entered_row K (path_at path.now.items self.old) user.now) self.old) }
+        ensures ok { OnOk result
+            (self.new ≡ map (entered_row K (path_at path.now.items self.old) user.now) self.old) }
         ensures err { OnErr result (self.new ≡ self.old) }
         ensures absent { OnErr result (user_row_at path.now.items user.now self.old ≡ None) }
     {
@@ -163,7 +167,8 @@ impl<const K: usize, A: Allocator + Copy> QueueTree<K, A> {
     /// the user falls by it.
     pub fn give_back(&mut self, path: &Path<A>, user: &ShortText, r: &Resource<K>)
         requires { MayGive r.now (user_row_at path.now.items user.now self.old) }
-        ensures { self.new ≡ map (lowered_row K (path_at path.now.items self.old) user.now r.now) self.old }
+        ensures { self.new ≡
+            map (lowered_row K (path_at path.now.items self.old) user.now r.now) self.old }
     {
         let change = Move {
             user,
@@ -180,7 +185,9 @@ impl<const K: usize, A: Allocator + Copy> QueueTree<K, A> {
     pub fn apply(&mut self, path: &Path<A>, user: &ShortText, old: &Resource<K>, new: &Resource<K>)
         requires may { MayGive old.now (user_row_at path.now.items user.now self.old) }
         requires within { IsWithin sum_max (amounts_exchanged old.now new.now (root_use self.old)) }
-        ensures { self.new ≡ map (applied_row K (path_at path.now.items self.old) user.now old.now new.now) self.old }
+        ensures { self.new ≡
+            map (applied_row K (path_at path.now.items self.old) user.now old.now new.now)
+                self.old }
     {
         let change = Move {
             user,
@@ -203,8 +210,10 @@ impl<const K: usize, A: Allocator + Copy> QueueTree<K, A> {
         new: &Resource<K>,
     ) -> Result<(), OverLimit>
         requires { IsPosition self.now path.now.items }
-        ensures ok { OnOk result (over_limit K path.now.items user.now old.now new.now self.now ≡ None) }
-        ensures err { IfErr result (λ e. over_limit K path.now.items user.now old.now new.now self.now ≡ Some e) }
+        ensures ok { OnOk result
+            (over_limit K path.now.items user.now old.now new.now self.now ≡ None) }
+        ensures err { IfErr result (λ e.
+            over_limit K path.now.items user.now old.now new.now self.now ≡ Some e) }
         ensures rows { AreRows self.now }
     {
         let test = InMaximum { old, new };
@@ -226,7 +235,8 @@ impl<const K: usize, A: Allocator + Copy> QueueTree<K, A> {
         new: &Resource<K>,
     ) -> bool
         requires { IsPosition self.now path.now.items }
-        ensures { result ≡ holds_of (stays_in_user_limit K user.now old.now new.now) (item_at path.now.items self.now) }
+        ensures { result ≡ holds_of (stays_in_user_limit K user.now old.now new.now)
+            (item_at path.now.items self.now) }
     {
         let leaf = self.root.get(path.as_slice());
         leaf.stays_in_user_limit(user, old, new)
@@ -277,7 +287,8 @@ fn add_all<const K: usize, A: Allocator + Copy>(
     root: &mut Branch<Queue<K, A>, A>,
     rows: &[QueueRow<K>],
 ) -> Result<(), NoMemory>
-    requires { IsGrowing K root.old rows.now }
+    requires growing { IsGrowing K root.old rows.now }
+    requires few { length root.old + length rows.now ≤ queues_max }
     ensures grown { OnOk result (IsGrowing K root.new []) }
     ensures queues { OnOk result (queues_of root.new ≡ queues_of root.old ++ rows.now) }
 {

@@ -1,9 +1,12 @@
 use Rattle.std.proofs.Common.{rules, arith, sym, subst, ◌≡◌, ◌≤◌}
-use Rattle.cap_model.specs.Limits.{applications_max}
+use Rattle.std.specs.Prelude.{List, length}
+use Rattle.cap_model.specs.Limits.{applications_max, queues_max}
+use Rattle.cap_model.specs.Settings.{QueueRow}
 use Rattle.cap_model.specs.Listing.{IsListing}
 use Rattle.cap_config.specs.Keys.{root}
 use Rattle.cap_config.specs.Rows.{rows_under}
 use Rattle.cap_config.proofs.Listing.{rows_are_listing}
+use Rattle.cap_config.proofs.RowBounds.{few_rows}
 use Rattle.cap_config.proofs.config.config_of.Goals as goal
 
 pub invariant_of-result : goal.invariant_of-result
@@ -12,4 +15,4 @@ invariant_of-result c =
     let entries = c.args.index.now.entries.now in
     let few : c.cluster_number-5.result ≤ applications_max = omega arith in
     let rows : c.add_queues.new.queues.items ≡ rows_under 16 entries root = search rules in
-    (few, subst IsListing (sym rows) (rows_are_listing entries c.requires.bounded c.requires.whole), omega arith)
+    (few, (subst IsListing (sym rows) (rows_are_listing entries c.requires.bounded c.requires.whole), (omega arith, subst (λ (x : List QueueRow). length x ≤ queues_max) (sym rows) (few_rows entries c.requires.bounded c.requires.whole))))
