@@ -39,6 +39,17 @@ module _ {T : Type 0} where
   length-below : (name : List ℕ) (j : ℕ) (k : List (Spot T)) (ks : List (List (Spot T))) → 1 ≤ length k → 1 ≤ length (below name j (k ∷ ks))
   length-below name j k ks h = let n = length-append (map (under name j) k) (below name (suc j) ks) in let m = length-map k (under name j) in omega arith
 
+  length-kids : (name : List ℕ) (i : ℕ) (kids : List (List (Spot T))) → Filled kids → length kids ≤ length (below name i kids)
+  length-kids name i [] f = omega arith
+  length-kids name i (k ∷ ks) f =
+      let n = length-append (map (under name i) k) (below name (suc i) ks) in
+      let m = length-map k (under name i) in
+      omega (arith, n, m, first_filled k ks f, length-kids name (suc i) ks (rest_filled k ks f))
+
+  -- there are fewer children than spots
+  pub kids-lt : (name : T → List ℕ) (item : T) (kids : List (List (Spot T))) (value : List (Spot T)) → spots name item kids ≡ value → Filled kids → length kids < length value
+  kids-lt name item kids value e f = let v = ap length e in omega (arith, v, length-kids (name item) 0 kids f)
+
   last-below : (name : List ℕ) (j n : ℕ) (kids : List (List (Spot T))) (d : List (Spot T)) → n + 1 ≡ length kids → Filled kids → last_position (below name j kids) ≡ (j + n) ∷ last_position (get_or kids n d)
   last-below name j n [] d h f = absurd (omega arith)
   last-below name j zero (k ∷ []) d h f =

@@ -4,7 +4,7 @@ use Rattle.std.specs.Prelude.{◌⊎◌, bytes_eq, ◌==◌, ◌||◌, find, is_
 use Rattle.std.specs.List.{All, list_any, sum_by}
 use Rattle.std.proofs.lemmas.Bool.Decides.{nat_tests}
 use Rattle.std.proofs.Math.Seq.{drop-cons}
-use Rattle.std.proofs.lemmas.List.{append_assoc, length-append, map-append, take_more, take_all}
+use Rattle.std.proofs.lemmas.List.{append_assoc, length-append, length-map, length-take, map-append, take_more, take_all}
 use Rattle.std.proofs.lemmas.List.Sums.{sum_by-cons, sum_by-append}
 use Rattle.std.proofs.lemmas.Slice.Eq.{bytes_eq-Decides}
 use Rattle.std.proofs.lemmas.Bool.{false_from_ne_true}
@@ -12,7 +12,7 @@ use Rattle.cap_model.specs.Settings.{QueueRow}
 use Rattle.cap_model.specs.Flat.{is_under, name_of}
 use Rattle.cap_model.specs.Bounds.{HasDistinctPaths, has_path, depth}
 use Rattle.cap_model.specs.Listing.{IsListed, IsListing}
-use Rattle.cap_model.specs.Limits.{depth_max}
+use Rattle.cap_model.specs.Limits.{depth_max, queues_max}
 use Rattle.cap_model.specs.QueueCalls.{root_path}
 use Rattle.cap_model.proofs.lists.Members.{IsIn, in_right, in_either, each_of, of_each, in_map}
 use Rattle.cap_model.proofs.paths.Paths.{IsUnder, under_is, is_under_it, name_has_none, dot_in, head_is, tail_is, under_itself, has_dot}
@@ -278,6 +278,12 @@ grow_next K rows rows' start qs i levels q item h e w s lv sh un a =
     let d : drop i qs ≡ q ∷ drop (i + 1) qs = drop-cons qs i q h ∙ (let z : suc i ≡ i + 1 = omega arith in ap (λ n. get_or qs i q ∷ drop n qs) z) ∙ ap (λ x. x ∷ drop (i + 1) qs) (sym e) in
     let g = grow K rows rows' q (drop (i + 1) qs) levels item (subst (IsGrowing K rows) d w) lv sh un a in
     (g, g.queues ∙ ap (λ x. x ++ q ∷ []) s ∙ append_assoc (queues_of start) (take i qs) (q ∷ []) ∙ ap (λ x. queues_of start ++ x) (ap (λ x. take i qs ++ x ∷ []) e ∙ sym (take_more qs i q h)))
+
+pub grown_few : (rows start : List Row) (qs : List QueueRow) (i : ℕ) → queues_of rows ≡ queues_of start ++ take i qs → length start + length qs ≤ queues_max → length rows ≤ queues_max
+grown_few rows start qs i is few =
+    let whole = ap length is in
+    let t = length-take i qs in
+    omega (arith, whole, length-append (queues_of start) (take i qs), length-map rows settings_of_row, length-map start settings_of_row, t, few)
 
 pub next_level : (K : ℕ) (rows : List Row) (qs : List QueueRow) (i : ℕ) (q : QueueRow) → i < length qs → q ≡ get_or qs i q → IsGrowing K rows (drop i qs) → 1 ≤ depth q.path
 next_level K rows qs i q h e w =

@@ -1,10 +1,12 @@
 -- The last name of a path.
-use Rattle.std.proofs.Common.{◌≡◌, ℕ, zero, suc, ◌<◌, Bool, true, false, List, [], ◌∷◌, length, drop, get_or, refl, sym, ◌∙◌, ap, arith}
+use Rattle.std.proofs.Common.{◌≡◌, ℕ, zero, suc, ◌<◌, Bool, true, false, List, [], ◌∷◌, length, length-drop, take, drop, get_or, refl, sym, ◌∙◌, ap, subst, inl, inr, ◌⊎◌, ◌-◌, ◌≤◌, arith}
 use Rattle.std.specs.Prelude.{cond, ◌==◌, ◌||◌}
 use Rattle.std.specs.List.{list_any}
+use Rattle.std.proofs.lemmas.Bool.{eq-eqb, ne_eqb}
+use Rattle.std.proofs.lemmas.List.{take_all}
 use Rattle.cap_model.specs.Flat.{name_of}
 
-abbrev has_dot : List ℕ → Bool
+abbrev pub has_dot : List ℕ → Bool
 has_dot path = list_any (λ x. x == 46) path
 
 -- without a dot it is the path itself
@@ -33,5 +35,19 @@ name_after [] i h e n = absurd (omega arith)
 name_after (b ∷ path) zero h e n = ap (λ c. cond c (name_of path) (b ∷ path)) (dot_at (b ∷ path) zero h e) ∙ name_whole path n
 name_after (b ∷ path) (suc i) h e n = ap (λ c. cond c (name_of path) (b ∷ path)) (dot_at (b ∷ path) (suc i) h e) ∙ name_after path i (omega arith) e n
 
-pub name_from_start : (path : List ℕ) → has_dot (drop 0 path) ≡ false → name_of path ≡ drop 0 path
-name_from_start path n = name_whole path n
+-- so it is on the way back from the end of a path
+pub dotless_before : (path : List ℕ) (start : ℕ) → 0 < start → start ≤ length path → (get_or path (start - 1) 0 ≡ 46 → ⊥) → has_dot (drop start path) ≡ false → has_dot (drop (start - 1) path) ≡ false
+dotless_before path zero p w ne n = absurd (omega arith)
+dotless_before path (suc i) p w ne n =
+    let e : suc i - 1 ≡ i = omega arith in
+    subst (λ k. has_dot (drop k path) ≡ false) (sym e) (no_dot_from path i (omega arith) (ne_eqb (get_or path i 0) 46 (λ q. ne (ap (λ k. get_or path k 0) e ∙ q))) n)
+
+pub name_at_end : (path : List ℕ) (start : ℕ) → start ≤ length path → has_dot (drop start path) ≡ false → start ≡ 0 ⊎ ((0 < start) × (get_or path (start - 1) 0 ≡ 46)) → take (length path - start) (drop start path) ≡ name_of path
+name_at_end path start w n found = take_all (length path - start) (drop start path) (let l = length-drop start path in omega (arith, l)) ∙ sym (by start w n found)
+  where
+    by : (k : ℕ) → k ≤ length path → has_dot (drop k path) ≡ false → k ≡ 0 ⊎ ((0 < k) × (get_or path (k - 1) 0 ≡ 46)) → name_of path ≡ drop k path
+    by zero w n f = name_whole path n
+    by (suc i) w n (inl z) = absurd (omega arith)
+    by (suc i) w n (inr f) =
+        let e : suc i - 1 ≡ i = omega arith in
+        name_after path i (omega arith) (eq-eqb (get_or path i 0) 46 (sym (ap (λ k. get_or path k 0) e) ∙ f.1)) n

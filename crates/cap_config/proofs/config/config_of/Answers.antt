@@ -15,4 +15,4 @@ invariant_of-result c =
     let entries = c.args.index.now.entries.now in
     let few : c.cluster_number-5.result ≤ applications_max = omega arith in
     let rows : c.add_queues.new.queues.items ≡ rows_under 16 entries root = search rules in
-    (few, (subst IsListing (sym rows) (rows_are_listing entries c.requires.bounded c.requires.whole), (omega arith, subst (λ (x : List QueueRow). length x ≤ queues_max) (sym rows) (few_rows entries c.requires.bounded c.requires.whole))))
+    (few, subst IsListing (sym rows) (rows_are_listing entries c.requires.bounded c.requires.whole), omega arith, subst (λ (x : List QueueRow). length x ≤ queues_max) (sym rows) (few_rows entries c.requires.bounded c.requires.whole))

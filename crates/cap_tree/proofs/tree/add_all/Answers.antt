@@ -2,7 +2,7 @@ use Rattle.std.proofs.Common.{rules, ◌∙◌, ap, arith, subst, ◌-◌, ◌�
 use Rattle.std.proofs.lemmas.List.{drop_all}
 use Rattle.cap_model.specs.Bounds.{depth}
 use Rattle.cap_tree.specs.Growth.{IsGrowing}
-use Rattle.cap_tree.proofs.Growing.{grow_next, next_level, unused_stored, unused_own}
+use Rattle.cap_tree.proofs.Growing.{grow_next, next_level, unused_stored, unused_own, grown_few}
 use Rattle.cap_tree.proofs.tree.add_all.Goals as goal
 
 pub overflow_sub-levels : goal.overflow_sub-levels
@@ -47,3 +47,6 @@ add-requires-clause-own g c m = unused_own g.row.K c.in-Ok.queue m c.in-Ok.ensur
 
 pub returns-clause-grown : goal.returns-clause-grown
 returns-clause-grown g c = subst (IsGrowing g.row.K c.loop-row.root) (drop_all c.loop-row.row-index c.args.rows.now (omega arith)) c.loop-row.invariant.growing
+
+pub add-requires-clause-few : goal.add-requires-clause-few
+add-requires-clause-few g c = let n = grown_few c.loop-row.root c.args.root.now c.args.rows.now c.loop-row.row-index c.loop-row.invariant.queues c.requires.few in omega (arith, n)

@@ -1,6 +1,9 @@
-use Rattle.std.proofs.Common.{rules, ◌≡◌, ◌++◌, ◌∷◌, [], ap, sym, ◌∙◌, subst, refl}
-use Rattle.cap_tree.specs.Spot.{spots, IsAdded}
-use Rattle.cap_tree.proofs.Adding.{added_here}
+use Rattle.std.proofs.Common.{rules, arith, ◌≡◌, ◌≤◌, ◌++◌, ◌∷◌, [], ap, sym, ◌∙◌, subst, refl, length, length-append}
+use Rattle.std.specs.List.{All, sum_by}
+use Rattle.std.proofs.lemmas.List.Elements.{All-append, All-cons, All-nil}
+use Rattle.std.proofs.lemmas.List.Sums.{sum_by-append}
+use Rattle.cap_tree.specs.Spot.{spots, first_of, IsAdded}
+use Rattle.cap_tree.proofs.Adding.{added_here, kids-lt}
 use Rattle.cap_tree.proofs.branch.Branch.add_child.Goals as goal
 
 pub returns-clause-ok : goal.returns-clause-ok
@@ -10,17 +13,27 @@ returns-clause-ok g c =
     subst (λ k. IsAdded 0 (g.T.Held.name c.args.item) c.args.item c.args.self.now (spots g.T.Held.name c.self.inside.item k)) (sym e)
     (added_here 0 g.T.Held.name c.self.inside.item c.args.item kids c.args.self.now c.self.view_is refl)
 
-pub returns-then-len-clause-ok : goal.returns-then-len-clause-ok
-returns-then-len-clause-ok g c = search rules
-
-pub returns-then-len-clause-err : goal.returns-then-len-clause-err
-returns-then-len-clause-err g c = search rules
-
-pub returns-then-len-clause-kept : goal.returns-then-len-clause-kept
-returns-then-len-clause-kept g c = search rules
-
 pub returns-in-Err-clause-ok : goal.returns-in-Err-clause-ok
 returns-in-Err-clause-ok g c = search rules
 
 pub returns-clause-err : goal.returns-clause-err
 returns-clause-err g c = search rules
+
+pub invariant_of-self-2 : goal.invariant_of-self-2
+invariant_of-self-2 g c =
+    let kids = c.self.inside.children.items in
+    let more = spots g.T.Held.name c.args.item [] in
+    let e : c.push.new.self.items ≡ kids ++ more ∷ [] = c.in-Ok.ensures.items ∙ ap (λ x. kids ++ x ∷ []) c.leaf.ensures in
+    let fewer = kids-lt g.T.Held.name c.self.inside.item kids c.args.self.now c.self.view_is c.self.invariant.filled in
+    let n = length-append kids (more ∷ []) in
+    let l = ap length e in
+    record {
+      sums = λ m.
+          let s = c.self.invariant.sums m in
+          let a = sum_by-append (first_of (λ x. g.T.Held.stored x m)) kids (more ∷ []) in
+          let b = ap (sum_by (first_of (λ x. g.T.Held.stored x m))) e in
+          let z = c.requires.stored m in
+          omega (arith, s, a, b, z);
+      filled = subst (All (λ kid. 1 ≤ length kid)) (sym e) (All-append (λ kid. 1 ≤ length kid) kids (more ∷ []) c.self.invariant.filled (All-cons (λ kid. 1 ≤ length kid) more [] (omega arith) (All-nil (λ kid. 1 ≤ length kid))));
+      few = omega (arith, fewer, n, l, c.requires.few);
+    }

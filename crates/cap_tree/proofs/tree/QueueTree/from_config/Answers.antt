@@ -1,4 +1,4 @@
-use Rattle.std.proofs.Common.{rules, ◌∙◌, ◌≡◌, ◌∷◌, ◌++◌, ◌-◌, ap, refl, sym, subst, take, drop, length}
+use Rattle.std.proofs.Common.{rules, arith, ◌∙◌, ◌≡◌, ◌∷◌, ◌++◌, ◌-◌, ap, refl, sym, subst, take, drop, length}
 use Rattle.cap_model.specs.Listing.{IsListing}
 use Rattle.cap_tree.specs.Growth.{IsGrowing}
 use Rattle.cap_tree.specs.Rows.{queues_of}
@@ -20,7 +20,12 @@ add_all-requires g c =
     let others = take (length qs - 1) (drop 1 qs) in
     let e : qs ≡ c.first-item.result ∷ others = split_list qs c.first-item.result c.in-len1-up.len_at_least c.first-item.is in
     let s = start g.row.K qs others c.first-item.result c.in-Ok.queue e (subst IsListing (sym c.queues.ensures.rows) c.queues.ensures.listing) c.in-Ok.ensures.0 c.in-Ok.ensures.1 in
-    (search rules, (search rules, subst (λ r. IsGrowing g.row.K r others) (sym c.leaf-root.ensures) s.growing))
+    let few = c.queues.ensures.few in
+    let all = ap length e in
+    let root = ap length c.leaf-root.ensures in (
+      search rules,
+      (search rules, (subst (λ r. IsGrowing g.row.K r others) (sym c.leaf-root.ensures) s.growing, omega (arith, few, all, root))),
+    )
 
 pub same-root : goal.same-root
 same-root g c = refl
