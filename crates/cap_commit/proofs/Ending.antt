@@ -26,7 +26,7 @@ use Rattle.cap_tree.specs.Count.{zero_count, use_alone}
 use Rattle.cap_tree.proofs.OneUser.{count_where}
 use Rattle.cap_tree.specs.Rows.{Row, lowered_row, queues_of, user_row_at}
 use Rattle.cap_asks.specs.Apps.{HeldApps, UsesRoom, live_of, position_of}
-use Rattle.cap_nodes.proofs.Lives.{turned}
+use Rattle.cap_nodes.proofs.ByNumber.{turned}
 use Rattle.cap_commit.specs.Held.{AreReserved, Parts, IsHeld, IsInLeaf, flat_of, of_cluster}
 use Rattle.cap_commit.proofs.Counting.{count_positive}
 use Rattle.cap_commit.proofs.Holding.{leaf_same, still_placed}

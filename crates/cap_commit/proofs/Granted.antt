@@ -37,7 +37,7 @@ use Rattle.cap_tree.specs.Count.{use_alone}
 use Rattle.cap_tree.specs.Rows.{Row, applied_row, queues_of, root_use, user_row_at}
 use Rattle.cap_asks.specs.Held.{Account}
 use Rattle.cap_asks.specs.Apps.{HasRooms, HeldApps, UsesRoom, live_of, position_of}
-use Rattle.cap_nodes.proofs.Lives.{turned}
+use Rattle.cap_nodes.proofs.ByNumber.{turned}
 use Rattle.cap_commit.specs.Held.{AreReserved, Parts, IsHeld, IsInLeaf, IsRowOf, fits_its_node, flat_of, of_cluster}
 use Rattle.cap_commit.specs.Admission.{taken_back}
 use Rattle.cap_commit.proofs.Counting.{count_positive}

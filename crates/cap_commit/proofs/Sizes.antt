@@ -84,10 +84,20 @@ module _ (u v w : ℕ → ℕ) (r : Rounds u v w) (n : ℕ) (few : n ≤ resourc
   abbrev one_node : ℕ
   one_node = u (w (last_reply + amounts) + 4)
 
-  abbrev nodes : ℕ
-  nodes = u (u (u (u (0 + u (120 + one_node)) + 80) + 24) + amounts)
+  abbrev containers : ℕ
+  containers = u (80 + u (40 + amounts))
 
-  nodes_few : nodes ≤ 30000
+  containers_few : containers ≤ 10000
+  containers_few =
+      let a = amounts_few in
+      let b = r.eights (40 + amounts) in
+      let c = r.eights (80 + u (40 + amounts)) in
+      omega (arith, a, b, c)
+
+  abbrev nodes : ℕ
+  nodes = u (u (u (u (0 + u (120 + one_node)) + containers) + containers) + amounts)
+
+  nodes_few : nodes ≤ 60000
   nodes_few =
       let a = amounts_few in
       let b = r.fours (152 + amounts) in
@@ -98,10 +108,11 @@ module _ (u v w : ℕ → ℕ) (r : Rounds u v w) (n : ℕ) (few : n ≤ resourc
       let i = r.eights (w (last_reply + amounts) + 4) in
       let j = r.eights (120 + one_node) in
       let k = r.eights (0 + u (120 + one_node)) in
-      let l = r.eights (u (0 + u (120 + one_node)) + 80) in
-      let m = r.eights (u (u (0 + u (120 + one_node)) + 80) + 24) in
-      let n = r.eights (u (u (u (0 + u (120 + one_node)) + 80) + 24) + amounts) in
-      omega (arith, a, b, c, d, e, f, i, j, k, l, m, n)
+      let x = containers_few in
+      let l = r.eights (u (0 + u (120 + one_node)) + containers) in
+      let m = r.eights (u (u (0 + u (120 + one_node)) + containers) + containers) in
+      let n = r.eights (u (u (u (0 + u (120 + one_node)) + containers) + containers) + amounts) in
+      omega (arith, a, b, c, d, e, f, i, j, k, x, l, m, n)
 
   nodes_are_small : nodes < 9223372036854775808
   nodes_are_small = let a = nodes_few in omega (arith, a)

@@ -1,6 +1,6 @@
 -- What a cluster keeps where a reservation is dropped.
-use Rattle.std.proofs.Common.{◌≡◌, ℕ, zero, suc, ◌+◌, ◌<◌, ◌≤◌, false, cond, List, [], ◌∷◌, length, map, Some, None, get_or, refl, sym, ◌∙◌, ap, subst, inl, inr, arith}
-use Rattle.std.specs.Prelude.{IsSome, is_some, ◌==◌, find}
+use Rattle.std.proofs.Common.{◌≡◌, ℕ, zero, suc, ◌+◌, ◌<◌, ◌≤◌, Bool, true, false, cond, List, [], ◌∷◌, length, map, Some, None, get_or, refl, sym, ◌∙◌, ap, subst, inl, inr, arith}
+use Rattle.std.specs.Prelude.{IsSome, is_some, ◌==◌, find, filter, not}
 use Rattle.std.specs.List.{All, remove, sum_by}
 use Rattle.std.proofs.lemmas.List.Sums.{sum_by-remove}
 use Rattle.std.proofs.lemmas.Slice.Eq.{bytes_eq-Decides}
@@ -16,6 +16,8 @@ use Rattle.cap_tree.specs.Count.{zero_count, use_alone}
 use Rattle.cap_tree.proofs.OneUser.{count_where}
 use Rattle.cap_tree.specs.Rows.{Row, lowered_row, queues_of, user_row_at}
 use Rattle.cap_asks.specs.Apps.{position_of}
+use Rattle.cap_model.specs.Bounds.{AreApart}
+use Rattle.cap_nodes.proofs.Reserved.{is_elsewhere, others_elsewhere}
 use Rattle.cap_commit.specs.Held.{Parts, IsHeld, IsInLeaf, flat_of, of_cluster}
 use Rattle.cap_commit.proofs.Counting.{count_positive}
 use Rattle.cap_commit.proofs.Holding.{leaf_same, still_placed}
@@ -36,6 +38,33 @@ in_removed [] (suc i) x m = m
 in_removed (y ∷ ys) zero x m = inr m
 in_removed (y ∷ ys) (suc i) x (inl e) = inl e
 in_removed (y ∷ ys) (suc i) x (inr m) = inr (in_removed ys i x m)
+
+-- the reservation on a node stands at an index, and without it all are elsewhere
+pub record IsPlace (n : ℕ) (rs : List Reservation) (r : Reservation) : Type 0 where
+  pub index : ℕ
+  pub below : index < length rs
+  pub at : r ≡ get_or rs index r
+  pub gone : remove rs index ≡ filter (is_elsewhere n) rs
+
+pub place_of : (n : ℕ) (rs : List Reservation) (r : Reservation) → AreApart rs → find (λ x. x.node == n) rs ≡ Some r → IsPlace n rs r
+place_of n [] r a e = absurd (cc e)
+place_of n (x ∷ rs) r a e = by (x.node == n) refl e (place_of n rs r a.1)
+  where
+    by : (b : Bool) → x.node == n ≡ b → cond b (Some x) (find (λ y. y.node == n) rs) ≡ Some r → (find (λ y. y.node == n) rs ≡ Some r → IsPlace n rs r) → IsPlace n (x ∷ rs) r
+    by true h k more = record {
+      index = 0;
+      below = omega arith;
+      at = cc k;
+      gone = sym (others_elsewhere x.node n rs h a.0) ∙ sym (ap (λ b. cond (not b) (x ∷ filter (is_elsewhere n) rs) (filter (is_elsewhere n) rs)) h);
+    }
+    by false h k more =
+        let later = more k in
+        record {
+          index = suc later.index;
+          below = let b = later.below in omega (arith, b);
+          at = later.at;
+          gone = ap (λ xs. x ∷ xs) later.gone ∙ sym (ap (λ b. cond (not b) (x ∷ filter (is_elsewhere n) rs) (filter (is_elsewhere n) rs)) h);
+        }
 
 module _ {K : ℕ} (p : Parts K) (h : IsHeld p) (i : ℕ) (r : Reservation) (below : i < length p.nodes.reserved) (at : r ≡ get_or p.nodes.reserved i r) where
   abbrev old : Flat K

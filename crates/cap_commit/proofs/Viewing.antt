@@ -9,7 +9,7 @@ use Rattle.cap_model.specs.declared.reply.ReplyWith.{ReplyWith}
 use Rattle.cap_model.specs.declared.reply.ReplyWith.TheVariants as Reply
 use Rattle.cap_model.specs.Flat.{Flat, App, AppTable, app_at, app_in}
 use Rattle.cap_model.specs.Allocate.{nothing_told}
-use Rattle.cap_model.specs.Reporting.{NewsRoom, reported_of, full_reply, HasNumbers, HasRoomForReplies, news_most, IsNoAllocate}
+use Rattle.cap_model.specs.Reporting.{IfAllocate, NewsRoom, reported_of, full_reply, HasNumbers, HasRoomForReplies, news_most, IsNoAllocate}
 use Rattle.cap_model.proofs.telling.Replying.{some_room, other_room}
 use Rattle.cap_asks.specs.Apps.{kept_of}
 
@@ -41,3 +41,17 @@ module _ {K : ℕ} (flat : Flat K) where
 
   pub has_other : (request : Request K) (room : NewsRoom) → ((n id : ℕ) (asks : List Ask) (releases : List ℕ) → request ≡ Request.Allocate n id asks releases → ⊥) → HasRoomForReplies flat request room
   has_other request room none = other_room flat request room (no_allocate request none)
+
+-- a reply that isn't an allocate's is none
+pub not_numbers : {K : ℕ} (reply : ReplyWith K AllocateNumbers) → ((n : AllocateNumbers) → reply ≡ Reply.Allocate n → ⊥) → IfAllocate (λ _. ⊥) reply
+not_numbers (Reply.Refused refusal) none = tt
+not_numbers (Reply.Submit app) none = tt
+not_numbers (Reply.RegisterMaster minimum maximum) none = tt
+not_numbers (Reply.Allocate reply) none = none reply refl
+not_numbers (Reply.FinishMaster ended) none = tt
+not_numbers (Reply.RegisterNode node) none = tt
+not_numbers (Reply.Heartbeat reply) none = tt
+not_numbers (Reply.NodeGone ended) none = tt
+not_numbers (Reply.QueueInfo report) none = tt
+not_numbers Reply.SetQueueState none = tt
+not_numbers (Reply.ClusterInfo report) none = tt

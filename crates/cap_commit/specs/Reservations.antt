@@ -1,17 +1,13 @@
 -- Which reservations are dropped.
-use Rattle.std.specs.Prelude.{ℕ, Bool, List, ◌==◌}
+use Rattle.std.specs.Prelude.{ℕ, Bool, List, not, filter}
 use Rattle.std.specs.Option.{option_map_or}
 use Rattle.cap_model.specs.Asks.{Ask}
 use Rattle.cap_model.specs.Asking.{keep_first, reservations_left}
-use Rattle.cap_model.specs.Flat.{Flat, Reservation, app_at, is_for}
-use Rattle.cap_commit.specs.declared.reservations.Reserved.{Reserved}
-use Rattle.cap_commit.specs.declared.reservations.Reserved.TheVariants.{Application, Node, Ask as OfAsk}
+use Rattle.cap_model.specs.Flat.{Flat, Reservation, app_at, is_for, with_reserved}
 
--- whether a reservation is one of these: an application's, on a node, or for an ask
-abbrev pub is_reserved : Reserved → Reservation → Bool
-is_reserved (Application number) = λ r. r.app == number
-is_reserved (Node number) = λ r. r.node == number
-is_reserved (OfAsk app key) = is_for app key
+-- without the reservations that pass a test
+abbrev pub without_reserved : {K : ℕ} → (Reservation → Bool) → Flat K → Flat K
+without_reserved test cluster = with_reserved (filter (λ r. not (test r)) cluster.nodes.reserved) cluster
 
 -- the reservations that stay where an ask of an application, already rounded, replaces that of its key
 abbrev pub kept_by_ask : {K : ℕ} → ℕ → Ask → Flat K → List Reservation

@@ -1,7 +1,8 @@
 ghost use Rattle.std.specs.Prelude.{◌≡◌, ◌≤◌, ◌+◌, ◌==◌, ◌&&◌, ◌∷◌, [], Some, None, IfOk, OnOk, OnErr, IsOk, IfSome, IsSome, is_some, length, find, nat_lt, ◌<◌, option_and_then};
-ghost use Rattle.std.specs.List.{All, remove};
+ghost use Rattle.std.specs.List.{All};
 ghost use Rattle.cap_model.specs.Limits.{applications_max, resources_max};
 ghost use Rattle.cap_model.specs.Flat.{opened_cluster, queue_at, app_at, node_at, with_app, with_node, with_reserved, containers_on, containers_of};
+ghost use Rattle.cap_model.specs.Bounds.{AreApart};
 ghost use Rattle.cap_model.specs.Uses.{queue_use};
 ghost use Rattle.cap_model.specs.Submit.{submit_refusal, after_submit};
 ghost use Rattle.cap_model.specs.RegisterNode.{register_node_refusal, after_register_node};
@@ -24,7 +25,6 @@ ghost use Rattle.cap_commit.specs.Owners.{owns, containers_owned, containers_nam
 use crate::limits::Limits;
 use crate::owner::Owner;
 use crate::report::report_of;
-use crate::reservations::{Reserved, keep_first};
 use cap_asks::{Apps, Position};
 use cap_config::Config;
 use cap_model::{
@@ -115,10 +115,11 @@ impl<const K: usize> Cluster<K> {
         &self.apps
     }
 
-    /// Its nodes, with the containers that are live on them.
+    /// Its nodes, with the containers that are live on them and the reservations, of which each node holds one at most.
     pub fn nodes(&self) -> &Nodes<K>
         ensures value { result.now ≡ self.now.flat.nodes }
         ensures numbers { HasDistinctNumbers self.now.flat }
+        ensures apart { AreApart self.now.flat.nodes.reserved }
         ensures resources { K ≤ resources_max }
     {
         &self.nodes
@@ -245,11 +246,11 @@ impl<const K: usize> Cluster<K> {
         ensures flat { self.new.flat ≡ with_reserved (kept_by_ask number ask.now self.old.flat) self.old.flat }
         ensures accounts { self.new.accounts ≡ self.old.accounts }
     {
-        if self.nodes.reservations().is_empty() {
+        if self.nodes.reservation_count() == 0 {
             return;
         }
         let left = self.apps.reservations_left(number, ask);
-        keep_first(self, &Reserved::Ask(number, ask.key()), left);
+        self.keep_first(number, &ask.key(), left);
     }
 
     /// Tells an active application the oldest grants and ends that wait, at most 64 of each: its response id moves on, and the
@@ -271,7 +272,7 @@ impl<const K: usize> Cluster<K> {
         ensures finished { self.new.flat ≡ after_finish_master self.old.flat number }
     {
         let ended = self.end_all(Owner::Application(number), Cause::Released);
-        keep_first(self, &Reserved::Application(number), 0);
+        self.unreserve_app(number);
         let Some(app) = self.apps.app(number) else {
             unreachable!()
         };
@@ -346,21 +347,6 @@ impl<const K: usize> Cluster<K> {
         self.apps.add_end(container.app(), &end);
     }
 
-    /// Drops the reservation at this index, in order of making: what it kept is given back at every level of its queue.
-    pub(crate) fn unreserve(&mut self, index: usize)
-        requires { index < length self.old.flat.nodes.reserved }
-        ensures flat { self.new.flat ≡ with_reserved (remove self.old.flat.nodes.reserved index) self.old.flat }
-        ensures accounts { self.new.accounts ≡ self.old.accounts }
-    {
-        let reservation = self.nodes.reservations()[index];
-        let Some(app) = self.apps.app(reservation.app()) else {
-            unreachable!()
-        };
-        let tree = &mut *self.tree;
-        tree.give_back(app.position(), app.user(), &reservation.resource());
-        self.nodes.unreserve(index);
-    }
-
     /// Takes a node in under the next number, of a total in MiB and vcores. `NoMemory` changes nothing.
     pub fn add_node(
         &mut self,
@@ -396,7 +382,7 @@ impl<const K: usize> Cluster<K> {
         ensures flat { self.new.flat ≡ without_node number self.old.flat }
         ensures accounts { self.new.accounts ≡ self.old.accounts }
     {
-        keep_first(self, &Reserved::Node(number), 0);
+        self.unreserve_node(number);
         self.nodes.gone(number);
     }
 }

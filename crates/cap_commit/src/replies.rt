@@ -12,11 +12,12 @@ impl<const K: usize> Cluster<K> {
         requires { HasNumbers self.now.flat reply.now }
         ensures { result ≡ full_reply self.now.flat reply.now }
     {
+        let apps = self.apps();
         let ReplyWith::Allocate { reply } = reply else {
             return reply.other();
         };
         ReplyWith::Allocate {
-            reply: self.apps().reply(reply.app, &reply.reported),
+            reply: apps.reply(reply.app, &reply.reported),
         }
     }
 

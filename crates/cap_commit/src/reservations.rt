@@ -1,48 +1,55 @@
-//! Which reservations there are of an application, on a node or for an ask, and how they are dropped.
-ghost use Rattle.std.specs.Prelude.{◌≡◌};
-ghost use Rattle.cap_model.specs.Flat.{with_reserved};
+//! How reservations of an application, for an ask or on a node are dropped. What a dropped one kept is given back at every level of
+//! its queue.
+ghost use Rattle.std.specs.Prelude.{◌≡◌, Some, find, filter, not, ◌==◌};
 ghost use Rattle.cap_model.specs.Asking.{keep_first};
-ghost use Rattle.cap_commit.specs.Reservations.{is_reserved};
+ghost use Rattle.cap_model.specs.Flat.{is_for, with_reserved};
+ghost use Rattle.cap_commit.specs.Reservations.{without_reserved};
 
 use crate::cluster::Cluster;
 use cap_model::{Key, Reservation};
 
-/// Which reservations: those of an application or on a node, by its number, or those for the ask of a key of an application.
-#[derive(Clone, Copy, Debug)]
-pub(crate) enum Reserved {
-    Application(u64),
-    Node(u64),
-    Ask(u64, Key),
-}
-
-impl Reserved {
-    /// Whether a reservation is one of these.
-    pub(crate) fn has<const K: usize>(&self, reservation: &Reservation<K>) -> bool
-        ensures { result ≡ is_reserved self.now reservation.now }
+impl<const K: usize> Cluster<K> {
+    /// Drops a reservation.
+    fn unreserve(&mut self, reservation: &Reservation<K>)
+        requires { find (λ r. r.node == reservation.now.node) self.old.flat.nodes.reserved ≡ Some reservation.now }
+        ensures flat { self.new.flat ≡ without_reserved (λ r. r.node == reservation.now.node) self.old.flat }
+        ensures accounts { self.new.accounts ≡ self.old.accounts }
     {
-        match self {
-            Reserved::Application(number) => reservation.app() == *number,
-            Reserved::Node(number) => reservation.node() == *number,
-            Reserved::Ask(app, key) => reservation.app() == *app && reservation.key().is_same(key),
+        let Some(app) = self.apps.app(reservation.app()) else {
+            unreachable!()
+        };
+        let tree = &mut *self.tree;
+        tree.give_back(app.position(), app.user(), &reservation.resource());
+        self.nodes.unreserve_on(reservation.node());
+    }
+
+    /// Drops all reservations of an application.
+    pub(crate) fn unreserve_app(&mut self, number: u64)
+        ensures flat { self.new.flat ≡ without_reserved (λ r. r.app == number) self.old.flat }
+        ensures accounts { self.new.accounts ≡ self.old.accounts }
+    {
+        while let Some(reservation) = self.nodes().reservation_of_app(number) {
+            self.unreserve(&reservation);
         }
     }
-}
 
-/// Of these reservations the first so many stay, in order of making. The others are dropped, and what they kept is given back.
-pub(crate) fn keep_first<const K: usize>(cluster: &mut Cluster<K>, of: &Reserved, most: u32)
-    ensures flat { cluster.new.flat ≡ with_reserved (keep_first (is_reserved of.now) most cluster.old.flat.nodes.reserved) cluster.old.flat }
-    ensures accounts { cluster.new.accounts ≡ cluster.old.accounts }
-{
-    let mut index = 0;
-    let mut left = most;
-    while let Some(reservation) = cluster.nodes().reservations().get(index) {
-        if !of.has(reservation) {
-            index += 1;
-        } else if left > 0 {
-            index += 1;
-            left -= 1;
-        } else {
-            cluster.unreserve(index);
+    /// Drops the reservations for the ask of a key of an application but for the first so many, in order of making.
+    pub(crate) fn keep_first(&mut self, number: u64, key: &Key, most: u32)
+        ensures flat { self.new.flat ≡ with_reserved (keep_first (is_for number key.now) most self.old.flat.nodes.reserved) self.old.flat }
+        ensures accounts { self.new.accounts ≡ self.old.accounts }
+    {
+        while let Some(reservation) = self.nodes().reservation_for(number, key, most) {
+            self.unreserve(&reservation);
+        }
+    }
+
+    /// Drops the reservation that a node holds. Where it holds none, nothing changes.
+    pub(crate) fn unreserve_node(&mut self, number: u64)
+        ensures flat { self.new.flat ≡ without_reserved (λ r. r.node == number) self.old.flat }
+        ensures accounts { self.new.accounts ≡ self.old.accounts }
+    {
+        if let Some(reservation) = self.nodes.reservation_on(number) {
+            self.unreserve(&reservation);
         }
     }
 }

@@ -1,9 +1,10 @@
 pub mod Numbered
-pub mod Lives
+pub mod ByNumber
 pub mod Pairs
 pub mod Owned
 pub mod Presents
 pub mod Sums
 pub mod Ties
 pub mod Changes
+pub mod Walked
 pub mod Reserved

@@ -1,42 +1,62 @@
--- The one reservation that a node holds at most.
-use Rattle.std.proofs.Common.{◌≡◌, ℕ, zero, suc, ◌+◌, ◌<◌, ◌≤◌, Bool, true, false, cond, List, [], ◌∷◌, length, drop, refl, sym, ◌∙◌, ap, arith, get_or, inl, inr}
-use Rattle.std.specs.Prelude.{filter, not, ◌==◌}
-use Rattle.std.specs.List.{list_any, remove}
+-- The one reservation that a node holds at most, dropped.
+use Rattle.std.proofs.Common.{◌≡◌, ℕ, ◌+◌, ◌<◌, ◌≤◌, Bool, true, false, cond, List, [], ◌∷◌, map, Some, None, Option, refl, sym, ◌∙◌, ap, subst, arith}
+use Rattle.std.specs.Prelude.{filter, find, not, nat_lt, option_map, ◌==◌, ◌&&◌}
+use Rattle.std.specs.List.{list_any}
 use Rattle.std.proofs.lemmas.Bool.Decides.{nat_tests}
-use Rattle.cap_model.specs.Flat.{Reservation}
-use Rattle.cap_model.specs.Bounds.{AreApart}
-use Rattle.cap_nodes.specs.Tables.{IsReservedAt}
-use Rattle.cap_model.proofs.lists.Members.{IsIn, none_in}
+use Rattle.cap_model.specs.Flat.{Container, Reservation}
+use Rattle.cap_model.specs.Bounds.{AreApart, IsRising}
+use Rattle.cap_model.proofs.lists.Members.{found, none_in}
 use Rattle.cap_model.proofs.lists.Filters.{filter_whole}
+use Rattle.cap_model.proofs.lists.Numbered.{rising_from_low}
+use Rattle.cap_nodes.specs.Loads.{reservation_of}
+use Rattle.cap_nodes.proofs.Numbered.{not_later}
+use Rattle.cap_nodes.proofs.Walked.{above_zero, first_kept}
 
 -- whether a reservation is on another node
 abbrev pub is_elsewhere : ℕ → Reservation → Bool
 is_elsewhere n r = not (r.node == n)
 
 -- where none is on a node, all are elsewhere
-pub all_elsewhere : (n : ℕ) (rs : List Reservation) → list_any (λ (r : Reservation). r.node == n) rs ≡ false → filter (is_elsewhere n) rs ≡ rs
-all_elsewhere n rs e = filter_whole (is_elsewhere n) rs (λ r m. ap not (none_in (λ (x : Reservation). x.node == n) rs r e m))
+pub all_elsewhere : (n : ℕ) (rs : List Reservation) → None ≡ find (λ (r : Reservation). r.node == n) rs → filter (is_elsewhere n) rs ≡ rs
+all_elsewhere n [] e = refl
+all_elsewhere n (r ∷ rs) e = by (r.node == n) e (all_elsewhere n rs)
+  where
+    by : (b : Bool) → None ≡ cond b (Some r) (find (λ (x : Reservation). x.node == n) rs) → (None ≡ find (λ (x : Reservation). x.node == n) rs → filter (is_elsewhere n) rs ≡ rs) →
+        cond (not b) (r ∷ filter (is_elsewhere n) rs) (filter (is_elsewhere n) rs) ≡ r ∷ rs
+    by true h more = absurd (cc h)
+    by false h more = ap (λ xs. r ∷ xs) (more h)
 
-others_elsewhere : (n m : ℕ) (rs : List Reservation) → n == m ≡ true → list_any (λ (s : Reservation). n == s.node) rs ≡ false → filter (is_elsewhere m) rs ≡ rs
+pub others_elsewhere : (n m : ℕ) (rs : List Reservation) → n == m ≡ true → list_any (λ (s : Reservation). n == s.node) rs ≡ false → filter (is_elsewhere m) rs ≡ rs
 others_elsewhere n m rs t e =
     filter_whole (is_elsewhere m) rs (λ r i. let no = none_in (λ (s : Reservation). n == s.node) rs r e i in let other : r.node == m ≡ false = grind (arith, nat_tests, no, t) in ap not other)
 
--- an item at an index is a member
-at_member : (rs : List Reservation) (i : ℕ) (d : Reservation) → i < length rs → IsIn (get_or rs i d) rs
-at_member [] i d b = absurd (omega (arith, b))
-at_member (r ∷ rs) zero d b = inl refl
-at_member (r ∷ rs) (suc i) d b = inr (at_member rs i d (omega (arith, b)))
+-- without the one on a node, by its number, all are elsewhere
+taken_out : (n low : ℕ) (cs : List Container) (high : ℕ) → IsRising low (map (λ c. c.number) cs) high → AreApart (map reservation_of cs) → (c : Container) → find (λ d. d.node == n) cs ≡ Some c →
+    map reservation_of (filter (λ d. not (d.number == c.number)) cs) ≡ filter (is_elsewhere n) (map reservation_of cs)
+taken_out n low [] high r a c e = absurd (cc e)
+taken_out n low (d ∷ ds) high r a c e = by (d.node == n) refl e (taken_out n (d.number + 1) ds high r.1 a.1 c)
+  where
+    num : Container → ℕ
+    num x = x.number
 
--- without the one on a node, all are elsewhere
-removed_at : (n : ℕ) (rs : List Reservation) (i : ℕ) (d : Reservation) → AreApart rs → i < length rs → (get_or rs i d).node == n ≡ true → remove rs i ≡ filter (is_elsewhere n) rs
-removed_at n [] i d a b e = absurd (omega (arith, b))
-removed_at n (r ∷ rs) zero d a b e = sym (others_elsewhere r.node n rs e a.0) ∙ sym (ap (λ t. cond (not t) (r ∷ filter (is_elsewhere n) rs) (filter (is_elsewhere n) rs)) e)
-removed_at n (r ∷ rs) (suc i) d a b e =
-    let m = at_member rs i d (omega (arith, b)) in
-    let no = none_in (λ (s : Reservation). r.node == s.node) rs (get_or rs i d) a.0 m in
-    let other : r.node == n ≡ false = grind (arith, nat_tests, no, e) in
-    ap (λ xs. r ∷ xs) (removed_at n rs i d a.1 (omega (arith, b)) e) ∙ sym (ap (λ t. cond (not t) (r ∷ filter (is_elsewhere n) rs) (filter (is_elsewhere n) rs)) other)
+    by : (b : Bool) → (d.node == n) ≡ b → cond b (Some d) (find (λ x. x.node == n) ds) ≡ Some c →
+        (find (λ x. x.node == n) ds ≡ Some c → map reservation_of (filter (λ x. not (x.number == c.number)) ds) ≡ filter (is_elsewhere n) (map reservation_of ds)) →
+        map reservation_of (filter (λ x. not (x.number == c.number)) (d ∷ ds)) ≡ cond (not b) (reservation_of d ∷ filter (is_elsewhere n) (map reservation_of ds)) (filter (is_elsewhere n) (map reservation_of ds))
+    by true h k more =
+        let same : c ≡ d = cc k in
+        let number : (d.number == c.number) ≡ true = rw same (let own : (d.number == d.number) ≡ true = grind (arith, nat_tests) in own) in
+        let rest : filter (λ x. not (x.number == c.number)) ds ≡ ds = rw same (not_later num d.number (d.number + 1) ds high r.1 (omega arith)) in
+        rw (number, rest) (sym (others_elsewhere d.node n (map reservation_of ds) h a.0))
+    by false h k more =
+        let m = (found (λ (x : Container). x.node == n) ds c k).0 in
+        let later = rising_from_low num (d.number + 1) ds high c r.1 m in
+        let other : (d.number == c.number) ≡ false = grind (arith, nat_tests, later) in
+        rw other (ap (λ rs. reservation_of d ∷ rs) (more k))
 
-pub removed_is : (n : ℕ) (rs : List Reservation) (i : ℕ) → AreApart rs → IsReservedAt n i rs → remove rs i ≡ filter (is_elsewhere n) rs
-removed_is n [] i a h = absurd (let b = h.below in omega (arith, b))
-removed_is n (r ∷ rs) i a h = removed_at n (r ∷ rs) i r a h.below (h.on r)
+module _ (n : ℕ) (cs : List Container) (high : ℕ) (r : IsRising 1 (map (λ c. c.number) cs) high) where
+  pub one_dropped : AreApart (map reservation_of cs) → (c : Container) → find (λ d. d.node == n && nat_lt 0 d.number) cs ≡ Some c →
+      map reservation_of (filter (λ d. not (d.number == c.number)) cs) ≡ filter (is_elsewhere n) (map reservation_of cs)
+  one_dropped a c e = taken_out n 1 cs high r a c (sym (above_zero (λ (x : Reservation). x.node == n) cs high r) ∙ e)
+
+  pub none_dropped : None ≡ find (λ d. d.node == n && nat_lt 0 d.number) cs → filter (is_elsewhere n) (map reservation_of cs) ≡ map reservation_of cs
+  none_dropped e = all_elsewhere n (map reservation_of cs) (first_kept (λ (x : Reservation). x.node == n) cs high r None e)

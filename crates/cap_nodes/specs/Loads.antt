@@ -9,7 +9,7 @@ use Rattle.cap_vector.specs.Vector.{Fits, IsWithin, amount_max, plus, less, zero
 use Rattle.cap_model.specs.Limits.{live_max}
 use Rattle.cap_model.specs.Amounts.{sum_where}
 use Rattle.cap_model.specs.Bounds.{IsRising}
-use Rattle.cap_model.specs.Flat.{ClusterNode, Container, NodeTable, Reservation, change_node, containers_on}
+use Rattle.cap_model.specs.Flat.{ClusterNode, Container, NodeTable, Reservation, change_node, containers_on, is_for}
 use Rattle.cap_model.specs.Heartbeat.{after_beat}
 use Rattle.cap_model.specs.declared.ask.Key.{Key}
 use Rattle.cap_model.specs.Events.{launch}
@@ -26,9 +26,9 @@ pub record LoadTable : Type 0 where
   pub loads : List Load
   pub next : ℕ
 
--- the live containers in order of number, and the number of the next
-pub record LiveTable : Type 0 where
-  pub live : List Container
+-- containers in order of number, and the number of the next
+pub record ContainerTable : Type 0 where
+  pub containers : List Container
   pub next : ℕ
 
 abbrev pub load_at : List Load → ℕ → Option Load
@@ -54,10 +54,17 @@ new_container number app key node resource = record { number = number; app = app
 abbrev pub new_reservation : ℕ → Key → ℕ → List ℕ → Reservation
 new_reservation app key node resource = record { app = app; key = key; node = node; resource = resource }
 
--- the live containers with one more, of the next number
-abbrev pub add_live : ℕ → Key → ℕ → List ℕ → LiveTable → LiveTable
-add_live app key node resource table =
-    record { live = table.live ++ new_container table.next app key node resource ∷ []; next = table.next + 1 }
+-- containers with one more, of the next number
+abbrev pub push_container : ℕ → Key → ℕ → List ℕ → ContainerTable → ContainerTable
+push_container app key node resource table =
+    record { containers = table.containers ++ new_container table.next app key node resource ∷ []; next = table.next + 1 }
+
+-- the reservation that a container of the table of reservations stands for, and whether it is for this key of an application
+abbrev pub reservation_of : Container → Reservation
+reservation_of c = record { app = c.app; key = c.key; node = c.node; resource = c.resource }
+
+abbrev pub is_kept_for : ℕ → Key → Container → Bool
+is_kept_for app key c = is_for app key (reservation_of c)
 
 -- the nodes with one more of K resources, of the next number, which holds nothing, and with one of them changed
 abbrev pub add_load : ℕ → List ℕ → List ℕ → List ℕ → LoadTable → LoadTable
@@ -120,13 +127,13 @@ abbrev pub is_of : (Container → ℕ) → Option Container → ℕ → Bool
 is_of key None owner = false
 is_of key (Some c) owner = key c == owner
 
--- each owner has its live containers by the pairs
+-- each owner has its containers by the pairs
 abbrev pub IsOwnerIndex : (Container → ℕ) → List Container → List (ℕ × ℕ) → Type 0
 IsOwnerIndex key live pairs = (owner number : ℕ) → has_pair pairs owner number ≡ is_of key (find (λ c. c.number == number) live) owner
 
 -- the entries are the containers by number, which rise and are few
-abbrev pub IsLive : List (ℕ × Container) → ℕ → Type 0
-IsLive entries next =
+abbrev pub IsContainerTable : List (ℕ × Container) → ℕ → Type 0
+IsContainerTable entries next =
     (entries ≡ tagged_items (λ c. c.number) (values_of entries))
     × IsRising 1 (map (λ c. c.number) (values_of entries)) next
     × (length (values_of entries) ≤ live_max)

@@ -1,7 +1,7 @@
 -- What a node has left.
-use Rattle.std.specs.Prelude.{◌≡◌, ℕ, ◌<◌, ◌==◌, true, List, [], length, Option, Some, None, slice_index_or}
+use Rattle.std.specs.Prelude.{ℕ, List, [], Option, Some, None}
 use Rattle.cap_vector.specs.Vector.{less}
-use Rattle.cap_model.specs.Flat.{ClusterNode, NodeTable, Reservation, node_in}
+use Rattle.cap_model.specs.Flat.{ClusterNode, NodeTable, node_in}
 use Rattle.cap_model.specs.Uses.{held_on}
 
 -- what a node has left
@@ -11,8 +11,3 @@ left_of None held = []
 
 abbrev pub free_on : ℕ → NodeTable → ℕ → List ℕ
 free_on K table n = left_of (node_in table n) (held_on K table n)
-
--- the reservation at an index is on the node
-pub record IsReservedAt (n index : ℕ) (reserved : List Reservation) : Type 0 where
-  pub below : index < length reserved
-  pub on : (d : Reservation) → (slice_index_or reserved index d).node == n ≡ true

@@ -1,5 +1,5 @@
 ghost use Rattle.std.specs.Prelude.{◌≡◌, ◌+◌, ◌<◌, ◌≤◌, ◌==◌, ◌&&◌, nat_lt, [], ◌∷◌, IsSome, Some, IfOk, IfSome, OnOk, OnErr, bytes_eq, length, map, find, filter, not, true, false, is_none, option_and_then};
-ghost use Rattle.std.specs.List.{All, list_any, remove};
+ghost use Rattle.std.specs.List.{All, list_any, slice_get};
 ghost use Rattle.std.specs.Option.{option_copied};
 ghost use Rattle.cap_vector.specs.Vector.{Fits, IsWithin, amount_max, plus};
 ghost use Rattle.cap_model.specs.Limits.{live_max, nodes_max, number_end};
@@ -11,24 +11,27 @@ ghost use Rattle.cap_model.specs.Events.{add_reservation};
 ghost use Rattle.cap_model.specs.Ending.{complete};
 ghost use Rattle.cap_model.specs.NodeGone.{remove_node};
 ghost use Rattle.cap_model.specs.Uses.{held_on};
-ghost use Rattle.cap_nodes.specs.Tables.{IsReservedAt, free_on};
-ghost use Rattle.cap_nodes.specs.Loads.{add_container, new_reservation, after_beat_of};
+ghost use Rattle.cap_nodes.specs.Tables.{free_on};
+ghost use Rattle.cap_nodes.specs.Loads.{add_container, new_reservation, reservation_of, after_beat_of};
 
-use crate::live::Live;
+use crate::containers::Containers;
 use crate::node::Node;
 use crate::present::Present;
-use cap_model::{Container, HeartbeatReply, Key, NoMemory, Reservation, ShortText};
+use cap_model::{
+    Container, HeartbeatReply, Key, LIVE_MAX, NUMBER_END, NoMemory, Reservation, ShortText,
+};
 use cap_vector::{Resource, checked_add, minus};
 use std::alloc::Global;
 use std::marker::Model;
 
-/// The nodes that are present and the containers that are live on them, each in order of number, and the reservations in order of making. Contracts see them as the
-/// table of the flat cluster.
+/// The nodes that are present and the containers that are live on them, each in order of number, and the reservations in order of
+/// making. Contracts see them as the table of the flat cluster. A reservation stands in a table of its own as a container that
+/// is not live, whose number is its place in the order of making.
 #[derive(Drop)]
 pub struct Nodes<const K: usize> {
     present: Present<K>,
-    live: Live<K>,
-    reserved: Vec<Reservation<K>>,
+    live: Containers<K>,
+    reserved: Containers<K>,
     total: Resource<K>,
 }
 
@@ -36,13 +39,13 @@ impl<const K: usize> Model for Nodes<K> {
     ghost use Rattle.std.specs.Prelude.{◌≡◌, [], map};
     ghost use Rattle.cap_model.specs.Flat.{NodeTable};
     ghost use Rattle.cap_model.specs.RegisterNode.{sum_of_totals};
-    ghost use Rattle.cap_nodes.specs.Loads.{AreTied};
+    ghost use Rattle.cap_nodes.specs.Loads.{AreTied, reservation_of};
 
     ghost Value = { NodeTable };
 
-    ghost view = { λ n. record { present = map (λ p. p.node) n.present.loads; live = n.live.live; reserved = n.reserved.items; next_node = n.present.next; next_container = n.live.next } };
+    ghost view = { λ n. record { present = map (λ p. p.node) n.present.loads; live = n.live.containers; reserved = map reservation_of n.reserved.containers; next_node = n.present.next; next_container = n.live.next } };
 
-    ghost invariant = { λ n. (AreTied K n.present.loads n.live.live) × (n.total ≡ sum_of_totals K (map (λ p. p.node) n.present.loads)) };
+    ghost invariant = { λ n. (AreTied K n.present.loads n.live.containers) × (n.total ≡ sum_of_totals K (map (λ p. p.node) n.present.loads)) };
 }
 
 impl<const K: usize> Nodes<K> {
@@ -52,8 +55,8 @@ impl<const K: usize> Nodes<K> {
     {
         Nodes {
             present: Present::new(alloc),
-            live: Live::new(alloc),
-            reserved: Vec::new(alloc),
+            live: Containers::new(alloc),
+            reserved: Containers::new(alloc),
             total: Resource::zero(),
         }
     }
@@ -124,38 +127,52 @@ impl<const K: usize> Nodes<K> {
         self.live.get(number)
     }
 
-    /// The reservations, in order of making.
-    pub fn reservations(&self) -> &[Reservation<K>]
-        ensures { result.now ≡ self.now.reserved }
+    /// How many reservations there are.
+    pub fn reservation_count(&self) -> usize
+        ensures { result ≡ length self.now.reserved }
     {
-        &self.reserved
+        self.reserved.count()
     }
 
-    /// The reservation that a node holds, none where it holds none.
+    /// The reservation that a node holds, the oldest where it holds several, none where it holds none.
     pub fn reservation_on(&self, node: u64) -> Option<Reservation<K>>
         ensures { result ≡ find (λ r. r.node == node) self.now.reserved }
     {
-        for reservation in &self.reserved {
-            if reservation.node() == node {
-                return Some(*reservation);
-            }
-        }
-        None
+        let Some(container) = self.reserved.next_on_node(node, 0) else {
+            return None;
+        };
+        Some(reservation_of(&container))
     }
 
-    /// How many reservations there are for a key of an application. All nodes have numbers from 1 that rise and are below the next.
+    /// The oldest reservation for an application, none where there is none.
+    pub fn reservation_of_app(&self, app: u64) -> Option<Reservation<K>>
+        ensures { result ≡ find (λ r. r.app == app) self.now.reserved }
+    {
+        let Some(container) = self.reserved.next_of_app(app, 0) else {
+            return None;
+        };
+        Some(reservation_of(&container))
+    }
+
+    /// The reservation for a key of an application that so many older ones for this key come before, none where there are no more
+    /// than so many. It looks at the reservations for the application alone.
+    pub fn reservation_for(&self, app: u64, key: &Key, older: u32) -> Option<Reservation<K>>
+        ensures { result ≡ slice_get (filter (is_for app key.now) self.now.reserved) older }
+    {
+        let Some(container) = self.reserved.nth_for(app, key, older) else {
+            return None;
+        };
+        Some(reservation_of(&container))
+    }
+
+    /// How many reservations there are for a key of an application. It looks at the reservations for the application alone. All
+    /// nodes have numbers from 1 that rise and are below the next.
     pub fn reserved_for(&self, app: u64, key: &Key) -> usize
         ensures count { result ≡ length (filter (is_for app key.now) self.now.reserved) }
         ensures rising { IsRising 1 (map (λ node. node.number) self.now.present) self.now.next_node }
     {
         let _next = self.present.next();
-        let mut count = 0;
-        for reservation in &self.reserved {
-            if reservation.app() == app && reservation.key().is_same(key) {
-                count += 1;
-            }
-        }
-        count
+        self.reserved.count_for(app, key)
     }
 
     /// How many containers are live.
@@ -259,37 +276,13 @@ impl<const K: usize> Nodes<K> {
         ensures ok { OnOk result (self.new ≡ add_reservation (new_reservation app key.now node resource.now) self.old) }
         ensures err { OnErr result (self.new ≡ self.old) }
     {
-        let reservation = Reservation {
-            app,
-            key: *key,
-            node,
-            resource: *resource,
-        };
-        match self.reserved.push(reservation) {
-            Ok(()) => Ok(()),
+        if self.reserved.count() >= LIVE_MAX || self.reserved.next() >= NUMBER_END {
+            return Err(NoMemory);
+        }
+        match self.reserved.push(app, key, node, resource) {
+            Ok(_) => Ok(()),
             Err(_) => Err(NoMemory),
         }
-    }
-
-    /// Drops the reservation at this index, in order of making.
-    pub fn unreserve(&mut self, index: usize)
-        requires { index < length self.old.reserved }
-        ensures { self.new ≡ record self.old { reserved = remove self.old.reserved index } }
-    {
-        self.reserved.remove(index);
-    }
-
-    /// The index, in order of making, of the reservation that a node holds, none where it holds none.
-    fn index_on(&self, node: u64) -> Option<usize>
-        ensures some { IfSome result (λ index. IsReservedAt node index self.now.reserved) }
-        ensures none { is_none result ≡ true → list_any (λ r. r.node == node) self.now.reserved ≡ false }
-    {
-        for (index, reservation) in self.reserved.iter().enumerate() {
-            if reservation.node() == node {
-                return Some(index);
-            }
-        }
-        None
     }
 
     /// Drops the reservation that a node holds. Where it holds none, nothing changes.
@@ -297,8 +290,8 @@ impl<const K: usize> Nodes<K> {
         requires { AreApart self.old.reserved }
         ensures { self.new ≡ record self.old { reserved = filter (λ r. not (r.node == node)) self.old.reserved } }
     {
-        if let Some(index) = self.index_on(node) {
-            self.unreserve(index);
+        if let Some(container) = self.reserved.next_on_node(node, 0) {
+            self.reserved.remove(container.number());
         }
     }
 
@@ -337,5 +330,17 @@ impl<const K: usize> Nodes<K> {
         ensures { result ≡ find (λ c. c.node == node && nat_lt after c.number) self.now.live }
     {
         self.live.next_on_node(node, after)
+    }
+}
+
+/// The reservation that a container of the table of reservations stands for.
+fn reservation_of<const K: usize>(container: &Container<K>) -> Reservation<K>
+    ensures { result ≡ reservation_of container.now }
+{
+    Reservation {
+        app: container.app(),
+        key: container.key(),
+        node: container.node(),
+        resource: container.resource(),
     }
 }

@@ -213,7 +213,7 @@ fn after(alloc: Global, changes: &[Change]) -> Option<(Option<Reason>, usize, us
     }
     let used = cluster.report(b"root.a")?.used.amounts();
     let nodes = cluster.nodes();
-    Some((last, nodes.live_count(), nodes.reservations().len(), used))
+    Some((last, nodes.live_count(), nodes.reservation_count(), used))
 }
 
 #[test]

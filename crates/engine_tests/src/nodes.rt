@@ -327,43 +327,43 @@ fn a_lost_node_takes_its_total_along(rt: HostRuntime) {
     assert!(rt; counts == Some((2, 0, 4, 1)));
 }
 
-/// The nodes for which rooms of 1,024 MiB and 1 vcore are kept, in order: those of the nodes 2, 1 and 2 with the one at the index
-/// dropped, and what the node 1 has left.
-fn reserved_without(alloc: Global, index: usize) -> Option<(u64, u64, usize, [u64; 2])> {
+/// Rooms of 1,024 MiB and 1 vcore are kept on the nodes 3, 1 and 2, for the application 7: on which node the one is that so many
+/// older ones come before, the first, how many there are, and what the node 1 has left.
+fn reserved_after(alloc: Global, older: u32) -> Option<(Option<u64>, u64, usize, [u64; 2])> {
     let mut nodes = after(alloc, &THREE_CONTAINERS)?;
     let resource = Resource::new([1024, 1])?;
     let key = Key {
         priority: 1,
         request: 0,
     };
-    for node in [2, 1, 2] {
+    for node in [3, 1, 2] {
         nodes.reserve(7, &key, node, &resource).ok()?;
     }
-    if index < nodes.reservations().len() {
-        nodes.unreserve(index);
-    }
-    let first = nodes.reservations().first()?.node();
-    let last = nodes.reservations().last()?.node();
+    let first = nodes.reservation_of_app(7)?.node();
+    let asked = match nodes.reservation_for(7, &key, older) {
+        Some(reservation) => Some(reservation.node()),
+        None => None,
+    };
     let _node = nodes.node(1)?;
     Some((
+        asked,
         first,
-        last,
-        nodes.reservations().len(),
+        nodes.reservation_count(),
         nodes.free_of(1).amounts(),
     ))
 }
 
 #[test]
 fn reservations_stand_in_order_of_making(rt: HostRuntime) {
-    for (index, answer) in [
-        (0, (1, 2, 2, [4096, 5])),
-        (1, (2, 2, 2, [4096, 5])),
-        (2, (2, 1, 2, [4096, 5])),
-        (3, (2, 2, 3, [4096, 5])),
+    for (older, answer) in [
+        (0, (Some(3), 3, 3, [4096, 5])),
+        (1, (Some(1), 3, 3, [4096, 5])),
+        (2, (Some(2), 3, 3, [4096, 5])),
+        (3, (None, 3, 3, [4096, 5])),
     ] {
         assert!(rt;
-            reserved_without(rt.alloc(), index) == Some(answer),
-            "{index}"
+            reserved_after(rt.alloc(), older) == Some(answer),
+            "{older}"
         );
     }
 }

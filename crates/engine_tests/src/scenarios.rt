@@ -188,7 +188,7 @@ fn after(
         last = make(alloc, &mut cluster, *step)?;
     }
     let used = cluster.report(path.as_bytes())?.used.amounts();
-    Some((last, used, cluster.nodes().reservations().len()))
+    Some((last, used, cluster.nodes().reservation_count()))
 }
 
 /// Six containers of (1024, 1), room that is reserved for one of (3072, 1), the end of container 1, and the container in that room.

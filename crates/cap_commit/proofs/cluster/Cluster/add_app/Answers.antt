@@ -37,3 +37,6 @@ returns-clause-ok g c =
     let rows = (rw c.deref_mut-tree.ensures.value at c.in-Ok-enter.ensures.ok) ∙ ap (λ p. map (entered_row g.row.K p c.args.user.now) x.tree.value) at.path_is in
     let table = c.in-Ok-submit.ensures.table ∙ ap (add_app c.args.path.now c.args.user.now) c.in-Ok.ensures.table in
     rw (← c.self.view_is) (with_table (record { rows = x.tree.value; limits = x.limits; apps = x.apps; nodes = x.nodes }) c.enter.new.self c.submit.new.self _ (ap queues_of rows ∙ moved_settings g.row.K c.args.path.now c.args.user.now (zero_count g.row.K) (one_app g.row.K) x.tree.value) table)
+
+pub invariant_of-self : goal.invariant_of-self
+invariant_of-self g c = held_same _ c.self.invariant c.reserve.new.self c.in-Err.ensures.table c.in-Err.ensures.accounts

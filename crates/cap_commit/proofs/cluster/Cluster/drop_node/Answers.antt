@@ -3,7 +3,7 @@ use Rattle.std.specs.Prelude.{IsSome, filter, ◌==◌, ◌≡◌, []}
 use Rattle.cap_model.specs.Flat.{Flat, NodeTable, Reservation, containers_on, node_at, with_reserved}
 use Rattle.cap_model.specs.NodeGone.{remove_node}
 use Rattle.cap_commit.specs.Held.{Held, Parts, flat_of}
-use Rattle.cap_commit.proofs.Dropping.{keep_none, none_stay}
+use Rattle.cap_commit.proofs.Dropping.{none_stay}
 use Rattle.cap_commit.proofs.Holding.{held_nodes}
 use Rattle.cap_commit.proofs.Sizes.{nodes_fit}
 use Rattle.cap_commit.proofs.Reserved.{reserved_gone}
@@ -11,13 +11,13 @@ use Rattle.cap_commit.proofs.cluster.Cluster.drop_node.Goals as goal
 
 pub gone-requires : goal.gone-requires
 gone-requires g c =
-    let here : IsSome (node_at c.keep_first.new.cluster.flat c.args.number) = subst (λ (x : Flat g.row.K). IsSome (node_at x c.args.number)) (sym c.keep_first.ensures.flat) c.requires.present in
-    let none : containers_on c.keep_first.new.cluster.flat.nodes c.args.number ≡ [] = subst (λ (x : Flat g.row.K). containers_on x.nodes c.args.number ≡ []) (sym c.keep_first.ensures.flat) c.requires.empty in
+    let here : IsSome (node_at c.unreserve_node.new.self.flat c.args.number) = subst (λ (x : Flat g.row.K). IsSome (node_at x c.args.number)) (sym c.unreserve_node.ensures.flat) c.requires.present in
+    let none : containers_on c.unreserve_node.new.self.flat.nodes c.args.number ≡ [] = subst (λ (x : Flat g.row.K). containers_on x.nodes c.args.number ≡ []) (sym c.unreserve_node.ensures.flat) c.requires.empty in
     (nodes_fit _ c.self.invariant.resources, (rw (← c.self.view_is) at here, rw (← c.self.view_is) at none))
 
 pub invariant_of-self : goal.invariant_of-self
 invariant_of-self g c =
-    let kept = ap (λ (h : Held g.row.K). h.flat.nodes.reserved) c.self.view_is ∙ ap (λ (f : Flat g.row.K). f.nodes.reserved) c.keep_first.ensures.flat in
+    let kept = ap (λ (h : Held g.row.K). h.flat.nodes.reserved) c.self.view_is ∙ ap (λ (f : Flat g.row.K). f.nodes.reserved) c.unreserve_node.ensures.flat in
     let none = ap (filter (λ (r : Reservation). r.node == c.args.number)) kept ∙ none_stay (λ (r : Reservation). r.node == c.args.number) c.args.self.now.flat.nodes.reserved in
     held_nodes _ c.self.invariant c.gone.new.self (ap (λ (t : NodeTable). t.live) c.gone.ensures) (ap (λ (t : NodeTable). t.reserved) c.gone.ensures) (ap (λ (t : NodeTable). t.next_container) c.gone.ensures)
     (reserved_gone c.args.number c.self.inside.nodes c.gone.new.self none c.gone.ensures c.self.invariant.reservations)
@@ -25,9 +25,9 @@ invariant_of-self g c =
 pub returns-clause-flat : goal.returns-clause-flat
 returns-clause-flat g c =
     let start = c.args.self.now.flat in
-    let dropped = ap (λ (h : Held g.row.K). h.flat) c.self.view_is ∙ c.keep_first.ensures.flat ∙ ap (λ rs. with_reserved rs start) (keep_none (λ r. r.node == c.args.number) start.nodes.reserved) in
+    let dropped = ap (λ (h : Held g.row.K). h.flat) c.self.view_is ∙ c.unreserve_node.ensures.flat in
     let p : Parts g.row.K = record { rows = c.self.inside.tree.value; limits = c.self.inside.limits; apps = c.self.inside.apps; nodes = c.self.inside.nodes } in
     ap (λ (t : NodeTable). record (flat_of p) { nodes = t }) c.gone.ensures ∙ ap (λ (f : Flat g.row.K). record f { nodes = remove_node c.args.number f.nodes }) dropped
 
 pub returns-clause-accounts : goal.returns-clause-accounts
-returns-clause-accounts g c = ap (λ (h : Held g.row.K). h.accounts) c.self.view_is ∙ c.keep_first.ensures.accounts
+returns-clause-accounts g c = ap (λ (h : Held g.row.K). h.accounts) c.self.view_is ∙ c.unreserve_node.ensures.accounts

@@ -7,7 +7,7 @@ use Rattle.cap_tree.specs.Rows.{queues_of, left_row}
 use Rattle.cap_tree.specs.Spot.{path_at}
 use Rattle.cap_commit.specs.Held.{Held, Parts, flat_of}
 use Rattle.cap_commit.proofs.Holding.{finished_is, held_left, may_go, placed_at, position_is, with_table}
-use Rattle.cap_commit.proofs.Dropping.{keep_none, none_stay}
+use Rattle.cap_commit.proofs.Dropping.{none_stay}
 use Rattle.cap_commit.proofs.Moving.{moved_settings}
 use Rattle.cap_tree.specs.Count.{zero_count, one_app}
 use Rattle.cap_commit.proofs.Owning.{still_active}
@@ -18,7 +18,7 @@ pub unreachable-requires : goal.unreachable-requires
 unreachable-requires g c =
     let start = c.args.self.now.flat in
     let ended = subst (λ (x : Flat g.row.K). IsSome (app_at x c.args.number)) (sym c.end_all-ended.ensures.ended) (still_active Released (containers_of start.nodes c.args.number) start c.args.number c.requires) in
-    let there = subst (λ (x : Flat g.row.K). IsSome (app_at x c.args.number)) (sym c.keep_first.ensures.flat) ended in
+    let there = subst (λ (x : Flat g.row.K). IsSome (app_at x c.args.number)) (sym c.unreserve_app.ensures.flat) ended in
     let some = rw (← c.self.view_is) at there in
     let none = ap is_some c.in_default.ensures.found in
     cc (some, none)
@@ -26,9 +26,9 @@ unreachable-requires g c =
 pub leave-requires : goal.leave-requires
 leave-requires g c =
     let mine : Reservation → _ = λ r. r.app == c.args.number in
-    let still : containers_of c.keep_first.new.cluster.flat.nodes c.args.number ≡ [] = subst (λ (x : Flat g.row.K). containers_of x.nodes c.args.number ≡ []) (sym c.keep_first.ensures.flat) c.end_all-ended.ensures.none in
+    let still : containers_of c.unreserve_app.new.self.flat.nodes c.args.number ≡ [] = subst (λ (x : Flat g.row.K). containers_of x.nodes c.args.number ≡ []) (sym c.unreserve_app.ensures.flat) c.end_all-ended.ensures.none in
     let none = rw (← c.self.view_is) at still in
-    let gone : filter mine c.keep_first.new.cluster.flat.nodes.reserved ≡ [] = subst (λ (x : Flat g.row.K). filter mine x.nodes.reserved ≡ []) (sym c.keep_first.ensures.flat) (none_stay mine c.end_all-ended.new.self.flat.nodes.reserved) in
+    let gone : filter mine c.unreserve_app.new.self.flat.nodes.reserved ≡ [] = subst (λ (x : Flat g.row.K). filter mine x.nodes.reserved ≡ []) (sym c.unreserve_app.ensures.flat) (none_stay mine c.end_all-ended.new.self.flat.nodes.reserved) in
     let bare = rw (← c.self.view_is) at gone in
     let position = c.position.ensures ∙ position_is _ c.self.invariant c.args.number c.in-Some.app.now c.in-Some.ensures.found c.in-Some.ensures.account in (
       tree_fits _ c.self.invariant.resources,
@@ -43,9 +43,9 @@ pub invariant_of-self : goal.invariant_of-self
 invariant_of-self g c =
     let x = c.self.inside in
     let mine : Reservation → _ = λ r. r.app == c.args.number in
-    let still : containers_of c.keep_first.new.cluster.flat.nodes c.args.number ≡ [] = subst (λ (x : Flat g.row.K). containers_of x.nodes c.args.number ≡ []) (sym c.keep_first.ensures.flat) c.end_all-ended.ensures.none in
+    let still : containers_of c.unreserve_app.new.self.flat.nodes c.args.number ≡ [] = subst (λ (x : Flat g.row.K). containers_of x.nodes c.args.number ≡ []) (sym c.unreserve_app.ensures.flat) c.end_all-ended.ensures.none in
     let none = rw (← c.self.view_is) at still in
-    let gone : filter mine c.keep_first.new.cluster.flat.nodes.reserved ≡ [] = subst (λ (x : Flat g.row.K). filter mine x.nodes.reserved ≡ []) (sym c.keep_first.ensures.flat) (none_stay mine c.end_all-ended.new.self.flat.nodes.reserved) in
+    let gone : filter mine c.unreserve_app.new.self.flat.nodes.reserved ≡ [] = subst (λ (x : Flat g.row.K). filter mine x.nodes.reserved ≡ []) (sym c.unreserve_app.ensures.flat) (none_stay mine c.end_all-ended.new.self.flat.nodes.reserved) in
     let bare = rw (← c.self.view_is) at gone in
     let app = c.in-Some.app.now.app in
     let position = c.position.ensures ∙ position_is _ c.self.invariant c.args.number c.in-Some.app.now c.in-Some.ensures.found c.in-Some.ensures.account in
@@ -60,6 +60,6 @@ returns-clause-finished g c =
     let rows = rw c.deref_mut-tree.ensures.value at c.leave.ensures in
     let settings = ap queues_of rows ∙ moved_settings g.row.K _ c.user.result.now (one_app g.row.K) (zero_count g.row.K) x.tree.value in
     let ended = c.end_all-ended.new.self.flat in
-    let dropped = ap (λ (h : Held g.row.K). h.flat) c.self.view_is ∙ c.keep_first.ensures.flat ∙ ap (λ rs. with_reserved rs ended) (keep_none (λ r. r.app == c.args.number) ended.nodes.reserved) in
+    let dropped = ap (λ (h : Held g.row.K). h.flat) c.self.view_is ∙ c.unreserve_app.ensures.flat in
     finished_is Released c.args.self.now.flat ended _ c.args.number c.end_all-ended.ensures.ended
     (with_table p c.leave.new.self c.finish.new.self _ settings c.finish.ensures.table ∙ ap (λ (f : Flat g.row.K). record f { apps = remove_app c.args.number f.apps }) dropped)

@@ -1,7 +1,11 @@
-use Rattle.std.proofs.Common.{ap, sym, ◌∙◌, get_or, map, arith}
+use Rattle.std.proofs.Common.{ap, sym, ◌∙◌, map, arith}
+use Rattle.std.specs.Prelude.{filter}
+use Rattle.cap_model.specs.Flat.{with_reserved}
 use Rattle.cap_tree.specs.Rows.{queues_of, lowered_row}
 use Rattle.cap_tree.specs.Spot.{path_at}
-use Rattle.cap_commit.proofs.Unreserving.{has_holder, may_give_reserved, held_dropped, dropped_is}
+use Rattle.cap_nodes.proofs.Reserved.{is_elsewhere}
+use Rattle.cap_commit.specs.Held.{flat_of}
+use Rattle.cap_commit.proofs.Unreserving.{place_of, has_holder, may_give_reserved, held_dropped, dropped_is}
 use Rattle.cap_commit.proofs.Holding.{placed_at, position_is}
 use Rattle.cap_commit.proofs.Moving.{moved_settings}
 use Rattle.cap_tree.specs.Count.{zero_count, use_alone}
@@ -10,14 +14,14 @@ use Rattle.cap_commit.proofs.cluster.Cluster.unreserve.Goals as goal
 
 pub unreachable-requires : goal.unreachable-requires
 unreachable-requires g c =
-    let one = c.index-reservations-index.result in
-    let at = c.index-reservations-index.is ∙ ap (λ rs. get_or rs c.args.index one) c.reservations.ensures in
-    has_holder _ c.self.invariant c.args.index one (rw (← c.self.view_is) at c.requires) at c.app.result c.app.ensures c.in_default.ensures.found
+    let one = c.args.reservation.now in
+    let place = place_of one.node c.self.inside.nodes.reserved one c.self.invariant.reservations.apart (rw (← c.self.view_is) at c.requires) in
+    has_holder _ c.self.invariant place.index one place.below place.at c.app.result c.app.ensures c.in_default.ensures.found
 
 pub give_back-requires : goal.give_back-requires
 give_back-requires g c =
-    let one = c.index-reservations-index.result in
-    let at = c.index-reservations-index.is ∙ ap (λ rs. get_or rs c.args.index one) c.reservations.ensures in
+    let one = c.args.reservation.now in
+    let place = place_of one.node c.self.inside.nodes.reserved one c.self.invariant.reservations.apart (rw (← c.self.view_is) at c.requires) in
     let kinds = c.self.invariant.resources in
     let count = c.resource.ensures.vector.count in
     let position = c.position.ensures ∙ position_is _ c.self.invariant c.app.result c.in-Some.app.now c.in-Some.ensures.found c.in-Some.ensures.account in
@@ -28,7 +32,7 @@ give_back-requires g c =
         (
           omega (arith, kinds),
           rw (c.deref_mut-tree.ensures.value, c.user.ensures, c.resource.ensures.value, position)
-              (may_give_reserved _ c.self.invariant c.args.index one (rw (← c.self.view_is) at c.requires) at c.in-Some.app.now.app owner (omega (arith, count))),
+              (may_give_reserved _ c.self.invariant place.index one place.below place.at c.in-Some.app.now.app owner (omega (arith, count))),
         ),
       ),
     )
@@ -36,23 +40,25 @@ give_back-requires g c =
 pub invariant_of-self : goal.invariant_of-self
 invariant_of-self g c =
     let x = c.self.inside in
-    let one = c.index-reservations-index.result in
-    let at = c.index-reservations-index.is ∙ ap (λ rs. get_or rs c.args.index one) c.reservations.ensures in
+    let one = c.args.reservation.now in
+    let place = place_of one.node x.nodes.reserved one c.self.invariant.reservations.apart (rw (← c.self.view_is) at c.requires) in
     let app = c.in-Some.app.now.app in
     let count = c.resource.ensures.vector.count in
     let position = c.position.ensures ∙ position_is _ c.self.invariant c.app.result c.in-Some.app.now c.in-Some.ensures.found c.in-Some.ensures.account in
     let path = ap (λ q. path_at q x.tree.value) position ∙ (placed_at _ c.self.invariant c.app.result app (sym c.in-Some.ensures.found)).position.path_is in
     let rows = (rw c.deref_mut-tree.ensures.value at c.give_back.ensures) ∙ (λ i. map (lowered_row g.row.K (path i) (c.user.ensures i) (c.resource.ensures.value i)) x.tree.value) in
     let owner = sym (rw c.app.ensures at c.in-Some.ensures.found) in
+    let left = (λ i. filter (is_elsewhere (c.node.ensures i)) x.nodes.reserved) ∙ sym place.gone in
     rw rows
-    (held_dropped _ c.self.invariant c.args.index one (rw (← c.self.view_is) at c.requires) at app owner (omega (arith, count)) c.unreserve.new.self c.unreserve.ensures)
+    (held_dropped _ c.self.invariant place.index one place.below place.at app owner (omega (arith, count)) c.unreserve_on.new.self (c.unreserve_on.ensures ∙ ap (λ rs. record x.nodes { reserved = rs }) left))
 
 pub returns-clause-flat : goal.returns-clause-flat
 returns-clause-flat g c =
     let x = c.self.inside in
-    let one = c.index-reservations-index.result in
-    let at = c.index-reservations-index.is ∙ ap (λ rs. get_or rs c.args.index one) c.reservations.ensures in
+    let one = c.args.reservation.now in
+    let place = place_of one.node x.nodes.reserved one c.self.invariant.reservations.apart (rw (← c.self.view_is) at c.requires) in
     let rows = rw c.deref_mut-tree.ensures.value at c.give_back.ensures in
     let settings = ap queues_of rows ∙ moved_settings g.row.K _ c.user.result.now (use_alone c.resource.result) (zero_count g.row.K) x.tree.value in
-    rw (← c.self.view_is)
-    (dropped_is _ c.self.invariant c.args.index one (rw (← c.self.view_is) at c.requires) at c.give_back.new.self c.unreserve.new.self settings c.unreserve.ensures)
+    let left = (λ i. filter (is_elsewhere (c.node.ensures i)) x.nodes.reserved) ∙ sym place.gone in
+    let dropped = dropped_is _ c.self.invariant place.index one place.below place.at c.give_back.new.self c.unreserve_on.new.self settings (c.unreserve_on.ensures ∙ ap (λ rs. record x.nodes { reserved = rs }) left) in
+    rw (← c.self.view_is) (dropped ∙ ap (λ rs. with_reserved rs (flat_of (record { rows = x.tree.value; limits = x.limits; apps = x.apps; nodes = x.nodes }))) place.gone)

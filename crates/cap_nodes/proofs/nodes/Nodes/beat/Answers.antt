@@ -1,4 +1,5 @@
-use Rattle.std.proofs.Common.{◌∙◌, [], ap, sym, List, arith}
+use Rattle.std.proofs.Common.{map, ◌∙◌, [], ap, sym, List, arith}
+use Rattle.cap_nodes.specs.Loads.{reservation_of}
 use Rattle.cap_model.specs.Flat.{ClusterNode, NodeTable}
 use Rattle.cap_nodes.proofs.Changes.{load_of_node, is_at, with_beat, nodes_beaten, totals_beaten, kept_shown}
 use Rattle.cap_nodes.proofs.nodes.Nodes.beat.Goals as goal
@@ -11,15 +12,15 @@ beat-requires g c =
 pub invariant_of-self : goal.invariant_of-self
 invariant_of-self g c =
     rw c.beat.ensures.loads (
-      with_beat g.row.K c.self.inside.present.loads c.self.inside.live.live c.self.invariant.0 c.args.number c.args.ignored,
+      with_beat g.row.K c.self.inside.present.loads c.self.inside.live.containers c.self.invariant.0 c.args.number c.args.ignored,
       c.self.invariant.1 ∙ sym (totals_beaten g.row.K c.args.number c.args.ignored c.self.inside.present.loads),
     )
 
 pub returns-clause-table : goal.returns-clause-table
 returns-clause-table g c =
     rw (← c.self.view_is, c.beat.ensures.loads)
-    (ap (λ (ns : List ClusterNode). let t : NodeTable = record { present = ns; live = c.self.inside.live.live; reserved = c.self.inside.reserved.items; next_node = c.self.inside.present.next; next_container = c.self.inside.live.next } in t)
-    (nodes_beaten g.row.K c.args.number c.args.ignored c.self.inside.live.live c.self.inside.present.loads c.self.invariant.0.ties))
+    (ap (λ (ns : List ClusterNode). let t : NodeTable = record { present = ns; live = c.self.inside.live.containers; reserved = map reservation_of c.self.inside.reserved.containers; next_node = c.self.inside.present.next; next_container = c.self.inside.live.next } in t)
+    (nodes_beaten g.row.K c.args.number c.args.ignored c.self.inside.live.containers c.self.inside.present.loads c.self.invariant.0.ties))
 
 pub returns-clause-kept : goal.returns-clause-kept
 returns-clause-kept g c = kept_shown c.beat.new.self.loads c.args.number c.beat.result c.beat.ensures.kept

@@ -1,6 +1,7 @@
-use Rattle.std.proofs.Common.{◌≡◌, ◌∙◌, [], ap, sym, List, length, arith}
+use Rattle.std.proofs.Common.{map, ◌≡◌, ◌∙◌, [], ap, sym, List, length, arith}
 use Rattle.std.specs.Prelude.{filter, ◌==◌}
 use Rattle.cap_vector.specs.Vector.{less}
+use Rattle.cap_nodes.specs.Loads.{reservation_of}
 use Rattle.cap_model.specs.Flat.{ClusterNode, Container, NodeTable}
 use Rattle.cap_model.specs.RegisterNode.{sum_of_totals}
 use Rattle.cap_nodes.proofs.Changes.{nodes_of, no_load, without_empty, nodes_kept, total_fits, total_without}
@@ -20,12 +21,12 @@ invariant_of-self g c =
     let sum = sum_of_totals g.row.K (nodes_of c.self.inside.present.loads) in
     let e : c.minus-self-inside.result ≡ less sum c.in-Some.load.now.node.total =
     c.minus-self-inside.ensures ∙ ap (λ v. less v c.total.result) c.self.invariant.1 ∙ ap (less sum) (c.total.ensures.value ∙ ap (λ (n : ClusterNode). n.total) c.node.ensures) in
-    let empty : filter (λ (x : Container). x.node == c.args.number) c.self.inside.live.live ≡ [] = rw (← c.self.view_is) at c.requires.empty in
+    let empty : filter (λ (x : Container). x.node == c.args.number) c.self.inside.live.containers ≡ [] = rw (← c.self.view_is) at c.requires.empty in
     rw c.remove.ensures
-    (without_empty g.row.K c.self.inside.present.loads c.self.inside.live.live c.self.invariant.0 c.args.number empty, e ∙ total_without g.row.K c.self.inside.present.next c.args.number c.self.inside.present.loads c.in-Some.load.now c.in-Some.ensures.rising (sym c.in-Some.ensures.found))
+    (without_empty g.row.K c.self.inside.present.loads c.self.inside.live.containers c.self.invariant.0 c.args.number empty, e ∙ total_without g.row.K c.self.inside.present.next c.args.number c.self.inside.present.loads c.in-Some.load.now c.in-Some.ensures.rising (sym c.in-Some.ensures.found))
 
 pub returns : goal.returns
 returns g c =
     rw (← c.self.view_is, c.remove.ensures)
-    (ap (λ (ns : List ClusterNode). let t : NodeTable = record { present = ns; live = c.self.inside.live.live; reserved = c.self.inside.reserved.items; next_node = c.self.inside.present.next; next_container = c.self.inside.live.next } in t)
+    (ap (λ (ns : List ClusterNode). let t : NodeTable = record { present = ns; live = c.self.inside.live.containers; reserved = map reservation_of c.self.inside.reserved.containers; next_node = c.self.inside.present.next; next_container = c.self.inside.live.next } in t)
     (nodes_kept c.args.number c.self.inside.present.loads))

@@ -1,40 +1,40 @@
-use Rattle.std.proofs.Common.{◌∙◌, ◌≤◌, [], ap, sym, List, refl, length, arith, not}
+use Rattle.std.proofs.Common.{map, ◌∙◌, ◌≤◌, [], ap, sym, List, refl, length, arith, not}
 use Rattle.std.specs.Prelude.{filter, ◌==◌}
 use Rattle.cap_model.specs.Flat.{ClusterNode, Container, NodeTable}
 use Rattle.cap_model.specs.RegisterNode.{sum_of_totals}
-use Rattle.cap_nodes.specs.Loads.{held_less, HasOne}
+use Rattle.cap_nodes.specs.Loads.{held_less, HasOne, reservation_of}
 use Rattle.cap_nodes.proofs.Presents.{if_found}
 use Rattle.cap_nodes.proofs.Changes.{home_of, has_it, nodes_of, without_one, same_nodes, at_of}
-use Rattle.cap_nodes.proofs.Lives.{one_completed}
+use Rattle.cap_nodes.proofs.ByNumber.{one_completed}
 use Rattle.cap_nodes.proofs.nodes.Nodes.lift.Goals as goal
 
 pub lift-requires : goal.lift-requires
 lift-requires g c =
     let there = (rw (← c.self.view_is) at c.requires) in
-    let home = home_of g.row.K c.self.inside.present.loads c.self.inside.live.live c.self.invariant.0 c.args.container.now.number c.args.container.now there in
+    let home = home_of g.row.K c.self.inside.present.loads c.self.inside.live.containers c.self.invariant.0 c.args.container.now.number c.args.container.now there in
     let at = at_of c.self.inside.present.loads c.args.container.now.node home in
     let short : length c.args.container.now.resource ≤ g.row.K = omega (arith, c.resource.ensures.vector.count) in (
       omega arith,
       (
         omega arith,
         rw (c.node.ensures, c.resource.ensures.value)
-            (home, if_found (HasOne c.args.container.now.resource) _ at.load at.at (has_it g.row.K c.self.inside.present.loads c.self.inside.live.live c.self.invariant.0 c.self.inside.live.next c.args.container.now.number c.args.container.now at.load c.remove.ensures.rising there at.at short)),
+            (home, if_found (HasOne c.args.container.now.resource) _ at.load at.at (has_it g.row.K c.self.inside.present.loads c.self.inside.live.containers c.self.invariant.0 c.self.inside.live.next c.args.container.now.number c.args.container.now at.load c.remove.ensures.rising there at.at short)),
       ),
     )
 
 pub invariant_of-self : goal.invariant_of-self
 invariant_of-self g c =
     let there = (rw (← c.self.view_is) at c.requires) in
-    let at = at_of c.self.inside.present.loads c.args.container.now.node (home_of g.row.K c.self.inside.present.loads c.self.inside.live.live c.self.invariant.0 c.args.container.now.number c.args.container.now there) in
+    let at = at_of c.self.inside.present.loads c.args.container.now.node (home_of g.row.K c.self.inside.present.loads c.self.inside.live.containers c.self.invariant.0 c.args.container.now.number c.args.container.now there) in
     rw (c.lift.ensures.less, c.remove.ensures.left, c.number.ensures, c.node.ensures, c.resource.ensures.value) (
-      without_one g.row.K c.self.inside.present.loads c.self.inside.live.live c.self.invariant.0 c.self.inside.present.next c.self.inside.live.next c.args.container.now.number c.args.container.now at.load c.lift.ensures.rising c.remove.ensures.rising there at.at,
+      without_one g.row.K c.self.inside.present.loads c.self.inside.live.containers c.self.invariant.0 c.self.inside.present.next c.self.inside.live.next c.args.container.now.number c.args.container.now at.load c.lift.ensures.rising c.remove.ensures.rising there at.at,
       c.self.invariant.1 ∙ ap (sum_of_totals g.row.K) (sym (same_nodes c.args.container.now.node (held_less c.args.container.now.resource) c.self.inside.present.loads (λ p. refl))),
     )
 
 pub returns : goal.returns
 returns g c =
     let here = c.self.inside.present in
-    let tables : List ClusterNode → List Container → NodeTable = λ ns cs. record { present = ns; live = cs; reserved = c.self.inside.reserved.items; next_node = here.next; next_container = c.self.inside.live.next } in
+    let tables : List ClusterNode → List Container → NodeTable = λ ns cs. record { present = ns; live = cs; reserved = map reservation_of c.self.inside.reserved.containers; next_node = here.next; next_container = c.self.inside.live.next } in
     rw (← c.self.view_is, c.lift.ensures.less, c.remove.ensures.left, c.number.ensures, c.node.ensures, c.resource.ensures.value)
-    (ap (λ ns. tables ns (filter (λ x. not (x.number == c.args.container.now.number)) c.self.inside.live.live)) (same_nodes c.args.container.now.node (held_less c.args.container.now.resource) here.loads (λ p. refl))
-    ∙ ap (tables (nodes_of here.loads)) (one_completed c.args.container.now c.self.inside.live.live))
+    (ap (λ ns. tables ns (filter (λ x. not (x.number == c.args.container.now.number)) c.self.inside.live.containers)) (same_nodes c.args.container.now.node (held_less c.args.container.now.resource) here.loads (λ p. refl))
+    ∙ ap (tables (nodes_of here.loads)) (one_completed c.args.container.now c.self.inside.live.containers))

@@ -12,22 +12,22 @@ pub returns-in-Some-clause-rising : goal.returns-in-Some-clause-rising
 returns-in-Some-clause-rising g c = rw (← c.self.view_is) (rising_nodes c.self.inside.present.loads c.self.inside.present.next c.in-Some.ensures.rising)
 
 pub returns-in-Some-clause-held : goal.returns-in-Some-clause-held
-returns-in-Some-clause-held g c = rw (← c.self.view_is) (held_all g.row.K c.self.inside.live.live c.self.inside.present.loads c.self.invariant.0.ties)
+returns-in-Some-clause-held g c = rw (← c.self.view_is) (held_all g.row.K c.self.inside.live.containers c.self.inside.present.loads c.self.invariant.0.ties)
 
 pub returns-in-None-clause-rising : goal.returns-in-None-clause-rising
 returns-in-None-clause-rising g c = rw (← c.self.view_is) (rising_nodes c.self.inside.present.loads c.self.inside.present.next c.in-None.ensures.rising)
 
 pub returns-in-None-clause-held : goal.returns-in-None-clause-held
-returns-in-None-clause-held g c = rw (← c.self.view_is) (held_all g.row.K c.self.inside.live.live c.self.inside.present.loads c.self.invariant.0.ties)
+returns-in-None-clause-held g c = rw (← c.self.view_is) (held_all g.row.K c.self.inside.live.containers c.self.inside.present.loads c.self.invariant.0.ties)
 
 pub returns-in-Some-clause-homes : goal.returns-in-Some-clause-homes
-returns-in-Some-clause-homes g c = rw (← c.self.view_is) (homes_all g.row.K c.self.inside.present.loads c.self.inside.live.live c.self.invariant.0)
+returns-in-Some-clause-homes g c = rw (← c.self.view_is) (homes_all g.row.K c.self.inside.present.loads c.self.inside.live.containers c.self.invariant.0)
 
 pub returns-in-Some-clause-totals : goal.returns-in-Some-clause-totals
 returns-in-Some-clause-totals g c = rw (← c.self.view_is, ← c.self.invariant.1) c.amounts-amounts.ensures.vector.within
 
 pub returns-in-None-clause-homes : goal.returns-in-None-clause-homes
-returns-in-None-clause-homes g c = rw (← c.self.view_is) (homes_all g.row.K c.self.inside.present.loads c.self.inside.live.live c.self.invariant.0)
+returns-in-None-clause-homes g c = rw (← c.self.view_is) (homes_all g.row.K c.self.inside.present.loads c.self.inside.live.containers c.self.invariant.0)
 
 pub returns-in-None-clause-totals : goal.returns-in-None-clause-totals
 returns-in-None-clause-totals g c = rw (← c.self.view_is, ← c.self.invariant.1) c.amounts-amounts.ensures.vector.within

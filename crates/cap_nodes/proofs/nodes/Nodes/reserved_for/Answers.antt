@@ -1,5 +1,12 @@
+use Rattle.std.proofs.Common.{◌∙◌, ap, length, sym}
+use Rattle.cap_model.specs.Flat.{is_for}
+use Rattle.cap_nodes.specs.Loads.{reservation_of}
 use Rattle.cap_nodes.proofs.Changes.{rising_nodes}
+use Rattle.cap_nodes.proofs.Walked.{kept_count}
 use Rattle.cap_nodes.proofs.nodes.Nodes.reserved_for.Goals as goal
+
+pub returns-clause-count : goal.returns-clause-count
+returns-clause-count g c = rw (← c.self.view_is) (c.count_for.ensures ∙ sym (kept_count c.args.app c.args.key.now c.self.inside.reserved.containers))
 
 pub returns-clause-rising : goal.returns-clause-rising
 returns-clause-rising g c = rw (← c.self.view_is) (rising_nodes c.self.inside.present.loads c.self.inside.present.next c.next-next.ensures.rising)

@@ -1,14 +1,20 @@
-use Rattle.std.proofs.Common.{ap, sym, refl, ◌∙◌}
-use Rattle.cap_model.specs.Flat.{NodeTable}
-use Rattle.cap_nodes.proofs.Reserved.{removed_is, all_elsewhere}
+use Rattle.std.proofs.Common.{ap, sym, ◌∙◌, map, List}
+use Rattle.cap_model.specs.Flat.{NodeTable, Reservation}
+use Rattle.cap_nodes.specs.Loads.{reservation_of}
+use Rattle.cap_nodes.proofs.Reserved.{one_dropped, none_dropped}
 use Rattle.cap_nodes.proofs.nodes.Nodes.unreserve_on.Goals as goal
 
 pub returns-in-Some : goal.returns-in-Some
 returns-in-Some g c =
-    let old : NodeTable = c.args.self.now in
-    c.unreserve.ensures ∙ ap (λ rs. record old { reserved = rs }) (removed_is c.args.node old.reserved c.in-Some.index c.requires c.in-Some.ensures.some)
+    let here = c.self.inside in
+    let tables : List Reservation → NodeTable = λ rs. record { present = map (λ p. p.node) here.present.loads; live = here.live.containers; reserved = rs; next_node = here.present.next; next_container = here.live.next } in
+    rw (← c.self.view_is, c.remove.ensures.left, c.number.ensures)
+    (ap tables
+    (one_dropped c.args.node here.reserved.containers here.reserved.next c.next_on_node.ensures.rising (rw (← c.self.view_is) at c.requires) c.in-Some.container (sym c.next_on_node.ensures.found ∙ c.in-Some.is)))
 
 pub returns-in_default : goal.returns-in_default
 returns-in_default g c =
-    let old : NodeTable = c.args.self.now in
-    sym (ap (λ rs. record old { reserved = rs }) (all_elsewhere c.args.node old.reserved (c.in_default.ensures.none refl)))
+    let here = c.self.inside in
+    let tables : List Reservation → NodeTable = λ rs. record { present = map (λ p. p.node) here.present.loads; live = here.live.containers; reserved = rs; next_node = here.present.next; next_container = here.live.next } in
+    rw (← c.self.view_is)
+    (sym (ap tables (none_dropped c.args.node here.reserved.containers here.reserved.next c.next_on_node.ensures.rising (sym c.in_default.is ∙ c.next_on_node.ensures.found))))

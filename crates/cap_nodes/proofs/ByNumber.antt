@@ -12,19 +12,19 @@ use Rattle.cap_model.proofs.lists.Filters.{length-kept, filter_same}
 use Rattle.cap_model.proofs.lists.Members.{found as passes_found}
 use Rattle.cap_model.specs.Ending.{is_among}
 use Rattle.std.proofs.lemmas.Bool.Decides.{nat_tests}
-use Rattle.cap_nodes.specs.Loads.{tagged_items, IsLive}
+use Rattle.cap_nodes.specs.Loads.{tagged_items, IsContainerTable}
 use Rattle.cap_nodes.proofs.Numbered.{remove-tagged, insert-tagged, same_tie, lookup-tagged, none_at_end, values-tagged}
 
-pub found : (entries : List (ℕ × Container)) (next n : ℕ) → IsLive entries next → lookup (is_at (nat_cmp n)) entries ≡ find (λ c. c.number == n) (values_of entries)
+pub found : (entries : List (ℕ × Container)) (next n : ℕ) → IsContainerTable entries next → lookup (is_at (nat_cmp n)) entries ≡ find (λ c. c.number == n) (values_of entries)
 found entries next n h = ap (lookup (is_at (nat_cmp n))) h.0 ∙ lookup-tagged (λ (c : Container). c.number) (is_at (nat_cmp n)) n (same_tie n) (values_of entries)
 
-pub fresh : (entries : List (ℕ × Container)) (next : ℕ) → IsLive entries next → find (λ c. c.number == next) (values_of entries) ≡ None
+pub fresh : (entries : List (ℕ × Container)) (next : ℕ) → IsContainerTable entries next → find (λ c. c.number == next) (values_of entries) ≡ None
 fresh entries next h = none_at_end (λ (c : Container). c.number) next 1 (values_of entries) h.1
 
 -- entries that are some containers by number
 pub record Are (entries : List (ℕ × Container)) (cs : List Container) (next : ℕ) : Type 0 where
   pub values : values_of entries ≡ cs
-  pub live : IsLive entries next
+  pub live : IsContainerTable entries next
 
 are : (entries : List (ℕ × Container)) (cs : List Container) (next : ℕ) → entries ≡ tagged_items (λ c. c.number) cs → IsRising 1 (map (λ c. c.number) cs) next → length cs ≤ live_max → Are entries cs next
 are entries cs next e rising few =
@@ -38,7 +38,7 @@ are entries cs next e rising few =
       );
     }
 
-pub removed : (old new : List (ℕ × Container)) (next n : ℕ) → IsLive old next → new ≡ remove_entry (is_at (nat_cmp n)) old → Are new (filter (λ c. not (c.number == n)) (values_of old)) next
+pub removed : (old new : List (ℕ × Container)) (next n : ℕ) → IsContainerTable old next → new ≡ remove_entry (is_at (nat_cmp n)) old → Are new (filter (λ c. not (c.number == n)) (values_of old)) next
 removed old new next n h e =
     let num = λ (c : Container). c.number in
     let t = λ (c : Container). not (c.number == n) in
@@ -46,7 +46,7 @@ removed old new next n h e =
     (rising_kept num t 1 (values_of old) next h.1)
     (omega (arith, length-kept t (values_of old), h.2))
 
-pub pushed : (old new : List (ℕ × Container)) (next : ℕ) (c : Container) → IsLive old next → length (values_of old) < live_max → c.number ≡ next → new ≡ insert_entry nat_cmp old next c →
+pub pushed : (old new : List (ℕ × Container)) (next : ℕ) (c : Container) → IsContainerTable old next → length (values_of old) < live_max → c.number ≡ next → new ≡ insert_entry nat_cmp old next c →
     Are new (values_of old ++ c ∷ []) (next + 1)
 pushed old new next c h few is e =
     let num = λ (c : Container). c.number in

@@ -2,10 +2,10 @@ use Rattle.std.proofs.Common.{◌≡◌, ◌∙◌, ap, sym, subst, List, Some}
 use Rattle.std.specs.Prelude.{find, ◌==◌}
 use Rattle.std.specs.Map.{values_of}
 use Rattle.cap_model.specs.Flat.{Container}
-use Rattle.cap_nodes.specs.Loads.{LiveTable, IsOwnerIndex}
-use Rattle.cap_nodes.proofs.Lives.{removed, found}
+use Rattle.cap_nodes.specs.Loads.{ContainerTable, IsOwnerIndex}
+use Rattle.cap_nodes.proofs.ByNumber.{removed, found}
 use Rattle.cap_nodes.proofs.Owned.{index_left}
-use Rattle.cap_nodes.proofs.live.Live.remove.Goals as goal
+use Rattle.cap_nodes.proofs.containers.Containers.remove.Goals as goal
 
 pub invariant_of-self : goal.invariant_of-self
 invariant_of-self g c =
@@ -22,11 +22,11 @@ invariant_of-self g c =
 pub returns-in-Some-clause-left : goal.returns-in-Some-clause-left
 returns-in-Some-clause-left g c =
     rw (← c.self.view_is)
-    (ap (λ (xs : List Container). let t : LiveTable = record { live = xs; next = c.self.inside.next } in t)
+    (ap (λ (xs : List Container). let t : ContainerTable = record { containers = xs; next = c.self.inside.next } in t)
     (removed c.self.inside.containers.entries c.remove.new.self.entries c.self.inside.next c.args.number c.self.invariant.0 c.in-Some.ensures.entries).values)
 
 pub returns-in-None-clause-left : goal.returns-in-None-clause-left
 returns-in-None-clause-left g c =
     rw (← c.self.view_is)
-    (ap (λ (xs : List Container). let t : LiveTable = record { live = xs; next = c.self.inside.next } in t)
+    (ap (λ (xs : List Container). let t : ContainerTable = record { containers = xs; next = c.self.inside.next } in t)
     (removed c.self.inside.containers.entries c.remove.new.self.entries c.self.inside.next c.args.number c.self.invariant.0 c.in-None.ensures.entries).values)

@@ -2,10 +2,10 @@ use Rattle.std.proofs.Common.{◌+◌, ◌<◌, ap, sym, subst, refl, List, leng
 use Rattle.std.specs.Map.{values_of}
 use Rattle.cap_model.specs.Limits.{live_max}
 use Rattle.cap_model.specs.Flat.{Container}
-use Rattle.cap_nodes.specs.Loads.{LiveTable, IsOwnerIndex}
-use Rattle.cap_nodes.proofs.Lives.{pushed, fresh}
+use Rattle.cap_nodes.specs.Loads.{ContainerTable, IsOwnerIndex}
+use Rattle.cap_nodes.proofs.ByNumber.{pushed, fresh}
 use Rattle.cap_nodes.proofs.Owned.{index_pushed, index_back}
-use Rattle.cap_nodes.proofs.live.Live.push.Goals as goal
+use Rattle.cap_nodes.proofs.containers.Containers.push.Goals as goal
 
 pub invariant_of-self-in-Err : goal.invariant_of-self-in-Err
 invariant_of-self-in-Err g c =
@@ -44,6 +44,6 @@ returns-clause-ok g c =
     let few : length (values_of c.self.inside.containers.entries) < live_max = rw (← c.self.view_is) at c.requires.few in
     rw (← c.self.view_is) (
       refl,
-      ap (λ (xs : List Container). let t : LiveTable = record { live = xs; next = c.self.inside.next + 1 } in t)
+      ap (λ (xs : List Container). let t : ContainerTable = record { containers = xs; next = c.self.inside.next + 1 } in t)
           (pushed c.self.inside.containers.entries c.insert-3.new.self.entries c.self.inside.next container c.self.invariant.0 few refl c.in-Ok-insert.ensures.entries).values,
     )

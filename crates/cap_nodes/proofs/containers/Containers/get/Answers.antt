@@ -1,6 +1,6 @@
 use Rattle.std.proofs.Common.{◌∙◌}
-use Rattle.cap_nodes.proofs.Lives.{found}
-use Rattle.cap_nodes.proofs.live.Live.get.Goals as goal
+use Rattle.cap_nodes.proofs.ByNumber.{found}
+use Rattle.cap_nodes.proofs.containers.Containers.get.Goals as goal
 
 pub returns-clause-found : goal.returns-clause-found
 returns-clause-found g c = rw (← c.self.view_is) (c.copied.ensures ∙ c.get.ensures.value ∙ found c.self.inside.containers.entries c.self.inside.next c.args.number c.self.invariant.0)

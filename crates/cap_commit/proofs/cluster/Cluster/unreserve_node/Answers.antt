@@ -1,0 +1,26 @@
+use Rattle.std.proofs.Common.{ap, sym, ◌∙◌, arith}
+use Rattle.std.specs.Prelude.{find, filter, ◌==◌}
+use Rattle.cap_model.specs.Flat.{NodeTable, Reservation, with_reserved}
+use Rattle.cap_model.proofs.lists.Members.{found}
+use Rattle.cap_nodes.proofs.Reserved.{is_elsewhere, all_elsewhere}
+use Rattle.cap_commit.specs.Held.{Parts, flat_of}
+use Rattle.cap_commit.proofs.Dropping.{same_node, found_again}
+use Rattle.cap_commit.proofs.Sizes.{cluster_fits}
+use Rattle.cap_commit.proofs.cluster.Cluster.unreserve_node.Goals as goal
+
+pub unreserve-requires : goal.unreserve-requires
+unreserve-requires g c =
+    let kinds = c.self.invariant.resources in
+    (cluster_fits _ kinds, (omega (arith, kinds), rw (← c.self.view_is) (found_again c.args.number c.self.inside.nodes.reserved c.in-Some.reservation (sym c.reservation_on.ensures ∙ c.in-Some.is))))
+
+pub returns-in-Some-clause-flat : goal.returns-in-Some-clause-flat
+returns-in-Some-clause-flat g c =
+    let old = c.args.self.now.flat in
+    let is = same_node c.args.number c.self.inside.nodes.reserved c.in-Some.reservation (sym c.reservation_on.ensures ∙ c.in-Some.is) in
+    c.unreserve.ensures.flat ∙ ap (λ n. with_reserved (filter (is_elsewhere n) old.nodes.reserved) old) is
+
+pub returns-in_default-clause-flat : goal.returns-in_default-clause-flat
+returns-in_default-clause-flat g c =
+    let x = c.self.inside in
+    let p : Parts g.row.K = record { rows = x.tree.value; limits = x.limits; apps = x.apps; nodes = x.nodes } in
+    rw (← c.self.view_is) (sym (ap (λ rs. with_reserved rs (flat_of p)) (all_elsewhere c.args.number x.nodes.reserved (sym c.in_default.is ∙ c.reservation_on.ensures))))

@@ -1,0 +1,13 @@
+use Rattle.std.proofs.Common.{◌∙◌, ap, sym}
+use Rattle.std.specs.Prelude.{option_map}
+use Rattle.cap_nodes.specs.Loads.{reservation_of}
+use Rattle.cap_nodes.proofs.Walked.{kept_at}
+use Rattle.cap_nodes.proofs.nodes.Nodes.reservation_for.Goals as goal
+
+pub returns-in_default : goal.returns-in_default
+returns-in_default g c =
+    rw (← c.self.view_is) (ap (option_map reservation_of) (sym c.in_default.is ∙ c.nth_for.ensures) ∙ sym (kept_at c.args.app c.args.key.now c.args.older c.self.inside.reserved.containers))
+
+pub returns : goal.returns
+returns g c =
+    rw (← c.self.view_is, c.reservation_of.ensures) (ap (option_map reservation_of) (sym c.in-Some.is ∙ c.nth_for.ensures) ∙ sym (kept_at c.args.app c.args.key.now c.args.older c.self.inside.reserved.containers))

@@ -1,0 +1,15 @@
+use Rattle.std.proofs.Common.{◌∙◌, sym, Some, None}
+use Rattle.std.specs.Prelude.{◌==◌}
+use Rattle.cap_model.specs.Flat.{Reservation}
+use Rattle.cap_nodes.proofs.Walked.{first_kept}
+use Rattle.cap_nodes.proofs.nodes.Nodes.reservation_on.Goals as goal
+
+pub returns-in_default : goal.returns-in_default
+returns-in_default g c =
+    rw (← c.self.view_is)
+    (first_kept (λ (r : Reservation). r.node == c.args.node) c.self.inside.reserved.containers c.self.inside.reserved.next c.next_on_node.ensures.rising None (sym c.in_default.is ∙ c.next_on_node.ensures.found))
+
+pub returns : goal.returns
+returns g c =
+    rw (← c.self.view_is, c.reservation_of.ensures)
+    (first_kept (λ (r : Reservation). r.node == c.args.node) c.self.inside.reserved.containers c.self.inside.reserved.next c.next_on_node.ensures.rising (Some c.in-Some.container) (sym c.in-Some.is ∙ c.next_on_node.ensures.found))
