@@ -62,7 +62,11 @@ fn print_hex(printed: &mut Vec<u8>, bytes: &[u8]) -> Result<(), AllocError>
     ensures { OnOk result (printed.new.items ≡ printed.old.items ++ encode_lower bytes.now) }
 {
     let start = printed.len();
-    let Some(end) = bytes.len().checked_mul(2).and_then(|n| n.checked_add(start)) else {
+    let Some(end) = bytes
+        .len()
+        .checked_mul(2)
+        .and_then(|n| n.checked_add(start))
+    else {
         return Err(AllocError);
     };
     printed.resize(end, 0)?;

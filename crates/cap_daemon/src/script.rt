@@ -1,4 +1,4 @@
-ghost use Rattle.std.specs.Prelude.{◌≡◌, ◌≢◌, ◌+◌, ◌<◌, ℕ, None, Some, Err, Ok, OnOk, IfOk, IfErr, true, false, is_some, is_err, if◌then◌else◌, vec_len, take, length, ◌≤◌};
+ghost use Rattle.std.specs.Prelude.{◌≡◌, ◌≢◌, ◌+◌, ◌<◌, ℕ, None, Some, Err, Ok, OnOk, IfOk, IfErr, true, false, is_some, is_err, if◌then◌else◌, vec_len, take, length, ◌≤◌, ◌/◌, IsOk};
 ghost use Rattle.hex.specs.Hex.{decode_of};
 ghost use Rattle.cap_config.specs.declared.fault.ConfigFault.{ConfigFault};
 ghost use Rattle.cap_daemon.specs.declared.command.Command.{Command};
@@ -160,13 +160,12 @@ impl Script {
         if count == 0 {
             return Err(Stop::BadLine(self.lines));
         }
-        if self.room.len() < count {
-            self.room.resize(count, 0)?;
+        make_room(&mut self.room, count)?;
+        let decoded = decode_front(digits, self.room.as_mut_slice());
+        if !decoded {
+            return Err(Stop::BadLine(self.lines));
         }
-        match hex::decode_to_slice(digits, &mut self.room.as_mut_slice()[..count]) {
-            Ok(()) => Ok(count),
-            Err(_) => Err(Stop::BadLine(self.lines)),
-        }
+        Ok(count)
     }
 
     /// Reads the settings and opens the world by them, where that was not done before.
@@ -208,5 +207,28 @@ impl Script {
             Ok(()) => Ok(()),
             Err(_) => Err(Stop::Output),
         }
+    }
+}
+
+/// Makes room for so many bytes, where there is less.
+fn make_room(room: &mut Vec<u8>, count: usize) -> Result<(), AllocError>
+    ensures { OnOk result (count ≤ vec_len room.new) }
+{
+    if room.len() < count {
+        room.resize(count, 0)?;
+    }
+    Ok(())
+}
+
+/// Puts the bytes that hexadecimal digits write first into the room; false where they write none.
+fn decode_front(digits: &[u8], room: &mut [u8]) -> bool
+    requires { length digits.now / 2 ≤ length room.old }
+    ensures bytes { result ≡ true → decode_of digits.now ≡ Ok (take (length digits.now / 2) room.new) }
+    ensures bad { result ≡ false → IsOk (decode_of digits.now) → ⊥ }
+{
+    let count = digits.len() / 2;
+    match hex::decode_to_slice(digits, &mut room[..count]) {
+        Ok(()) => true,
+        Err(_) => false,
     }
 }

@@ -1,4 +1,4 @@
-ghost use Rattle.std.specs.Prelude.{◌≡◌, ℕ, None, Err, OnOk, IfOk, IfErr};
+ghost use Rattle.std.specs.Prelude.{◌≡◌, ℕ, None, Err, OnOk, IfOk, IfErr, is_some};
 ghost use Rattle.cap_config.specs.declared.fault.ConfigFault.{ConfigFault};
 ghost use Rattle.cap_daemon.specs.declared.stop.Stop.TheVariants.{BadLine, Config as bad_config};
 ghost use Rattle.cap_daemon.specs.Settings.{with_line};
@@ -41,7 +41,8 @@ impl Simulation {
 
     /// One more property line. Where memory is refused a part of it may have been added.
     pub(crate) fn add(&mut self, property: &[u8]) -> Result<(), AllocError>
-        ensures settings { OnOk result (self.new.settings ≡ with_line self.old.settings property.now) }
+        ensures settings { OnOk result
+            (self.new.settings ≡ with_line self.old.settings property.now) }
         ensures world { self.new.world ≡ self.old.world }
     {
         self.settings.add(property)
@@ -50,7 +51,8 @@ impl Simulation {
     /// Makes a step; before the first one the settings are read.
     pub(crate) fn step(&mut self, step: Step) -> Result<Did, Stop>
         ensures advances { IfOk result (λ did. Advances step.entry did self.old self.new) }
-        ensures fault { (fault : ConfigFault) → result ≡ Err (bad_config fault) → FailsToBegin self.old fault }
+        ensures fault { (fault : ConfigFault) → result ≡ Err (bad_config fault)
+            → FailsToBegin self.old fault }
         ensures only { (n : ℕ) → result ≡ Err (BadLine n) → ⊥ }
         ensures script { IfErr result IsOfScript }
     {
@@ -72,7 +74,8 @@ impl Simulation {
     /// Reads the settings and opens the world by them, where that was not done before.
     pub(crate) fn begin(&mut self) -> Result<(), Stop>
         ensures begins { OnOk result (Begins self.old self.new) }
-        ensures fault { (fault : ConfigFault) → result ≡ Err (bad_config fault) → FailsToBegin self.old fault }
+        ensures fault { (fault : ConfigFault) → result ≡ Err (bad_config fault)
+            → FailsToBegin self.old fault }
         ensures only { (n : ℕ) → result ≡ Err (BadLine n) → ⊥ }
         ensures script { IfErr result IsOfScript }
     {
@@ -87,7 +90,8 @@ impl Simulation {
     fn open(&mut self) -> Result<(), Stop>
         requires { self.old.world ≡ None }
         ensures begins { OnOk result (Begins self.old self.new) }
-        ensures fault { (fault : ConfigFault) → result ≡ Err (bad_config fault) → FailsToBegin self.old fault }
+        ensures fault { (fault : ConfigFault) → result ≡ Err (bad_config fault)
+            → FailsToBegin self.old fault }
         ensures only { (n : ℕ) → result ≡ Err (BadLine n) → ⊥ }
         ensures script { IfErr result IsOfScript }
     {

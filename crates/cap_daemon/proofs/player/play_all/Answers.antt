@@ -89,7 +89,7 @@ loop-reads-preserved g c =
 
 pub loop-reads-init : goal.loop-reads-init
 loop-reads-init g c = record {
-  text = ([], read_nothing g.R.Read.remaining c.args.reader.now, rw c.new.ensures.items (starts c.args.script.now.simulation c.requires.settings c.requires.world));
+  text = ([], read_nothing g.R.Read.remaining c.args.reader.now, rw c.new-begun.ensures.items (starts c.args.script.now.simulation c.requires.settings c.requires.world));
   clean = search rules;
   failures = refl;
   quiets = refl;
