@@ -1,4 +1,4 @@
-# What the scripts beside it share: a folder for their files, the best of three runs, and the ratio of two times.
+# What the scripts beside it share: a folder for their files, the best of three runs, a count of instructions, and the ratio of two times or counts.
 set -euo pipefail
 top=$(cd "$(dirname "${BASH_SOURCE[0]}")/.." && pwd)
 work=$(mktemp -d)
@@ -24,7 +24,20 @@ best_of_three() {
 # plays the script
 play() { "$program" replay <"$work/script" >"$work/output"; }
 
-# ratio FIRST SECOND MOST: prints the ratio of two times, and fails where it is greater
+# stops where valgrind is missing
+need_valgrind() {
+  command -v valgrind >/dev/null || { echo "valgrind is not installed: it is a package of most distributions" >&2; exit 1; }
+}
+
+# plays the script under callgrind: the instructions that clear and copy memory, of which it counts about one a byte, and all others: `moved` and `other`
+count() {
+  valgrind --tool=callgrind --callgrind-out-file="$work/counts" "$program" replay <"$work/script" >"$work/output" 2>"$work/messages" || { tail -n 5 "$work/messages" >&2; exit 1; }
+  read -r moved other < <(callgrind_annotate --threshold=100 "$work/counts" | awk '
+    /^ *[0-9,]+ \(.*\)/ { n = $1; gsub(",", "", n); if (/PROGRAM TOTALS/) total = n; else if (/mem(set|move|cpy)/) moved += n }
+    END { print moved + 0, total - moved }')
+}
+
+# ratio FIRST SECOND MOST: prints the ratio of two times or counts, and fails where it is greater
 ratio() {
-  awk -v a="$1" -v b="$2" -v most="$3" 'BEGIN { r = b / (a > 0 ? a : 1); printf "ratio of the times: %.2f (at most %s)\n", r, most; exit !(r <= most) }'
+  awk -v a="$1" -v b="$2" -v most="$3" 'BEGIN { r = b / (a > 0 ? a : 1); printf "ratio of the two: %.2f (at most %s)\n", r, most; exit !(r <= most) }'
 }

@@ -4,7 +4,7 @@
 # memory apart, of which callgrind counts about one a byte; fails where both together are past the bound beside each. Needs valgrind, a package of most
 # distributions. Counts depend a little on the C library and the processor.
 . "$(dirname "${BASH_SOURCE[0]}")/common.sh"
-command -v valgrind >/dev/null || { echo "valgrind is not installed: it is a package of most distributions" >&2; exit 1; }
+need_valgrind
 build_capsched
 
 # n ClusterInfos over 16 connections
@@ -67,14 +67,6 @@ queue() {
       print "open 1"
       for (i = 1; i <= requests; i++) printf "bytes 1 %08x" "0108%08x" "%s\n", 6 + length(shown[i]) / 2, i, shown[i]
     }'
-}
-
-# the instructions of a run, those that clear and copy memory, and all others: `moved` and `other`
-count() {
-  valgrind --tool=callgrind --callgrind-out-file="$work/counts" "$program" replay <"$work/script" >"$work/output" 2>"$work/messages" || { tail -n 5 "$work/messages" >&2; exit 1; }
-  read -r moved other < <(callgrind_annotate --threshold=100 "$work/counts" | awk '
-    /^ *[0-9,]+ \(.*\)/ { n = $1; gsub(",", "", n); if (/PROGRAM TOTALS/) total = n; else if (/mem(set|move|cpy)/) moved += n }
-    END { print moved + 0, total - moved }')
 }
 
 broken=0

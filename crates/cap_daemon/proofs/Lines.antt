@@ -8,9 +8,11 @@ use Rattle.cap_text.specs.Pieces.{lacks, IsCut}
 use Rattle.cap_text.proofs.Cuts.{first_line, last_line}
 use Rattle.cap_config.specs.declared.fault.ConfigFault.{ConfigFault}
 use Rattle.cap_daemon.specs.Script.{IsScript, HasBadLine}
-use Rattle.cap_daemon.specs.Settings.{settings_fault, AreReadBefore, HasSettingsFault, IsDone}
-use Rattle.cap_daemon.specs.Progress.{Reads, IsPlayed, Stands, StopsAtStep, Begins, FailsToBegin}
-use Rattle.cap_daemon.proofs.Scripts.{at_start, sound_at_end, fault_at_end}
+use Rattle.cap_daemon.specs.declared.simulation.Simulation.{Simulation}
+use Rattle.cap_daemon.specs.Settings.{settings_fault, AreReadBefore, HasSettingsFault}
+use Rattle.cap_daemon.specs.World.{Begins, FailsToBegin}
+use Rattle.cap_daemon.specs.Progress.{Reads, IsPlayed, IsPlayedOut, Stands, StopsAtStep, whole_line}
+use Rattle.cap_daemon.proofs.Scripts.{at_start, played_at_end, sound_at_end, opens_at_end, fault_at_end}
 
 cut_more : (left raw after more : List ℕ) → IsCut 10 left raw after → IsCut 10 (left ++ more) raw (after ++ more)
 cut_more left raw after more cut = record { whole = ap (λ x. x ++ more) cut.whole ∙ append_assoc raw (10 ∷ after) more; first = cut.first }
@@ -22,12 +24,12 @@ next_line text done left raw after reads cut = λ more.
     ∙ sym (append_assoc done (strip_carriage_return raw ∷ []) (lines (after ++ more)))
 
 -- nothing was read
-pub starts : IsPlayed [] [] None false
-starts = record { done = []; reads = λ more. refl; stands = at_start }
+pub starts : (s : Simulation) → s.settings ≡ None → s.world ≡ None → IsPlayed [] [] s
+starts s none no_world = record { done = []; reads = λ more. refl; stands = at_start s none no_world }
 
 -- the same seen by other names
-pub as_now : (text begun left : List ℕ) (settings settings_then : Option (List ℕ)) (opened opened_then : Bool) → IsPlayed text begun settings opened → left ≡ begun → settings_then ≡ settings → opened_then ≡ opened → IsPlayed text left settings_then opened_then
-as_now text begun left settings settings_then opened opened_then p a b d = rw (a, b, d) p
+pub as_now : (text begun left : List ℕ) (s t : Simulation) → IsPlayed text begun s → left ≡ begun → t ≡ s → IsPlayed text left t
+as_now text begun left s t p a b = rw (a, b) p
 
 -- what was begun, with the next bytes
 cut_with : (begun rest front after : List ℕ) → IsCut 10 rest front after → lacks 10 begun ≡ true → IsCut 10 (begun ++ rest) (begun ++ front) after
@@ -37,9 +39,9 @@ cut_with begun rest front after cut clean = record {
 }
 
 -- the line that a line feed ends was played
-pub plays_line : (text begun rest front after left : List ℕ) (settings settings_then : Option (List ℕ)) (opened opened_then : Bool) → (p : IsPlayed text (begun ++ rest) settings opened) → IsCut 10 rest front after → lacks 10 begun ≡ true → left ≡ [] → Stands (p.done ++ strip_carriage_return (begun ++ front) ∷ []) settings_then opened_then → IsPlayed text (left ++ after) settings_then opened_then
-plays_line text begun rest front after left settings settings_then opened opened_then p cut clean cleared stands = record {
-  done = p.done ++ strip_carriage_return (begun ++ front) ∷ [];
+pub plays_line : (text begun rest front after left : List ℕ) (s t : Simulation) → (p : IsPlayed text (begun ++ rest) s) → IsCut 10 rest front after → lacks 10 begun ≡ true → left ≡ [] → Stands (p.done ++ whole_line begun front ∷ []) t → IsPlayed text (left ++ after) t
+plays_line text begun rest front after left s t p cut clean cleared stands = record {
+  done = p.done ++ whole_line begun front ∷ [];
   reads = rw cleared (next_line text p.done (begun ++ rest) (begun ++ front) after p.reads (cut_with begun rest front after cut clean));
   stands = stands;
 }
@@ -52,8 +54,8 @@ whole_lines text done line rest last reads =
     ∙ append_assoc done last (lines rest)
 
 -- the line that a line feed ends may not stand there
-pub stops_at_line : (text begun rest front after : List ℕ) (settings : Option (List ℕ)) (opened : Bool) → (p : IsPlayed text (begun ++ rest) settings opened) → IsCut 10 rest front after → lacks 10 begun ≡ true → (IsScript (p.done ++ strip_carriage_return (begun ++ front) ∷ []) → ⊥) → HasBadLine text
-stops_at_line text begun rest front after settings opened p cut clean bad =
+pub stops_at_line : (text begun rest front after : List ℕ) (s : Simulation) → (p : IsPlayed text (begun ++ rest) s) → IsCut 10 rest front after → lacks 10 begun ≡ true → (IsScript (p.done ++ strip_carriage_return (begun ++ front) ∷ []) → ⊥) → HasBadLine text
+stops_at_line text begun rest front after s p cut clean bad =
     let raw = begun ++ front in
     let reads = next_line text p.done (begun ++ rest) raw after p.reads (cut_with begun rest front after cut clean) in
     record {
@@ -66,8 +68,8 @@ stops_at_line text begun rest front after settings opened p cut clean bad =
     }
 
 -- the line that a line feed ends is the first step, and the settings have a fault
-pub fails_at_line : (text begun rest front after : List ℕ) (settings : Option (List ℕ)) (opened : Bool) (fault : ConfigFault) (ended : Type 0) → (p : IsPlayed text (begun ++ rest) settings opened) → IsCut 10 rest front after → lacks 10 begun ≡ true → StopsAtStep p.done (strip_carriage_return (begun ++ front)) fault → HasSettingsFault text ended fault
-fails_at_line text begun rest front after settings opened fault ended p cut clean stops =
+pub fails_at_line : (text begun rest front after : List ℕ) (s : Simulation) (fault : ConfigFault) (ended : Type 0) → (p : IsPlayed text (begun ++ rest) s) → IsCut 10 rest front after → lacks 10 begun ≡ true → StopsAtStep p.done (strip_carriage_return (begun ++ front)) fault → HasSettingsFault text ended fault
+fails_at_line text begun rest front after s fault ended p cut clean stops =
     let raw = begun ++ front in
     let reads = next_line text p.done (begun ++ rest) raw after p.reads (cut_with begun rest front after cut clean) in
     record {
@@ -104,38 +106,41 @@ no_last text done begun none reads = at_end text done begun reads ∙ ap (λ x. 
 with_last : (text : List ℕ) (done : List (List ℕ)) (begun : List ℕ) → 0 < length begun → lacks 10 begun ≡ true → Reads text done begun → lines text ≡ done ++ begun ∷ []
 with_last text done begun some h reads = at_end text done begun reads ∙ ap (λ x. done ++ x) (last_line begun some h)
 
--- the last line stands where it may
-is_done : (text : List ℕ) (done : List (List ℕ)) (settings settings_then : Option (List ℕ)) (opened opened_then : Bool) → lines text ≡ done → Stands done settings opened → Begins settings opened settings_then opened_then → IsDone text
-is_done text done settings settings_then opened opened_then is stands begins = record {
-  good = subst IsScript (sym is) stands.good;
-  sound = ap settings_fault is ∙ sound_at_end done settings settings_then opened opened_then stands begins;
+-- the lines stand where they may, and their steps were made
+is_played_out : (text : List ℕ) (done : List (List ℕ)) (s t : Simulation) → lines text ≡ done → Stands done s → Begins s t → IsPlayedOut text t
+is_played_out text done s t is stands begins = record {
+  done = record {
+    good = subst IsScript (sym is) stands.good;
+    sound = ap settings_fault is ∙ sound_at_end done s t stands begins;
+  };
+  world = rw is (played_at_end done s t stands begins);
 }
 
-has_fault : (text : List ℕ) (done : List (List ℕ)) (settings : Option (List ℕ)) (opened : Bool) (fault : ConfigFault) (ended : Type 0) → ended → lines text ≡ done → Stands done settings opened → FailsToBegin settings opened fault → HasSettingsFault text ended fault
-has_fault text done settings opened fault ended end is stands fails = record {
+has_fault : (text : List ℕ) (done : List (List ℕ)) (s : Simulation) (fault : ConfigFault) (ended : Type 0) → ended → lines text ≡ done → Stands done s → FailsToBegin s fault → HasSettingsFault text ended fault
+has_fault text done s fault ended end is stands fails = record {
   front = done;
   back = [];
   lines = is ∙ sym (append-nil done);
-  opens = stands.waits fails.0;
+  opens = opens_at_end done s fault stands fails;
   read = end;
-  found = fault_at_end done settings opened fault stands fails;
+  found = fault_at_end done s fault stands fails;
 }
 
-pub ends_done : (text begun : List ℕ) (settings settings_then : Option (List ℕ)) (opened opened_then : Bool) → length begun ≡ 0 → IsPlayed text begun settings opened → Begins settings opened settings_then opened_then → IsDone text
-ends_done text begun settings settings_then opened opened_then none p begins = is_done text p.done settings settings_then opened opened_then (no_last text p.done begun none p.reads) p.stands begins
+pub ends_done : (text begun : List ℕ) (s t : Simulation) → length begun ≡ 0 → IsPlayed text begun s → Begins s t → IsPlayedOut text t
+ends_done text begun s t none p begins = is_played_out text p.done s t (no_last text p.done begun none p.reads) p.stands begins
 
-pub ends_done_with : (text begun : List ℕ) (old settings settings_then : Option (List ℕ)) (was opened opened_then : Bool) → 0 < length begun → lacks 10 begun ≡ true → (p : IsPlayed text begun old was) → Stands (p.done ++ begun ∷ []) settings opened → Begins settings opened settings_then opened_then → IsDone text
-ends_done_with text begun old settings settings_then was opened opened_then some h p stands begins = is_done text (p.done ++ begun ∷ []) settings settings_then opened opened_then (with_last text p.done begun some h p.reads) stands begins
+pub ends_done_with : (text begun : List ℕ) (r s t : Simulation) → 0 < length begun → lacks 10 begun ≡ true → (p : IsPlayed text begun r) → Stands (p.done ++ begun ∷ []) s → Begins s t → IsPlayedOut text t
+ends_done_with text begun r s t some h p stands begins = is_played_out text (p.done ++ begun ∷ []) s t (with_last text p.done begun some h p.reads) stands begins
 
-pub ends_fault : (text begun : List ℕ) (settings : Option (List ℕ)) (opened : Bool) (fault : ConfigFault) (ended : Type 0) → ended → length begun ≡ 0 → IsPlayed text begun settings opened → FailsToBegin settings opened fault → HasSettingsFault text ended fault
-ends_fault text begun settings opened fault ended end none p fails = has_fault text p.done settings opened fault ended end (no_last text p.done begun none p.reads) p.stands fails
+pub ends_fault : (text begun : List ℕ) (s : Simulation) (fault : ConfigFault) (ended : Type 0) → ended → length begun ≡ 0 → IsPlayed text begun s → FailsToBegin s fault → HasSettingsFault text ended fault
+ends_fault text begun s fault ended end none p fails = has_fault text p.done s fault ended end (no_last text p.done begun none p.reads) p.stands fails
 
-pub ends_fault_with : (text begun : List ℕ) (old settings : Option (List ℕ)) (was opened : Bool) (fault : ConfigFault) (ended : Type 0) → ended → 0 < length begun → lacks 10 begun ≡ true → (p : IsPlayed text begun old was) → Stands (p.done ++ begun ∷ []) settings opened → FailsToBegin settings opened fault → HasSettingsFault text ended fault
-ends_fault_with text begun old settings was opened fault ended end some h p stands fails = has_fault text (p.done ++ begun ∷ []) settings opened fault ended end (with_last text p.done begun some h p.reads) stands fails
+pub ends_fault_with : (text begun : List ℕ) (r s : Simulation) (fault : ConfigFault) (ended : Type 0) → ended → 0 < length begun → lacks 10 begun ≡ true → (p : IsPlayed text begun r) → Stands (p.done ++ begun ∷ []) s → FailsToBegin s fault → HasSettingsFault text ended fault
+ends_fault_with text begun r s fault ended end some h p stands fails = has_fault text (p.done ++ begun ∷ []) s fault ended end (with_last text p.done begun some h p.reads) stands fails
 
 -- the last line may not stand there
-pub ends_bad : (text begun : List ℕ) (settings : Option (List ℕ)) (opened : Bool) → 0 < length begun → lacks 10 begun ≡ true → (p : IsPlayed text begun settings opened) → (IsScript (p.done ++ begun ∷ []) → ⊥) → HasBadLine text
-ends_bad text begun settings opened some h p bad = record {
+pub ends_bad : (text begun : List ℕ) (s : Simulation) → 0 < length begun → lacks 10 begun ≡ true → (p : IsPlayed text begun s) → (IsScript (p.done ++ begun ∷ []) → ⊥) → HasBadLine text
+ends_bad text begun s some h p bad = record {
   front = p.done;
   line = begun;
   back = [];
@@ -145,8 +150,8 @@ ends_bad text begun settings opened some h p bad = record {
 }
 
 -- the last line is the first step, and the settings have a fault
-pub ends_at_step : (text begun : List ℕ) (settings : Option (List ℕ)) (opened : Bool) (fault : ConfigFault) (ended : Type 0) → 0 < length begun → lacks 10 begun ≡ true → (p : IsPlayed text begun settings opened) → StopsAtStep p.done begun fault → HasSettingsFault text ended fault
-ends_at_step text begun settings opened fault ended some h p stops = record {
+pub ends_at_step : (text begun : List ℕ) (s : Simulation) (fault : ConfigFault) (ended : Type 0) → 0 < length begun → lacks 10 begun ≡ true → (p : IsPlayed text begun s) → StopsAtStep p.done begun fault → HasSettingsFault text ended fault
+ends_at_step text begun s fault ended some h p stops = record {
   front = p.done;
   back = begun ∷ [];
   lines = with_last text p.done begun some h p.reads;

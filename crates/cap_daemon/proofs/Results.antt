@@ -1,11 +1,11 @@
 -- What holds of an answer where it is no error, and where it is one.
-use Rattle.std.proofs.Common.{◌≡◌, ◌⊎◌, inl, inr, ℕ, ◌+◌, ◌<◌, ◌≤◌, length, arith, refl}
-use Rattle.std.specs.Prelude.{Result, Ok, Err, OnOk, IfErr}
+use Rattle.std.proofs.Common.{◌≡◌, ◌⊎◌, inl, inr, ℕ, ◌<◌, arith, refl}
+use Rattle.std.specs.Prelude.{Result, Ok, Err, IsOk, OnOk, IfErr}
 use Rattle.cap_session.specs.Counted.{StreamState, CanCount}
 use Rattle.cap_config.specs.declared.fault.ConfigFault.{ConfigFault}
 use Rattle.cap_daemon.specs.declared.stop.Stop.{Stop}
 use Rattle.cap_daemon.specs.declared.stop.Stop.TheVariants.{BadLine, Config, NoMemory, Input, Output}
-use Rattle.cap_daemon.specs.Streams.{IsRefused, IsOfScript, MayWrite, CountsReads, misses, reads_max, input_failures, output_failures}
+use Rattle.cap_daemon.specs.Streams.{IsRefused, IsOfScript, MayWrite, CountsReads, GivesNoEnd, misses, input_failures, output_failures}
 
 pub on_ok : {X E : Type 0} {P Q : Type 0} → (r : Result X E) → OnOk r P → (P → Q) → OnOk r Q
 on_ok (Ok x) p f = f p
@@ -14,6 +14,10 @@ on_ok (Err e) p f = tt
 pub on_ok_twice : {X E : Type 0} {P Q R : Type 0} → (r : Result X E) → OnOk r P → OnOk r Q → (P → Q → R) → OnOk r R
 on_ok_twice (Ok x) p q f = f p q
 on_ok_twice (Err e) p q f = tt
+
+pub from_ok : {X E : Type 0} {P : Type 0} → (r : Result X E) → IsOk r → OnOk r P → P
+from_ok (Ok x) is p = p
+from_ok (Err e) is p = absurd cc
 
 -- a refused script has a bad line or settings with a fault
 pub by_refusal : {X A : Type 0} → (r : Result X Stop) → IsRefused r → ((n : ℕ) → r ≡ Err (BadLine n) → A) → ((fault : ConfigFault) → r ≡ Err (Config fault) → A) → A
@@ -50,7 +54,7 @@ input_stopped (Err (Config fault)) old new counts more = absurd (omega (arith, c
 input_stopped (Err NoMemory) old new counts more = absurd (omega (arith, counts, more))
 input_stopped (Err Output) old new counts more = absurd (omega (arith, counts, more))
 
-pub stopped_input : {X : Type 0} → (r : Result X Stop) (old new : StreamState) → CountsReads r old new → (input_failures r ≡ 0) ⊎ ((misses old < misses new) ⊎ (length old.given + reads_max ≤ length new.given))
+pub stopped_input : {X : Type 0} → (r : Result X Stop) (old new : StreamState) → CountsReads r old new → (input_failures r ≡ 0) ⊎ ((misses old < misses new) ⊎ GivesNoEnd old new)
 stopped_input (Err Input) old new counts = inr counts
 stopped_input (Ok x) old new counts = inl refl
 stopped_input (Err (BadLine n)) old new counts = inl refl

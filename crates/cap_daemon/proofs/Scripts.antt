@@ -1,5 +1,5 @@
 -- Scripts line by line.
-use Rattle.std.proofs.Common.{◌≡◌, ◌⊎◌, ℕ, Bool, true, false, List, [], ◌∷◌, ◌++◌, refl, sym, ap, ◌∙◌, subst, inl, inr, Option, None, Some}
+use Rattle.std.proofs.Common.{◌≡◌, ◌⊎◌, ℕ, Ok, List, [], ◌∷◌, ◌++◌, refl, sym, ap, ◌∙◌, subst, inl, inr, Option, None, Some}
 use Rattle.std.specs.List.{All, fold, filter_map}
 use Rattle.std.proofs.lemmas.List.{append_assoc, append-nil}
 use Rattle.std.proofs.lemmas.List.Elements.{All-nil, All-cons, All-head, All-tail, All-push, All-same, filter_map-append}
@@ -11,8 +11,16 @@ use Rattle.cap_daemon.specs.declared.command.Command.{Command}
 use Rattle.cap_daemon.specs.declared.command.Command.TheVariants.{Nothing, Conf, Open, Bytes, End}
 use Rattle.cap_daemon.specs.Script.{IsCommand, IsOpeningLine, IsLaterLine, IsStep, IsScript, MayStep, IsStepOrComment}
 use Rattle.cap_daemon.specs.Settings.{property_of, with_line, properties, settings_text, settings_fault}
-use Rattle.cap_daemon.specs.Progress.{Stands, Begins, FailsToBegin}
+use Rattle.cap_world.specs.declared.step.Step.{Step}
+use Rattle.cap_world.specs.declared.step.Step.TheVariants as steps
+use Rattle.cap_world.specs.declared.step.Did.{Did}
+use Rattle.cap_world.specs.World.{Known, start}
+use Rattle.cap_world.specs.Steps.{Outcome}
+use Rattle.cap_daemon.specs.declared.simulation.Simulation.{Simulation}
+use Rattle.cap_daemon.specs.World.{IsStepFor, IsStepOf, IsOpened, HasPlayed, IsWorldOf, HasPlayedAll, Begins, FailsToBegin, Performs}
+use Rattle.cap_daemon.specs.Progress.{Stands, StopsAtStep}
 use Rattle.cap_daemon.proofs.Commands.{step_never_opens}
+use Rattle.cap_daemon.proofs.Making.{bring_none, bring_no_more, bring_more, makes_more}
 
 -- the lines before a last line all open the script, or the last line stands behind the first step
 last_line : (head body front : List (List ℕ)) (line : List ℕ) → front ++ line ∷ [] ≡ head ++ body → All IsOpeningLine head → All IsLaterLine body → (All IsOpeningLine front × IsOpeningLine line) ⊎ IsLaterLine line
@@ -93,42 +101,66 @@ gains done line property some =
     ∙ fold-append with_line None (filter_map property_of done) (filter_map property_of (line ∷ []))
     ∙ rw some refl
 
-no_true : {A : Type 0} → false ≡ true → A
-no_true e = absurd (cc e)
-
 -- nothing was played
-pub at_start : Stands [] None false
-at_start = record {
+pub at_start : (s : Simulation) → s.settings ≡ None → s.world ≡ None → Stands [] s
+at_start s none no_world = record {
   good = opening [] (All-nil IsOpeningLine);
-  gathered = refl;
-  waits = λ e. All-nil IsOpeningLine;
-  steps = λ e. no_true e;
-  sound = λ e. no_true e;
+  gathered = none;
+  world = rw no_world (All-nil IsOpeningLine);
 }
 
+-- the same settings and the same steps after a line that brings neither
+played_comment : (done : List (List ℕ)) (line : List ℕ) (world : Known) → IsCommand line Nothing → HasPlayed done world → HasPlayed (done ++ line ∷ []) world
+played_comment done line world is played = record {
+  opened = rw (unchanged done line (brings_nothing line Nothing is tt)) played.opened;
+  steps = played.steps;
+  brought = bring_no_more line (Nothing, is, tt) played.brought;
+  made = played.made;
+}
+
+world_comment : (done : List (List ℕ)) (line : List ℕ) (world : Option Known) → IsCommand line Nothing → IsWorldOf done world → IsWorldOf (done ++ line ∷ []) world
+world_comment done line None is all = All-push IsOpeningLine done line all (Nothing, is, tt)
+world_comment done line (Some world) is both = (played_comment done line world is both.0, λ all. both.1 (first_open done line all))
+
 -- one more empty line or comment
-pub after_comment : (done : List (List ℕ)) (line : List ℕ) (settings : Option (List ℕ)) (opened : Bool) → Stands done settings opened → IsCommand line Nothing → Stands (done ++ line ∷ []) settings opened
-after_comment done line settings opened stands is =
-    let same = unchanged done line (brings_nothing line Nothing is tt) in
-    record {
-      good = later done line stands.good (Nothing, is, tt);
-      gathered = stands.gathered ∙ sym same;
-      waits = λ e. All-push IsOpeningLine done line (stands.waits e) (Nothing, is, tt);
-      steps = λ e all. stands.steps e (first_open done line all);
-      sound = λ e. ap (λ x. first_fault (settings_text x)) same ∙ stands.sound e;
-    }
+pub after_comment : (done : List (List ℕ)) (line : List ℕ) (s : Simulation) → Stands done s → IsCommand line Nothing → Stands (done ++ line ∷ []) s
+after_comment done line s stands is = record {
+  good = later done line stands.good (Nothing, is, tt);
+  gathered = stands.gathered ∙ sym (unchanged done line (brings_nothing line Nothing is tt));
+  world = world_comment done line s.world is stands.world;
+}
+
+-- only opening lines stand before the first step
+waits : (done : List (List ℕ)) (s : Simulation) → Stands done s → s.world ≡ None → All IsOpeningLine done
+waits done s stands none = rw none at stands.world
+
+-- where a world stands there was a step
+world_steps : (done : List (List ℕ)) (world : Option Known) → (world ≡ None → ⊥) → IsWorldOf done world → All IsOpeningLine done → ⊥
+world_steps done None some is all = some refl
+world_steps done (Some world) some is all = is.1 all
+
+pub has_stepped : (done : List (List ℕ)) (s : Simulation) → Stands done s → (s.world ≡ None → ⊥) → All IsOpeningLine done → ⊥
+has_stepped done s stands some all = world_steps done s.world some stands.world all
 
 -- one more property line
-pub after_property : (done : List (List ℕ)) (line : List ℕ) (property : Bor (List ℕ)) (settings settings_then : Option (List ℕ)) (opened opened_then : Bool) → Stands done settings opened → IsCommand line (Conf property) → opened ≡ false → opened_then ≡ opened → settings_then ≡ with_line settings property.now → Stands (done ++ line ∷ []) settings_then opened_then
-after_property done line property settings settings_then opened opened_then stands is closed same added =
-    let all = All-push IsOpeningLine done line (stands.waits closed) (Conf property, is, tt) in
+pub after_property : (done : List (List ℕ)) (line : List ℕ) (property : Bor (List ℕ)) (old new : Simulation) → Stands done old → IsCommand line (Conf property) → old.world ≡ None → new.world ≡ old.world → new.settings ≡ with_line old.settings property.now → Stands (done ++ line ∷ []) new
+after_property done line property old new stands is closed same added =
+    let all = All-push IsOpeningLine done line (waits done old stands closed) (Conf property, is, tt) in
     record {
       good = opening (done ++ line ∷ []) all;
       gathered = added ∙ ap (λ x. with_line x property.now) stands.gathered ∙ sym (gains done line property.now (brings line property.now is));
-      waits = λ e. all;
-      steps = λ e. no_true (sym closed ∙ sym same ∙ e);
-      sound = λ e. no_true (sym closed ∙ sym same ∙ e);
+      world = rw (same, closed) all;
     }
+
+-- the step that a command asks for is one that may stand behind the settings
+may_step : (command : Command) (step : Step) → IsStepFor command step → MayStep command
+may_step Nothing step is = absurd is
+may_step (Conf property) step is = absurd is
+may_step (Open n) step is = tt
+may_step (End n) step is = tt
+may_step (Bytes n digits) (steps.Open m) is = absurd is
+may_step (Bytes n digits) (steps.End m) is = absurd is
+may_step (Bytes n digits) (steps.Bytes m piece) is = (is.1, rw is.2 refl)
 
 is_later : (line : List ℕ) (command : Command) → IsCommand line command → MayStep command → IsLaterLine line
 is_later line Nothing is may = absurd may
@@ -137,27 +169,58 @@ is_later line (Open n) is may = (Open n, is, may)
 is_later line (End n) is may = (End n, is, may)
 is_later line (Bytes n piece) is may = (Bytes n piece, is, may)
 
-sound_then : (done : List (List ℕ)) (settings : Option (List ℕ)) (opened was : Bool) → was ≡ opened → Stands done settings opened → (opened ≡ false → first_fault (settings_text settings) ≡ None) → settings_fault done ≡ None
-sound_then done settings opened true e stands now = stands.sound (sym e)
-sound_then done settings opened false e stands now = ap (λ x. first_fault (settings_text x)) (sym stands.gathered) ∙ now (sym e)
+-- the world of these lines, also where it was opened just now
+played_in : (done : List (List ℕ)) (text : List ℕ) (was : Option Known) (now : Known) → text ≡ settings_text (properties done) → IsWorldOf done was → IsOpened text was now → HasPlayed done now
+played_in done text None now same all opened = record {
+  opened = rw same at opened.0;
+  steps = [];
+  brought = bring_none done all;
+  made = (ap (λ (w : Known). w.sight) opened.1, ap (λ (w : Known). w.events) opened.1);
+}
+played_in done text (Some was) now same is opened = subst (λ (w : Known). HasPlayed done w) (sym opened) is.0
 
--- one more step
-pub after_step : (done : List (List ℕ)) (line : List ℕ) (settings settings_then : Option (List ℕ)) (opened opened_then : Bool) → Stands done settings opened → IsStep line → Begins settings opened settings_then opened_then → Stands (done ++ line ∷ []) settings_then opened_then
-after_step done line settings settings_then opened opened_then stands step begins =
-    let is = is_later line step.0 step.1 step.2 in
-    let same = unchanged done line (brings_nothing line is.0 is.1 is.2) in
+played_now : (done : List (List ℕ)) (s : Simulation) (now : Known) → Stands done s → IsOpened (settings_text s.settings) s.world now → HasPlayed done now
+played_now done s now stands opened = played_in done (settings_text s.settings) s.world now (ap settings_text stands.gathered) stands.world opened
+
+-- one more step of the world
+played_step : (done : List (List ℕ)) (line : List ℕ) (step : Step) (did : Did) (mid now : Known) → property_of line ≡ None → IsStepOf line step → now.opening ≡ mid.opening → Outcome step (Ok did) mid.sight now.sight mid.events now.events → HasPlayed done mid → HasPlayed (done ++ line ∷ []) now
+played_step done line step did mid now none is same made played = record {
+  opened = rw (unchanged done line none, same) played.opened;
+  steps = played.steps ++ step ∷ [];
+  brought = bring_more line step is played.brought;
+  made = rw same (makes_more played.steps step did (start mid.opening).sight mid.sight now.sight [] mid.events now.events played.made made);
+}
+
+pub after_step : (done : List (List ℕ)) (line : List ℕ) (command : Command) (old new : Simulation) → Stands done old → IsCommand line command → Performs command old new → Stands (done ++ line ∷ []) new
+after_step done line command old new stands is performs =
+    let a = performs.advances in
+    let may = may_step command performs.step performs.asked in
+    let late = is_later line command is may in
+    let none = brings_nothing line late.0 late.1 late.2 in
     record {
-      good = later done line stands.good is;
-      gathered = begins.same ∙ stands.gathered ∙ sym same;
-      waits = λ e. no_true (sym e ∙ begins.now_open);
-      steps = λ e all. step_never_opens line step (last_opens done line all);
-      sound = λ e. ap (λ x. first_fault (settings_text x)) same ∙ sound_then done settings opened opened refl stands begins.sound;
+      good = later done line stands.good late;
+      gathered = a.same ∙ stands.gathered ∙ sym (unchanged done line none);
+      world = rw a.stands (played_step done line performs.step performs.did a.mid a.now none (command, is, performs.asked) a.opening a.made (played_now done old a.mid stands a.opened), λ all. step_never_opens line (command, is, may) (last_opens done line all));
     }
 
--- the end, where the settings have none
-pub sound_at_end : (done : List (List ℕ)) (settings settings_then : Option (List ℕ)) (opened opened_then : Bool) → Stands done settings opened → Begins settings opened settings_then opened_then → settings_fault done ≡ None
-sound_at_end done settings settings_then opened opened_then stands begins = sound_then done settings opened opened refl stands begins.sound
+-- the end of the input
+pub played_at_end : (done : List (List ℕ)) (old new : Simulation) → Stands done old → Begins old new → HasPlayedAll done new.world
+played_at_end done old new stands begins = rw begins.stands (played_now done old begins.now stands begins.opened)
 
--- the end, where they have one
-pub fault_at_end : (done : List (List ℕ)) (settings : Option (List ℕ)) (opened : Bool) (fault : ConfigFault) → Stands done settings opened → FailsToBegin settings opened fault → settings_fault done ≡ Some fault
-fault_at_end done settings opened fault stands fails = ap (λ x. first_fault (settings_text x)) (sym stands.gathered) ∙ fails.1
+pub sound_at_end : (done : List (List ℕ)) (old new : Simulation) → Stands done old → Begins old new → settings_fault done ≡ None
+sound_at_end done old new stands begins = (played_now done old begins.now stands begins.opened).opened.sound
+
+-- the end, where the settings have a fault
+pub opens_at_end : (done : List (List ℕ)) (old : Simulation) (fault : ConfigFault) → Stands done old → FailsToBegin old fault → All IsOpeningLine done
+opens_at_end done old fault stands fails = waits done old stands fails.0
+
+pub fault_at_end : (done : List (List ℕ)) (old : Simulation) (fault : ConfigFault) → Stands done old → FailsToBegin old fault → settings_fault done ≡ Some fault
+fault_at_end done old fault stands fails = ap (λ x. first_fault (settings_text x)) (sym stands.gathered) ∙ fails.1
+
+-- the first step, where they have one
+pub fails_at_step : (done : List (List ℕ)) (line : List ℕ) (old : Simulation) (fault : ConfigFault) → Stands done old → IsStep line → FailsToBegin old fault → StopsAtStep done line fault
+fails_at_step done line old fault stands step fails = record {
+  opens = opens_at_end done old fault stands fails;
+  step = step;
+  found = fault_at_end done old fault stands fails;
+}

@@ -1,5 +1,5 @@
 -- Streams whose failed calls are counted.
-use Rattle.std.specs.Prelude.{◌≡◌, ◌⊎◌, ℕ, ◌+◌, ◌^◌, ◌<◌, ◌≤◌, ◌++◌, List, length, Option, Result, Err, is_err, if◌then◌else◌}
+use Rattle.std.specs.Prelude.{◌≡◌, ◌⊎◌, ℕ, ◌+◌, ◌^◌, ◌<◌, ◌++◌, List, Option, Result, Err, is_err, if◌then◌else◌}
 use Rattle.std.specs.Io.KnownBytes.{Consumes, IsAtEnd}
 use Rattle.cap_session.specs.declared.counted.Counted.{Counted}
 use Rattle.cap_session.specs.Counted.{StreamState, CanCount, state_of, inner_of}
@@ -24,9 +24,27 @@ pub record HasEnded {T : Type 0} (remaining : T → Option (List ℕ)) (old new 
   pub counted : (state_of old).ends < (state_of new).ends
   pub at_end : IsAtEnd (remaining (inner_of new))
 
--- Input is why it stopped where the reader has failed or was quiet, or so many reads were made, each of at least one byte; and nowhere else
+-- some text was read since of which this holds
+abbrev pub GaveText : {T : Type 0} → (T → Option (List ℕ)) → Counted T → Counted T → (List ℕ → Type 0) → Type 0
+GaveText remaining old new P = (text : List ℕ) × IsRead remaining old new text × P text
+
+-- the same where the input has ended
+abbrev pub GaveWholeText : {T : Type 0} → (T → Option (List ℕ)) → Counted T → Counted T → (List ℕ → Type 0) → Type 0
+GaveWholeText remaining old new P = (text : List ℕ) × IsRead remaining old new text × HasEnded remaining old new × P text
+
+-- after a read of these bytes
+abbrev pub after_bytes : StreamState → List ℕ → StreamState
+after_bytes s bytes = record s { reads = s.reads + 1; given = s.given ++ bytes }
+
+-- all reads that may be made were made, each gave bytes, and none has failed, was quiet or found the end
+pub record GivesNoEnd (old new : StreamState) : Type 0 where
+  pub reads : new.reads ≡ old.reads + reads_max
+  pub misses : misses new ≡ misses old
+  pub ends : new.ends ≡ old.ends
+
+-- Input is why it stopped where the reader has failed or was quiet, or where all reads gave no end; and nowhere else
 abbrev pub CountsReads : {X : Type 0} → Result X Stop → StreamState → StreamState → Type 0
-CountsReads (Err Input) old new = (misses old < misses new) ⊎ (length old.given + reads_max ≤ length new.given)
+CountsReads (Err Input) old new = (misses old < misses new) ⊎ GivesNoEnd old new
 CountsReads _ old new = misses new ≡ misses old
 
 -- 1 where a read has failed, and where a write has

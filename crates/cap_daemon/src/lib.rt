@@ -2,12 +2,13 @@
 #![tactic(auto)]
 
 mod command;
-mod frames;
 mod output;
 mod player;
+mod print;
 mod report;
 mod script;
 mod settings;
+mod simulation;
 mod stop;
 
 pub use cap_session::Counted;

@@ -1,13 +1,12 @@
-ghost use Rattle.std.specs.Prelude.{◌≡◌, ◌<◌, ◌≤◌, ◌+◌, ◌++◌, ◌∷◌, ◌⊎◌, ◌↔◌, [], ℕ, List, true, false, length, Ok, Err, OnOk, IfOk, IfErr, IfSome, IfNone, is_some, None};
-ghost use Rattle.std.specs.Str.Lines.{strip_carriage_return};
+ghost use Rattle.std.specs.Prelude.{◌≡◌, ◌<◌, ◌+◌, ◌++◌, ◌⊎◌, [], ℕ, true, length, Err, OnOk, IfOk, IfErr, None};
 ghost use Rattle.cap_text.specs.Pieces.{lacks};
 ghost use Rattle.cap_config.specs.declared.fault.ConfigFault.{ConfigFault};
 ghost use Rattle.cap_daemon.specs.declared.stop.Stop.TheVariants.{BadLine, Config as bad_config, Input as read_failed};
-ghost use Rattle.cap_daemon.specs.Script.{HasBadLine, IsScript};
+ghost use Rattle.cap_daemon.specs.Script.{HasBadLine};
 ghost use Rattle.cap_daemon.specs.Settings.{HasSettingsFault, IsDone};
-ghost use Rattle.cap_daemon.specs.Progress.{IsPlayed, Stands, StopsAtStep};
+ghost use Rattle.cap_daemon.specs.Progress.{IsPlayed, ForPlayed, PlaysLine, MayNotFollow, FailsAtStep, whole_line, IsPlayedOut};
 ghost use Rattle.cap_session.specs.Counted.{state_of, CanCount};
-ghost use Rattle.cap_daemon.specs.Streams.{reads_max, misses, IsRead, HasEnded, CountsReads, MayWrite, input_failures, output_failures, IsOfScript};
+ghost use Rattle.cap_daemon.specs.Streams.{misses, IsRead, HasEnded, GaveText, GaveWholeText, after_bytes, CountsReads, GivesNoEnd, MayWrite, input_failures, output_failures, IsOfScript};
 
 use crate::report::finish;
 use crate::script::Script;
@@ -36,21 +35,18 @@ pub fn replay<R: Read, W: Write>(
     requires writer { CanCount (state_of writer.old) }
     ensures status { result < 4 }
     // It is done only where the input has ended, each of its lines stands where it may, and the settings have no fault.
-    ensures done { result ≡ 0 → (text : List ℕ)
-        × IsRead R.remaining reader.old reader.new text
-        × HasEnded R.remaining reader.old reader.new × IsDone text }
+    ensures done { result ≡ 0 → GaveWholeText R.remaining reader.old reader.new IsDone }
     // It answers 2 only where what was read has a line that may not stand there, or settings with a fault.
-    ensures refused { result ≡ 2 → (text : List ℕ)
-        × IsRead R.remaining reader.old reader.new text
-        × (HasBadLine text ⊎ ((fault : ConfigFault)
+    ensures refused { result ≡ 2 → GaveText R.remaining reader.old reader.new
+        (λ text. HasBadLine text ⊎ ((fault : ConfigFault)
         × HasSettingsFault text (HasEnded R.remaining reader.old reader.new) fault)) }
     // It answers 1 wherever a read or a write has failed, or a read was quiet,
     ensures failed { ((misses (state_of reader.old) < misses (state_of reader.new))
         ⊎ ((state_of writer.old).failures < (state_of writer.new).failures)) → result ≡ 1 }
-    // and else only where 2^32 reads gave no end, each at least one byte.
+    // and else only where 2^32 reads were made, and each gave at least one byte.
     ensures only { result ≡ 1 → (misses (state_of reader.old) < misses (state_of reader.new))
         ⊎ (((state_of writer.old).failures < (state_of writer.new).failures)
-        ⊎ (length (state_of reader.old).given + reads_max ≤ length (state_of reader.new).given)) }
+        ⊎ GivesNoEnd (state_of reader.old) (state_of reader.new)) }
 {
     let mut script = Script::new(alloc);
     let played = play_all(alloc, reader, writer, &mut script);
@@ -66,15 +62,15 @@ fn play_all<R: Read, W: Write>(
 ) -> Result<(), Stop>
     requires reader { CanCount (state_of reader.old) }
     requires writer { CanCount (state_of writer.old) }
-    requires settings { script.old.settings ≡ None }
-    requires world { is_some script.old.world ≡ false }
-    ensures done { OnOk result ((text : List ℕ) × IsRead R.remaining reader.old reader.new text
-        × HasEnded R.remaining reader.old reader.new × IsDone text) }
-    ensures bad { (n : ℕ) → result ≡ Err (BadLine n) → (text : List ℕ)
-        × IsRead R.remaining reader.old reader.new text × HasBadLine text }
-    ensures fault { (fault : ConfigFault) → result ≡ Err (bad_config fault) → (text : List ℕ)
-        × IsRead R.remaining reader.old reader.new text
-        × HasSettingsFault text (HasEnded R.remaining reader.old reader.new) fault }
+    requires settings { script.old.simulation.settings ≡ None }
+    requires world { script.old.simulation.world ≡ None }
+    ensures done { OnOk result (GaveWholeText R.remaining reader.old reader.new
+        (λ text. IsPlayedOut text script.new.simulation)) }
+    ensures bad { (n : ℕ) → result ≡ Err (BadLine n)
+        → GaveText R.remaining reader.old reader.new HasBadLine }
+    ensures fault { (fault : ConfigFault) → result ≡ Err (bad_config fault)
+        → GaveText R.remaining reader.old reader.new
+        (λ text. HasSettingsFault text (HasEnded R.remaining reader.old reader.new) fault) }
     ensures reads { CountsReads result (state_of reader.old) (state_of reader.new) }
     ensures writes { (state_of writer.new).failures
         ≡ (state_of writer.old).failures + output_failures result }
@@ -114,8 +110,8 @@ fn read_piece<'a, R: Read>(
     ensures failed { IfErr result (λ stop. stop ≡ read_failed) }
     ensures reads { misses (state_of reader.new)
         ≡ misses (state_of reader.old) + input_failures result }
-    ensures more { IfOk result (λ piece. 0 < length piece.now → state_of reader.new
-        ≡ record (state_of reader.old) { given = (state_of reader.old).given ++ piece.now }) }
+    ensures more { IfOk result (λ piece. 0 < length piece.now
+        → state_of reader.new ≡ after_bytes (state_of reader.old) piece.now) }
 {
     match reader.read(chunk) {
         Got::Bytes(n) => Ok(&chunk[..n]),
@@ -128,9 +124,13 @@ fn read_piece<'a, R: Read>(
 fn play_lines(bytes: &[u8], begun: &mut Vec<u8>, script: &mut Script) -> Result<(), Stop>
     requires { lacks 10 begun.old.items ≡ true }
     ensures begun { OnOk result (lacks 10 begun.new.items ≡ true) }
-    ensures good { (text : List ℕ) → IsPlayed text begun.old.items script.old.settings (is_some script.old.world) → OnOk result (IsPlayed (text ++ bytes.now) begun.new.items script.new.settings (is_some script.new.world)) }
-    ensures bad { (n : ℕ) → result ≡ Err (BadLine n) → (text : List ℕ) → IsPlayed text begun.old.items script.old.settings (is_some script.old.world) → HasBadLine (text ++ bytes.now) }
-    ensures fault { (fault : ConfigFault) → result ≡ Err (bad_config fault) → (text : List ℕ) → IsPlayed text begun.old.items script.old.settings (is_some script.old.world) → HasSettingsFault (text ++ bytes.now) ⊥ fault }
+    ensures good { OnOk result (ForPlayed begun.old.items script.old.simulation
+        (λ text. IsPlayed (text ++ bytes.now) begun.new.items script.new.simulation)) }
+    ensures bad { (n : ℕ) → result ≡ Err (BadLine n)
+        → ForPlayed begun.old.items script.old.simulation (λ text. HasBadLine (text ++ bytes.now)) }
+    ensures fault { (fault : ConfigFault) → result ≡ Err (bad_config fault)
+        → ForPlayed begun.old.items script.old.simulation
+        (λ text. HasSettingsFault (text ++ bytes.now) ⊥ fault) }
     ensures only { IfErr result IsOfScript }
 {
     let mut rest = bytes;
@@ -148,11 +148,17 @@ fn play_lines(bytes: &[u8], begun: &mut Vec<u8>, script: &mut Script) -> Result<
 /// Plays the line that a line feed ends: what was begun of it before, and its last bytes. Then nothing is begun.
 fn play_line(last: &[u8], begun: &mut Vec<u8>, script: &mut Script) -> Result<(), Stop>
     ensures cleared { OnOk result (begun.new.items ≡ []) }
-    ensures good { (done : List (List ℕ)) → Stands done script.old.settings (is_some script.old.world) → OnOk result (Stands (done ++ strip_carriage_return (begun.old.items ++ last.now) ∷ []) script.new.settings (is_some script.new.world)) }
-    ensures bad { (n : ℕ) → result ≡ Err (BadLine n) → (done : List (List ℕ)) → Stands done script.old.settings (is_some script.old.world) → IsScript (done ++ strip_carriage_return (begun.old.items ++ last.now) ∷ []) → ⊥ }
-    ensures fault { (fault : ConfigFault) → result ≡ Err (bad_config fault) → (done : List (List ℕ)) → Stands done script.old.settings (is_some script.old.world) → StopsAtStep done (strip_carriage_return (begun.old.items ++ last.now)) fault }
+    ensures good { OnOk result (PlaysLine (whole_line begun.old.items last.now)
+        script.old.simulation script.new.simulation) }
+    ensures bad { (n : ℕ) → result ≡ Err (BadLine n)
+        → MayNotFollow (whole_line begun.old.items last.now) script.old.simulation }
+    ensures fault { (fault : ConfigFault) → result ≡ Err (bad_config fault)
+        → FailsAtStep (whole_line begun.old.items last.now) script.old.simulation fault }
     ensures only { IfErr result IsOfScript }
 {
+    if begun.is_empty() {
+        return script.play(without_return(last));
+    }
     begun.extend_from_slice(last)?;
     match script.play(without_return(begun)) {
         Ok(()) => {
@@ -166,9 +172,13 @@ fn play_line(last: &[u8], begun: &mut Vec<u8>, script: &mut Script) -> Result<()
 /// Plays a last line that no line feed ends, if there is one. Settings that no step has read are read now.
 fn play_last(line: &[u8], script: &mut Script) -> Result<(), Stop>
     requires { lacks 10 line.now ≡ true }
-    ensures good { (text : List ℕ) → IsPlayed text line.now script.old.settings (is_some script.old.world) → OnOk result (IsDone text) }
-    ensures bad { (n : ℕ) → result ≡ Err (BadLine n) → (text : List ℕ) → IsPlayed text line.now script.old.settings (is_some script.old.world) → HasBadLine text }
-    ensures fault { (fault : ConfigFault) → result ≡ Err (bad_config fault) → (text : List ℕ) → IsPlayed text line.now script.old.settings (is_some script.old.world) → HasSettingsFault text (Unit {0}) fault }
+    ensures good { OnOk result (ForPlayed line.now script.old.simulation
+        (λ text. IsPlayedOut text script.new.simulation)) }
+    ensures bad { (n : ℕ) → result ≡ Err (BadLine n)
+        → ForPlayed line.now script.old.simulation HasBadLine }
+    ensures fault { (fault : ConfigFault) → result ≡ Err (bad_config fault)
+        → ForPlayed line.now script.old.simulation
+        (λ text. HasSettingsFault text (Unit {0}) fault) }
     ensures only { IfErr result IsOfScript }
 {
     if line.is_empty() {

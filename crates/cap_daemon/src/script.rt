@@ -1,57 +1,55 @@
-ghost use Rattle.std.specs.Prelude.{◌≡◌, ◌+◌, ◌<◌, ◌++◌, ◌∷◌, [], ℕ, List, None, Some, Err, OnOk, IfErr, true, false, is_some, is_err, if◌then◌else◌};
+ghost use Rattle.std.specs.Prelude.{◌≡◌, ◌≢◌, ◌+◌, ◌<◌, ℕ, None, Some, Err, Ok, OnOk, IfOk, IfErr, true, false, is_some, is_err, if◌then◌else◌, vec_len, take, length, ◌≤◌, ◌/◌, IsOk};
+ghost use Rattle.hex.specs.Hex.{decode_of};
 ghost use Rattle.cap_config.specs.declared.fault.ConfigFault.{ConfigFault};
+ghost use Rattle.cap_daemon.specs.declared.command.Command.{Command};
 ghost use Rattle.cap_daemon.specs.declared.stop.Stop.TheVariants.{BadLine, Config as bad_config, Output as write_failed};
-ghost use Rattle.cap_daemon.specs.Script.{IsPiece, IsScript};
+ghost use Rattle.cap_daemon.specs.Script.{IsPiece};
 ghost use Rattle.cap_daemon.specs.Settings.{with_line};
-ghost use Rattle.cap_daemon.specs.Progress.{Stands, StopsAtStep, Begins, FailsToBegin};
+ghost use Rattle.cap_daemon.specs.World.{Performs, Begins, FailsToBegin};
+ghost use Rattle.cap_daemon.specs.Progress.{PlaysLine, MayNotFollow, FailsAtStep};
 ghost use Rattle.cap_session.specs.Counted.{state_of, CanCount};
 ghost use Rattle.cap_daemon.specs.Streams.{IsOfScript, CountsWrite};
 
 use crate::command::{Command, command_of};
-use crate::frames::print_frames;
 use crate::output::write_out;
-use crate::settings::Settings;
+use crate::print::{print_fault, print_frames, print_number};
+use crate::simulation::Simulation;
 use crate::stop::Stop;
 use cap_config::ConfigFault;
-use cap_model::{Event, NoMemory};
 use cap_session::Counted;
-use cap_world::{Did, Step, World};
-use hex::FromHexError;
-use std::alloc::Global;
+use cap_world::{Did, Step};
+use std::alloc::{AllocError, Global};
 use std::io::Write;
 
-/// A script that is being played: its property lines, the world of its steps once the settings were read, and what was printed
-/// and is not written out yet.
+/// A script that is being played: its settings and its world, and what was printed and is not written out yet.
 #[derive(Drop)]
 pub(crate) struct Script {
-    alloc: Global,
-    settings: Settings,
-    world: Option<World>,
-    events: Vec<Event<2>>,
+    simulation: Simulation,
     lines: u64,
-    printed: String,
+    // Room for the bytes of a piece, kept from line to line.
+    room: Vec<u8>,
+    printed: Vec<u8>,
 }
 
 impl Script {
     pub(crate) fn new(alloc: Global) -> Script
-        ensures settings { result.settings ≡ None }
-        ensures world { is_some result.world ≡ false }
+        ensures settings { result.simulation.settings ≡ None }
+        ensures world { result.simulation.world ≡ None }
     {
         Script {
-            alloc,
-            settings: Settings::new(alloc),
-            world: None,
-            events: Vec::new(alloc),
+            simulation: Simulation::new(alloc),
             lines: 0,
-            printed: String::new(alloc),
+            room: Vec::new(alloc),
+            printed: Vec::new(alloc),
         }
     }
 
     /// Plays one line.
     pub(crate) fn play(&mut self, line: &[u8]) -> Result<(), Stop>
-        ensures good { (done : List (List ℕ)) → Stands done self.old.settings (is_some self.old.world) → OnOk result (Stands (done ++ line.now ∷ []) self.new.settings (is_some self.new.world)) }
-        ensures bad { (n : ℕ) → result ≡ Err (BadLine n) → (done : List (List ℕ)) → Stands done self.old.settings (is_some self.old.world) → IsScript (done ++ line.now ∷ []) → ⊥ }
-        ensures fault { (fault : ConfigFault) → result ≡ Err (bad_config fault) → (done : List (List ℕ)) → Stands done self.old.settings (is_some self.old.world) → StopsAtStep done line.now fault }
+        ensures good { OnOk result (PlaysLine line.now self.old.simulation self.new.simulation) }
+        ensures bad { (n : ℕ) → result ≡ Err (BadLine n) → MayNotFollow line.now self.old.simulation }
+        ensures fault { (fault : ConfigFault) → result ≡ Err (bad_config fault)
+            → FailsAtStep line.now self.old.simulation fault }
         ensures script { IfErr result IsOfScript }
     {
         self.lines = self.lines.saturating_add(1);
@@ -60,151 +58,136 @@ impl Script {
             Some(Command::Nothing) => Ok(()),
             Some(Command::Conf(property)) => self.add(property),
             Some(Command::Open(number)) => self.open(number),
-            Some(Command::Bytes(number, hex)) => self.bytes(number, hex),
+            Some(Command::Bytes(number, digits)) => self.bytes(number, digits),
             Some(Command::End(number)) => self.end(number),
         }
     }
 
     /// One more property line, which may stand before the first step alone.
     fn add(&mut self, property: &[u8]) -> Result<(), Stop>
-        ensures good { OnOk result (is_some self.old.world ≡ false) }
-        ensures world { is_some self.new.world ≡ is_some self.old.world }
-        ensures added { OnOk result (self.new.settings ≡ with_line self.old.settings property.now) }
-        ensures bad { (n : ℕ) → result ≡ Err (BadLine n) → is_some self.old.world ≡ true }
+        ensures good { OnOk result (self.old.simulation.world ≡ None) }
+        ensures world { self.new.simulation.world ≡ self.old.simulation.world }
+        ensures added { OnOk result (self.new.simulation.settings
+            ≡ with_line self.old.simulation.settings property.now) }
+        ensures bad { (n : ℕ) → result ≡ Err (BadLine n) → self.old.simulation.world ≢ None }
         ensures only { (fault : ConfigFault) → result ≡ Err (bad_config fault) → ⊥ }
         ensures script { IfErr result IsOfScript }
     {
-        let stepped = self.world.is_some();
+        let stepped = self.simulation.has_begun();
         if stepped {
             return Err(Stop::BadLine(self.lines));
         }
-        self.settings.add(property)?;
+        self.simulation.add(property)?;
         Ok(())
     }
 
+    /// Opens the connection of this number.
     fn open(&mut self, number: u32) -> Result<(), Stop>
-        ensures begins { OnOk result (Begins self.old.settings (is_some self.old.world) self.new.settings (is_some self.new.world)) }
-        ensures fault { (fault : ConfigFault) → result ≡ Err (bad_config fault) → FailsToBegin self.old.settings (is_some self.old.world) fault }
+        ensures performs { OnOk result
+            (Performs (Command.Open number) self.old.simulation self.new.simulation) }
+        ensures fault { (fault : ConfigFault) → result ≡ Err (bad_config fault)
+            → FailsToBegin self.old.simulation fault }
         ensures only { (n : ℕ) → result ≡ Err (BadLine n) → ⊥ }
         ensures script { IfErr result IsOfScript }
     {
-        match self.step(Step::Open(number)) {
-            Ok(Did::Done) => writeln!(self.printed, "opened {number}")?,
-            Ok(Did::Idle) => writeln!(self.printed, "idle")?,
+        match self.simulation.step(Step::Open(number)) {
+            Ok(Did::Done) => print_number(&mut self.printed, b"opened ", number)?,
+            Ok(Did::Idle) => self.printed.extend_from_slice(b"idle\n")?,
             Err(stop) => return Err(stop),
         }
         Ok(())
     }
 
+    /// Ends the connection of this number.
     fn end(&mut self, number: u32) -> Result<(), Stop>
-        ensures begins { OnOk result (Begins self.old.settings (is_some self.old.world) self.new.settings (is_some self.new.world)) }
-        ensures fault { (fault : ConfigFault) → result ≡ Err (bad_config fault) → FailsToBegin self.old.settings (is_some self.old.world) fault }
+        ensures performs { OnOk result
+            (Performs (Command.End number) self.old.simulation self.new.simulation) }
+        ensures fault { (fault : ConfigFault) → result ≡ Err (bad_config fault)
+            → FailsToBegin self.old.simulation fault }
         ensures only { (n : ℕ) → result ≡ Err (BadLine n) → ⊥ }
         ensures script { IfErr result IsOfScript }
     {
-        match self.step(Step::End(number)) {
-            Ok(Did::Done) => writeln!(self.printed, "closed {number}")?,
-            Ok(Did::Idle) => writeln!(self.printed, "idle")?,
+        match self.simulation.step(Step::End(number)) {
+            Ok(Did::Done) => print_number(&mut self.printed, b"closed ", number)?,
+            Ok(Did::Idle) => self.printed.extend_from_slice(b"idle\n")?,
             Err(stop) => return Err(stop),
         }
         Ok(())
     }
 
-    fn bytes(&mut self, number: u32, hex: &[u8]) -> Result<(), Stop>
-        ensures piece { OnOk result (IsPiece hex.now) }
-        ensures begins { OnOk result (Begins self.old.settings (is_some self.old.world) self.new.settings (is_some self.new.world)) }
-        ensures fault { (fault : ConfigFault) → result ≡ Err (bad_config fault) → IsPiece hex.now × FailsToBegin self.old.settings (is_some self.old.world) fault }
-        ensures bad { (n : ℕ) → result ≡ Err (BadLine n) → IsPiece hex.now → ⊥ }
+    /// Brings the piece that the hexadecimal digits write on the connection of this number.
+    fn bytes(&mut self, number: u32, digits: &[u8]) -> Result<(), Stop>
+        ensures performs { OnOk result
+            (Performs (Command.Bytes number digits.entry) self.old.simulation self.new.simulation) }
+        ensures fault { (fault : ConfigFault) → result ≡ Err (bad_config fault)
+            → IsPiece digits.now × FailsToBegin self.old.simulation fault }
+        ensures bad { (n : ℕ) → result ≡ Err (BadLine n) → IsPiece digits.now → ⊥ }
         ensures script { IfErr result IsOfScript }
     {
-        let piece = match self.piece(hex) {
-            Ok(piece) => piece,
+        let count = match self.decode(digits) {
+            Ok(count) => count,
             Err(stop) => return Err(stop),
         };
-        let before = output_of(&self.world, number).len();
-        let did = self.step(Step::Bytes(number, &piece));
-        let output = output_of(&self.world, number);
+        let piece = &self.room[..count];
+        let before = self.simulation.output(number).len();
+        let did = self.simulation.step(Step::Bytes(number, piece));
+        let output = self.simulation.output(number);
         let more = output.get(before..).unwrap_or(&[]);
-        print_frames(self.alloc, &mut self.printed, number, more)?;
+        print_frames(&mut self.printed, number, more)?;
         match did {
             Ok(Did::Done) => {
-                if !is_open(&self.world, number) {
-                    writeln!(self.printed, "ended {number}")?;
+                if !self.simulation.is_open(number) {
+                    print_number(&mut self.printed, b"ended ", number)?;
                 }
             }
-            Ok(Did::Idle) => writeln!(self.printed, "idle")?,
+            Ok(Did::Idle) => self.printed.extend_from_slice(b"idle\n")?,
             Err(stop) => return Err(stop),
         }
         Ok(())
     }
 
-    /// The bytes that an even number of hexadecimal digits write, at least two.
-    fn piece(&self, digits: &[u8]) -> Result<Vec<u8>, Stop>
-        ensures good { OnOk result (IsPiece digits.now) }
+    /// Puts the bytes that an even number of hexadecimal digits write, at least two, first into the room, and gives their number.
+    fn decode(&mut self, digits: &[u8]) -> Result<usize, Stop>
+        ensures fits { IfOk result (λ n. n ≤ vec_len self.new.room) }
+        ensures some { OnOk result (0 < length digits.now) }
+        ensures bytes { IfOk result (λ n. decode_of digits.now ≡ Ok (take n self.new.room.items)) }
         ensures bad { (n : ℕ) → result ≡ Err (BadLine n) → IsPiece digits.now → ⊥ }
         ensures only { (fault : ConfigFault) → result ≡ Err (bad_config fault) → ⊥ }
         ensures script { IfErr result IsOfScript }
+        ensures same { self.new.simulation ≡ self.old.simulation }
     {
-        if digits.is_empty() {
+        let count = digits.len() / 2;
+        if count == 0 {
             return Err(Stop::BadLine(self.lines));
         }
-        match hex::decode(self.alloc, digits) {
-            Ok(piece) => Ok(piece),
-            Err(FromHexError::OutOfMemory) => Err(Stop::NoMemory),
-            Err(_) => Err(Stop::BadLine(self.lines)),
+        make_room(&mut self.room, count)?;
+        let decoded = decode_front(digits, self.room.as_mut_slice());
+        if !decoded {
+            return Err(Stop::BadLine(self.lines));
         }
-    }
-
-    /// Makes a step; before the first one the settings are read. Its events are printed by nobody.
-    fn step(&mut self, step: Step) -> Result<Did, Stop>
-        ensures begins { OnOk result (Begins self.old.settings (is_some self.old.world) self.new.settings (is_some self.new.world)) }
-        ensures fault { (fault : ConfigFault) → result ≡ Err (bad_config fault) → FailsToBegin self.old.settings (is_some self.old.world) fault }
-        ensures only { (n : ℕ) → result ≡ Err (BadLine n) → ⊥ }
-        ensures script { IfErr result IsOfScript }
-    {
-        match self.begin() {
-            Ok(()) => {}
-            Err(stop) => return Err(stop),
-        }
-        let Some(world) = &mut self.world else {
-            unreachable!()
-        };
-        let did = world.step(step, &mut self.events);
-        self.events.clear();
-        match did {
-            Ok(did) => Ok(did),
-            Err(NoMemory) => Err(Stop::NoMemory),
-        }
+        Ok(count)
     }
 
     /// Reads the settings and opens the world by them, where that was not done before.
     pub(crate) fn begin(&mut self) -> Result<(), Stop>
-        ensures begins { OnOk result (Begins self.old.settings (is_some self.old.world) self.new.settings (is_some self.new.world)) }
-        ensures fault { (fault : ConfigFault) → result ≡ Err (bad_config fault) → FailsToBegin self.old.settings (is_some self.old.world) fault }
+        ensures begins { OnOk result (Begins self.old.simulation self.new.simulation) }
+        ensures fault { (fault : ConfigFault) → result ≡ Err (bad_config fault)
+            → FailsToBegin self.old.simulation fault }
         ensures only { (n : ℕ) → result ≡ Err (BadLine n) → ⊥ }
         ensures script { IfErr result IsOfScript }
     {
-        if self.world.is_some() {
-            return Ok(());
-        }
-        match self.settings.open() {
-            Ok(world) => self.world = Some(world),
-            Err(stop) => return Err(stop),
-        }
-        Ok(())
+        self.simulation.begin()
     }
 
     /// Prints that a line is bad.
     pub(crate) fn print_bad_line(&mut self, line: u64) -> Result<(), Stop> {
-        writeln!(self.printed, "bad line {line}")?;
+        print_number(&mut self.printed, b"bad line ", line)?;
         Ok(())
     }
 
     /// Prints the fault of the settings.
     pub(crate) fn print_fault(&mut self, fault: ConfigFault) -> Result<(), Stop> {
-        let number = fault.kind as u8;
-        let line = fault.line;
-        writeln!(self.printed, "config {line} {number}")?;
+        print_fault(&mut self.printed, fault.line, fault.kind as u8)?;
         Ok(())
     }
 
@@ -213,13 +196,12 @@ impl Script {
         requires { CanCount (state_of writer.old) }
         ensures stop { IfErr result (λ stop. stop ≡ write_failed) }
         ensures counts { CountsWrite result (state_of writer.old) (state_of writer.new) }
-        ensures settings { self.new.settings ≡ self.old.settings }
-        ensures world { self.new.world ≡ self.old.world }
+        ensures same { self.new.simulation ≡ self.old.simulation }
     {
         if self.printed.is_empty() {
             return Ok(());
         }
-        let written = write_out(writer, self.printed.as_bytes());
+        let written = write_out(writer, &self.printed);
         self.printed.clear();
         match written {
             Ok(()) => Ok(()),
@@ -228,17 +210,25 @@ impl Script {
     }
 }
 
-/// All bytes that a connection was answered, none before the first step.
-fn output_of(world: &Option<World>, number: u32) -> &[u8] {
-    match world {
-        Some(world) => world.output(number),
-        None => &[],
+/// Makes room for so many bytes, where there is less.
+fn make_room(room: &mut Vec<u8>, count: usize) -> Result<(), AllocError>
+    ensures { OnOk result (count ≤ vec_len room.new) }
+{
+    if room.len() < count {
+        room.resize(count, 0)?;
     }
+    Ok(())
 }
 
-fn is_open(world: &Option<World>, number: u32) -> bool {
-    match world {
-        Some(world) => world.is_open(number),
-        None => false,
+/// Puts the bytes that hexadecimal digits write first into the room; false where they write none.
+fn decode_front(digits: &[u8], room: &mut [u8]) -> bool
+    requires { length digits.now / 2 ≤ length room.old }
+    ensures bytes { result ≡ true → decode_of digits.now ≡ Ok (take (length digits.now / 2) room.new) }
+    ensures bad { result ≡ false → IsOk (decode_of digits.now) → ⊥ }
+{
+    let count = digits.len() / 2;
+    match hex::decode_to_slice(digits, &mut room[..count]) {
+        Ok(()) => true,
+        Err(_) => false,
     }
 }

@@ -1,10 +1,11 @@
-ghost use Rattle.std.specs.Prelude.{◌≡◌, ℕ, None, Some, Err, OnOk, IfErr};
+ghost use Rattle.std.specs.Prelude.{◌≡◌, ℕ, None, Some, Err, OnOk, IfOk, IfErr};
 ghost use Rattle.cap_config.specs.declared.fault.ConfigFault.{ConfigFault};
 ghost use Rattle.cap_config.specs.First.{first_fault};
 ghost use Rattle.cap_daemon.specs.declared.stop.Stop.TheVariants.{BadLine, Config as bad_config};
 ghost use Rattle.cap_daemon.specs.Progress.{IsStopOf};
 ghost use Rattle.cap_daemon.specs.Settings.{with_line, settings_text};
 ghost use Rattle.cap_daemon.specs.Streams.{IsOfScript};
+ghost use Rattle.cap_daemon.specs.World.{IsNewWorld};
 
 use crate::stop::Stop;
 use cap_commit::Cluster;
@@ -67,8 +68,9 @@ impl Settings {
 
     /// Opens a world by the settings, or finds their first fault.
     pub(crate) fn open(&self) -> Result<World, Stop>
-        ensures good { OnOk result (first_fault (settings_text self.now) ≡ None) }
-        ensures fault { (fault : ConfigFault) → result ≡ Err (bad_config fault) → first_fault (settings_text self.now) ≡ Some fault }
+        ensures good { IfOk result (λ world. IsNewWorld (settings_text self.now) world) }
+        ensures fault { (fault : ConfigFault) → result ≡ Err (bad_config fault)
+            → first_fault (settings_text self.now) ≡ Some fault }
         ensures only { (n : ℕ) → result ≡ Err (BadLine n) → ⊥ }
         ensures script { IfErr result IsOfScript }
     {

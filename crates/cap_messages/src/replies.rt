@@ -4,7 +4,7 @@ ghost use Rattle.cap_messages.specs.Spelling.{IsOfKind, FitsReply, IsReply, repl
 
 use crate::cluster_info::put_cluster_report;
 use crate::news::{put_allocated, put_beat};
-use crate::output::{Out, REPLY_ROOM, put_amounts};
+use crate::output::{FAULT_ROOM, Out, REPLY_ROOM, put_amounts};
 use crate::queue_calls::put_queue_report;
 use cap_model::{ReplyView, ReplyWith};
 
@@ -84,14 +84,13 @@ pub fn write_reply(call_id: u32, kind: u8, reply: &ReplyView<'_, 2>, out: &mut O
 }
 
 /// Appends the reply to a payload that is no request, or to a frame that is none, whose call id is not known: `status`
-/// with kind 0 and call id 0. `REPLY_ROOM` bytes of `out` are free. It takes no memory and cannot fail; what `out` held
+/// with kind 0 and call id 0. `FAULT_ROOM` bytes of `out` are free. It takes no memory and cannot fail; what `out` held
 /// stays.
 pub fn write_fault(status: u8, out: &mut Out)
-    requires { REPLY_ROOM ≤ out.old.spare }
+    requires { FAULT_ROOM ≤ out.old.spare }
     ensures appends { out.new.items ≡ out.old.items ++ fault_reply status }
-    ensures spare { out.new.spare + length (fault_reply status) ≡ out.old.spare }
-    ensures some { 0 < length (fault_reply status) }
-    ensures room { 4 + length (fault_reply status) ≤ REPLY_ROOM }
+    ensures spare { out.new.spare + FAULT_ROOM ≡ out.old.spare }
+    ensures room { length (fault_reply status) ≡ FAULT_ROOM }
 {
     out.extend_reserved(&[1, 0, 0, 0, 0, 0, status]);
 }

@@ -13,24 +13,25 @@ use Rattle.cap_session.specs.declared.counted.Put.TheVariants as put
 use Rattle.cap_session.specs.declared.counted.Sent.{Sent}
 use Rattle.cap_session.specs.declared.counted.Sent.TheVariants as sents
 
--- how many calls failed, how many reads were quiet and how many found the end, the bytes that the reads gave and those that the
--- writes took
+-- how many calls failed, how many reads were quiet, how many found the end and how many gave bytes, the bytes that the reads gave and those
+-- that the writes took
 pub record StreamState : Type 0 where
   pub failures : ℕ
   pub quiets : ℕ
   pub ends : ℕ
+  pub reads : ℕ
   pub given : List ℕ
   pub taken : List ℕ
 
 abbrev pub new_stream : StreamState
-new_stream = record { failures = 0; quiets = 0; ends = 0; given = []; taken = [] }
+new_stream = record { failures = 0; quiets = 0; ends = 0; reads = 0; given = []; taken = [] }
 
 -- the bytes of a log
 abbrev pub bytes_in : List (ℕ × Unit {0}) → List ℕ
 bytes_in entries = map (λ e. e.0) entries
 
 abbrev pub state_of : {T : Type 0} → Counted T → StreamState
-state_of c = record { failures = c.failures; quiets = c.quiets; ends = c.ends; given = bytes_in c.given.items; taken = bytes_in c.taken.items }
+state_of c = record { failures = c.failures; quiets = c.quiets; ends = c.ends; reads = length c.reads.items; given = bytes_in c.given.items; taken = bytes_in c.taken.items }
 
 abbrev pub inner_of : {T : Type 0} → Counted T → T
 inner_of c = c.inner
@@ -56,7 +57,7 @@ one_end s = record s { ends = s.ends + 1 }
 
 -- after a read that left these bytes in its buffer
 abbrev pub after_read : StreamState → Got → List ℕ → StreamState
-after_read s (got.Bytes n) buf = record s { given = s.given ++ take n buf }
+after_read s (got.Bytes n) buf = record s { reads = s.reads + 1; given = s.given ++ take n buf }
 after_read s got.End buf = one_end s
 after_read s got.Quiet buf = one_quiet s
 after_read s got.Fault buf = one_failure s

@@ -8,14 +8,15 @@ use std::io;
 use std::io::{ErrorKind, Read, Write};
 
 /// A reader or a writer, and how often it failed, was quiet, and was found at its end, each counted from 0. Contracts see the
-/// three counts, the bytes that its reads gave, and those that its writes took.
+/// three counts, how many reads gave bytes, the bytes that its reads gave, and those that its writes took.
 #[derive(Drop)]
 pub struct Counted<T> {
     inner: T,
     failures: u64,
     quiets: u64,
     ends: u64,
-    // These two exist for contracts alone.
+    // These exist for contracts alone: an entry for each read that gave bytes, the bytes, and those that were taken.
+    reads: Log<(), ()>,
     given: Log<u8, ()>,
     taken: Log<u8, ()>,
 }
@@ -78,6 +79,7 @@ impl<T> Counted<T> {
             failures: 0,
             quiets: 0,
             ends: 0,
+            reads: Log::new(),
             given: Log::new(),
             taken: Log::new(),
         }
@@ -117,7 +119,10 @@ impl<R: Read> Counted<R> {
     {
         let got = classify_read(&self.inner.read(buf));
         match got {
-            Got::Bytes(n) => log_bytes(&mut self.given, &buf[..n]),
+            Got::Bytes(n) => {
+                self.reads = self.reads.and(&(), &());
+                log_bytes(&mut self.given, &buf[..n]);
+            }
             Got::End => self.ends += 1,
             Got::Quiet => self.quiets += 1,
             Got::Fault => self.failures += 1,

@@ -6,7 +6,9 @@ ghost use Rattle.cap_session.specs.Kept.{Finds, EndsWith};
 
 use bytes::BytesMut;
 use cap_frames::{Frame, FrameFault, Framer, close_frame, open_frame};
-use cap_messages::{MessageFault, REPLY_ROOM, kind, read_request, write_fault, write_reply};
+use cap_messages::{
+    FAULT_ROOM, MessageFault, REPLY_ROOM, kind, read_request, write_fault, write_reply,
+};
 use cap_model::{NoMemory, OwnedReply, Request};
 use http_server::Log;
 use std::alloc::Global;
@@ -91,13 +93,13 @@ fn end(unsent: &mut BytesMut) -> Found
     }
 }
 
-/// Appends the frame of the fault reply of this status. An `Err` changes nothing.
+/// Appends the frame of the fault reply of this status, for which it needs room for its 11 bytes alone. An `Err` changes nothing.
 fn put_fault(status: u8, unsent: &mut BytesMut) -> Result<(), NoMemory>
     ensures ok { OnOk result (unsent.new.items
         ≡ unsent.old.items ++ frame_of (fault_reply status)) }
     ensures err { OnErr result (unsent.new.items ≡ unsent.old.items) }
 {
-    unsent.reserve(FRAME_ROOM).map_err(|_| NoMemory)?;
+    unsent.reserve(4 + FAULT_ROOM).map_err(|_| NoMemory)?;
     let start = open_frame(unsent);
     write_fault(status, unsent);
     close_frame(start, unsent);

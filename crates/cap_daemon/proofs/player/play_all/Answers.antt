@@ -1,10 +1,9 @@
 use Rattle.std.proofs.Common.{rules, ◌≡◌, ◌<◌, ◌++◌, [], ◌∙◌, Err, inl, inr, length, length-append, arith, ap, refl}
 use Rattle.cap_session.specs.Counted.{StreamState, state_of}
-use Rattle.std.specs.Prelude.{is_some}
 use Rattle.cap_daemon.specs.Streams.{HasEnded}
 use Rattle.std.proofs.lemmas.Bool.Decides.{nat_tests}
 use Rattle.cap_daemon.proofs.Results.{on_ok, reads_of_script, writes_of_script, output_of_script, still_counts}
-use Rattle.cap_daemon.proofs.Lines.{as_now, fault_when}
+use Rattle.cap_daemon.proofs.Lines.{starts, as_now, fault_when}
 use Rattle.cap_daemon.proofs.Reading.{read_nothing, read_more, read_none, ended_since}
 use Rattle.cap_daemon.proofs.player.play_all.Goals as goal
 
@@ -13,12 +12,12 @@ returns-then-is_empty-clause-done g c =
     let empty = c.if-is_empty.ensures in
     let none : length c.in-Ok-read_piece.piece.now ≡ 0 = grind (arith, nat_tests, empty) in
     let before = c.loop-reads.invariant.text in
-    let played = as_now before.0 c.loop-reads.begun.items c.deref.result.now c.loop-reads.script.settings c.write_out.new.self.settings (is_some c.loop-reads.script.world) (is_some c.write_out.new.self.world) before.2 c.deref.ensures.value c.in-Ok.ensures.settings (ap is_some c.in-Ok.ensures.world) in
-    on_ok c.play_last.result (c.play_last.ensures.good before.0 played) (λ done. (
+    let played = as_now before.0 c.loop-reads.begun.items c.deref.result.now c.loop-reads.script.simulation c.write_out.new.self.simulation before.2 c.deref.ensures.value c.in-Ok.ensures.same in
+    on_ok c.play_last.result c.play_last.ensures.good (λ good. (
       before.0,
       read_none g.R.Read.remaining c.args.reader.now c.loop-reads.reader c.read_piece.new.reader before.0 c.in-Ok-read_piece.piece.now none before.1 c.in-Ok-read_piece.ensures.read,
       ended_since g.R.Read.remaining c.args.reader.now c.loop-reads.reader c.read_piece.new.reader c.loop-reads.invariant.ends (c.in-Ok-read_piece.ensures.ended none),
-      done,
+      good before.0 played,
     ))
 
 pub returns-then-is_empty-clause-bad : goal.returns-then-is_empty-clause-bad
@@ -26,7 +25,7 @@ returns-then-is_empty-clause-bad g c =
     let empty = c.if-is_empty.ensures in
     let none : length c.in-Ok-read_piece.piece.now ≡ 0 = grind (arith, nat_tests, empty) in
     let before = c.loop-reads.invariant.text in
-    let played = as_now before.0 c.loop-reads.begun.items c.deref.result.now c.loop-reads.script.settings c.write_out.new.self.settings (is_some c.loop-reads.script.world) (is_some c.write_out.new.self.world) before.2 c.deref.ensures.value c.in-Ok.ensures.settings (ap is_some c.in-Ok.ensures.world) in
+    let played = as_now before.0 c.loop-reads.begun.items c.deref.result.now c.loop-reads.script.simulation c.write_out.new.self.simulation before.2 c.deref.ensures.value c.in-Ok.ensures.same in
     λ n e. (
       before.0,
       read_none g.R.Read.remaining c.args.reader.now c.loop-reads.reader c.read_piece.new.reader before.0 c.in-Ok-read_piece.piece.now none before.1 c.in-Ok-read_piece.ensures.read,
@@ -38,7 +37,7 @@ returns-then-is_empty-clause-fault g c =
     let empty = c.if-is_empty.ensures in
     let none : length c.in-Ok-read_piece.piece.now ≡ 0 = grind (arith, nat_tests, empty) in
     let before = c.loop-reads.invariant.text in
-    let played = as_now before.0 c.loop-reads.begun.items c.deref.result.now c.loop-reads.script.settings c.write_out.new.self.settings (is_some c.loop-reads.script.world) (is_some c.write_out.new.self.world) before.2 c.deref.ensures.value c.in-Ok.ensures.settings (ap is_some c.in-Ok.ensures.world) in
+    let played = as_now before.0 c.loop-reads.begun.items c.deref.result.now c.loop-reads.script.simulation c.write_out.new.self.simulation before.2 c.deref.ensures.value c.in-Ok.ensures.same in
     λ fault e. (
       before.0,
       read_none g.R.Read.remaining c.args.reader.now c.loop-reads.reader c.read_piece.new.reader before.0 c.in-Ok-read_piece.piece.now none before.1 c.in-Ok-read_piece.ensures.read,
@@ -48,7 +47,7 @@ returns-then-is_empty-clause-fault g c =
 pub returns-in-Err-play_lines-clause-bad : goal.returns-in-Err-play_lines-clause-bad
 returns-in-Err-play_lines-clause-bad g c =
     let before = c.loop-reads.invariant.text in
-    let played = as_now before.0 c.loop-reads.begun.items c.loop-reads.begun.items c.loop-reads.script.settings c.write_out.new.self.settings (is_some c.loop-reads.script.world) (is_some c.write_out.new.self.world) before.2 refl c.in-Ok.ensures.settings (ap is_some c.in-Ok.ensures.world) in
+    let played = as_now before.0 c.loop-reads.begun.items c.loop-reads.begun.items c.loop-reads.script.simulation c.write_out.new.self.simulation before.2 refl c.in-Ok.ensures.same in
     λ n e. (
       before.0 ++ c.in-Ok-read_piece.piece.now,
       read_more g.R.Read.remaining c.args.reader.now c.loop-reads.reader c.read_piece.new.reader before.0 c.in-Ok-read_piece.piece.now before.1 c.in-Ok-read_piece.ensures.read,
@@ -58,7 +57,7 @@ returns-in-Err-play_lines-clause-bad g c =
 pub returns-in-Err-play_lines-clause-fault : goal.returns-in-Err-play_lines-clause-fault
 returns-in-Err-play_lines-clause-fault g c =
     let before = c.loop-reads.invariant.text in
-    let played = as_now before.0 c.loop-reads.begun.items c.loop-reads.begun.items c.loop-reads.script.settings c.write_out.new.self.settings (is_some c.loop-reads.script.world) (is_some c.write_out.new.self.world) before.2 refl c.in-Ok.ensures.settings (ap is_some c.in-Ok.ensures.world) in
+    let played = as_now before.0 c.loop-reads.begun.items c.loop-reads.begun.items c.loop-reads.script.simulation c.write_out.new.self.simulation before.2 refl c.in-Ok.ensures.same in
     λ fault e. (
       before.0 ++ c.in-Ok-read_piece.piece.now,
       read_more g.R.Read.remaining c.args.reader.now c.loop-reads.reader c.read_piece.new.reader before.0 c.in-Ok-read_piece.piece.now before.1 c.in-Ok-read_piece.ensures.read,
@@ -68,7 +67,7 @@ returns-in-Err-play_lines-clause-fault g c =
 pub loop-reads-preserved : goal.loop-reads-preserved
 loop-reads-preserved g c =
     let before = c.loop-reads.invariant.text in
-    let played = as_now before.0 c.loop-reads.begun.items c.loop-reads.begun.items c.loop-reads.script.settings c.write_out.new.self.settings (is_some c.loop-reads.script.world) (is_some c.write_out.new.self.world) before.2 refl c.in-Ok.ensures.settings (ap is_some c.in-Ok.ensures.world) in
+    let played = as_now before.0 c.loop-reads.begun.items c.loop-reads.begun.items c.loop-reads.script.simulation c.write_out.new.self.simulation before.2 refl c.in-Ok.ensures.same in
     let i = c.loop-reads.invariant in
     let empty = c.if-is_empty.ensures in
     let some : 0 < length c.in-Ok-read_piece.piece.now = grind (arith, nat_tests, empty) in
@@ -83,14 +82,14 @@ loop-reads-preserved g c =
       failures = ap (λ (x : StreamState). x.failures) goes ∙ i.failures;
       quiets = ap (λ (x : StreamState). x.quiets) goes ∙ i.quiets;
       ends = ap (λ (x : StreamState). x.ends) goes ∙ i.ends;
-      many = omega (arith, ap (λ (x : StreamState). length x.given) goes, length-append (state_of c.loop-reads.reader).given c.in-Ok-read_piece.piece.now, i.many, some);
+      many = omega (arith, ap (λ (x : StreamState). x.reads) goes, i.many);
       writes = c.in-Ok.ensures.counts.failures ∙ i.writes;
       may_write = still_counts (state_of c.loop-reads.writer) (state_of c.write_out.new.writer) i.may_write c.in-Ok.ensures.counts.failures c.in-Ok.ensures.counts.quiets c.in-Ok.ensures.counts.ends;
     }
 
 pub loop-reads-init : goal.loop-reads-init
 loop-reads-init g c = record {
-  text = ([], read_nothing g.R.Read.remaining c.args.reader.now, search rules);
+  text = ([], read_nothing g.R.Read.remaining c.args.reader.now, rw c.new-begun.ensures.items (starts c.args.script.now.simulation c.requires.settings c.requires.world));
   clean = search rules;
   failures = refl;
   quiets = refl;
@@ -170,7 +169,13 @@ returns-in-Err-play_lines-clause-counts g c =
 -- too many reads were made
 
 pub returns-clause-reads : goal.returns-clause-reads
-returns-clause-reads g c = inr (omega (arith, c.loop-reads.invariant.many, c.loop-reads-test.false))
+returns-clause-reads g c =
+    let i = c.loop-reads.invariant in
+    inr (record {
+      reads = omega (arith, i.many, c.loop-reads-test.false);
+      misses = omega (arith, i.failures, i.quiets);
+      ends = i.ends;
+    })
 
 pub returns-clause-writes : goal.returns-clause-writes
 returns-clause-writes g c = omega (arith, c.loop-reads.invariant.writes)

@@ -1,5 +1,4 @@
 use Rattle.std.proofs.Common.{◌≡◌, ◌++◌, List, ℕ, length, true}
-use Rattle.std.specs.Prelude.{is_some}
 use Rattle.cap_text.specs.Pieces.{lacks}
 use Rattle.cap_daemon.specs.Progress.{IsPlayed}
 use Rattle.cap_daemon.proofs.player.play_lines.Given as goal
@@ -8,7 +7,7 @@ use Rattle.cap_daemon.proofs.player.play_lines.Given as goal
 abbrev pub invariant-loop-front : goal.invariant-loop-front
 invariant-loop-front l = record {
   clean : lacks 10 l.begun.items ≡ true;
-  played : (text : List ℕ) → IsPlayed text l.fn.begun.items l.fn.script.settings (is_some l.fn.script.world) → IsPlayed (text ++ l.bytes) (l.begun.items ++ l.rest) l.script.settings (is_some l.script.world);
+  played : (text : List ℕ) → IsPlayed text l.fn.begun.items l.fn.script.simulation → IsPlayed (text ++ l.bytes) (l.begun.items ++ l.rest) l.script.simulation;
 }
 
 abbrev pub decreases-loop-front : goal.decreases-loop-front

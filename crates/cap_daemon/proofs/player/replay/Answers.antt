@@ -1,7 +1,12 @@
 use Rattle.std.proofs.Common.{inl, inr, arith}
 use Rattle.cap_session.specs.Counted.{state_of}
-use Rattle.cap_daemon.proofs.Results.{by_refusal, input_stopped, stopped_input}
+use Rattle.cap_daemon.proofs.Results.{from_ok, by_refusal, input_stopped, stopped_input}
 use Rattle.cap_daemon.proofs.player.replay.Goals as goal
+
+pub returns-clause-done : goal.returns-clause-done
+returns-clause-done g c = λ e.
+    let seen = from_ok c.play_all-played.result (c.finish.ensures.done e) c.play_all-played.ensures.done in
+    (seen.0, seen.1, seen.2, seen.3.done)
 
 pub returns-clause-refused : goal.returns-clause-refused
 returns-clause-refused g c = λ e.
