@@ -49,12 +49,12 @@ headline_cut opening all i d r error mid new before after below o e so_far is ou
 -- one more step after those that were made
 makes_more : (first : List Step) (step : Step) (did : Did) (old mid new : WorldState) (before between after : List (Event 2)) → Makes first old mid before between → Outcome step (Ok did) mid new between after → Makes (first ++ step ∷ []) old new before after
 makes_more [] step did old mid new before between after made outcome =
-    (new, after, did, subst (λ (s : WorldState). Outcome step (Ok did) s new before after) made.0 (subst (λ (es : List (Event 2)). Outcome step (Ok did) mid new es after) made.1 outcome), refl, refl)
+    (new, after, did, subst (λ (s : WorldState). Outcome step (Ok did) s new before after) made.0 (subst (λ (es : List (Event 2)). Outcome step (Ok did) mid new es after) made.1 outcome), (refl, refl))
 makes_more (s ∷ first) step did old mid new before between after made outcome =
     (made.0, made.1, made.2, made.3, makes_more first step did made.0 mid new made.1 between after made.4 outcome)
 
-pub makes_next : (all : List Step) (i : ℕ) (d : Step) (did : Did) (mid new : WorldState) (between after : List (Event 2)) {old : WorldState} {before : List (Event 2)} → i < length all → Makes (take i all) old mid before between → Outcome (get_or all i d) (Ok did) mid new between after → Makes (take (i + 1) all) old new before after
-makes_next all i d did mid new between after {old} {before} below made outcome =
+pub makes_next : (all : List Step) (i : ℕ) (d : Step) (did : Did) (old mid new : WorldState) (before between after : List (Event 2)) → i < length all → Makes (take i all) old mid before between → Outcome (get_or all i d) (Ok did) mid new between after → Makes (take (i + 1) all) old new before after
+makes_next all i d did old mid new before between after below made outcome =
     rw (take_more all i d below) (makes_more (take i all) (get_or all i d) did old mid new before between after made outcome)
 
 pub made_all : (opening : Flat 2) (all : List Step) (i : ℕ) (events : List (Event 2)) (sight : WorldState) → i ≡ length all → Makes (take i all) (start opening).sight sight [] events → IsMade opening all (length all) events sight
