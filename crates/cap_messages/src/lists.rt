@@ -1,9 +1,9 @@
 //! Lists at the front of bytes, each with its length before it.
-ghost use Rattle.std.specs.Prelude.{◌≡◌, ◌≤◌, nat_le, IfOk};
+ghost use Rattle.std.specs.Prelude.{◌≡◌, ◌≤◌, nat_le, IfOk, IsErrOf};
 ghost use Rattle.std.specs.Int.{w16, w64};
 ghost use Rattle.cap_messages.specs.Fields.{Gives, counted_at, number_at, passing_at};
 ghost use Rattle.cap_messages.specs.MasterCalls.{ask_at};
-ghost use Rattle.cap_messages.specs.Reading.{GivesInMemory};
+ghost use Rattle.cap_messages.specs.Reading.{GivesInMemory, HasItemsAt};
 ghost use Rattle.cap_model.specs.Limits.{asks_max, numbers_max};
 
 use crate::fault::MessageFault;
@@ -33,11 +33,15 @@ fn length_of(most: u16, bytes: &[u8]) -> Result<(u16, &[u8]), MessageFault>
 
 // Container numbers.
 pub(crate) fn numbers_of(alloc: Global, bytes: &[u8]) -> Result<(Numbers, &[u8]), MessageFault>
-    ensures { GivesInMemory (λ x. (x.0, x.1.now)) result (counted_at numbers_max (number_at w64) bytes.now) }
+    ensures gives { GivesInMemory (λ x. (x.0, x.1.now)) result (counted_at numbers_max (number_at w64) bytes.now) }
+    ensures memory { IsErrOf result MessageFault.NoMemory → HasItemsAt 0 bytes.now }
 {
     let Ok((length, mut rest)) = length_of(NUMBERS_MAX, bytes) else {
         return Err(MessageFault::Bad);
     };
+    if length == 0 {
+        return Ok((List::of(Vec::new(alloc)), rest));
+    }
     let Ok(mut numbers) = Vec::with_capacity(alloc, length as usize) else {
         return Err(MessageFault::NoMemory);
     };
@@ -55,11 +59,15 @@ pub(crate) fn numbers_of(alloc: Global, bytes: &[u8]) -> Result<(Numbers, &[u8])
 
 // Asks.
 pub(crate) fn asks_of(alloc: Global, bytes: &[u8]) -> Result<(Asks<2>, &[u8]), MessageFault>
-    ensures { GivesInMemory (λ x. (x.0, x.1.now)) result (counted_at asks_max ask_at bytes.now) }
+    ensures gives { GivesInMemory (λ x. (x.0, x.1.now)) result (counted_at asks_max ask_at bytes.now) }
+    ensures memory { IsErrOf result MessageFault.NoMemory → HasItemsAt 0 bytes.now }
 {
     let Ok((length, mut rest)) = length_of(ASKS_MAX, bytes) else {
         return Err(MessageFault::Bad);
     };
+    if length == 0 {
+        return Ok((List::of(Vec::new(alloc)), rest));
+    }
     let Ok(mut asks) = Vec::with_capacity(alloc, length as usize) else {
         return Err(MessageFault::NoMemory);
     };

@@ -1,5 +1,6 @@
+ghost use Rattle.std.specs.Prelude.{◌⊎◌, IsErrOf};
 ghost use Rattle.cap_messages.specs.Fields.{Gives};
-ghost use Rattle.cap_messages.specs.Reading.{GivesInMemory};
+ghost use Rattle.cap_messages.specs.Reading.{GivesInMemory, HasItemsAt};
 ghost use Rattle.cap_messages.specs.MasterCalls.{register_master_at, allocate_at, finish_master_at};
 
 use crate::fault::MessageFault;
@@ -23,7 +24,8 @@ pub(crate) fn register_master_of(bytes: &[u8]) -> Result<Request<2>, MessageFaul
 // The body of an Allocate, all of the bytes.
 #[tactic(auto, unfolding(crate::specs::MasterCalls::allocate_at))]
 pub(crate) fn allocate_of(alloc: Global, bytes: &[u8]) -> Result<Request<2>, MessageFault>
-    ensures { GivesInMemory (λ x. x) result (allocate_at bytes.now) }
+    ensures gives { GivesInMemory (λ x. x) result (allocate_at bytes.now) }
+    ensures memory { IsErrOf result MessageFault.NoMemory → HasItemsAt 12 bytes.now ⊎ HasItemsAt 14 bytes.now }
 {
     let (app, rest) = u64_of(bytes)?;
     let (response, rest) = u32_of(rest)?;

@@ -1,5 +1,6 @@
+ghost use Rattle.std.specs.Prelude.{IsErrOf};
 ghost use Rattle.cap_messages.specs.Fields.{Gives};
-ghost use Rattle.cap_messages.specs.Reading.{GivesInMemory};
+ghost use Rattle.cap_messages.specs.Reading.{GivesInMemory, HasItemsAt};
 ghost use Rattle.cap_messages.specs.NodeCalls.{heartbeat_at, node_gone_at};
 
 use crate::fault::MessageFault;
@@ -11,7 +12,8 @@ use std::alloc::Global;
 // The body of a Heartbeat, all of the bytes.
 #[tactic(auto, unfolding(crate::specs::NodeCalls::heartbeat_at))]
 pub(crate) fn heartbeat_of(alloc: Global, bytes: &[u8]) -> Result<Request<2>, MessageFault>
-    ensures { GivesInMemory (λ x. x) result (heartbeat_at bytes.now) }
+    ensures gives { GivesInMemory (λ x. x) result (heartbeat_at bytes.now) }
+    ensures memory { IsErrOf result MessageFault.NoMemory → HasItemsAt 12 bytes.now }
 {
     let (node, rest) = u64_of(bytes)?;
     let (response, rest) = u32_of(rest)?;

@@ -1,8 +1,8 @@
 ghost use Rattle.std.specs.Prelude.{◌≡◌, ℕ, IfOk, IsErrOf};
 ghost use Rattle.cap_model.specs.declared.request.Request.{Request};
-ghost use Rattle.cap_messages.specs.Spelling.{IsRequest, IsNoRequest, CarriesList, IsListKind};
+ghost use Rattle.cap_messages.specs.Spelling.{IsRequest, IsNoRequest};
 ghost use Rattle.cap_messages.specs.Fields.{Gives};
-ghost use Rattle.cap_messages.specs.Reading.{GivesInMemory, head_at, body_at, request_at};
+ghost use Rattle.cap_messages.specs.Reading.{GivesInMemory, ListsItems, CarriesItems, head_at, body_at, request_at};
 
 use crate::cluster_info::cluster_info_of;
 use crate::fault::MessageFault;
@@ -33,7 +33,7 @@ fn head_of(bytes: &[u8]) -> Result<((u8, u8, u32), &[u8]), MessageFault>
 #[tactic(auto, unfolding(crate::specs::Reading::body_at))]
 fn body_of(alloc: Global, kind: u8, bytes: &[u8]) -> Result<Request<2>, MessageFault>
     ensures gives { GivesInMemory (λ x. x) result (body_at kind bytes.now) }
-    ensures memory { IsErrOf result MessageFault.NoMemory → IsListKind kind }
+    ensures memory { IsErrOf result MessageFault.NoMemory → ListsItems kind bytes.now }
 {
     match kind {
         SUBMIT => submit_of(bytes),
@@ -53,7 +53,7 @@ fn body_of(alloc: Global, kind: u8, bytes: &[u8]) -> Result<Request<2>, MessageF
 #[tactic(auto, unfolding(crate::specs::Reading::request_at))]
 fn request_of(alloc: Global, bytes: &[u8]) -> Result<(u32, Request<2>), MessageFault>
     ensures gives { GivesInMemory (λ x. (x.0, x.1)) result (request_at bytes.now) }
-    ensures memory { IsErrOf result MessageFault.NoMemory → CarriesList bytes.now }
+    ensures memory { IsErrOf result MessageFault.NoMemory → CarriesItems bytes.now }
 {
     let ((version, kind, call_id), rest) = head_of(bytes)?;
     if version != 1 {
@@ -65,8 +65,9 @@ fn request_of(alloc: Global, bytes: &[u8]) -> Result<(u32, Request<2>), MessageF
 
 /// The call id and the request that a payload spells, with all of its bytes. `Bad` exactly where it spells none: a
 /// version other than 1, another kind, a text, a list or an amount over its bound, a text with length 0 or another byte, a host
-/// that is `*` or begins with `/`, a rack that does not, a state other than 0 and 1, bytes missing or left over. `NoMemory` where an allocation was
-/// refused, which only a kind that carries a list can meet. Amounts are in MiB of memory and in vcores.
+/// that is `*` or begins with `/`, a rack that does not, a state other than 0 and 1, bytes missing or left over. `NoMemory` if an
+/// allocation fails, which only a payload of version 1 with a list that is not empty can meet. Amounts are in MiB of memory and in
+/// vcores.
 pub fn read_request(alloc: Global, bytes: &[u8]) -> Result<(u32, Request<2>), MessageFault>
     // What is read is spelled so.
     ensures found { IfOk result (λ x. IsRequest bytes.now x.0 x.1) }
@@ -74,7 +75,7 @@ pub fn read_request(alloc: Global, bytes: &[u8]) -> Result<(u32, Request<2>), Me
     ensures only { (id : ℕ) (request : Request 2) → IsRequest bytes.now id request
         → IfOk result (λ x. (x.0 ≡ id) × (x.1 ≡ request)) }
     ensures bad { IsErrOf result MessageFault.Bad → IsNoRequest bytes.now }
-    ensures memory { IsErrOf result MessageFault.NoMemory → CarriesList bytes.now }
+    ensures memory { IsErrOf result MessageFault.NoMemory → CarriesItems bytes.now }
 {
     request_of(alloc, bytes)
 }

@@ -3,8 +3,6 @@ use Rattle.std.proofs.Common.{◌≡◌, ◌≢◌, ℕ, ◌+◌, ◌<◌, Bool,
 use Rattle.std.specs.Prelude.{◌==◌, if◌then◌else◌, MatchBool}
 use Rattle.std.proofs.lemmas.Bool.{cases_Bool, eqb-true}
 use Rattle.std.proofs.lemmas.List.{take_more}
-use Rattle.std.proofs.lemmas.List.Elements.{All-drop}
-use Rattle.std.proofs.Common.{drop_at}
 use Rattle.cap_model.specs.declared.event.Event.{Event}
 use Rattle.cap_model.specs.Flat.{Flat}
 use Rattle.cap_frames.specs.Stream.{rest, fault, IsStream, IsBytes}
@@ -199,7 +197,7 @@ cut_short by piece from to before after (live taken) calls was is lives a starve
 pub heard_starved : (c : ℕ) (step : Step) (old new : WorldState) (before after : List (Event 2)) (heard : Hearing) (calls : List Call) → Starves step old new before after → Agrees heard (connection_at c old.connections) → HasAnswersAt calls (connection_at c new.connections)
     → IsHeardBefore (Some step) c heard calls (output_of c new) (is_open c new)
 heard_starved c (steps.Open d) old new before after heard calls s a has =
-    is_heard heard calls (connection_at c new.connections) (subst (λ (x : WorldState). Agrees heard (connection_at c x.connections)) (sym s.0) a) has
+    is_heard heard calls (connection_at c new.connections) (subst (λ (x : WorldState). Agrees heard (connection_at c x.connections)) (sym s.1) a) has
 heard_starved c (steps.End d) old new before after heard calls s a has = absurd s
 heard_starved c (steps.Bytes d piece) old new before after heard calls s a has =
     elim (cases_Bool (d == c)) [

@@ -114,6 +114,6 @@ outcome_goes (steps.Bytes c piece) (Ok dids.Done) old new before after o = fed_a
 outcome_goes (steps.Open c) (Ok dids.Idle) old new before after o = same_goes old new before after o.2 o.1
 outcome_goes (steps.End c) (Ok dids.Idle) old new before after o = same_goes old new before after o.2 o.1
 outcome_goes (steps.Bytes c piece) (Ok dids.Idle) old new before after o = same_goes old new before after o.2 o.1
-outcome_goes (steps.Open c) (Err e) old new before after o = same_goes old new before after o.1 o.0
+outcome_goes (steps.Open c) (Err e) old new before after o = same_goes old new before after o.2 o.1
 outcome_goes (steps.End c) (Err e) old new before after o = absurd o
 outcome_goes (steps.Bytes c piece) (Err e) old new before after o = fed_at_goes c piece.now standings.Starved old new before after o

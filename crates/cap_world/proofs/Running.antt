@@ -1,5 +1,6 @@
--- The headline after some steps.
-use Rattle.std.proofs.Common.{◌≡◌, ℕ, ◌<◌, List, ◌++◌, length, get_or, take, Result, Err, sym, ap, subst, ◌∙◌, arith}
+-- What is said of a run after some steps.
+use Rattle.std.proofs.Common.{◌≡◌, ℕ, ◌<◌, ◌+◌, List, [], ◌∷◌, ◌++◌, length, get_or, take, Result, Ok, Err, refl, sym, ap, subst, ◌∙◌, arith}
+use Rattle.std.proofs.lemmas.List.{take_more}
 use Rattle.std.proofs.lemmas.Option.{slice_get_past, slice_get-get_or}
 use Rattle.cap_model.specs.declared.event.Event.{Event}
 use Rattle.cap_model.specs.Flat.{Flat}
@@ -7,8 +8,9 @@ use Rattle.cap_world.specs.declared.step.Step.{Step}
 use Rattle.cap_world.specs.declared.step.Did.{Did}
 use Rattle.cap_model.specs.declared.no_memory.NoMemory.{NoMemory}
 use Rattle.cap_world.specs.Answers.{calls_by}
-use Rattle.cap_world.specs.World.{Known, IsWorld, IsLawful, connection_at, Adds}
+use Rattle.cap_world.specs.World.{Known, WorldState, IsWorld, IsLawful, connection_at, Adds, start}
 use Rattle.cap_world.specs.Steps.{Outcome}
+use Rattle.cap_world.specs.Making.{Makes, IsMade}
 use Rattle.cap_world.specs.Hearing.{IsHeadline}
 use Rattle.cap_world.proofs.Heard.{HeardSoFar, is_heard, heard_starved}
 
@@ -41,3 +43,33 @@ headline_cut opening all i d r error mid new before after below o e so_far is ou
           let was = so_far c in
           (was.0, was.1, rw (slice_get-get_or all i d below) (heard_starved c (get_or all i d) mid.sight new.sight before after was.0 (calls_by c after) starves was.2 (law.each c)));
     }
+
+-- ---- the steps one after the other
+
+-- one more step after those that were made
+makes_more : (first : List Step) (step : Step) (did : Did) (old mid new : WorldState) (before between after : List (Event 2)) → Makes first old mid before between → Outcome step (Ok did) mid new between after → Makes (first ++ step ∷ []) old new before after
+makes_more [] step did old mid new before between after made outcome =
+    (new, after, did, subst (λ (s : WorldState). Outcome step (Ok did) s new before after) made.0 (subst (λ (es : List (Event 2)). Outcome step (Ok did) mid new es after) made.1 outcome), (refl, refl))
+makes_more (s ∷ first) step did old mid new before between after made outcome =
+    (made.0, made.1, made.2, made.3, makes_more first step did made.0 mid new made.1 between after made.4 outcome)
+
+pub makes_next : (all : List Step) (i : ℕ) (d : Step) (did : Did) (old mid new : WorldState) (before between after : List (Event 2)) → i < length all → Makes (take i all) old mid before between → Outcome (get_or all i d) (Ok did) mid new between after → Makes (take (i + 1) all) old new before after
+makes_next all i d did old mid new before between after below made outcome =
+    rw (take_more all i d below) (makes_more (take i all) (get_or all i d) did old mid new before between after made outcome)
+
+pub made_all : (opening : Flat 2) (all : List Step) (i : ℕ) (events : List (Event 2)) (sight : WorldState) → i ≡ length all → Makes (take i all) (start opening).sight sight [] events → IsMade opening all (length all) events sight
+made_all opening all i events sight end made = record {
+  mid = sight;
+  before = events;
+  made = subst (λ (n : ℕ). Makes (take n all) (start opening).sight sight [] events) end made;
+  stops = rw (slice_get_past all (length all) (omega arith)) (refl, refl);
+}
+
+pub made_cut : (opening : Flat 2) (all : List Step) (i : ℕ) (d : Step) (r : Result Did NoMemory) (error : NoMemory) (mid new : WorldState) (before after : List (Event 2)) → i < length all → Makes (take i all) (start opening).sight mid [] before → r ≡ Err error
+    → Outcome (get_or all i d) r mid new before after → IsMade opening all i after new
+made_cut opening all i d r error mid new before after below made is outcome = record {
+  mid = mid;
+  before = before;
+  made = made;
+  stops = rw (slice_get-get_or all i d below) (subst (λ (x : Result Did NoMemory). Outcome (get_or all i d) x mid new before after) is outcome);
+}

@@ -1,5 +1,5 @@
 -- Requests are answered one after the other.
-use Rattle.std.proofs.Common.{◌≡◌, ℕ, List, [], ◌∷◌, ◌++◌, Option, Some, None, refl, sym, ap, subst, ◌∙◌, append_assoc, append-nil, inl, inr, ◌⊎◌}
+use Rattle.std.proofs.Common.{◌≡◌, ℕ, List, [], ◌∷◌, ◌++◌, Option, Some, None, refl, sym, ap, subst, ◌∙◌, append_assoc, append-nil, inl, inr}
 use Rattle.std.proofs.lemmas.List.{map-append}
 use Rattle.cap_model.specs.declared.request.Request.{Request}
 use Rattle.cap_model.specs.News.{Reply}
@@ -7,7 +7,7 @@ use Rattle.cap_model.specs.declared.event.Event.{Event}
 use Rattle.cap_model.specs.Flat.{Flat}
 use Rattle.cap_model.specs.Replies.{Replies}
 use Rattle.cap_model.specs.Events.{Run}
-use Rattle.cap_frames.specs.Stream.{frame_of, rest, fault, IsStream, IsBytes}
+use Rattle.cap_frames.specs.Stream.{frame_of, fault, IsBytes}
 use Rattle.cap_messages.specs.Spelling.{fault_reply}
 use Rattle.cap_session.specs.declared.session.Cause.{Cause}
 use Rattle.cap_session.specs.declared.session.Cause.TheVariants as causes

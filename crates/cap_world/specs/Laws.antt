@@ -1,28 +1,56 @@
 -- Laws of worlds: what else holds of every run of them.
-use Rattle.std.specs.Prelude.{◌≡◌, ℕ, ◌≤◌, ◌==◌, List, Some, ◌++◌, count_by}
+use Rattle.std.specs.Prelude.{◌≡◌, ℕ, ◌≤◌, ◌==◌, List, Some, IsSome, ◌++◌, count_by, filter, not}
 use Rattle.cap_model.specs.declared.event.Event.{Event}
+use Rattle.cap_model.specs.declared.news.End.{End}
+use Rattle.cap_model.specs.News.{Grant}
 use Rattle.cap_model.specs.Settings.{Settings}
-use Rattle.cap_model.specs.Flat.{Flat, opened_cluster}
+use Rattle.cap_model.specs.Ending.{is_among}
+use Rattle.cap_model.specs.Flat.{Flat, app_at, opened_cluster}
 use Rattle.cap_model.specs.Bounds.{IsBounded, IsRising}
 use Rattle.cap_model.specs.Events.{ever_granted, ever_ended, Run}
 use Rattle.cap_model.specs.EngineLaws.{container_numbers}
+use Rattle.cap_model.specs.NewsLaws.{ever_told_grants, ever_new_grants, untold_grants, ever_told_ends, ever_new_ends, untold_ends}
 use Rattle.cap_config.specs.First.{settings_in}
 use Rattle.cap_world.specs.declared.step.Step.{Step}
 use Rattle.cap_world.specs.World.{WorldState}
 use Rattle.cap_world.specs.Hearing.{IsHeadline}
 
+-- it holds of the opening cluster, the events and the closing cluster of every run of steps over a bounded opening
+abbrev pub OfWorlds : (Flat 2 → List (Event 2) → Flat 2 → Type 0) → Type 0
+OfWorlds Holds =
+    (opening : Flat 2) (steps : List Step) (done : ℕ) (events : List (Event 2)) (sight : WorldState) → IsBounded opening → IsHeadline opening steps done events sight →
+    Holds opening events sight.cluster
+
 -- Where the opening cluster is bounded, so is every state of the run: after each beginning of the events, and at its close.
 abbrev pub WorldsStayBounded : Type 0
 WorldsStayBounded =
-    (opening : Flat 2) (steps : List Step) (done : ℕ) (first rest : List (Event 2)) (sight : WorldState) → IsBounded opening → IsHeadline opening steps done (first ++ rest) sight →
-    (mid : Flat 2) × Run opening first mid × Run mid rest sight.cluster × IsBounded mid × IsBounded sight.cluster
+    OfWorlds (λ opening events closing. (first rest : List (Event 2)) → events ≡ first ++ rest →
+    (mid : Flat 2) × Run opening first mid × Run mid rest closing × IsBounded mid × IsBounded closing)
 
 -- From a bounded opening no container is granted twice: their numbers rise, from the first that was free. And none ends twice.
 abbrev pub ContainersAreUsedOnce : Type 0
 ContainersAreUsedOnce =
-    (opening : Flat 2) (steps : List Step) (done : ℕ) (events : List (Event 2)) (sight : WorldState) → IsBounded opening → IsHeadline opening steps done events sight →
-    IsRising opening.nodes.next_container (container_numbers (ever_granted events)) sight.cluster.nodes.next_container
-    × ((n : ℕ) → count_by (λ c. c.number == n) (ever_ended opening events) ≤ 1)
+    OfWorlds (λ opening events closing. IsRising opening.nodes.next_container (container_numbers (ever_granted events)) closing.nodes.next_container
+    × ((n : ℕ) → count_by (λ c. c.number == n) (ever_ended opening events) ≤ 1))
+
+-- The live containers at the close are those of the opening with the granted, without the ended, in this order.
+abbrev pub ContainersAreKept : Type 0
+ContainersAreKept = OfWorlds (λ opening events closing. closing.nodes.live ≡ filter (λ c. not (is_among (ever_ended opening events) c)) (opening.nodes.live ++ ever_granted events))
+
+-- What is reported to an application of grants is a beginning of those not yet reported at the opening, followed by those that were
+-- added, each once and in order; where the application is there at the close, the others are not yet reported then.
+abbrev pub GrantsAreReportedOnce : Type 0
+GrantsAreReportedOnce =
+    OfWorlds (λ opening events closing. (n : ℕ) → (left : List Grant)
+    × (ever_told_grants opening n events ++ left ≡ untold_grants opening n ++ ever_new_grants opening n events)
+    × (IsSome (app_at closing n) → left ≡ untold_grants closing n))
+
+-- The same of ends.
+abbrev pub EndsAreReportedOnce : Type 0
+EndsAreReportedOnce =
+    OfWorlds (λ opening events closing. (n : ℕ) → (left : List End)
+    × (ever_told_ends opening n events ++ left ≡ untold_ends opening n ++ ever_new_ends opening n events)
+    × (IsSome (app_at closing n) → left ≡ untold_ends closing n))
 
 -- The cluster that the settings of a text open is bounded.
 abbrev pub OpeningsAreBounded : Type 0

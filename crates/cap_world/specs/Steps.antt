@@ -35,9 +35,10 @@ DoesNotApply (steps.Open c) old = IsSome (connection_at c old.connections)
 DoesNotApply (steps.End c) old = is_open c old ≡ false
 DoesNotApply (steps.Bytes c piece) old = is_open c old ≡ false
 
--- A step that was refused memory changes nothing and makes no event; but in Bytes the connection has ended, and what it was answered before stands.
+-- A step that was refused memory applies; it changes nothing and makes no event, but in Bytes the connection has ended, and what it was
+-- answered before stands.
 abbrev pub Starves : Step → WorldState → WorldState → List (Event 2) → List (Event 2) → Type 0
-Starves (steps.Open c) old new before after = (new ≡ old) × (after ≡ before)
+Starves (steps.Open c) old new before after = (connection_at c old.connections ≡ None) × (new ≡ old) × (after ≡ before)
 Starves (steps.End c) old new before after = ⊥
 Starves (steps.Bytes c piece) old new before after = Fed c piece.now standings.Starved old.connections new.connections old.cluster new.cluster before after
 

@@ -10,7 +10,7 @@ mod step;
 mod world;
 
 pub use cap_model::NoMemory;
-pub use laws::{containers_are_used_once, worlds_stay_bounded};
+pub use laws::{containers_are_used_once, news_is_reported_once, worlds_stay_bounded};
 pub use run::Outcome;
 pub use step::{Did, Step};
 pub use world::World;

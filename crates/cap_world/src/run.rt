@@ -1,4 +1,5 @@
 ghost use Rattle.std.specs.Prelude.{◌≡◌, ◌≤◌, length};
+ghost use Rattle.cap_world.specs.Making.{IsMade};
 ghost use Rattle.cap_world.specs.Hearing.{IsHeadline};
 
 use crate::step::Step;
@@ -7,7 +8,7 @@ use cap_commit::Cluster;
 use cap_model::{Event, NoMemory};
 use std::alloc::Global;
 
-/// What a run leaves: the world, the events, and the number of steps before the first that was refused memory.
+/// What a run leaves: the world, the events, and the number of steps before the first for which an allocation failed.
 #[derive(Drop)]
 pub struct Outcome {
     pub world: World,
@@ -16,11 +17,13 @@ pub struct Outcome {
 }
 
 impl World {
-    /// Makes the steps in order, up to the first that is refused memory.
+    /// Makes the steps one after the other, up to the first for which an allocation fails: a piece on an open connection, or a
+    /// number that opens for the first time.
     pub fn run(alloc: Global, opening: Cluster<2>, steps: &[Step]) -> Outcome
         ensures done { result.done ≤ length steps.now }
         ensures opening { result.world.opening ≡ opening.flat }
         ensures events { result.world.events ≡ result.events.items }
+        ensures made { IsMade opening.flat steps.now result.done result.events.items result.world.sight }
         ensures headline { IsHeadline opening.flat steps.now result.done result.events.items result.world.sight }
     {
         let mut world = World::open(alloc, opening);

@@ -15,12 +15,13 @@ yarn.scheduler.capacity.root.b.capacity=[memory=2048,vcores=8]
 ";
 
 /// An ask of an application for one container: application, priority, resource, place.
-const ASKS: [(u64, u32, [u64; 2], &str); 5] = [
+const ASKS: [(u64, u32, [u64; 2], &str); 6] = [
     (1, 1, [1024, 1], "*"),
     (1, 2, [3072, 1], "*"),
     (1, 3, [1024, 1], "n2"),
     (2, 1, [3072, 1], "*"),
     (2, 2, [2048, 1], "/r2"),
+    (2, 3, [1024, 1], "n1"),
 ];
 
 pub(crate) fn key(priority: u32) -> Key {
@@ -121,9 +122,11 @@ fn proposals_are_rejected_for_the_first_reason(rt: HostRuntime) {
         (grant, (1, 9, 9), [1, 1], Some(Reason::NoAsk)),
         (grant, (1, 1, 9), [2048, 1], Some(Reason::OtherAsk)),
         (grant, (1, 1, 3), [1024, 1], Some(Reason::NoNode)),
+        (grant, (1, 3, 9), [1024, 1], Some(Reason::NoNode)),
         (grant, (1, 3, 1), [1024, 1], Some(Reason::WrongPlace)),
         (grant, (2, 2, 1), [2048, 1], Some(Reason::WrongPlace)),
         (grant, (2, 2, 2), [2048, 1], Some(Reason::NoRoom)),
+        (grant, (1, 2, 2), [3072, 1], Some(Reason::NoRoom)),
         (
             grant,
             (1, 2, 1),
@@ -131,6 +134,13 @@ fn proposals_are_rejected_for_the_first_reason(rt: HostRuntime) {
             Some(Reason::OverMaximum { level: 1 }),
         ),
         (grant, (2, 1, 1), [3072, 1], Some(Reason::OverUser)),
+        (
+            reserve,
+            (1, 2, 1),
+            [3072, 1],
+            Some(Reason::OverMaximum { level: 1 }),
+        ),
+        (reserve, (2, 1, 1), [3072, 1], Some(Reason::OverUser)),
         (reserve, (1, 1, 1), [1024, 1], Some(Reason::FitsNow)),
         (reserve, (2, 2, 2), [2048, 1], Some(Reason::NeverFits)),
     ] {
@@ -227,16 +237,19 @@ fn a_proposal_is_made_or_changes_nothing(rt: HostRuntime) {
     let again = [first, first];
     let twice = [first, kept, kept];
     let other = [first, kept, Change::Grant(2, 2, 2, [2048, 1])];
+    let misplaced = [first, kept, Change::Grant(2, 3, 2, small)];
+    let second = [first, kept, Change::Reserve(1, 2, 2, [3072, 1])];
+    let elsewhere = Some(Reason::WrongPlace);
+    let reserved = Some(Reason::ReservedByOther);
     for (made, answer) in [
         (changes.get(..1), (None, 1, 0, [1024, 1])),
         (again.get(..), (Some(Reason::NoAsk), 1, 0, [1024, 1])),
         (changes.get(..2), (None, 1, 1, [2048, 2])),
         (twice.get(..), (Some(Reason::NoAsk), 1, 1, [2048, 2])),
         (many.get(..), (Some(Reason::NoRoom), 1, 1, [2048, 2])),
-        (
-            other.get(..),
-            (Some(Reason::ReservedByOther), 1, 1, [2048, 2]),
-        ),
+        (other.get(..), (reserved, 1, 1, [2048, 2])),
+        (misplaced.get(..), (elsewhere, 1, 1, [2048, 2])),
+        (second.get(..), (reserved, 1, 1, [2048, 2])),
         (changes.get(..3), (None, 0, 1, [1024, 1])),
         (changes.get(..), (None, 1, 0, [1024, 1])),
     ] {

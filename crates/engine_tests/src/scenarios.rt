@@ -1,9 +1,9 @@
 use crate::commits::{enter, join, key, propose};
 use cap_commit::{Cluster, ProposalKind, Reason, Reply};
-use cap_masters::{allocate, register_master};
+use cap_masters::{allocate, finish_master, register_master};
 use cap_model::{Ask, List, ShortText};
 use cap_testing::{TWO_QUEUES, cluster, first};
-use cap_trackers::heartbeat;
+use cap_trackers::{heartbeat, node_gone};
 use cap_vector::Resource;
 use std::alloc::Global;
 
@@ -42,7 +42,7 @@ const MIDDLE: Opening = (MIDDLE_QUEUE, ["root.g.p.l", "root.g.q.l"], &[[8192, 8]
 const BIG: Opening = (BIG_QUEUE, ["root.big", "root.big"], &[[131072, 128]]);
 
 /// A call or a proposal.
-#[derive(Clone, Copy)]
+#[derive(Clone, Copy, Debug)]
 enum Step {
     /// An application asks under a priority for so many containers of a resource.
     Ask(u64, u32, u32, [u64; 2]),
@@ -54,6 +54,10 @@ enum Step {
     Release(u64, &'static [u64]),
     /// These containers have ended on a node.
     Beat(u64, &'static [u64]),
+    /// An application finishes.
+    Finish(u64),
+    /// A node is removed.
+    Gone(u64),
 }
 
 /// What the last step came to.
@@ -65,6 +69,8 @@ enum Answer {
     Reported(usize, usize, u16),
     /// How many containers a heartbeat ignored, and how many are live on the node.
     Beaten(u16, u32),
+    /// How many containers have ended with an application or a node.
+    Ended(u32),
 }
 
 fn numbers(alloc: Global, containers: &[u64]) -> Option<Vec<u64>> {
@@ -126,6 +132,14 @@ fn beat(alloc: Global, cluster: &mut Cluster<2>, node: u64, ended: &[u64]) -> Op
     }
 }
 
+/// How many containers a FinishMaster or a NodeGone ended.
+fn ended(reply: Reply<2>) -> Option<Answer> {
+    match reply {
+        Reply::FinishMaster { ended } | Reply::NodeGone { ended } => Some(Answer::Ended(ended)),
+        _ => None,
+    }
+}
+
 fn grants(
     cluster: &mut Cluster<2>,
     count: usize,
@@ -158,6 +172,8 @@ fn make(alloc: Global, cluster: &mut Cluster<2>, step: Step) -> Option<Answer> {
             report(alloc, cluster, app, Vec::new(alloc), containers)
         }
         Step::Beat(node, ended) => beat(alloc, cluster, node, ended),
+        Step::Finish(app) => ended(finish_master(cluster, app)),
+        Step::Gone(node) => ended(node_gone(cluster, node)),
     }
 }
 
@@ -271,6 +287,72 @@ fn the_maximum_between_root_and_leaf_is_named(rt: HostRuntime) {
     for (made, answer) in [(4, (Answer::Made, [3072, 3], 0)), (5, (over, [3072, 3], 0))] {
         let given = after(rt.alloc(), MIDDLE, first(&BETWEEN, made), "root.g");
         assert!(rt; given == Some(answer), "{made}");
+    }
+}
+
+#[test]
+fn a_maximum_is_named_before_the_user_limit(rt: HostRuntime) {
+    let steps = [
+        Step::Ask(1, 0, 1, [5120, 1]),
+        Step::Grants(1, (1, 0, 1), [5120, 1]),
+    ];
+    let given = after(rt.alloc(), MIDDLE, &steps, "root.g.p.l");
+    let over = Answer::Rejected(Reason::OverMaximum { level: 1 });
+    assert!(rt; given == Some((over, [0, 0], 0)));
+}
+
+/// Containers 1 and 2 of application 1 and 3 and 4 of application 2, on nodes 1 and 2 each, and reservations of application 1 on both.
+const MIXED: [Step; 9] = [
+    Step::Ask(1, 0, 2, [2048, 1]),
+    Step::Grants(1, (1, 0, 1), [2048, 1]),
+    Step::Grants(1, (1, 0, 2), [2048, 1]),
+    Step::Ask(2, 0, 2, [1024, 1]),
+    Step::Grants(1, (2, 0, 1), [1024, 1]),
+    Step::Grants(1, (2, 0, 2), [1024, 1]),
+    Step::Ask(1, 1, 2, [3072, 1]),
+    Step::Reserve((1, 1, 1), [3072, 1]),
+    Step::Reserve((1, 1, 2), [3072, 1]),
+];
+
+/// What one more step after these comes to, what `root.a` and `root.b` use then, and how many reservations there are.
+fn after_mixed(alloc: Global, step: Step) -> Option<(Answer, [u64; 2], [u64; 2], usize)> {
+    let mut cluster = open(alloc, TWO_NODES)?;
+    for before in MIXED {
+        let _made = make(alloc, &mut cluster, before)?;
+    }
+    let answer = make(alloc, &mut cluster, step)?;
+    let first = cluster.report(b"root.a")?.used.amounts();
+    let second = cluster.report(b"root.b")?.used.amounts();
+    Some((answer, first, second, cluster.nodes().reservations().len()))
+}
+
+#[test]
+fn what_ends_is_given_back_and_no_more(rt: HostRuntime) {
+    let of_second = Answer::Reported(2, 0, 1);
+    let all = ([10240, 4], [2048, 2]);
+    for (step, answer, (first, second), reservations) in [
+        (Step::Release(2, &[1]), of_second, all, 2),
+        (
+            Step::Release(1, &[1]),
+            Answer::Reported(0, 1, 0),
+            ([8192, 3], all.1),
+            2,
+        ),
+        (
+            Step::Beat(1, &[1, 3]),
+            Answer::Beaten(0, 0),
+            ([8192, 3], [1024, 1]),
+            2,
+        ),
+        (Step::Finish(1), Answer::Ended(2), ([0, 0], all.1), 0),
+        (Step::Finish(2), Answer::Ended(2), (all.0, [0, 0]), 2),
+        (Step::Gone(1), Answer::Ended(2), ([5120, 2], [1024, 1]), 1),
+    ] {
+        let given = after_mixed(rt.alloc(), step);
+        assert!(rt;
+            given == Some((answer, first, second, reservations)),
+            "{step:?}"
+        );
     }
 }
 

@@ -1,7 +1,10 @@
 use Rattle.cap_model.proofs.numbers.ContainerNumbers.{granted_once}
-use Rattle.cap_model.proofs.numbers.Balance.{ended_once}
+use Rattle.cap_model.proofs.numbers.Balance.{ended_once, live_is_what_was_not_ended}
 use Rattle.cap_world.proofs.laws.containers_are_used_once.Goals as goal
 
-pub returns : goal.returns
-returns c = λ opening steps done events sight bounded headline.
+pub returns-clause-once : goal.returns-clause-once
+returns-clause-once c = λ opening steps done events sight bounded headline.
     (granted_once 2 events opening sight.cluster headline.run, ended_once 2 events opening sight.cluster bounded.numbers headline.run)
+
+pub returns-clause-live : goal.returns-clause-live
+returns-clause-live c = λ opening steps done events sight bounded headline. live_is_what_was_not_ended 2 events opening sight.cluster bounded.numbers headline.run

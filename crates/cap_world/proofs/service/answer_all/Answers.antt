@@ -1,4 +1,4 @@
-use Rattle.std.proofs.Common.{◌≡◌, List, [], ◌∷◌, ◌++◌, refl, ◌∙◌, ap}
+use Rattle.std.proofs.Common.{List, [], ◌∷◌, ◌++◌, refl, ◌∙◌, ap}
 use Rattle.cap_model.specs.declared.event.Event.{Event}
 use Rattle.cap_world.specs.Answers.{call_event}
 use Rattle.cap_world.proofs.Serving.{serves_none, serves_then, serves_call, served_rest, served_ended, served_starved}

@@ -1,4 +1,4 @@
-use Rattle.std.proofs.Common.{◌≡◌, ◌<◌, ap, refl, ◌∙◌, sym, arith}
+use Rattle.std.proofs.Common.{◌<◌, ap, refl, ◌∙◌, arith}
 use Rattle.std.proofs.lemmas.List.Elements.{All-from_get_or}
 use Rattle.cap_frames.specs.Stream.{IsBytes}
 use Rattle.cap_world.specs.declared.connection.Standing.TheVariants as standings

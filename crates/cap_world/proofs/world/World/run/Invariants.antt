@@ -1,5 +1,6 @@
-use Rattle.std.proofs.Common.{◌≡◌, take}
-use Rattle.cap_world.specs.World.{IsWorld}
+use Rattle.std.proofs.Common.{◌≡◌, [], take}
+use Rattle.cap_world.specs.World.{IsWorld, start}
+use Rattle.cap_world.specs.Making.{Makes}
 use Rattle.cap_world.proofs.Heard.{HeardSoFar}
 use Rattle.cap_world.proofs.world.World.run.Given as goal
 
@@ -9,5 +10,6 @@ invariant-loop-i l = record {
   opening : l.world.opening ≡ l.fn.opening.flat;
   events : l.world.events ≡ l.events.items;
   lawful : IsWorld l.world;
+  made : Makes (take l.i l.steps) (start l.fn.opening.flat).sight l.world.sight [] l.events.items;
   heard : HeardSoFar (take l.i l.steps) l.world.sight;
 }

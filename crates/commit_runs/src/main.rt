@@ -1,0 +1,31 @@
+//! Makes as many grants as each line of standard input says, and then ends some of their containers by heartbeats. A line holds five
+//! numbers: nodes, leaf queues, applications, grants and ends. It prints how many were made, and what becomes of one more grant, of a
+//! reservation that fits, and of one that never fits.
+#![tactic(auto)]
+
+mod cluster;
+mod size;
+mod work;
+
+use crate::size::read_size;
+use crate::work::run;
+use std::io::{self, Read};
+
+fn main(rt: HostRuntime) -> io::Result<()> {
+    let mut text = String::new(rt.alloc());
+    let _ = rt.reader().read_to_string(&mut text)?;
+    for line in text.lines() {
+        let Some(size) = read_size(line) else {
+            println!(rt; "five numbers are wanted")?;
+            continue;
+        };
+        match run(rt.alloc(), &size) {
+            Some(done) => println!(rt;
+                "{} granted, {} ended; then {:?}",
+                done.granted, done.ended, done.reasons
+            )?,
+            None => println!(rt; "no memory")?,
+        }
+    }
+    Ok(())
+}

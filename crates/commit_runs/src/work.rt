@@ -1,0 +1,70 @@
+use crate::cluster::{CONTAINER, KEY, filled};
+use crate::size::Size;
+use cap_commit::{Cluster, Proposal, ProposalKind, Reason, Verdict};
+use cap_model::{List, Numbers};
+use cap_trackers::heartbeat;
+use cap_vector::Resource;
+use std::alloc::Global;
+
+/// What was made: how many grants and ends, and why one more grant, a reservation that fits and one that never fits are rejected.
+#[derive(Clone, Copy)]
+pub struct Done {
+    pub granted: u64,
+    pub ended: u64,
+    pub reasons: [Option<Reason>; 3],
+}
+
+/// Makes the grants and ends of a size in a new cluster: in turn of the applications and of the nodes.
+pub fn run(alloc: Global, size: &Size) -> Option<Done> {
+    let mut cluster = filled(alloc, size)?;
+    let mut granted = 0u64;
+    for grant in 0..size.grants {
+        let proposal = proposal(size, grant, ProposalKind::Grant)?;
+        if let Ok(Verdict::Done(_)) = cluster.try_commit(proposal) {
+            granted = granted.saturating_add(1);
+        }
+    }
+    for end in 0..size.ends {
+        finish(alloc, &mut cluster, size, end)?;
+    }
+    let ended = granted.saturating_sub(cluster.nodes().live_count() as u64);
+    let mut small = proposal(size, 0, ProposalKind::Reserve)?;
+    small.node = size.nodes.checked_add(1)?;
+    let reasons = [
+        cluster.reason(&proposal(size, 0, ProposalKind::Grant)?),
+        cluster.reason(&proposal(size, 0, ProposalKind::Reserve)?),
+        cluster.reason(&small),
+    ];
+    Some(Done {
+        granted,
+        ended,
+        reasons,
+    })
+}
+
+/// The number of the node, or of the application, of the grant of this index.
+fn in_turn(index: u64, count: u64) -> Option<u64> {
+    index.checked_rem(count)?.checked_add(1)
+}
+
+/// A proposal like that of the grant of this index.
+fn proposal(size: &Size, index: u64, kind: ProposalKind) -> Option<Proposal<2>> {
+    Some(Proposal {
+        kind,
+        app: in_turn(index, size.applications)?,
+        key: KEY,
+        node: in_turn(index, size.nodes)?,
+        resource: Resource::new(CONTAINER)?,
+    })
+}
+
+/// The node of the grant of this index reports that its container has ended.
+fn finish(alloc: Global, cluster: &mut Cluster<2>, size: &Size, index: u64) -> Option<()> {
+    let number = in_turn(index, size.nodes)?;
+    let response = cluster.nodes().node(number)?.response();
+    let mut ended = Vec::new(alloc);
+    ended.push(index.checked_add(1)?).ok()?;
+    let ended: Numbers = List::of(ended);
+    let _reply = heartbeat(cluster, number, response, &ended);
+    Some(())
+}
