@@ -11,6 +11,8 @@ pub type Out = BytesMut;
 /// The room that the longest reply takes, in bytes, with the four bytes of a frame's length before it.
 pub const REPLY_ROOM: usize = 7571;
 
+const _: () = prove!(REPLY_ROOM == 7_571);
+
 #[tactic(auto, unfolding(crate::specs::Spelling::resource))]
 pub(crate) fn put_amounts<const MAX: u64>(amounts: &Amounts<2, MAX>, out: &mut Out)
     requires { 16 ≤ out.old.spare }
