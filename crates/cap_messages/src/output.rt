@@ -14,6 +14,8 @@ pub const REPLY_ROOM: usize = 7571;
 /// The room that the reply to a payload or a frame that is no request takes, in bytes.
 pub const FAULT_ROOM: usize = 7;
 
+const _: () = prove!(REPLY_ROOM == 7_571 && FAULT_ROOM == 7);
+
 #[tactic(auto, unfolding(crate::specs::Spelling::resource))]
 pub(crate) fn put_amounts<const MAX: u64>(amounts: &Amounts<2, MAX>, out: &mut Out)
     requires { 16 ≤ out.old.spare }
