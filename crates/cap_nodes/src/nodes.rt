@@ -265,7 +265,7 @@ impl<const K: usize> Nodes<K> {
     }
 
     /// A node keeps these MiB and vcores for the ask of a key of an application, after all other reservations. `NoMemory` changes
-    /// nothing.
+    /// nothing; it is also answered where there are 65,536 reservations, or 2^62 were made.
     pub fn reserve(
         &mut self,
         app: u64,

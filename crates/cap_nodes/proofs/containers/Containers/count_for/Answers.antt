@@ -1,4 +1,4 @@
-use Rattle.std.proofs.Common.{◌≤◌, ap, sym, ◌∙◌, length, arith}
+use Rattle.std.proofs.Common.{ap, sym, ◌∙◌, length, arith}
 use Rattle.cap_nodes.proofs.Walked.{rest_of_all, no_more, one_more, one_other, next_within}
 use Rattle.cap_nodes.proofs.containers.Containers.count_for.Goals as goal
 

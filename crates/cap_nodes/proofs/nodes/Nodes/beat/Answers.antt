@@ -1,4 +1,4 @@
-use Rattle.std.proofs.Common.{map, ◌∙◌, [], ap, sym, List, arith}
+use Rattle.std.proofs.Common.{map, ◌∙◌, ap, sym, List, arith}
 use Rattle.cap_nodes.specs.Loads.{reservation_of}
 use Rattle.cap_model.specs.Flat.{ClusterNode, NodeTable}
 use Rattle.cap_nodes.proofs.Changes.{load_of_node, is_at, with_beat, nodes_beaten, totals_beaten, kept_shown}

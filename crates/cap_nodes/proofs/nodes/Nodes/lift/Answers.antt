@@ -1,4 +1,4 @@
-use Rattle.std.proofs.Common.{map, ◌∙◌, ◌≤◌, [], ap, sym, List, refl, length, arith, not}
+use Rattle.std.proofs.Common.{map, ◌∙◌, ◌≤◌, ap, sym, List, refl, length, arith, not}
 use Rattle.std.specs.Prelude.{filter, ◌==◌}
 use Rattle.cap_model.specs.Flat.{ClusterNode, Container, NodeTable}
 use Rattle.cap_model.specs.RegisterNode.{sum_of_totals}

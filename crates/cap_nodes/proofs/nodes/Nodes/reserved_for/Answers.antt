@@ -1,6 +1,4 @@
-use Rattle.std.proofs.Common.{◌∙◌, ap, length, sym}
-use Rattle.cap_model.specs.Flat.{is_for}
-use Rattle.cap_nodes.specs.Loads.{reservation_of}
+use Rattle.std.proofs.Common.{◌∙◌, sym}
 use Rattle.cap_nodes.proofs.Changes.{rising_nodes}
 use Rattle.cap_nodes.proofs.Walked.{kept_count}
 use Rattle.cap_nodes.proofs.nodes.Nodes.reserved_for.Goals as goal

@@ -1,6 +1,5 @@
 use Rattle.std.proofs.Common.{ap, sym, ◌∙◌, map, List}
 use Rattle.cap_model.specs.Flat.{NodeTable, Reservation}
-use Rattle.cap_nodes.specs.Loads.{reservation_of}
 use Rattle.cap_nodes.proofs.Reserved.{one_dropped, none_dropped}
 use Rattle.cap_nodes.proofs.nodes.Nodes.unreserve_on.Goals as goal
 
