@@ -4,6 +4,8 @@
 
 mod play;
 #[cfg(test)]
+mod statuses;
+#[cfg(test)]
 mod streams;
 
 use crate::play::run;

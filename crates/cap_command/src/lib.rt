@@ -1,0 +1,7 @@
+//! The command line of the program: words and streams in, exit status out.
+#![tactic(auto)]
+
+mod words;
+
+pub use cap_daemon::Counted;
+pub use words::run;

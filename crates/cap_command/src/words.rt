@@ -1,0 +1,77 @@
+ghost use Rattle.std.specs.Prelude.{◌≡◌, ◌<◌};
+ghost use Rattle.cap_session.specs.Counted.{state_of, CanCount};
+
+use cap_daemon::{Counted, replay};
+use cap_session::Sent;
+use clap::error::ErrorKind;
+use clap::{Command, Error};
+use std::alloc::{AllocError, Global};
+use std::convert::AsStr;
+use std::io::{Read, Write};
+
+/// Runs the program on the words of its command line, of which the first is its own name. The result is the exit status: 0 done;
+/// 1 a stream failed; 2 bad words, or what `replay` answers to a script; 3 an allocation failed. The text for bad words is left in
+/// `complaint`, for whoever has the error stream; help and the version are written to the writer.
+pub fn run<'a, S: AsStr, R: Read, W: Write>(
+    alloc: Global,
+    words: &'a [S],
+    reader: &mut Counted<R>,
+    writer: &mut Counted<W>,
+    complaint: &mut String,
+) -> u8
+    requires reader { CanCount (state_of reader.old) }
+    requires writer { CanCount (state_of writer.old) }
+    ensures status { result < 4 }
+    ensures failed { (state_of writer.old).failures < (state_of writer.new).failures → result ≡ 1 }
+{
+    let Ok(command) = command_line(alloc) else {
+        return 3;
+    };
+    match command.try_get_matches_from(words) {
+        Ok(_) => replay(alloc, reader, writer),
+        Err(error) => explain(alloc, &error, writer, complaint),
+    }
+}
+
+/// The command line of the program.
+fn command_line<'a>(alloc: Global) -> Result<Command<'a>, Error> {
+    let replay = Command::new(alloc, "replay").about(
+        "Plays a script of connections from standard input, and prints what they are answered",
+    );
+    Ok(
+        Command::new(alloc, "capsched")
+            .version("0.1.0")
+            .about("The allocation engine of a YARN cluster: a proved Capacity Scheduler")
+            .subcommand_required(true)
+            .subcommand(replay)?,
+    )
+}
+
+/// Writes help and the version to the writer, and leaves the text for bad words in `complaint`. The result is the exit status.
+fn explain<W: Write>(
+    alloc: Global,
+    error: &Error,
+    writer: &mut Counted<W>,
+    complaint: &mut String,
+) -> u8
+    requires { CanCount (state_of writer.old) }
+    ensures status { result < 4 }
+    ensures failed { (state_of writer.old).failures < (state_of writer.new).failures → result ≡ 1 }
+{
+    if error.kind() == ErrorKind::OutOfMemory {
+        return 3;
+    }
+    let Ok(text) = error.to_string(alloc) else {
+        return 3;
+    };
+    if error.use_stderr() {
+        return match complaint.push_str(text.as_str()) {
+            Ok(()) => 2,
+            Err(_) => 3,
+        };
+    }
+    match writer.write_all(text.as_bytes()) {
+        Sent::All(_) => 0,
+        Sent::Fault { .. } => 1,
+    }
+}
