@@ -1,8 +1,6 @@
-use crate::client::{Client, spelled};
+use crate::client::Client;
 use cap_testing::{Call, WantedContainers};
 use std::alloc::Global;
-
-const LINES: &[u8] = b"yarn.scheduler.capacity.root.queues=a";
 
 /// One container of (1024, 1) anywhere, or none, for a key.
 fn wanted(request: u64, count: u32) -> WantedContainers<'static> {
@@ -15,12 +13,11 @@ fn wanted(request: u64, count: u32) -> WantedContainers<'static> {
     }
 }
 
-/// A cluster with application 1, whose master is registered.
-fn registered(alloc: Global) -> Option<Client> {
-    let mut client = Client::open(alloc, LINES)?;
+/// Enters application 1, whose master is registered.
+fn register(client: &mut Client) -> Option<()> {
     let _entered = client.status(&Call::Submit(b"root.a", b"u"))?;
     let _registered = client.status(&Call::RegisterMaster(1))?;
-    Some(client)
+    Some(())
 }
 
 /// Asks for the keys 1 to 256.
@@ -42,21 +39,15 @@ fn releases(alloc: Global) -> Option<Vec<u64>> {
 }
 
 /// What an Allocate with 256 asks and 1,024 releases is answered.
-pub fn most(alloc: Global) -> String {
-    match (registered(alloc), all_asks(alloc), releases(alloc)) {
-        (Some(mut client), Some(asks), Some(numbers)) => {
-            spelled(
-                alloc,
-                client.reply(7, &Call::Allocate(1, 0, &asks, &numbers)),
-            )
-        }
-        _ => String::new(alloc),
-    }
+pub fn most<'a>(alloc: Global, client: &'a mut Client) -> Option<&'a [u8]> {
+    register(client)?;
+    let (asks, numbers) = (all_asks(alloc)?, releases(alloc)?);
+    client.reply(7, &Call::Allocate(1, 0, &asks, &numbers))
 }
 
 /// The statuses of an Allocate with 256 keys, of one with one key more, and of one that takes a key away for it.
-pub fn one_key_more(alloc: Global) -> Option<[u8; 3]> {
-    let mut client = registered(alloc)?;
+pub fn one_key_more(alloc: Global, client: &mut Client) -> Option<[u32; 3]> {
+    register(client)?;
     let asks = all_asks(alloc)?;
     Some([
         client.status(&Call::Allocate(1, 0, &asks, &[]))?,
@@ -66,12 +57,10 @@ pub fn one_key_more(alloc: Global) -> Option<[u8; 3]> {
 }
 
 /// What the last of the Allocates with the response ids from 0 to this one is answered.
-pub fn response(alloc: Global, last: u32) -> String {
-    let Some(mut client) = registered(alloc) else {
-        return String::new(alloc);
-    };
+pub fn response(client: &mut Client, last: u32) -> Option<&[u8]> {
+    register(client)?;
     for response in 0..last {
         let _status = client.status(&Call::Allocate(1, response, &[], &[]));
     }
-    spelled(alloc, client.reply(7, &Call::Allocate(1, last, &[], &[])))
+    client.reply(7, &Call::Allocate(1, last, &[], &[]))
 }

@@ -17,13 +17,12 @@ pub struct Client {
 impl Client {
     /// The connection, opened over the cluster of these property lines.
     pub fn open(alloc: Global, lines: &[u8]) -> Option<Client> {
-        let world = World::open(alloc, cluster(alloc, lines)?);
         let mut client = Client {
             alloc,
-            world,
+            world: World::open(alloc, cluster(alloc, lines)?),
             events: Vec::new(alloc),
         };
-        client.step(Step::Open(1))?;
+        let _opened = client.step(Step::Open(1));
         Some(client)
     }
 
@@ -51,8 +50,9 @@ impl Client {
     }
 
     /// The status that answers a call.
-    pub fn status(&mut self, call: &Call<'_>) -> Option<u8> {
-        self.reply(1, call)?.get(STATUS).copied()
+    pub fn status(&mut self, call: &Call<'_>) -> Option<u32> {
+        let status = self.reply(1, call)?.get(STATUS)?;
+        Some(*status as u32)
     }
 
     /// Whether a connection is open.
