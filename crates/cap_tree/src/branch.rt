@@ -163,7 +163,7 @@ impl<T: Held + Drop, A: Allocator + Copy> Branch<T, A> {
             (C.old change.now) (C.new change.now) }
         ensures changed { OnOk result
             (self.new ≡
-                map (change_along (C.above change.now) (C.at change.now) steps.now) self.old) }
+            map (change_along (C.above change.now) (C.at change.now) steps.now) self.old) }
         ensures unchanged { OnErr result (self.new ≡ self.old) }
         ensures grows { OnErr result
             (HoldsOfItem (C.grows change.now) (item_at steps.now self.old)) }

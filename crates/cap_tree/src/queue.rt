@@ -181,7 +181,7 @@ impl<const K: usize, A: Allocator> Queue<K, A> {
     fn set_user(&mut self, user: &ShortText, count: Total<K>) -> Result<(), NoMemory>
         ensures ok { OnOk result
             (self.new ≡
-                record self.old { users = with_count user.now count.entry self.old.users }) }
+            record self.old { users = with_count user.now count.entry self.old.users }) }
         ensures err { OnErr result (self.new ≡ self.old) }
         ensures absent { OnErr result (user_row user.now self.old.users ≡ None) }
     {

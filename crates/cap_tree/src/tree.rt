@@ -187,7 +187,7 @@ impl<const K: usize, A: Allocator + Copy> QueueTree<K, A> {
         requires within { IsWithin sum_max (amounts_exchanged old.now new.now (root_use self.old)) }
         ensures { self.new ≡
             map (applied_row K (path_at path.now.items self.old) user.now old.now new.now)
-                self.old }
+            self.old }
     {
         let change = Move {
             user,

@@ -1,4 +1,4 @@
-use Rattle.std.proofs.Common.{rules, arith, inl, inr, ◌∙◌, ap, length}
+use Rattle.std.proofs.Common.{arith, inl, inr, ap, length}
 use Rattle.std.specs.List.{list_any}
 use Rattle.std.specs.Prelude.{◌==◌}
 use Rattle.std.proofs.lemmas.List.{drop_all}
