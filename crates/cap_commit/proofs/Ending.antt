@@ -1,6 +1,6 @@
 -- What a cluster keeps where a container ends.
 use Rattle.std.proofs.Common.{◌≡◌, ℕ, ◌+◌, ◌≤◌, Bool, true, false, cond, List, [], ◌∷◌, ◌++◌, length, map, Some, None, refl, sym, ◌∙◌, ap, subst, arith}
-use Rattle.std.specs.Prelude.{IsSome, is_some, ◌==◌, ◌||◌, not, find, filter, count_by, if◌then◌else◌}
+use Rattle.std.specs.Prelude.{IsSome, is_some, ◌==◌, not, find, filter, count_by, if◌then◌else◌}
 use Rattle.std.specs.List.{sum_by}
 use Rattle.std.proofs.lemmas.Bool.Decides.{nat_tests}
 use Rattle.std.proofs.lemmas.List.{append-nil, length-map}
@@ -13,13 +13,11 @@ use Rattle.cap_model.specs.declared.news.End.{End}
 use Rattle.cap_model.specs.Flat.{Flat, App, AppTable, Container, NodeTable, app_at, change_app, Reservation}
 use Rattle.cap_model.specs.Ending.{is_among, with_ends, after_ends, complete}
 use Rattle.cap_model.proofs.lists.Numbered.{rising_kept}
-use Rattle.cap_model.proofs.lists.Filters.{filter_same}
 use Rattle.cap_model.proofs.lists.Members.{IsIn, found, of_filter, each_of, of_each, of_map}
 use Rattle.cap_model.proofs.calls.Lessening.{change_stands}
 use Rattle.cap_model.proofs.uses.Measures.{counts}
 use Rattle.cap_model.proofs.calls.Moves.{KeepsApp, AppsChange, ends_change, only_app}
 use Rattle.cap_model.proofs.uses.Tallies.{count_of, count_changed, ended_amount, same_use, sum_without, used_by}
-use Rattle.cap_model.proofs.lists.Sums.{count_cons}
 use Rattle.cap_tree.specs.Measure.{Measure}
 use Rattle.cap_tree.specs.Queue.{MayGive}
 use Rattle.cap_tree.specs.Count.{zero_count, use_alone}

@@ -1,6 +1,6 @@
 -- A cluster after a grant: what it keeps, and that its use is a sum.
-use Rattle.std.proofs.Common.{◌≡◌, ℕ, ◌+◌, ◌-◌, ◌<◌, ◌≤◌, Bool, true, false, cond, List, [], ◌∷◌, ◌++◌, length, length-append, map, Some, None, refl, sym, ◌∙◌, ap, subst, inl, inr, arith}
-use Rattle.std.specs.Prelude.{Option, IsSome, not, ◌==◌, ◌&&◌, find, filter, count_by, option_map, unwrap_or, if◌then◌else◌}
+use Rattle.std.proofs.Common.{◌≡◌, ℕ, ◌+◌, ◌<◌, ◌≤◌, Bool, true, false, cond, List, [], ◌∷◌, ◌++◌, length, length-append, map, Some, None, refl, sym, ◌∙◌, ap, subst, inl, inr, arith}
+use Rattle.std.specs.Prelude.{Option, IsSome, not, ◌==◌, find, filter, if◌then◌else◌}
 use Rattle.std.specs.List.{All, sum_by}
 use Rattle.std.proofs.lemmas.Bool.{cases_lt}
 use Rattle.std.proofs.lemmas.Bool.Decides.{nat_tests}
@@ -15,21 +15,20 @@ use Rattle.cap_model.specs.Flat.{Flat, App, AppTable, ClusterNode, Container, No
 use Rattle.cap_model.specs.News.{Grant}
 use Rattle.cap_model.specs.declared.ask.Key.{Key}
 use Rattle.cap_model.specs.declared.proposal.ProposalKind.{ProposalKind}
-use Rattle.cap_model.specs.Sight.{Sight, sight_of}
+use Rattle.cap_model.specs.Sight.{sight_of}
 use Rattle.cap_model.specs.Admission.{NodeProposal, is_grant, reason_of}
 use Rattle.cap_model.specs.Bounds.{IsRising}
 use Rattle.cap_model.specs.Events.{after_grant, launch, news_of, take_one}
 use Rattle.cap_model.specs.RegisterNode.{sum_of_totals}
 use Rattle.cap_model.specs.Uses.{held_on}
 use Rattle.cap_model.proofs.lists.Members.{IsIn, each_of, of_each, found, of_filter, of_map, in_either}
-use Rattle.cap_model.proofs.lists.Filters.{map_twice}
 use Rattle.cap_model.proofs.lists.Numbered.{found_by_number, rising_more}
 use Rattle.cap_model.proofs.lists.Parts.{part_filter}
 use Rattle.cap_model.proofs.lists.Tests.{not_none, value_of}
 use Rattle.cap_model.proofs.calls.Lessening.{change_stands}
 use Rattle.cap_model.proofs.calls.Moves.{AppsChange, KeepsApp, grant_change, only_app}
 use Rattle.cap_model.proofs.uses.Measures.{amount_of, counts, counted, fits_amounts, use_amount}
-use Rattle.cap_model.proofs.uses.Tallies.{Test, count_changed, count_of, length_used, used_by}
+use Rattle.cap_model.proofs.uses.Tallies.{count_changed, count_of, length_used, used_by}
 use Rattle.cap_model.proofs.uses.UseSums.{if_less, on_some_node, reserved_on_nodes, sum_below, taken}
 use Rattle.cap_tree.specs.Measure.{Measure}
 use Rattle.cap_tree.specs.Queue.{MayGive}

@@ -1,39 +1,33 @@
 -- What a cluster keeps where a container is granted.
-use Rattle.std.proofs.Common.{◌≡◌, ℕ, ◌+◌, ◌-◌, ◌<◌, ◌≤◌, Bool, true, false, cond, List, [], ◌∷◌, ◌++◌, length, map, Some, None, refl, sym, ◌∙◌, ap, subst, inl, inr, arith}
-use Rattle.std.specs.Prelude.{◌⊎◌, Option, IsSome, is_some, not, ◌==◌, ◌&&◌, find, filter, count_by, option_map, unwrap_or, if◌then◌else◌}
+use Rattle.std.proofs.Common.{◌≡◌, ℕ, ◌+◌, ◌<◌, ◌≤◌, Bool, true, false, cond, List, [], ◌∷◌, ◌++◌, length, map, Some, None, refl, sym, ◌∙◌, ap, inl, inr, arith}
+use Rattle.std.specs.Prelude.{Option, IsSome, is_some, not, ◌==◌, ◌&&◌, find, filter}
 use Rattle.std.specs.Option.{option_map_or}
-use Rattle.std.specs.List.{All, list_any, sum_by}
-use Rattle.std.proofs.lemmas.Bool.{and_parts, cases_lt, cases_Bool}
+use Rattle.std.specs.List.{sum_by}
+use Rattle.std.proofs.lemmas.Bool.{and_parts, cases_lt}
 use Rattle.std.proofs.lemmas.Bool.Decides.{nat_tests}
 use Rattle.std.proofs.lemmas.List.{get_or_past}
-use Rattle.std.proofs.lemmas.List.Sums.{sum_by-cons, sum_by_push, sum_by-le-sum_by}
-use Rattle.std.proofs.lemmas.Slice.Eq.{bytes_eq-Decides}
-use Rattle.cap_vector.specs.Vector.{Fits, IsWithin, amount, amount_max, amounts_exchanged, sum_max, zeros}
-use Rattle.cap_vector.proofs.AmountLemmas.{amount-exchanged, amount-zeros}
-use Rattle.cap_model.specs.Amounts.{fits, part}
-use Rattle.cap_model.specs.Flat.{Flat, App, ClusterNode, Container, NodeTable, Reservation, app_at, node_at, node_in, is_for}
+use Rattle.std.proofs.lemmas.List.Sums.{sum_by-cons, sum_by_push}
+use Rattle.cap_vector.specs.Vector.{Fits, amount, zeros}
+use Rattle.cap_vector.proofs.AmountLemmas.{amount-zeros}
+use Rattle.cap_model.specs.Amounts.{fits}
+use Rattle.cap_model.specs.Flat.{Flat, App, Container, Reservation, app_at, node_in}
 use Rattle.cap_model.specs.Sight.{Sight, sight_of, seen_app, seen_node}
-use Rattle.cap_model.specs.Admission.{NodeProposal, IsAdmissible, NeedsOf, is_grant, is_reserved_for, is_wanted, node_reservation, fits_free, reason_of}
+use Rattle.cap_model.specs.Admission.{NodeProposal, IsAdmissible, NeedsOf, is_grant, reason_of}
 use Rattle.cap_model.specs.declared.proposal.ProposalKind.{ProposalKind}
 use Rattle.cap_model.specs.Bounds.{AreApart}
-use Rattle.cap_model.specs.RegisterNode.{sum_of_totals}
-use Rattle.cap_model.specs.Uses.{held_on}
 use Rattle.cap_model.proofs.choice.Proposers.{held_for}
 use Rattle.cap_model.proofs.choice.Reasons.{rejected_exactly}
-use Rattle.cap_model.proofs.lists.Members.{IsIn, each_of, found, of_filter, of_map, none_in}
+use Rattle.cap_model.proofs.lists.Members.{IsIn, found, of_filter, of_map, none_in}
 use Rattle.cap_model.proofs.lists.Filters.{filter_whole}
-use Rattle.cap_model.proofs.lists.Sums.{sum_by_same}
 use Rattle.cap_model.proofs.lists.Tests.{value_of}
 use Rattle.cap_model.proofs.calls.Lessening.{standing}
-use Rattle.cap_model.proofs.uses.Measures.{amount_of, counts, counted, fits_amounts, held_amount, live_part, reserved_part, same_counts, use_amount}
+use Rattle.cap_model.proofs.uses.Measures.{counts, counted, fits_amounts, live_part, reserved_part, same_counts, use_amount}
 use Rattle.cap_model.proofs.uses.Tallies.{Test, count_of, length_used, used_by}
-use Rattle.cap_model.proofs.uses.UseSums.{if_less, on_some_node, reserved_on_nodes, sum_below, taken}
 use Rattle.cap_nodes.specs.Tables.{free_on}
 use Rattle.cap_tree.specs.Measure.{Measure}
-use Rattle.cap_tree.specs.Count.{Count, use_alone}
-use Rattle.cap_tree.specs.QueueLaws.{zero_counts}
+use Rattle.cap_tree.specs.Count.{use_alone}
 use Rattle.cap_tree.proofs.OneUser.{count_where}
-use Rattle.cap_commit.specs.Held.{AreReserved, Parts, IsHeld, flat_of}
+use Rattle.cap_commit.specs.Held.{Parts, IsHeld, flat_of}
 use Rattle.cap_commit.specs.Admission.{own_reservation, taken_back}
 use Rattle.cap_commit.proofs.Moving.{HasMoved, of_test}
 use Rattle.cap_commit.proofs.Seen.{free_seen, node_there, own_is, reservation_is_seen}

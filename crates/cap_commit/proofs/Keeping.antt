@@ -1,25 +1,22 @@
 -- What a cluster keeps where room is reserved on a node.
-use Rattle.std.proofs.Common.{◌≡◌, ℕ, ◌+◌, ◌-◌, ◌<◌, ◌≤◌, Bool, true, false, cond, List, [], ◌∷◌, ◌++◌, length, map, Some, None, refl, sym, ◌∙◌, ap, subst, inl, inr, arith}
-use Rattle.std.specs.Prelude.{Option, IsSome, not, ◌==◌, ◌&&◌, find, filter, if◌then◌else◌}
-use Rattle.std.specs.List.{All, list_any, sum_by}
+use Rattle.std.proofs.Common.{◌≡◌, ℕ, ◌+◌, ◌<◌, ◌≤◌, Bool, true, false, cond, List, [], ◌∷◌, ◌++◌, length, map, Some, None, refl, sym, ◌∙◌, ap, subst, inl, inr, arith}
+use Rattle.std.specs.Prelude.{IsSome, ◌==◌, find}
+use Rattle.std.specs.List.{sum_by}
 use Rattle.std.proofs.lemmas.Bool.{cases_lt}
 use Rattle.std.proofs.lemmas.List.{get_or_past}
 use Rattle.std.proofs.lemmas.List.Sums.{sum_by_push, sum_by-le-sum_by}
 use Rattle.std.proofs.lemmas.Slice.Eq.{bytes_eq-Decides}
 use Rattle.cap_vector.specs.Vector.{IsWithin, amount, amounts_exchanged, sum_max, zeros}
-use Rattle.cap_vector.proofs.AmountLemmas.{amount-exchanged, amount-zeros}
-use Rattle.cap_model.specs.Cascade.{holds_of}
+use Rattle.cap_vector.proofs.AmountLemmas.{amount-exchanged}
 use Rattle.cap_model.specs.Amounts.{fits}
 use Rattle.cap_model.specs.Flat.{Flat, App, ClusterNode, Container, NodeTable, Reservation, app_at, node_in}
 use Rattle.cap_model.specs.Sight.{Sight, sight_of}
-use Rattle.cap_model.specs.Admission.{NodeProposal, IsAdmissible, NeedsOf, is_grant, fits_total, reason_of}
+use Rattle.cap_model.specs.Admission.{NodeProposal, IsAdmissible, NeedsOf, is_grant, reason_of}
 use Rattle.cap_model.specs.declared.proposal.ProposalKind.{ProposalKind}
-use Rattle.cap_model.specs.Bounds.{AreApart}
 use Rattle.cap_model.specs.Events.{add_reservation, after_reserve}
 use Rattle.cap_model.proofs.choice.Reasons.{rejected_exactly}
 use Rattle.cap_model.proofs.bounds.ReservedAfter.{reserve_apart}
 use Rattle.cap_model.proofs.lists.Members.{IsIn, each_of, of_each, found, in_either}
-use Rattle.cap_model.proofs.lists.Sums.{sum_by_same}
 use Rattle.cap_model.proofs.uses.Measures.{counts, counted, use_amount}
 use Rattle.cap_model.proofs.uses.Tallies.{Test, count_of, length_used, used_by}
 use Rattle.cap_model.proofs.uses.UseSums.{if_less}

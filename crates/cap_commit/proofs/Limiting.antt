@@ -1,8 +1,8 @@
 -- The limits of queues and users, as the tree tests them and as the sight has them.
 use Rattle.std.proofs.Common.{◌≡◌, ℕ, ◌+◌, ◌-◌, ◌≤◌, ◌<◌, Bool, true, false, cond, List, [], ◌∷◌, ◌++◌, length, map, Some, None, refl, sym, ◌∙◌, ap, subst, inl, inr, arith}
-use Rattle.std.specs.Prelude.{Option, is_none, is_some, unwrap_or, option_map, not, ◌&&◌, nat_lt, filter, find, position, bytes_eq, if◌then◌else◌}
+use Rattle.std.specs.Prelude.{Option, is_none, unwrap_or, option_map, not, ◌&&◌, nat_lt, filter, find, position, bytes_eq}
 use Rattle.std.specs.Option.{option_map_or}
-use Rattle.std.specs.List.{All, list_all, prefix_len}
+use Rattle.std.specs.List.{list_all, prefix_len}
 use Rattle.std.proofs.lemmas.Bool.Decides.{nat_tests}
 use Rattle.std.proofs.lemmas.List.{ext_get_or}
 use Rattle.cap_vector.specs.Vector.{amount, amounts_exchanged, less, plus, zeros}
@@ -15,7 +15,7 @@ use Rattle.cap_model.specs.Uses.{queue_use, user_use}
 use Rattle.cap_model.specs.Sight.{Sight, QueueSight, AppSight, sight_of, queue_sight, app_sight, seen_app, seen_queue, queues_to}
 use Rattle.cap_model.specs.declared.proposal.Reason.{Reason}
 use Rattle.cap_model.specs.declared.proposal.Reason.TheVariants.{OverMaximum, OverUser}
-use Rattle.cap_model.specs.Admission.{NodeProposal, is_grant, is_reserved_for, node_reservation, fits_maximum, fits_user_limit, leaf_path, user_name, room_replaced, use_after, stays_in_maximum, stays_in_maxima, stays_in_user_limit, broken_level, reason_of}
+use Rattle.cap_model.specs.Admission.{NodeProposal, is_grant, is_reserved_for, node_reservation, fits_maximum, fits_user_limit, leaf_path, user_name, use_after, stays_in_maximum, stays_in_maxima, stays_in_user_limit, broken_level, reason_of}
 use Rattle.cap_model.proofs.lists.Members.{IsIn, each_of}
 use Rattle.cap_model.proofs.lists.Filters.{find_mapped_at, map_twice}
 use Rattle.cap_model.proofs.lists.Tests.{same_test}

@@ -6,7 +6,6 @@ use Rattle.cap_model.specs.declared.news.Cause.{Cause}
 use Rattle.cap_model.specs.Flat.{Flat, Container}
 use Rattle.cap_model.specs.Ending.{named_among, after_ends}
 use Rattle.cap_model.specs.EngineLaws.{HasDistinctNumbers}
-use Rattle.cap_model.proofs.lists.Members.{found}
 use Rattle.cap_model.proofs.ending.EndsInOrder.{kept_if_passes, ends_none, then_found, then_none}
 
 module _ {K : ℕ} (cause : Cause) (t : Container → Bool) (old : Flat K) where

@@ -4,17 +4,15 @@ use Rattle.std.specs.Prelude.{Option, Some, None, IfSome, find, not, ◌==◌, c
 use Rattle.std.proofs.lemmas.Bool.Decides.{nat_tests}
 use Rattle.cap_model.specs.Settings.{QueueRow}
 use Rattle.cap_model.specs.Asks.{Ask}
-use Rattle.cap_model.specs.Flat.{Flat, App, AppTable, Reservation, queue_at, is_under, is_for, with_reserved, app_at, with_app, change_app}
+use Rattle.cap_model.specs.Flat.{Flat, App, AppTable, queue_at, is_under, with_reserved, app_at, with_app, change_app}
 use Rattle.cap_model.specs.Uses.{queue_use}
 use Rattle.cap_model.specs.Submit.{has_children, is_running}
 use Rattle.cap_model.specs.QueueCalls.{queue_report}
-use Rattle.cap_model.specs.Asking.{after_ask, rounded_ask, keep_first, put_ask, reservations_left}
-use Rattle.std.specs.Option.{option_map_or}
+use Rattle.cap_model.specs.Asking.{after_ask, rounded_ask, put_ask}
 use Rattle.cap_model.specs.Allocate.{after_telling}
 use Rattle.cap_model.specs.Bounds.{IsRising}
 use Rattle.cap_model.proofs.lists.Members.{IsIn}
 use Rattle.cap_model.proofs.lists.Numbered.{found_by_number}
-use Rattle.cap_commit.specs.Held.{Parts, flat_of}
 use Rattle.cap_commit.specs.Reservations.{kept_by_ask}
 
 -- what is reported of a queue

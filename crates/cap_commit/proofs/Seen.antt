@@ -1,17 +1,16 @@
 -- What the sight of a cluster shows of applications, nodes and reservations is what its tables have.
-use Rattle.std.proofs.Common.{◌≡◌, ℕ, ◌-◌, ◌≤◌, ◌<◌, Bool, true, false, cond, List, [], ◌∷◌, length, Some, None, refl, sym, ◌∙◌, ap, subst, arith}
-use Rattle.std.specs.Prelude.{◌↔◌, IsTrue, Option, IsSome, is_some, is_none, option_map, option_and_then, ◌==◌, ◌&&◌, ◌||◌, not, find, filter, map, nat_le, nat_lt, bytes_eq, count_by, if◌then◌else◌}
-use Rattle.std.specs.List.{All}
+use Rattle.std.proofs.Common.{◌≡◌, ℕ, ◌-◌, Bool, true, false, cond, List, [], ◌∷◌, length, Some, None, refl, sym, ◌∙◌, ap, subst, arith}
+use Rattle.std.specs.Prelude.{◌↔◌, IsTrue, Option, IsSome, is_some, option_map, option_and_then, ◌==◌, ◌&&◌, ◌||◌, find, filter, map, nat_le, nat_lt, bytes_eq, count_by}
 use Rattle.std.proofs.lemmas.Bool.Decides.{nat_tests}
 use Rattle.cap_vector.specs.Vector.{Fits, less}
 use Rattle.cap_model.specs.Cascade.{holds_of}
 use Rattle.cap_model.specs.Amounts.{fits}
-use Rattle.cap_model.specs.Asks.{Ask, same_key}
+use Rattle.cap_model.specs.Asks.{Ask}
 use Rattle.cap_model.specs.Bounds.{IsRising}
-use Rattle.cap_model.specs.Flat.{Flat, App, ClusterNode, NodeTable, Reservation, app_at, node_at, node_in, is_for, ask_at, reservation_on}
+use Rattle.cap_model.specs.Flat.{Flat, App, ClusterNode, Reservation, app_at, node_at, is_for, reservation_on}
 use Rattle.cap_model.specs.Uses.{held_on}
 use Rattle.cap_model.specs.Sight.{AppSight, NodeSight, sight_of, app_sight, node_sight, seen_app, seen_node, still_wanted}
-use Rattle.cap_model.specs.Admission.{NodeProposal, is_grant, is_reserved_for, is_wanted, node_reservation, proposed_ask, fits_free, fits_total, suits_place, takes_place}
+use Rattle.cap_model.specs.Admission.{NodeProposal, is_grant, is_wanted, node_reservation, proposed_ask, fits_free, fits_total, suits_place, takes_place}
 use Rattle.cap_model.proofs.lists.Members.{IsIn, found, each_of, in_filter}
 use Rattle.cap_model.proofs.lists.Filters.{find_mapped_at}
 use Rattle.cap_model.proofs.lists.Numbered.{found_by_number, rising_kept}

@@ -1,15 +1,14 @@
 -- What a cluster keeps where a reservation is dropped.
-use Rattle.std.proofs.Common.{◌≡◌, ℕ, zero, suc, ◌+◌, ◌<◌, ◌≤◌, Bool, true, false, cond, List, [], ◌∷◌, length, map, Some, None, get_or, refl, sym, ◌∙◌, ap, subst, inl, inr, arith}
+use Rattle.std.proofs.Common.{◌≡◌, ℕ, zero, suc, ◌<◌, ◌≤◌, Bool, true, false, cond, List, [], ◌∷◌, length, map, Some, None, get_or, refl, sym, ◌∙◌, ap, subst, inl, inr, arith}
 use Rattle.std.specs.Prelude.{IsSome, is_some, ◌==◌, find, filter, not}
-use Rattle.std.specs.List.{All, remove, sum_by}
+use Rattle.std.specs.List.{remove}
 use Rattle.std.proofs.lemmas.List.Sums.{sum_by-remove}
 use Rattle.std.proofs.lemmas.Slice.Eq.{bytes_eq-Decides}
 use Rattle.cap_vector.specs.Vector.{amount}
 use Rattle.cap_model.specs.Settings.{Settings}
-use Rattle.cap_model.specs.Flat.{Flat, App, NodeTable, Reservation, app_at, with_reserved}
+use Rattle.cap_model.specs.Flat.{Flat, App, NodeTable, Reservation, with_reserved}
 use Rattle.cap_model.proofs.lists.Members.{IsIn, found, each_of, of_each}
-use Rattle.cap_model.proofs.uses.Measures.{counts, counted, reserved_part, use_amount}
-use Rattle.cap_model.proofs.uses.Tallies.{count_of, used_by}
+use Rattle.cap_model.proofs.uses.Measures.{counts, counted, use_amount}
 use Rattle.cap_tree.specs.Measure.{Measure}
 use Rattle.cap_tree.specs.Queue.{MayGive}
 use Rattle.cap_tree.specs.Count.{zero_count, use_alone}

@@ -2,12 +2,12 @@
 use Rattle.std.proofs.Common.{◌≡◌, ℕ, List, refl, sym, ap, subst, ◌∙◌}
 use Rattle.std.specs.Prelude.{Some, length, unwrap_or, option_map}
 use Rattle.cap_model.specs.Asks.{Ask}
-use Rattle.cap_model.specs.News.{AllocateReply, Reply}
+use Rattle.cap_model.specs.News.{AllocateReply}
 use Rattle.cap_model.specs.declared.replies.AllocateNumbers.{AllocateNumbers}
 use Rattle.cap_model.specs.declared.request.Request.{Request}
 use Rattle.cap_model.specs.declared.reply.ReplyWith.{ReplyWith}
 use Rattle.cap_model.specs.declared.reply.ReplyWith.TheVariants as Reply
-use Rattle.cap_model.specs.Flat.{Flat, App, AppTable, app_at, app_in}
+use Rattle.cap_model.specs.Flat.{Flat, App, AppTable, app_in}
 use Rattle.cap_model.specs.Allocate.{nothing_told}
 use Rattle.cap_model.specs.Reporting.{IfAllocate, NewsRoom, reported_of, full_reply, HasNumbers, HasRoomForReplies, news_most, IsNoAllocate}
 use Rattle.cap_model.proofs.telling.Replying.{some_room, other_room}

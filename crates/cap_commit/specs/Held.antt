@@ -1,5 +1,5 @@
 -- What a cluster keeps: its parts, the flat cluster that they are, and what they have to do with each other.
-use Rattle.std.specs.Prelude.{◌≡◌, ℕ, ◌≤◌, ◌&&◌, ◌==◌, Bool, true, IsSome, List, [], length, find, count_by, bytes_eq}
+use Rattle.std.specs.Prelude.{◌≡◌, ℕ, ◌≤◌, ◌&&◌, ◌==◌, Bool, true, IsSome, List, length, find, count_by, bytes_eq}
 use Rattle.std.specs.List.{All}
 use Rattle.cap_vector.specs.Vector.{amount}
 use Rattle.cap_model.specs.Limits.{applications_max, resources_max, live_max}

@@ -1,6 +1,6 @@
-use Rattle.std.proofs.Common.{ap, sym, subst, not, ◌∙◌}
+use Rattle.std.proofs.Common.{ap, sym, subst, ◌∙◌}
 use Rattle.std.specs.Prelude.{IsSome, filter, ◌==◌, ◌≡◌, []}
-use Rattle.cap_model.specs.Flat.{Flat, NodeTable, Reservation, containers_on, node_at, with_reserved}
+use Rattle.cap_model.specs.Flat.{Flat, NodeTable, Reservation, containers_on, node_at}
 use Rattle.cap_model.specs.NodeGone.{remove_node}
 use Rattle.cap_commit.specs.Held.{Held, Parts, flat_of}
 use Rattle.cap_commit.proofs.Dropping.{none_stay}

@@ -1,11 +1,11 @@
 use Rattle.std.proofs.Common.{ap, sym, ◌∙◌, map, arith, subst}
 use Rattle.std.specs.Prelude.{IsSome, is_some, filter, ◌==◌, ◌≡◌, []}
 use Rattle.cap_model.specs.declared.news.Cause.TheVariants.{Released}
-use Rattle.cap_model.specs.Flat.{Flat, Reservation, app_at, containers_of, with_reserved}
+use Rattle.cap_model.specs.Flat.{Flat, Reservation, app_at, containers_of}
 use Rattle.cap_model.specs.FinishMaster.{remove_app}
 use Rattle.cap_tree.specs.Rows.{queues_of, left_row}
 use Rattle.cap_tree.specs.Spot.{path_at}
-use Rattle.cap_commit.specs.Held.{Held, Parts, flat_of}
+use Rattle.cap_commit.specs.Held.{Held, Parts}
 use Rattle.cap_commit.proofs.Holding.{finished_is, held_left, may_go, placed_at, position_is, with_table}
 use Rattle.cap_commit.proofs.Dropping.{none_stay}
 use Rattle.cap_commit.proofs.Moving.{moved_settings}

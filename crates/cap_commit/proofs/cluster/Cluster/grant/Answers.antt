@@ -1,19 +1,18 @@
-use Rattle.std.proofs.Common.{refl, sym, ap, subst, ◌∙◌, arith, length, map, None, Some, [], ◌∷◌, ◌++◌}
-use Rattle.std.specs.Prelude.{◌≡◌, ◌≤◌, ◌==◌, find, filter, not, option_map, unwrap_or}
+use Rattle.std.proofs.Common.{sym, ap, subst, ◌∙◌, arith, length, map, None, [], ◌∷◌, ◌++◌}
+use Rattle.std.specs.Prelude.{◌≡◌, ◌==◌, find, filter, not, option_map, unwrap_or}
 use Rattle.std.proofs.lemmas.List.Sums.{count_by-le-length}
 use Rattle.cap_model.specs.Flat.{Flat, App, ClusterNode, Container, NodeTable, Reservation, change_app}
 use Rattle.cap_model.specs.Sight.{sight_of}
 use Rattle.cap_model.specs.Admission.{reason_of}
 use Rattle.cap_model.specs.Events.{after_grant, take_one}
-use Rattle.cap_model.specs.News.{Grant}
 use Rattle.cap_tree.specs.Count.{use_alone}
 use Rattle.cap_tree.specs.Rows.{applied_row, queues_of}
 use Rattle.cap_tree.specs.Spot.{path_at}
-use Rattle.cap_asks.specs.Apps.{HasRooms, UsesRoom, live_of}
+use Rattle.cap_asks.specs.Apps.{UsesRoom}
 use Rattle.cap_commit.specs.Held.{Held}
 use Rattle.cap_commit.specs.Admission.{taken_back}
 use Rattle.cap_commit.proofs.Granting.{its_app, its_node, its_room, few_live_yet, numbers_are_left}
-use Rattle.cap_commit.proofs.Granted.{IsSound, app_again, found_again, granted_is, granted_of, held_granted, kind_is, may_take_back, nodes_with, room_stays, root_stays}
+use Rattle.cap_commit.proofs.Granted.{IsSound, found_again, granted_is, held_granted, kind_is, may_take_back, nodes_with, room_stays, root_stays}
 use Rattle.cap_commit.proofs.Holding.{placed_at, position_is}
 use Rattle.cap_commit.proofs.Moving.{moved_settings}
 use Rattle.cap_commit.proofs.Sizes.{cluster_fits, nodes_fit, tree_fits}

@@ -1,4 +1,4 @@
-use Rattle.std.proofs.Common.{sym, ap, ◌∙◌}
+use Rattle.std.proofs.Common.{sym, ap}
 use Rattle.std.specs.Prelude.{is_some}
 use Rattle.cap_commit.proofs.Seen.{reservation_is_seen}
 use Rattle.cap_commit.proofs.cluster.Cluster.is_held.Goals as goal

@@ -1,7 +1,7 @@
-use Rattle.std.proofs.Common.{sym, ap, ◌∙◌, subst, None, Some, arith}
+use Rattle.std.proofs.Common.{sym, ◌∙◌, subst, None, Some, arith}
 use Rattle.cap_tree.specs.Rows.{IsAt}
 use Rattle.cap_tree.specs.declared.limits.OverLimit.TheVariants.{Maximum, User}
-use Rattle.cap_commit.proofs.Limiting.{limit_is, reason_for}
+use Rattle.cap_commit.proofs.Limiting.{limit_is}
 use Rattle.cap_commit.proofs.Holding.{placed_at, position_is}
 use Rattle.cap_commit.proofs.Sizes.{tree_fits}
 use Rattle.cap_commit.proofs.cluster.Cluster.limit_reason.Goals as goal

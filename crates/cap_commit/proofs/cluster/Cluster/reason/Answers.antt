@@ -1,4 +1,4 @@
-use Rattle.std.proofs.Common.{sym, ap, ◌∙◌}
+use Rattle.std.proofs.Common.{sym, ◌∙◌}
 use Rattle.cap_model.specs.Sight.{sight_of, app_sight}
 use Rattle.cap_commit.proofs.Limiting.{by_place, by_limit, by_size}
 use Rattle.cap_commit.proofs.cluster.Cluster.reason.Goals as goal

@@ -1,7 +1,6 @@
-use Rattle.std.proofs.Common.{refl, sym, ap, subst, ◌∙◌, arith, map}
-use Rattle.std.specs.Prelude.{◌≡◌, ◌==◌, find}
-use Rattle.cap_vector.specs.Vector.{zeros}
-use Rattle.cap_model.specs.Flat.{App, NodeTable, Reservation}
+use Rattle.std.proofs.Common.{sym, ap, subst, ◌∙◌, arith, map}
+use Rattle.std.specs.Prelude.{◌==◌, find}
+use Rattle.cap_model.specs.Flat.{App, NodeTable}
 use Rattle.cap_model.specs.Events.{add_reservation}
 use Rattle.cap_tree.specs.Count.{use_alone}
 use Rattle.cap_tree.specs.Rows.{applied_row, queues_of}
@@ -12,7 +11,7 @@ use Rattle.cap_commit.proofs.Granting.{its_app}
 use Rattle.cap_commit.proofs.Keeping.{held_reserved, may_take_none, node_of_it, reserve_kind, reserved_is, root_keeps}
 use Rattle.cap_commit.proofs.Holding.{placed_at, position_is}
 use Rattle.cap_commit.proofs.Moving.{moved_settings}
-use Rattle.cap_commit.proofs.Sizes.{nodes_fit, tree_fits}
+use Rattle.cap_commit.proofs.Sizes.{tree_fits}
 use Rattle.cap_commit.proofs.cluster.Cluster.reserve.Goals as goal
 
 pub returns-clause-proposed : goal.returns-clause-proposed

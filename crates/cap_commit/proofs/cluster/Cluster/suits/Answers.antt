@@ -1,4 +1,4 @@
-use Rattle.std.proofs.Common.{sym, ap, ◌∙◌, Some, None}
+use Rattle.std.proofs.Common.{sym, ap, ◌∙◌}
 use Rattle.cap_commit.proofs.Seen.{place_seen, suits_node}
 use Rattle.cap_model.specs.Cascade.{holds_of}
 use Rattle.cap_commit.proofs.cluster.Cluster.suits.Goals as goal

@@ -1,7 +1,6 @@
 use Rattle.std.proofs.Common.{ap, sym, ◌∙◌, arith}
-use Rattle.std.specs.Prelude.{find, filter, ◌==◌}
-use Rattle.cap_model.specs.Flat.{NodeTable, Reservation, with_reserved}
-use Rattle.cap_model.proofs.lists.Members.{found}
+use Rattle.std.specs.Prelude.{filter}
+use Rattle.cap_model.specs.Flat.{with_reserved}
 use Rattle.cap_nodes.proofs.Reserved.{is_elsewhere, all_elsewhere}
 use Rattle.cap_commit.specs.Held.{Parts, flat_of}
 use Rattle.cap_commit.proofs.Dropping.{same_node, found_again}

@@ -1,4 +1,4 @@
-use Rattle.std.proofs.Common.{sym, ap, ◌∙◌}
+use Rattle.std.proofs.Common.{sym}
 use Rattle.cap_commit.proofs.Seen.{wants_seen}
 use Rattle.cap_commit.proofs.cluster.Cluster.wants.Goals as goal
 
