@@ -4,8 +4,6 @@
 
 mod play;
 #[cfg(test)]
-mod statuses;
-#[cfg(test)]
 mod streams;
 
 use crate::play::run;

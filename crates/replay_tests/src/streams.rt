@@ -8,24 +8,12 @@ use std::test::Fail;
 
 /// Gives its pieces one a read, then the end or a failure. It notes how much was written before each read.
 #[derive(Drop)]
-pub struct Pieces<'a> {
+struct Pieces<'a> {
     pieces: &'a [&'a [u8]],
     next: usize,
     fails: bool,
     written: &'a Cell<usize>,
     before_last: usize,
-}
-
-impl<'a> Pieces<'a> {
-    pub fn new(pieces: &'a [&'a [u8]], fails: bool, written: &'a Cell<usize>) -> Pieces<'a> {
-        Pieces {
-            pieces,
-            next: 0,
-            fails,
-            written,
-            before_last: 0,
-        }
-    }
 }
 
 impl Read for Pieces<'_> {
@@ -50,20 +38,10 @@ impl Read for Pieces<'_> {
 
 /// Keeps what is written, up to a limit past which writing fails.
 #[derive(Drop)]
-pub struct Paper<'a> {
+struct Paper<'a> {
     kept: Vec<u8>,
     limit: usize,
     written: &'a Cell<usize>,
-}
-
-impl<'a> Paper<'a> {
-    pub fn new(alloc: Global, limit: usize, written: &'a Cell<usize>) -> Paper<'a> {
-        Paper {
-            kept: Vec::new(alloc),
-            limit,
-            written,
-        }
-    }
 }
 
 impl Write for Paper<'_> {
@@ -77,28 +55,6 @@ impl Write for Paper<'_> {
     }
 
     fn flush(&mut self) -> io::Result<()> {
-        Ok(())
-    }
-}
-
-/// Keeps what is written until it is flushed.
-#[derive(Drop)]
-struct Held<'a> {
-    held: Vec<u8>,
-    passed: Vec<u8>,
-    written: &'a Cell<usize>,
-}
-
-impl Write for Held<'_> {
-    fn write(&mut self, buf: &[u8]) -> io::Result<usize> {
-        self.held.extend_from_slice(buf)?;
-        Ok(buf.len())
-    }
-
-    fn flush(&mut self) -> io::Result<()> {
-        self.passed.extend_from_slice(&self.held)?;
-        self.held.clear();
-        self.written.set(self.passed.len());
         Ok(())
     }
 }
@@ -160,8 +116,18 @@ struct Played {
 
 fn play(alloc: Global, pieces: &[&[u8]], fails: bool, limit: usize) -> Played {
     let written = Cell::new(0);
-    let mut reader = Pieces::new(pieces, fails, &written);
-    let mut writer = Paper::new(alloc, limit, &written);
+    let mut reader = Pieces {
+        pieces,
+        next: 0,
+        fails,
+        written: &written,
+        before_last: 0,
+    };
+    let mut writer = Paper {
+        kept: Vec::new(alloc),
+        limit,
+        written: &written,
+    };
     let mut input = Counted::new(&mut reader);
     let mut output = Counted::new(&mut writer);
     let status = replay(alloc, &mut input, &mut output);
@@ -199,27 +165,6 @@ fn a_closed_output_ends_the_program(rt: HostRuntime) {
     let played = play(rt.alloc(), &pieces, false, 1);
     assert!(rt; (played.status, played.failures) == (1, (0, 1)));
     assert!(rt; played.printed.as_slice() == b"opened 1\n".as_slice());
-}
-
-// All that was printed is flushed before each read, and at the end.
-#[test]
-fn a_writer_that_holds_bytes_is_flushed(rt: HostRuntime) {
-    let written = Cell::new(0);
-    let pieces: [&[u8]; 3] = [b"open 1\nopen 2\n", b"end 1\n", b"end 2"];
-    let mut reader = Pieces::new(&pieces, false, &written);
-    let mut writer = Held {
-        held: Vec::new(rt.alloc()),
-        passed: Vec::new(rt.alloc()),
-        written: &written,
-    };
-    let status = replay(
-        rt.alloc(),
-        &mut Counted::new(&mut reader),
-        &mut Counted::new(&mut writer),
-    );
-    assert!(rt; (status, reader.before_last) == (0, 27));
-    assert!(rt; writer.passed.as_slice() == b"opened 1\nopened 2\nclosed 1\nclosed 2\n".as_slice());
-    assert!(rt; writer.held.is_empty());
 }
 
 /// Plays a script into this room: the status, and how many bytes of the room are left.
