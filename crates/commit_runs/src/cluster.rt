@@ -22,21 +22,29 @@ const NODE: [u64; 2] = [1 << 26, 1 << 16];
 /// What the last node has, less than a container.
 const SMALL_NODE: [u64; 2] = [512, 1];
 
-/// The cluster of this size, with an ask of each application for containers anywhere, and the small node last.
-pub fn filled(alloc: Global, size: &Size) -> Option<Cluster<2>> {
-    let lines = lines(alloc, size.leaves).ok()?;
-    let mut cluster = cluster(alloc, lines.as_bytes())?;
+/// The cluster with the leaf queues of this size.
+pub fn open(alloc: Global, size: &Size) -> Option<Cluster<2>> {
+    match lines(alloc, size.leaves) {
+        Ok(lines) => cluster(alloc, lines.as_bytes()),
+        Err(_) => None,
+    }
+}
+
+/// Adds the nodes of this size, and the small node after them.
+pub fn add_nodes(alloc: Global, cluster: &mut Cluster<2>, size: &Size) -> Option<()> {
     for number in 0..size.nodes {
-        join(alloc, &mut cluster, number, NODE)?;
+        join(alloc, cluster, number, NODE)?;
     }
-    join(alloc, &mut cluster, size.nodes, SMALL_NODE)?;
+    join(alloc, cluster, size.nodes, SMALL_NODE)
+}
+
+/// Adds the applications of this size, each with an ask for containers anywhere.
+pub fn add_applications(alloc: Global, cluster: &mut Cluster<2>, size: &Size) -> Option<()> {
     for app in 0..size.applications {
-        enter(alloc, &mut cluster, app.checked_rem(size.leaves)?)?;
-        let number = app.checked_add(1)?;
-        let _reply = register_master(&mut cluster, number);
-        ask(alloc, &mut cluster, number)?;
+        enter(alloc, cluster, app.checked_rem(size.leaves)?)?;
+        ask(alloc, cluster, app.checked_add(1)?)?;
     }
-    Some(cluster)
+    Some(())
 }
 
 /// Property lines of so many leaf queues, each with a capacity of 65,536 containers.
@@ -79,8 +87,9 @@ fn join(alloc: Global, cluster: &mut Cluster<2>, number: u64, total: [u64; 2]) -
     Some(())
 }
 
-/// The first allocate of an application: an ask for 70,000 containers.
+/// Registers the master of an application, which asks for 70,000 containers.
 fn ask(alloc: Global, cluster: &mut Cluster<2>, app: u64) -> Option<()> {
+    let _reply = register_master(cluster, app);
     let resource = Resource::new(CONTAINER)?;
     let mut asks = Vec::new(alloc);
     asks.push(Ask::new(&KEY, 70_000, &resource, &ShortText::any()))

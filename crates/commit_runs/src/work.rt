@@ -1,4 +1,4 @@
-use crate::cluster::{CONTAINER, KEY, filled};
+use crate::cluster::{CONTAINER, KEY, add_applications, add_nodes, open};
 use crate::size::Size;
 use cap_commit::{Cluster, Proposal, ProposalKind, Reason, Verdict};
 use cap_model::{List, Numbers};
@@ -16,30 +16,60 @@ pub struct Done {
 
 /// Makes the grants and ends of a size in a new cluster: in turn of the applications and of the nodes.
 pub fn run(alloc: Global, size: &Size) -> Option<Done> {
-    let mut cluster = filled(alloc, size)?;
+    match open(alloc, size) {
+        Some(mut cluster) => work(alloc, &mut cluster, size),
+        None => None,
+    }
+}
+
+fn work(alloc: Global, cluster: &mut Cluster<2>, size: &Size) -> Option<Done> {
+    add_nodes(alloc, cluster, size)?;
+    add_applications(alloc, cluster, size)?;
+    let granted = grant_all(cluster, size)?;
+    end_all(alloc, cluster, size)?;
+    let live = cluster.nodes().live_count() as u64;
+    Some(Done {
+        granted,
+        ended: granted.saturating_sub(live),
+        reasons: reasons(cluster, size)?,
+    })
+}
+
+/// How many of the grants are made.
+fn grant_all(cluster: &mut Cluster<2>, size: &Size) -> Option<u64> {
     let mut granted = 0u64;
     for grant in 0..size.grants {
         let proposal = proposal(size, grant, ProposalKind::Grant)?;
-        if let Ok(Verdict::Done(_)) = cluster.try_commit(proposal) {
+        if is_made(cluster, proposal) {
             granted = granted.saturating_add(1);
         }
     }
-    for end in 0..size.ends {
-        finish(alloc, &mut cluster, size, end)?;
+    Some(granted)
+}
+
+fn is_made(cluster: &mut Cluster<2>, proposal: Proposal<2>) -> bool {
+    match cluster.try_commit(proposal) {
+        Ok(Verdict::Done(_)) => true,
+        _ => false,
     }
-    let ended = granted.saturating_sub(cluster.nodes().live_count() as u64);
+}
+
+fn end_all(alloc: Global, cluster: &mut Cluster<2>, size: &Size) -> Option<()> {
+    for end in 0..size.ends {
+        finish(alloc, cluster, size, end)?;
+    }
+    Some(())
+}
+
+/// Why one more grant, a reservation that fits and one that never fits are rejected.
+fn reasons(cluster: &Cluster<2>, size: &Size) -> Option<[Option<Reason>; 3]> {
     let mut small = proposal(size, 0, ProposalKind::Reserve)?;
     small.node = size.nodes.checked_add(1)?;
-    let reasons = [
+    Some([
         cluster.reason(&proposal(size, 0, ProposalKind::Grant)?),
         cluster.reason(&proposal(size, 0, ProposalKind::Reserve)?),
         cluster.reason(&small),
-    ];
-    Some(Done {
-        granted,
-        ended,
-        reasons,
-    })
+    ])
 }
 
 /// The number of the node, or of the application, of the grant of this index.

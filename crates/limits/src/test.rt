@@ -35,7 +35,10 @@ pub const TESTS: [(&str, Test); 18] = [
     ("a path of 255 bytes", Test::Path(255)),
     ("a path of 256 bytes", Test::Path(256)),
     ("4096 nodes, one more, one less, one more", Test::Nodes),
-    ("10000 applications, one more, one less, one more", Test::Applications),
+    (
+        "10000 applications, one more, one less, one more",
+        Test::Applications,
+    ),
     ("256 asks and 1024 releases", Test::Asks),
     ("256 keys, one more, one in place of another", Test::Keys),
     ("response id 0", Test::Response(0)),
@@ -81,7 +84,8 @@ impl Test {
 fn numbers<const N: usize>(alloc: Global, numbers: Option<[u32; N]>) -> String {
     let mut text = String::new(alloc);
     for number in numbers.as_slice().iter().flatten() {
-        if write!(text, "{number} ").is_err() {
+        let separator = if text.is_empty() { "" } else { " " };
+        if write!(text, "{separator}{number}").is_err() {
             return String::new(alloc);
         }
     }

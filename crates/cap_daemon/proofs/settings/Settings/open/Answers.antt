@@ -13,8 +13,7 @@ no_fault (Some fault) settings answers = absurd answers
 pub returns-in-Ok-from_config-clause-good : goal.returns-in-Ok-from_config-clause-good
 returns-in-Ok-from_config-clause-good c =
     let opening : c.open.result.opening ≡ c.in-Ok-from_config.cluster.flat = ap (λ (w : Known). w.opening) c.open.ensures in
-    let text : c.text.result.now ≡ settings_text c.args.self.now = c.text.ensures in
-    (
+    let text : c.text.result.now ≡ settings_text c.args.self.now = c.text.ensures in (
       record {
         sound = subst (λ (t : List ℕ). first_fault t ≡ None) text (no_fault (first_fault c.text.result.now) c.in-Ok.config c.in-Ok.ensures.fault);
         settings = c.in-Ok.config;
