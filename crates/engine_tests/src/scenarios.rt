@@ -323,7 +323,7 @@ fn after_mixed(alloc: Global, step: Step) -> Option<(Answer, [u64; 2], [u64; 2],
     let answer = make(alloc, &mut cluster, step)?;
     let first = cluster.report(b"root.a")?.used.amounts();
     let second = cluster.report(b"root.b")?.used.amounts();
-    Some((answer, first, second, cluster.nodes().reservations().len()))
+    Some((answer, first, second, cluster.nodes().reservation_count()))
 }
 
 #[test]
