@@ -328,25 +328,31 @@ fn after_mixed(alloc: Global, step: Step) -> Option<(Answer, [u64; 2], [u64; 2],
 
 #[test]
 fn what_ends_is_given_back_and_no_more(rt: HostRuntime) {
-    let of_second = Answer::Reported(2, 0, 1);
-    let all = ([10240, 4], [2048, 2]);
-    for (step, answer, (first, second), reservations) in [
-        (Step::Release(2, &[1]), of_second, all, 2),
+    for (step, answer, first, second, reservations) in [
+        (
+            Step::Release(2, &[1]),
+            Answer::Reported(2, 0, 1),
+            [10240, 4],
+            [2048, 2],
+            2,
+        ),
         (
             Step::Release(1, &[1]),
             Answer::Reported(0, 1, 0),
-            ([8192, 3], all.1),
+            [8192, 3],
+            [2048, 2],
             2,
         ),
         (
             Step::Beat(1, &[1, 3]),
             Answer::Beaten(0, 0),
-            ([8192, 3], [1024, 1]),
+            [8192, 3],
+            [1024, 1],
             2,
         ),
-        (Step::Finish(1), Answer::Ended(2), ([0, 0], all.1), 0),
-        (Step::Finish(2), Answer::Ended(2), (all.0, [0, 0]), 2),
-        (Step::Gone(1), Answer::Ended(2), ([5120, 2], [1024, 1]), 1),
+        (Step::Finish(1), Answer::Ended(2), [0, 0], [2048, 2], 0),
+        (Step::Finish(2), Answer::Ended(2), [10240, 4], [0, 0], 2),
+        (Step::Gone(1), Answer::Ended(2), [5120, 2], [1024, 1], 1),
     ] {
         let given = after_mixed(rt.alloc(), step);
         assert!(rt;
