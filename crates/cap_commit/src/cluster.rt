@@ -199,6 +199,7 @@ impl<const K: usize> Cluster<K> {
     /// The master of an active application has reported.
     pub fn register(&mut self, number: u64)
         ensures flat { self.new.flat ≡ after_register_master self.old.flat number }
+        ensures rows { self.new.rows ≡ self.old.rows }
         ensures room { UsesRoom number 0 0 0 self.old.accounts self.new.accounts }
     {
         self.apps.register(number);
@@ -258,6 +259,7 @@ impl<const K: usize> Cluster<K> {
     pub fn tell(&mut self, number: u64, ignored: u16) -> Reported
         ensures told { IfSome (app_at self.old.flat number) (λ app. self.new.flat ≡ with_app number (after_telling app.response ignored) self.old.flat) }
         ensures unknown { app_at self.old.flat number ≡ None → self.new.flat ≡ self.old.flat }
+        ensures rows { self.new.rows ≡ self.old.rows }
         ensures room { UsesRoom number 0 0 0 self.old.accounts self.new.accounts }
         ensures reply { IsSome (app_at self.old.flat number) → KeepsNumbers number self.new.flat.apps result }
     {
@@ -369,6 +371,7 @@ impl<const K: usize> Cluster<K> {
     pub fn beat(&mut self, number: u64, ignored: u16) -> HeartbeatReply
         requires { IsSome (node_at self.old.flat number) }
         ensures flat { self.new.flat ≡ with_node number (after_beat ignored (length (containers_on self.old.flat.nodes number))) self.old.flat }
+        ensures rows { self.new.rows ≡ self.old.rows }
         ensures accounts { self.new.accounts ≡ self.old.accounts }
         ensures reply { option_and_then (λ node. node.kept) (node_at self.new.flat number) ≡ Some result }
     {

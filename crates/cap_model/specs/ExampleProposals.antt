@@ -182,6 +182,9 @@ OtherReasons =
     × (reason_of large (reserve_of 1 (key 1 0) 1 (mb_and_vcores 8192 1)) ≡ Some Reason.NeverFits)
     × (reason_of (record sight { next_container = 4611686018427387904 }) (grant_of 1 (key 1 0) 1 (mb_and_vcores 1024 1)) ≡ Some Reason.NumbersSpent)
     × (reason_of sight (grant_of 3 (key 9 9) 7 (mb_and_vcores 9999 9)) ≡ Some Reason.NoApp)
+    × (reason_of (record sight { live = 65536; next_container = 4611686018427387904 }) (grant_of 1 (key 1 0) 1 (mb_and_vcores 1024 1)) ≡ Some Reason.TooManyLive)
+    × (reason_of (record sight { next_container = 4611686018427387904 }) (reserve_of 1 (key 1 0) 1 (mb_and_vcores 1024 1)) ≡ Some Reason.FitsNow)
+    × (reason_of (record large { next_container = 4611686018427387904 }) (reserve_of 1 (key 1 0) 1 (mb_and_vcores 8192 1)) ≡ Some Reason.NeverFits)
 
 -- the queues of the examples are trees; without the queue between two others they are none
 abbrev pub ExamplesAreTrees : Type 0

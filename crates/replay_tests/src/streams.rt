@@ -1,5 +1,6 @@
-use crate::play::run;
-use cap_daemon::{Counted, replay};
+use crate::play::run as play_script;
+use cap_command::{Counted, run};
+use cap_daemon::replay;
 use std::alloc::Global;
 use std::cell::Cell;
 use std::io::{self, Read, Write};
@@ -36,7 +37,7 @@ impl Read for Pieces<'_> {
     }
 }
 
-/// Keeps what is written, up to a limit past which writing fails.
+/// Keeps what is written, up to a limit past which writing fails. Only what was flushed counts as written.
 #[derive(Drop)]
 struct Paper<'a> {
     kept: Vec<u8>,
@@ -50,18 +51,18 @@ impl Write for Paper<'_> {
             return Err(io::Error::from(io::ErrorKind::Other));
         }
         self.kept.extend_from_slice(buf)?;
-        self.written.set(self.kept.len());
         Ok(buf.len())
     }
 
     fn flush(&mut self) -> io::Result<()> {
+        self.written.set(self.kept.len());
         Ok(())
     }
 }
 
 /// Plays the script and looks at what it prints and at its status.
 fn plays<R: Abort + AllocGlobal>(rt: &R, script: &str, printed: &str, status: u8) {
-    let (ended, output) = run(rt.alloc(), script);
+    let (ended, output) = play_script(rt.alloc(), script);
     assert_eq!(rt; ended, status, "{script}");
     assert_eq!(rt; output.as_slice(), printed.as_bytes(), "{script}");
 }
@@ -109,12 +110,15 @@ struct Played {
     status: u8,
     /// How many calls on the reader failed, and how many on the writer.
     failures: (u64, u64),
+    /// What was written and flushed, and what the program has to say of bad words.
     printed: Vec<u8>,
+    complaint: String,
     /// How much was written before the last read.
     before_last: usize,
 }
 
-fn play(alloc: Global, pieces: &[&[u8]], fails: bool, limit: usize) -> Played {
+/// Runs the program on the words.
+fn play(alloc: Global, words: &[&str], pieces: &[&[u8]], fails: bool, limit: usize) -> Played {
     let written = Cell::new(0);
     let mut reader = Pieces {
         pieces,
@@ -130,18 +134,63 @@ fn play(alloc: Global, pieces: &[&[u8]], fails: bool, limit: usize) -> Played {
     };
     let mut input = Counted::new(&mut reader);
     let mut output = Counted::new(&mut writer);
-    let status = replay(alloc, &mut input, &mut output);
+    let mut complaint = String::new(alloc);
+    let status = run(alloc, words, &mut input, &mut output, &mut complaint);
+    let failures = (input.failures(), output.failures());
+    writer.kept.truncate(written.get());
     Played {
         status,
-        failures: (input.failures(), output.failures()),
-        before_last: reader.before_last,
+        failures,
         printed: writer.kept,
+        complaint,
+        before_last: reader.before_last,
+    }
+}
+
+// Bad words and a bad script are 2, a failed read or write is 1, whatever the words were.
+#[test]
+fn the_status_says_what_went_wrong(rt: HostRuntime) {
+    let rows: [(&[&str], &[u8], bool, usize, u8); 14] = [
+        (&["capsched", "replay"], b"", false, 0, 0),
+        (&["capsched", "replay"], b"open 1\n", false, 9, 0),
+        (&["capsched", "replay"], b"open 1\n", true, 9, 1),
+        (&["capsched", "replay"], b"open 1\n", false, 0, 1),
+        (&["capsched", "replay"], b"opne 1\n", false, 11, 2),
+        (&["capsched", "replay"], b"opne 1\n", false, 0, 1),
+        (
+            &["capsched", "replay"],
+            b"conf yarn.scheduler.capacity.root.queues=.\n",
+            false,
+            99,
+            2,
+        ),
+        (&["capsched", "replay", "twice"], b"open 1\n", false, 99, 2),
+        (&["capsched", "play"], b"open 1\n", false, 99, 2),
+        (&["capsched", "--replay"], b"open 1\n", false, 99, 2),
+        (&["capsched"], b"open 1\n", false, 99, 2),
+        (&["capsched", "--help"], b"open 1\n", false, 9999, 0),
+        (&["capsched", "--version"], b"open 1\n", false, 99, 0),
+        (&["capsched", "--version"], b"open 1\n", false, 0, 1),
+    ];
+    for (words, script, fails, limit, status) in rows {
+        let played = play(rt.alloc(), words, &[script], fails, limit);
+        let is_explained = status != 2 || played.printed.is_empty() != played.complaint.is_empty();
+        assert!(rt;
+            played.status == status && is_explained,
+            "{words:?} {script:?} {status}"
+        );
     }
 }
 
 #[test]
 fn a_failed_stream_loses_nothing_printed(rt: HostRuntime) {
-    let played = play(rt.alloc(), &[b"open 1\nope", b"n 2\nend 1"], true, 1000);
+    let played = play(
+        rt.alloc(),
+        &["capsched", "replay"],
+        &[b"open 1\nope", b"n 2\nend 1"],
+        true,
+        1000,
+    );
     assert!(rt; (played.status, played.failures) == (1, (1, 0)));
     assert!(rt; played.printed.as_slice() == b"opened 1\nopened 2\n".as_slice());
     assert!(rt; played.before_last == 18);
@@ -149,20 +198,32 @@ fn a_failed_stream_loses_nothing_printed(rt: HostRuntime) {
 
 #[test]
 fn settings_are_not_read_after_a_failed_read(rt: HostRuntime) {
-    let played = play(rt.alloc(), &[b"conf x=1\nop"], true, 1000);
+    let played = play(
+        rt.alloc(),
+        &["capsched", "replay"],
+        &[b"conf x=1\nop"],
+        true,
+        1000,
+    );
     assert!(rt; (played.status, played.printed.len()) == (1, 0));
 }
 
 #[test]
 fn replies_are_written_before_the_next_read(rt: HostRuntime) {
-    let played = play(rt.alloc(), &[b"open 1\n"], false, 1000);
+    let played = play(
+        rt.alloc(),
+        &["capsched", "replay"],
+        &[b"open 1\n"],
+        false,
+        1000,
+    );
     assert!(rt; (played.status, played.before_last) == (0, 9));
 }
 
 #[test]
 fn a_closed_output_ends_the_program(rt: HostRuntime) {
     let pieces: [&[u8]; 3] = [b"open 1\n", b"open 2\n", b"open 3\n"];
-    let played = play(rt.alloc(), &pieces, false, 1);
+    let played = play(rt.alloc(), &["capsched", "replay"], &pieces, false, 1);
     assert!(rt; (played.status, played.failures) == (1, (0, 1)));
     assert!(rt; played.printed.as_slice() == b"opened 1\n".as_slice());
 }

@@ -24,4 +24,4 @@ returns-clause-full c = (refl, refl, refl, refl)
 
 pub returns-clause-others : goal.returns-clause-others
 unfolding plus less
-returns-clause-others c = (refl, refl, refl, refl, refl, refl, refl)
+returns-clause-others c = (refl, refl, refl, refl, refl, refl, refl, refl, refl, refl)
