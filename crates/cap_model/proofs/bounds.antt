@@ -3,6 +3,7 @@ pub mod BoundedRuns
 pub mod CallBounds
 pub mod Formed
 pub mod Growing
+pub mod PartBounds
 pub mod ReservedAfter
 pub mod Reserving
 pub mod Sizes

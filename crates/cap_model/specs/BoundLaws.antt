@@ -3,11 +3,15 @@ use Rattle.std.specs.Prelude.{◌≡◌, ◌↔◌, ◌⊎◌, ℕ, ◌+◌, ◌
 use Rattle.std.specs.List.{All, range_with_len}
 use Rattle.cap_model.specs.Texts.{dot}
 use Rattle.cap_model.specs.Asks.{Ask}
-use Rattle.cap_model.specs.Flat.{Flat, App, opened_cluster, app_at, node_at, is_under, is_child_of}
+use Rattle.cap_model.specs.declared.news.Cause.{Cause}
+use Rattle.cap_model.specs.Flat.{Flat, App, Container, with_app, opened_cluster, app_at, node_at, is_under, is_child_of}
 use Rattle.cap_model.specs.Settings.{Settings, QueueRow}
 use Rattle.cap_vector.specs.Vector.{IsSum}
 use Rattle.cap_model.specs.Uses.{wanted, queue_use}
 use Rattle.cap_model.specs.Listing.{IsListing}
+use Rattle.cap_model.specs.Asking.{after_ask}
+use Rattle.cap_model.specs.Ending.{after_ends}
+use Rattle.cap_model.specs.Allocate.{after_telling}
 use Rattle.cap_model.specs.Sight.{sight_of, still_wanted}
 use Rattle.cap_model.specs.declared.event.Event.{Event}
 use Rattle.cap_model.specs.Events.{Step, Run}
@@ -75,6 +79,16 @@ ReservationsStayBounded = (K : ℕ) (old new : Flat K) (event : Event K) → IsB
 -- a step from a bounded cluster leaves a bounded one
 abbrev pub StepStaysBounded : Type 0
 StepStaysBounded = (K : ℕ) (old new : Flat K) (event : Event K) → IsBounded old → Step old event new → IsBounded new
+
+-- a part of a call keeps the bounds: live containers that end, an ask that is put, and a report to a master
+abbrev pub EndsStayBounded : Type 0
+EndsStayBounded = (K : ℕ) (old : Flat K) (cause : Cause) (gone : List Container) → IsBounded old → IsBounded (after_ends cause gone old)
+
+abbrev pub AskStaysBounded : Type 0
+AskStaysBounded = (K : ℕ) (old : Flat K) (n : ℕ) (ask : Ask) → IsBounded old → IsBounded (after_ask n old ask)
+
+abbrev pub ReportStaysBounded : Type 0
+ReportStaysBounded = (K : ℕ) (old : Flat K) (n id ignored : ℕ) → IsBounded old → IsBounded (with_app n (after_telling id ignored) old)
 
 -- a cluster that was opened just now over listed queues is bounded
 abbrev pub OpenedIsBounded : Type 0

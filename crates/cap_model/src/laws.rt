@@ -3,7 +3,7 @@ ghost use Rattle.std.specs.Prelude.{◌≡◌};
 ghost use Rattle.cap_model.specs.Limits.{live_max, news_max, nodes_max, number_end};
 ghost use Rattle.cap_model.specs.EngineLaws.{RejectedExactly, NumbersStayDistinct, GrantedOnce, StepIsDetermined, ContainersBalance, EndedOnce, LiveIsWhatWasNotEnded, OneOfEachRank, ChoiceIsComputed, ChoiceFromIsComputed, AppNumbersStayDistinct, ReasonsAreInOrder, PassedIsStep};
 ghost use Rattle.cap_model.specs.NewsLaws.{GrantsAreToldInOrder, EndsAreToldInOrder, GrantsAreToldOverRuns, NewGrantsAreOfTheGranted, EndsAreToldOverRuns, NewEndsAreOfTheEnded};
-ghost use Rattle.cap_model.specs.BoundLaws.{ParentUsesChildren, StepStaysWellFormed, QueuesStayBounded, NodesStayBounded, ReservationsStayApart, ReservationsStayBounded, UnderByPath, TreesAddUp, StepStaysBounded, RunsStayBounded, OpenedIsBounded, WantedIsSeen, UsesAreSums, SizesStay, OpenedIsWithinSizes, NumbersAreNotUsedAgain, RunsStayWithinSizes, TreesAreTested, LevelsInOrder, ListingsStandBelow};
+ghost use Rattle.cap_model.specs.BoundLaws.{ParentUsesChildren, StepStaysWellFormed, QueuesStayBounded, NodesStayBounded, ReservationsStayApart, ReservationsStayBounded, UnderByPath, TreesAddUp, StepStaysBounded, RunsStayBounded, OpenedIsBounded, WantedIsSeen, UsesAreSums, SizesStay, OpenedIsWithinSizes, NumbersAreNotUsedAgain, RunsStayWithinSizes, TreesAreTested, LevelsInOrder, ListingsStandBelow, EndsStayBounded, AskStaysBounded, ReportStaysBounded};
 
 use crate::replies::NEWS_MAX;
 use crate::{LIVE_MAX, NODES_MAX, NUMBER_END};
@@ -104,6 +104,13 @@ pub fn trees_add_up()
 /// A step from a bounded cluster leaves a bounded one.
 pub fn steps_keep_bounds()
     ensures { StepStaysBounded }
+{}
+
+/// A part of a call keeps the bounds too: containers that end, an ask that is put, a report to a master.
+pub fn parts_of_calls_keep_bounds()
+    ensures ends { EndsStayBounded }
+    ensures asks { AskStaysBounded }
+    ensures reports { ReportStaysBounded }
 {}
 
 /// A cluster that was opened just now is bounded, and so is every state of a run from a bounded one.

@@ -210,7 +210,7 @@ module _ {K : ℕ} where
   reserved_placed cluster h = of_each (λ (r : Reservation). AreThere cluster r.app r.node) cluster.nodes.reserved (λ r m. h r.app r.node (inr (r, m, refl, refl)))
 
   -- the parts together
-  formed : (old new : Flat K) → IsWellFormed old → HasSameQueues old new → AppsMove old new → HasNodeNumbers new → HasPlaces new → IsWellFormed new
+  pub formed : (old new : Flat K) → IsWellFormed old → HasSameQueues old new → AppsMove old new → HasNodeNumbers new → HasPlaces new → IsWellFormed new
   formed old new w s m n h = record {
     tree = subst (λ qs. IsTree qs) (sym s.queues) (tree_kept s.change s.keeps.path old.settings.queues w.tree);
     order = subst (λ qs. StandBelow qs) (sym s.queues) (order_kept s.change s.keeps.path old.settings.queues w.order);

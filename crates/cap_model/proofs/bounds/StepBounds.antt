@@ -43,10 +43,10 @@ kept_number true x y e = e
 kept_number false x y e = refl
 
 -- a change that keeps numbers and asks
-asking_at : (f : App → App) → ((a : App) → (f a).number ≡ a.number) → ((a : App) → (f a).asks ≡ a.asks) → (n : ℕ) (xs : List App) → asking (find (λ (a : App). a.number == n) (map f xs)) ≡ asking (find (λ (a : App). a.number == n) xs)
+pub asking_at : (f : App → App) → ((a : App) → (f a).number ≡ a.number) → ((a : App) → (f a).asks ≡ a.asks) → (n : ℕ) (xs : List App) → asking (find (λ (a : App). a.number == n) (map f xs)) ≡ asking (find (λ (a : App). a.number == n) xs)
 asking_at f number asks n xs = ap asking (find_changed (λ (a : App). a.number) f number n xs) ∙ asking_kept f asks (find (λ (a : App). a.number == n) xs)
 
-asking_one : (m : ℕ) (f : App → App) → ((a : App) → (f a).number ≡ a.number) → ((a : App) → (f a).asks ≡ a.asks) → (n : ℕ) (xs : List App) →
+pub asking_one : (m : ℕ) (f : App → App) → ((a : App) → (f a).number ≡ a.number) → ((a : App) → (f a).asks ≡ a.asks) → (n : ℕ) (xs : List App) →
     asking (find (λ (a : App). a.number == n) (map (λ a. if a.number == m then f a else a) xs)) ≡ asking (find (λ (a : App). a.number == n) xs)
 asking_one m f number asks n xs =
     asking_at (λ a. if a.number == m then f a else a) (λ a. kept_number (a.number == m) (f a) a (number a)) (λ a. kept_asks (a.number == m) (f a) a (asks a)) n xs
@@ -73,11 +73,11 @@ module _ {K : ℕ} where
       let w = of_map s.change old.settings.queues q (subst (λ qs. IsIn q qs) s.queues m) in
       subst (IsQueueBounded new) (w.2) (moved_queue old new s (w.0) (queue_stays old new (lessened old h request) h (w.0) (each_of (IsQueueBounded old) old.settings.queues b.queues (w.0) (w.1)))))
 
-  each_bounded : (old : Flat K) → IsBounded old → AreBounded old
+  pub each_bounded : (old : Flat K) → IsBounded old → AreBounded old
   each_bounded old b = each_of (IsReservationBounded old) old.nodes.reserved b.reservations
 
   -- where the asks of those that hold something stay, so do the bounds of reservations
-  asks_same : (old new : Flat K) → IsLessened old new → ((app node : ℕ) → IsSite new app node → asking (app_at new app) ≡ asking (app_at old app)) → AreBounded old → AreBounded new
+  pub asks_same : (old new : Flat K) → IsLessened old new → ((app node : ℕ) → IsSite new app node → asking (app_at new app) ≡ asking (app_at old app)) → AreBounded old → AreBounded new
   asks_same old new l f b = carried old new l.reserved (λ r m. f r.app r.node (inr (r, m, refl, refl))) (λ r m. l.nodes r.app r.node (inr (r, m, refl, refl))) b
 
   allocate_keeps : (old : Flat K) (n id : ℕ) (asks : List Ask) (releases : List ℕ) (b : Bool) → AreBounded old → AreBounded (cond b old (after_processed_allocate old n id asks releases))

@@ -7,7 +7,7 @@ use Rattle.cap_model.specs.Asks.{Ask}
 use Rattle.cap_model.specs.declared.request.Request.{Request}
 use Rattle.cap_model.specs.declared.news.Cause.{Cause}
 use Rattle.cap_model.specs.Flat.{Flat, App, ClusterNode, Container, Reservation, app_at, node_at, is_for, containers_on}
-use Rattle.cap_model.specs.Asking.{after_asks, after_ask, rounded_ask, keep_first}
+use Rattle.cap_model.specs.Asking.{after_asks, after_ask, rounded_ask}
 use Rattle.cap_model.specs.Ending.{is_among}
 use Rattle.cap_model.specs.Submit.{new_app}
 use Rattle.cap_model.specs.RegisterNode.{new_node}
@@ -100,7 +100,7 @@ module _ {K : ℕ} where
   old_node old node m = inl (node, m, refl, refl)
 
   -- where applications change and nodes stay
-  only_apps : (old new : Flat K) → AppsChange old new → IsThinned old new → IsPart old.nodes.reserved new.nodes.reserved → new.nodes.present ≡ old.nodes.present → IsLessened old new
+  pub only_apps : (old new : Flat K) → AppsChange old new → IsThinned old new → IsPart old.nodes.reserved new.nodes.reserved → new.nodes.present ≡ old.nodes.present → IsLessened old new
   only_apps old new m t p e = record {
     live = t;
     reserved = p;

@@ -67,7 +67,7 @@ module _ {K : ℕ} where
   reply_thins old new request reply (inl r) = subst (λ c. IsThinned old c) (sym (r.1)) (unless_refused (refusal_of old request) old (granted_cluster old request) (call_thins old request))
   reply_thins old new request reply (inr r) = subst (λ c. IsThinned old c) (sym (r.1)) (thinned_same old old (record { live = refl; next = refl }))
 
-  thinned_numbers : (old new : Flat K) → IsThinned old new → HasDistinctNumbers old → HasDistinctNumbers new
+  pub thinned_numbers : (old new : Flat K) → IsThinned old new → HasDistinctNumbers old → HasDistinctNumbers new
   thinned_numbers old new t r =
       let a : IsRising 1 (container_numbers (filter t.test old.nodes.live)) old.nodes.next_container = rising_kept (λ (z : Container). z.number) t.test 1 old.nodes.live old.nodes.next_container r in
       let b : IsRising 1 (container_numbers new.nodes.live) old.nodes.next_container = subst (λ cs. IsRising 1 (container_numbers cs) old.nodes.next_container) (sym t.live) a in

@@ -7,10 +7,9 @@ use Rattle.std.proofs.lemmas.List.Sums.{length-filter, count_by-le-length}
 use Rattle.std.proofs.lemmas.Bool.Decides.{nat_tests}
 use Rattle.std.specs.List.{cons_option}
 use Rattle.cap_model.specs.Asks.{Ask}
-use Rattle.cap_model.specs.News.{Grant, AllocateReply, Reply}
+use Rattle.cap_model.specs.News.{AllocateReply, Reply}
 use Rattle.cap_model.specs.declared.news.End.{End}
 use Rattle.cap_model.specs.declared.news.Cause.{Cause}
-use Rattle.cap_model.specs.declared.event.Event.{Event}
 use Rattle.cap_model.specs.declared.request.Request.{Request}
 use Rattle.cap_model.specs.declared.refusal.Refusal.{Refusal}
 use Rattle.cap_model.specs.declared.reply.ReplyWith.{ReplyWith}
@@ -18,7 +17,7 @@ use Rattle.cap_model.specs.declared.reply.ReplyWith.TheVariants as Reply
 use Rattle.cap_model.specs.Limits.{news_max}
 use Rattle.cap_model.specs.Flat.{Flat, App, Container, app_at}
 use Rattle.cap_model.specs.Allocate.{nothing_told, after_telling, after_processed_allocate, after_wishes, kept_reply, is_repeated_allocate, released_by}
-use Rattle.cap_model.specs.Replies.{Replies, refused_or, refusal_of, granted_reply, reply_to, after_request}
+use Rattle.cap_model.specs.Replies.{Replies, refused_or, refusal_of, granted_reply}
 use Rattle.cap_model.specs.Reporting.{NewsRoom, map_reply, news_most, HasRoomFor, IsNoAllocate}
 use Rattle.cap_model.specs.Ending.{named_among}
 use Rattle.cap_model.specs.Flat.{containers_of}
