@@ -3,7 +3,8 @@ use Rattle.std.specs.Prelude.{◌≡◌, ◌⊎◌, ℕ, ◌%◌, Bool, false, L
 use Rattle.std.specs.Ordering.{nat_cmp, then_cmp, on, is_gt}
 use Rattle.std.specs.declared.cmp.Ordering.{Ordering}
 use Rattle.std.specs.Cmp.Lexicographic.{slice_cmp}
-use Rattle.cap_model.specs.Fullness.{Share, shares, shares_cmp}
+use Rattle.cap_vector.specs.declared.fullness.Share.{Share}
+use Rattle.cap_vector.specs.Fullness.{shares, shares_cmp}
 use Rattle.cap_model.specs.declared.ask.Key.{Key}
 use Rattle.cap_model.specs.Asks.{ask_key_cmp}
 use Rattle.cap_model.specs.Flat.{name_of}

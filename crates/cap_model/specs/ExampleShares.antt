@@ -2,7 +2,8 @@
 use Rattle.std.specs.Prelude.{◌≡◌, ℕ, [], ◌∷◌, Some}
 use Rattle.std.specs.declared.cmp.Ordering.TheVariants.{Less, Greater}
 use Rattle.cap_vector.specs.Rounding.{round_up}
-use Rattle.cap_model.specs.Fullness.{Share, shares, shares_cmp}
+use Rattle.cap_vector.specs.declared.fullness.Share.{Share}
+use Rattle.cap_vector.specs.Fullness.{shares, shares_cmp}
 use Rattle.cap_model.specs.Sight.{sight_of}
 use Rattle.cap_model.specs.Candidates.{choice_on}
 use Rattle.cap_model.specs.ExampleClusters.{mb_and_vcores, key, ask_anywhere, small, after_calls, asks_of, after_grants, grant_of}

@@ -6,7 +6,6 @@ pub mod Listing
 pub mod Members
 pub mod Cascade
 pub mod Amounts
-pub mod Fullness
 pub mod Asks
 pub mod News
 pub mod Flat

@@ -1,10 +1,10 @@
 -- The amounts of a sum and of a difference, for lists of any lengths.
 use Rattle.std.proofs.Common.{inl, inr, ◌≡◌, ℕ, zero, suc, ◌+◌, ◌-◌, ◌*◌, ◌≤◌, ◌<◌, List, [], ◌∷◌, length, get_or, refl, sym, ◌∙◌, arith, true}
-use Rattle.std.specs.Prelude.{nat_le, min, ◌==◌}
+use Rattle.std.specs.Prelude.{nat_le, min}
 use Rattle.std.proofs.lemmas.List.{ext_get_or, get_or_past}
 use Rattle.std.proofs.lemmas.List.FromFn.{length-map-range_with_len, get_or-map-range_with_len}
-use Rattle.std.proofs.lemmas.Bool.{cases_lt, and_parts, eqb-true, leb-true, le-leb}
-use Rattle.cap_vector.specs.Vector.{plus, less, amounts_exchanged, amount, zeros, is_zero, FitsTimes, IsWithin, is_within}
+use Rattle.std.proofs.lemmas.Bool.{cases_lt, and_parts, leb-true, le-leb}
+use Rattle.cap_vector.specs.Vector.{plus, less, amounts_exchanged, amount, FitsTimes, IsWithin, is_within}
 use Rattle.cap_vector.specs.Rounding.{raised_amount, round_up}
 pub use Rattle.cap_vector.specs.AmountLaws.{amount-plus, amount-less, amount-exchanged, amount-zeros, amount-is_zero}
 

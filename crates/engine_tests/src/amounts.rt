@@ -1,4 +1,8 @@
-use cap_vector::{Resource, Sum, checked_add, exchanged, fits, fits_exchanged, minus, round_up};
+use cap_vector::{
+    Resource, Shares, Sum, checked_add, cmp_shares, exchanged, fits, fits_exchanged, minus,
+    round_up,
+};
+use std::cmp::Ordering;
 
 const MOST: u64 = 1_099_511_627_776;
 
@@ -145,5 +149,54 @@ fn amounts_round_up(rt: HostRuntime) {
     ] {
         let given = round_up(&resource(ask), &resource(step), &resource(most));
         assert!(rt; given.amounts() == rounded, "{ask:?}");
+    }
+}
+
+/// Which of two uses is less full, each of its own guarantee.
+fn compared(a: [u64; 2], of_a: [u64; 2], b: [u64; 2], of_b: [u64; 2]) -> Ordering {
+    let a = Shares::of(&sum(a), &resource(of_a));
+    let b = Shares::of(&sum(b), &resource(of_b));
+    cmp_shares(&a, &b)
+}
+
+// The greatest share decides first, whichever resource it is of; a guarantee of 0 counts as 1.
+#[test]
+fn shares_are_compared_greatest_first(rt: HostRuntime) {
+    for (a, of_a, b, of_b, order) in [
+        ([1024, 1], [2048, 8], [1024, 2], [4096, 4], Ordering::Less),
+        (
+            [1024, 4],
+            [4096, 4],
+            [2048, 1],
+            [4096, 4],
+            Ordering::Greater,
+        ),
+        ([1, 0], [3, 1], [1, 0], [2, 1], Ordering::Less),
+        ([1024, 1], [2048, 2], [2, 2048], [4, 4096], Ordering::Equal),
+        ([0, 0], [1024, 0], [0, 1], [1024, 0], Ordering::Less),
+        (
+            [2 * MOST, 0],
+            [0, 0],
+            [2 * MOST, 0],
+            [1, 0],
+            Ordering::Equal,
+        ),
+        (
+            [2 * MOST - 1, 0],
+            [MOST, 0],
+            [2 * MOST, 0],
+            [MOST, 0],
+            Ordering::Less,
+        ),
+        (
+            [2 * MOST, 0],
+            [MOST - 1, 0],
+            [2 * MOST, 0],
+            [MOST, 0],
+            Ordering::Greater,
+        ),
+    ] {
+        let given = compared(a, of_a, b, of_b);
+        assert!(rt; given == order, "{a:?} of {of_a:?}, {b:?} of {of_b:?}");
     }
 }

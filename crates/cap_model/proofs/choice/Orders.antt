@@ -7,7 +7,7 @@ use Rattle.std.specs.Cmp.{IsTotalOrder, nat_cmp_is}
 use Rattle.std.proofs.Common.{arith, refl, sym, ◌∙◌, ap}
 use Rattle.std.proofs.lemmas.Cmp.{nat_cmp_total, nat_list_cmp_total, lists_total, on_total, then_total, ranked}
 use Rattle.std.proofs.Math.Nat.{mul_right_comm, mul-lt-mul_of_pos_right}
-use Rattle.cap_model.specs.Fullness.{share_cmp, shares_cmp}
+use Rattle.cap_vector.specs.Fullness.{share_cmp, shares_cmp}
 use Rattle.cap_model.specs.Asks.{ask_key_cmp}
 use Rattle.cap_model.specs.Choice.{level_cmp, rank_cmp}
 

@@ -3,13 +3,9 @@ use Rattle.std.specs.Prelude.{ℕ, ◌*◌, max, List, [], ◌∷◌, if◌then�
 use Rattle.std.specs.Ordering.{nat_cmp, is_lt}
 use Rattle.std.specs.declared.cmp.Ordering.{Ordering}
 use Rattle.std.specs.Cmp.Lexicographic.{slice_cmp}
+use Rattle.cap_vector.specs.declared.fullness.Share.{Share}
 
--- the fraction of one resource that is used: used / max(1, guaranteed)
-pub record Share : Type 0 where
-  pub used : ℕ
-  pub guaranteed : ℕ
-
--- fractions compared by whole numbers, as cross products
+-- two fractions used / max(1, guaranteed) compared by whole numbers, as cross products
 abbrev pub share_cmp : Share → Share → Ordering
 share_cmp a b = nat_cmp (a.used * max 1 b.guaranteed) (b.used * max 1 a.guaranteed)
 
