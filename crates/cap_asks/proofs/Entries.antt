@@ -1,8 +1,8 @@
 -- The entries of a table by number.
-use Rattle.std.proofs.Common.{◌≡◌, ℕ, ◌+◌, ◌≤◌, ◌<◌, Bool, true, false, cond, List, [], ◌∷◌, ◌++◌, map, refl, sym, ◌∙◌, ap, subst, arith}
+use Rattle.std.proofs.Common.{◌≡◌, ℕ, zero, suc, slice_get, ◌+◌, ◌≤◌, ◌<◌, Bool, true, false, cond, List, [], ◌∷◌, ◌++◌, map, refl, sym, ◌∙◌, ap, subst, arith}
 use Rattle.std.specs.Prelude.{Option, Some, None, is_some, IsSome, IfSome, option_and_then, nat_eq, not, find, filter, option_map, ◌==◌, if◌then◌else◌}
 use Rattle.std.specs.Option.{option_map_or}
-use Rattle.std.specs.Map.{lookup, set_value, remove_entry}
+use Rattle.std.specs.Map.{lookup, set_value, remove_entry, values_of}
 use Rattle.std.proofs.lemmas.Bool.Decides.{nat_tests}
 use Rattle.cap_model.specs.Flat.{App}
 use Rattle.cap_model.specs.Bounds.{IsRising}
@@ -318,3 +318,32 @@ same_apps n (e ∷ es) old new a is = by (nat_eq n e.0) refl (same_apps n es old
     by : (b : Bool) → nat_eq n e.0 ≡ b → (lookup (nat_eq n) es ≡ Some old → new.app ≡ old.app → apps_of (set_value (nat_eq n) es new) ≡ apps_of es) → apps_of (cond b ((e.0, new) ∷ es) (e ∷ set_value (nat_eq n) es new)) ≡ e.1.app ∷ apps_of es
     by true b r = ap (λ x. x ∷ apps_of es) (is ∙ ap (λ (o : HeldApp). o.app) (sym (some_is (nat_eq n e.0) e.1 old (lookup (nat_eq n) es) b a)))
     by false b r = ap (λ xs. e.1.app ∷ xs) (r (sym (ap (λ c. cond c (Some e.1) (lookup (nat_eq n) es)) b) ∙ a) is)
+
+-- the application at an index is the one of its number
+pub record IsNth (i low : ℕ) (es : List (ℕ × HeldApp)) (x : HeldApp) : Type 0 where
+  pub at : slice_get (apps_of es) i ≡ Some x.app
+  pub own : lookup (nat_eq x.app.number) es ≡ Some x
+  pub above : low ≤ x.app.number
+
+pub nth_is : (i low next : ℕ) (es : List (ℕ × HeldApp)) (x : HeldApp) → AreNumbered low es next → slice_get (values_of es) i ≡ Some x → IsNth i low es x
+nth_is i low next [] x h e = absurd (cc e)
+nth_is zero low next (e ∷ es) x h at =
+    let is : e.1 ≡ x = cc at in
+    let number : x.app.number ≡ e.0 = ap (λ (y : HeldApp). y.app.number) (sym is) ∙ h.1 in
+    let own : nat_eq x.app.number e.0 ≡ true = grind (arith, nat_tests, number) in
+    let first = h.0 in
+    record {
+      at = ap (λ (y : HeldApp). Some y.app) is;
+      own = ap (λ c. cond c (Some e.1) (lookup (nat_eq x.app.number) es)) own ∙ at;
+      above = omega (arith, first, number);
+    }
+nth_is (suc i) low next (e ∷ es) x h at =
+    let later = nth_is i (e.0 + 1) next es x h.2 at in
+    let first = h.0 in
+    let above = later.above in
+    let other : nat_eq x.app.number e.0 ≡ false = grind (arith, nat_tests, above) in
+    record {
+      at = later.at;
+      own = ap (λ c. cond c (Some e.1) (lookup (nat_eq x.app.number) es)) other ∙ later.own;
+      above = omega (arith, first, above);
+    }

@@ -1,6 +1,6 @@
 -- Asks in order of key: what putting one and counting one down do.
 use Rattle.std.proofs.Common.{◌≡◌, ℕ, zero, suc, ◌+◌, ◌-◌, ◌≤◌, ◌<◌, Bool, true, false, cond, List, [], ◌∷◌, length, take, refl, sym, ◌∙◌, ap, arith, add-one, length-set}
-use Rattle.std.specs.Prelude.{Option, Some, None, is_some, not, ◌&&◌, ◌||◌, ◌==◌, insert, remove, slice_set, slice_index_or, if◌then◌else◌, nat_lt, nat_eq}
+use Rattle.std.specs.Prelude.{Some, None, is_some, not, ◌&&◌, ◌||◌, ◌==◌, insert, remove, slice_set, slice_index_or, if◌then◌else◌, nat_lt, nat_eq}
 use Rattle.std.specs.List.{fold}
 use Rattle.std.proofs.lemmas.List.Sums.{fold_more}
 use Rattle.std.proofs.lemmas.Grind.{common_steps}

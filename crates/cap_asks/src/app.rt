@@ -6,7 +6,7 @@ ghost use Rattle.cap_model.specs.Allocate.{has_too_many_keys, after_telling};
 ghost use Rattle.cap_model.specs.Events.{take_one};
 ghost use Rattle.cap_model.specs.ResponseIds.{is_repeated, is_bad_id};
 ghost use Rattle.cap_model.specs.Submit.{new_app};
-ghost use Rattle.cap_asks.specs.Held.{TakesRoom, HasRoom, repeated_numbers, with_numbers};
+ghost use Rattle.cap_asks.specs.Held.{AreKept, TakesRoom, HasRoom, repeated_numbers, with_numbers};
 ghost use Rattle.cap_model.specs.Reporting.{reported_of, news_most};
 ghost use Rattle.cap_asks.specs.Apps.{new_account};
 
@@ -144,7 +144,8 @@ impl<const K: usize> App<K> {
 
     /// Its asks in order of key, each for at least one container.
     pub fn asks(&self) -> &[Ask<K>]
-        ensures { result.now ≡ self.now.app.asks }
+        ensures value { result.now ≡ self.now.app.asks }
+        ensures kept { AreKept self.now.app.asks }
     {
         self.asks.as_slice()
     }
@@ -221,7 +222,8 @@ impl<const K: usize> App<K> {
     fn reported(&self, ignored: u16) -> Reported
         ensures response { result.response ≡ self.now.app.response }
         ensures ignored { result.ignored ≡ ignored }
-        ensures kept { IfSome self.now.app.kept (λ kept. (result.grants ≡ length kept.grants) × (result.ends ≡ length kept.ends)) }
+        ensures kept { IfSome self.now.app.kept (λ kept.
+            (result.grants ≡ length kept.grants) × (result.ends ≡ length kept.ends)) }
     {
         Reported {
             response: self.response,

@@ -1,5 +1,6 @@
 ghost use Rattle.std.specs.Prelude.{◌≡◌, ◌+◌, ◌<◌, ◌≤◌, ◌++◌, ◌∷◌, [], true, Some, length, map, option_map, IfOk, OnOk, OnErr, IsOk, IsSome};
 ghost use Rattle.cap_model.specs.Limits.{live_max, number_end};
+ghost use Rattle.std.specs.List.{slice_get};
 ghost use Rattle.std.specs.Option.{option_map_or};
 ghost use Rattle.cap_model.specs.Asking.{put_ask, reservations_left};
 ghost use Rattle.cap_model.specs.Events.{take_one};
@@ -97,11 +98,23 @@ impl<const K: usize> Apps<K> {
         Ok(number)
     }
 
-    /// How many are active.
+    /// How many are active. All have numbers from 1 that rise and are below the next.
     pub fn count(&self) -> usize
-        ensures { result ≡ length self.now.table.active }
+        ensures value { result ≡ length self.now.table.active }
+        ensures rising { IsRising 1 (map (λ app. app.number) self.now.table.active) self.now.table.next }
     {
         self.active.len()
+    }
+
+    /// The active application at an index, in order of number. All have numbers from 1 that rise and are below the next.
+    pub fn nth(&self, index: usize) -> &App<K>
+        requires { index < length self.now.table.active }
+        ensures app { slice_get self.now.table.active index ≡ Some result.now.app }
+        ensures found { app_in self.now.table result.now.app.number ≡ Some result.now.app }
+        ensures account { account_of result.now.app.number self.now.accounts ≡ Some result.now.account }
+        ensures rising { IsRising 1 (map (λ app. app.number) self.now.table.active) self.now.table.next }
+    {
+        &self.active[index]
     }
 
     /// The number of the next.

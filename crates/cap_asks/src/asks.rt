@@ -4,7 +4,7 @@ ghost use Rattle.cap_model.specs.Flat.{ask_at};
 ghost use Rattle.cap_model.specs.Asking.{put_ask};
 ghost use Rattle.cap_model.specs.Limits.{keys_max};
 ghost use Rattle.cap_model.specs.Events.{take_one};
-ghost use Rattle.cap_asks.specs.Held.{is_before, IsKeyIndex};
+ghost use Rattle.cap_asks.specs.Held.{AreKept, is_before, IsKeyIndex};
 
 use cap_model::{Ask, Key, NoMemory};
 use std::alloc::Global;
@@ -43,7 +43,8 @@ impl<const K: usize> Asks<K> {
 
     /// All, in order of key.
     pub(crate) fn as_slice(&self) -> &[Ask<K>]
-        ensures { result.now ≡ self.now.asks }
+        ensures value { result.now ≡ self.now.asks }
+        ensures kept { AreKept self.now.asks }
     {
         &self.items
     }
@@ -99,7 +100,8 @@ impl<const K: usize> Asks<K> {
     pub(crate) fn put(&mut self, ask: &Ask<K>)
         requires { is_some (ask_at ask.now.key self.old.asks) ≡ false → 1 ≤ self.old.room }
         ensures asks { self.new.asks ≡ put_ask ask.now self.old.asks }
-        ensures room { self.old.room ≤ self.new.room + (if is_some (ask_at ask.now.key self.old.asks) then 0 else 1) }
+        ensures room { self.old.room ≤
+            self.new.room + (if is_some (ask_at ask.now.key self.old.asks) then 0 else 1) }
     {
         match (self.index_of(&ask.key()), ask.count() == 0) {
             (Ok(index), true) => {
@@ -135,7 +137,6 @@ impl<const K: usize> Asks<K> {
     fn stands_after(&self, asks: &[Ask<K>], key: &Key) -> bool
         ensures { result ≡ is_some (ask_at key.now (fold (λ kept ask. put_ask ask kept) self.now.asks asks.now)) }
     {
-        let _ = &self.items;
         let mut stands = self.get(key).is_some();
         for ask in asks {
             if ask.key().is_same(key) {

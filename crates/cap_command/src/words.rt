@@ -1,8 +1,7 @@
 ghost use Rattle.std.specs.Prelude.{◌≡◌, ◌<◌};
 ghost use Rattle.cap_session.specs.Counted.{state_of, CanCount};
 
-use cap_daemon::{Counted, replay};
-use cap_session::Sent;
+use cap_daemon::{Counted, replay, write_out};
 use clap::error::ErrorKind;
 use clap::{Command, Error};
 use std::alloc::{AllocError, Global};
@@ -11,7 +10,7 @@ use std::io::{Read, Write};
 
 /// Runs the program on the words of its command line, of which the first is its own name. The result is the exit status: 0 done;
 /// 1 a stream failed; 2 bad words, or what `replay` answers to a script; 3 an allocation failed. The text for bad words is left in
-/// `complaint`, for whoever has the error stream; help and the version are written to the writer.
+/// `complaint`, for the error stream; help and the version are written to the writer.
 pub fn run<'a, S: AsStr, R: Read, W: Write>(
     alloc: Global,
     words: &'a [S],
@@ -70,8 +69,8 @@ fn explain<W: Write>(
             Err(_) => 3,
         };
     }
-    match writer.write_all(text.as_bytes()) {
-        Sent::All(_) => 0,
-        Sent::Fault { .. } => 1,
+    match write_out(writer, text.as_bytes()) {
+        Ok(()) => 0,
+        Err(_) => 1,
     }
 }

@@ -1,6 +1,7 @@
 //! Whether a proposal may be made, and the first reason why not.
-ghost use Rattle.std.specs.Prelude.{◌≡◌, ◌&&◌, ◌||◌, ◌∷◌, [], Some, None, IfSome, IsSome, bytes_eq, is_some, option_map};
+ghost use Rattle.std.specs.Prelude.{◌≡◌, ◌≤◌, ◌&&◌, ◌||◌, ◌∷◌, [], Some, None, IfSome, IsSome, bytes_eq, is_some, option_map};
 ghost use Rattle.cap_vector.specs.Vector.{IsResource};
+ghost use Rattle.cap_model.specs.Limits.{resources_max};
 ghost use Rattle.cap_model.specs.Cascade.{earliest, holds_of};
 ghost use Rattle.cap_model.specs.Texts.{star};
 ghost use Rattle.cap_model.specs.Flat.{app_at, is_for};
@@ -40,9 +41,11 @@ impl<const K: usize> Cluster<K> {
 
     /// The registered application of a number.
     fn registered(&self, number: u64) -> Option<&App<K>>
-        ensures seen { option_map (λ app. app_sight app.now.app) result ≡ seen_app (sight_of self.now.flat) number }
+        ensures seen { option_map (λ app. app_sight app.now.app) result
+            ≡ seen_app (sight_of self.now.flat) number }
         ensures app { IfSome result (λ app. app_at self.now.flat number ≡ Some app.now.app) }
-        ensures account { IfSome result (λ app. account_of number self.now.accounts ≡ Some app.now.account) }
+        ensures account { IfSome result
+            (λ app. account_of number self.now.accounts ≡ Some app.now.account) }
     {
         let Some(app) = self.apps.app(number) else {
             return None;
@@ -74,7 +77,8 @@ impl<const K: usize> Cluster<K> {
 
     /// The first reason of those that look at the maximum capacities of queues and at the user limit.
     fn limit_reason(&self, proposal: &Proposal<K>, app: &App<K>) -> Option<Reason>
-        requires seen { seen_app (sight_of self.now.flat) proposal.now.app ≡ Some (app_sight app.now.app) }
+        requires seen { seen_app (sight_of self.now.flat) proposal.now.app
+            ≡ Some (app_sight app.now.app) }
         requires app { app_at self.now.flat proposal.now.app ≡ Some app.now.app }
         requires account { account_of proposal.now.app self.now.accounts ≡ Some app.now.account }
         ensures { result ≡ earliest (limit_tests (sight_of self.now.flat) proposal.now) }
@@ -106,7 +110,8 @@ impl<const K: usize> Cluster<K> {
 
     /// The reservation that a grant converts: the one that its node holds, where that is for its application and key.
     pub(crate) fn own_reservation(&self, proposal: &Proposal<K>) -> Option<Reservation<K>>
-        ensures { result ≡ own_reservation (sight_of self.now.flat) proposal.now }
+        ensures own { result ≡ own_reservation (sight_of self.now.flat) proposal.now }
+        ensures resources { K ≤ resources_max }
     {
         let Some(reservation) = self.nodes.reservation_on(proposal.node()) else {
             return None;
@@ -119,7 +124,8 @@ impl<const K: usize> Cluster<K> {
 
     /// Whether it is a grant that converts a reservation.
     fn is_own(&self, proposal: &Proposal<K>) -> bool
-        ensures { result ≡ (is_grant proposal.now.kind && is_reserved_for (sight_of self.now.flat) proposal.now) }
+        ensures { result ≡
+            (is_grant proposal.now.kind && is_reserved_for (sight_of self.now.flat) proposal.now) }
     {
         self.own_reservation(proposal).is_some()
     }
@@ -128,6 +134,7 @@ impl<const K: usize> Cluster<K> {
     pub(crate) fn taken_back(&self, proposal: &Proposal<K>) -> Resource<K>
         ensures value { result ≡ taken_back (sight_of self.now.flat) proposal.now }
         ensures vector { IsResource K result }
+        ensures resources { K ≤ resources_max }
     {
         match self.own_reservation(proposal) {
             Some(reservation) => reservation.resource(),
@@ -202,7 +209,8 @@ impl<const K: usize> Cluster<K> {
 
 /// Whether a proposal is a grant that may convert the reservation: it is for the same application and key.
 fn converts<const K: usize>(proposal: &Proposal<K>, reservation: &Reservation<K>) -> bool
-    ensures { result ≡ (is_grant proposal.now.kind && is_for proposal.now.app proposal.now.key reservation.now) }
+    ensures { result ≡
+        (is_grant proposal.now.kind && is_for proposal.now.app proposal.now.key reservation.now) }
 {
     proposal.is_grant()
         && reservation.app() == proposal.app()
@@ -211,7 +219,8 @@ fn converts<const K: usize>(proposal: &Proposal<K>, reservation: &Reservation<K>
 
 /// Whether a place is anywhere (`*`), the host or the rack.
 fn takes_place(place: &ShortText, host: &ShortText, rack: &ShortText) -> bool
-    ensures { result ≡ (bytes_eq place.now (star ∷ []) || bytes_eq place.now host.now || bytes_eq place.now rack.now) }
+    ensures { result ≡ (bytes_eq place.now (star ∷ []) || bytes_eq place.now host.now
+        || bytes_eq place.now rack.now) }
 {
     let place = place.as_bytes();
     place == b"*".as_slice() || place == host.as_bytes() || place == rack.as_bytes()

@@ -1,7 +1,7 @@
 ghost use Rattle.std.specs.Prelude.{◌≡◌, ◌≤◌, ◌+◌, ◌==◌, ◌&&◌, ◌∷◌, [], Some, None, IfOk, OnOk, OnErr, IsOk, IfSome, IsSome, is_some, length, find, nat_lt, ◌<◌, option_and_then};
 ghost use Rattle.std.specs.List.{All};
 ghost use Rattle.cap_model.specs.Limits.{applications_max, resources_max};
-ghost use Rattle.cap_model.specs.Flat.{opened_cluster, queue_at, app_at, node_at, with_app, with_node, with_reserved, containers_on, containers_of};
+ghost use Rattle.cap_model.specs.Flat.{opened_cluster, queue_at, app_at, node_at, node_in, with_app, with_node, with_reserved, containers_on, containers_of};
 ghost use Rattle.cap_model.specs.Bounds.{AreApart};
 ghost use Rattle.cap_model.specs.Uses.{queue_use};
 ghost use Rattle.cap_model.specs.Submit.{submit_refusal, after_submit};
@@ -17,7 +17,7 @@ ghost use Rattle.cap_model.specs.NodeGone.{without_node};
 ghost use Rattle.cap_model.specs.Heartbeat.{after_beat};
 ghost use Rattle.cap_tree.specs.Rows.{IsAt, queues_of};
 ghost use Rattle.cap_tree.specs.Spot.{IsPosition, path_at};
-ghost use Rattle.cap_asks.specs.Apps.{KeepsNumbers, ask_room, HasRooms, UsesRoom};
+ghost use Rattle.cap_asks.specs.Apps.{KeepsNumbers, ask_room, HasRooms, UsesRoom, position_of};
 ghost use Rattle.cap_commit.specs.Held.{IsRowOf};
 ghost use Rattle.cap_commit.specs.Reservations.{kept_by_ask};
 ghost use Rattle.cap_commit.specs.Owners.{owns, containers_owned, containers_named};
@@ -98,28 +98,34 @@ impl<const K: usize> Cluster<K> {
 
     /// Its limits.
     pub fn settings(&self) -> &Limits<K>
-        ensures minimum { result.now.minimum_allocation ≡ self.now.flat.settings.minimum_allocation }
-        ensures maximum { result.now.maximum_allocation ≡ self.now.flat.settings.maximum_allocation }
+        ensures minimum { result.now.minimum_allocation
+            ≡ self.now.flat.settings.minimum_allocation }
+        ensures maximum { result.now.maximum_allocation
+            ≡ self.now.flat.settings.maximum_allocation }
         ensures apps { result.now.application_limit ≡ self.now.flat.settings.application_limit }
     {
         &self.limits
     }
 
-    /// Its active applications.
+    /// Its active applications. Each knows where its leaf is in the tree.
     pub fn apps(&self) -> &Apps<K>
         ensures table { result.now.table ≡ self.now.flat.apps }
         ensures accounts { result.now.accounts ≡ self.now.accounts }
+        ensures placed { All
+            (λ app. IsAt self.now.rows app.leaf (position_of app.number self.now.accounts))
+            result.now.table.active }
         ensures few { length self.now.flat.apps.active ≤ applications_max }
         ensures resources { K ≤ resources_max }
     {
         &self.apps
     }
 
-    /// Its nodes, with the containers that are live on them and the reservations, of which each node holds one at most.
+    /// Its nodes, with the containers that are live on them and the reservations, each on a node that is present and holds no other.
     pub fn nodes(&self) -> &Nodes<K>
         ensures value { result.now ≡ self.now.flat.nodes }
         ensures numbers { HasDistinctNumbers self.now.flat }
         ensures apart { AreApart self.now.flat.nodes.reserved }
+        ensures present { All (λ r. IsSome (node_in result.now r.node)) result.now.reserved }
         ensures resources { K ≤ resources_max }
     {
         &self.nodes
@@ -160,7 +166,8 @@ impl<const K: usize> Cluster<K> {
     /// Sets the own state of the queue at this position, and nothing else.
     pub fn set_state(&mut self, position: &Position, running: bool)
         requires { IsPosition self.old.rows position.now.items }
-        ensures flat { self.new.flat ≡ after_set_queue_state self.old.flat (path_at position.now.items self.old.rows) running }
+        ensures flat { self.new.flat ≡
+            after_set_queue_state self.old.flat (path_at position.now.items self.old.rows) running }
         ensures accounts { self.new.accounts ≡ self.old.accounts }
     {
         let tree = &mut *self.tree;
@@ -229,7 +236,8 @@ impl<const K: usize> Cluster<K> {
     /// needs room that `room` made.
     pub fn put_ask(&mut self, number: u64, ask: &Ask<K>)
         requires { 1 ≤ ask_room number self.old.accounts }
-        ensures flat { self.new.flat ≡ after_ask number self.old.flat (rounded_ask K self.old.flat.settings ask.now) }
+        ensures flat { self.new.flat ≡
+            after_ask number self.old.flat (rounded_ask K self.old.flat.settings ask.now) }
         ensures room { UsesRoom number 1 0 0 self.old.accounts self.new.accounts }
     {
         let resource = round_up(
@@ -244,7 +252,8 @@ impl<const K: usize> Cluster<K> {
 
     /// Drops the reservations of its key that an ask of an application, already rounded, does not leave.
     fn drop_unwanted(&mut self, number: u64, ask: &Ask<K>)
-        ensures flat { self.new.flat ≡ with_reserved (kept_by_ask number ask.now self.old.flat) self.old.flat }
+        ensures flat { self.new.flat ≡
+            with_reserved (kept_by_ask number ask.now self.old.flat) self.old.flat }
         ensures accounts { self.new.accounts ≡ self.old.accounts }
     {
         if self.nodes.reservation_count() == 0 {
@@ -257,11 +266,13 @@ impl<const K: usize> Cluster<K> {
     /// Tells an active application the oldest grants and ends that wait, at most 64 of each: its response id moves on, and the
     /// reply, whose numbers are the result, is kept. Where no application has the number, nothing changes.
     pub fn tell(&mut self, number: u64, ignored: u16) -> Reported
-        ensures told { IfSome (app_at self.old.flat number) (λ app. self.new.flat ≡ with_app number (after_telling app.response ignored) self.old.flat) }
+        ensures told { IfSome (app_at self.old.flat number)
+            (λ app. self.new.flat ≡ with_app number (after_telling app.response ignored) self.old.flat) }
         ensures unknown { app_at self.old.flat number ≡ None → self.new.flat ≡ self.old.flat }
         ensures rows { self.new.rows ≡ self.old.rows }
         ensures room { UsesRoom number 0 0 0 self.old.accounts self.new.accounts }
-        ensures reply { IsSome (app_at self.old.flat number) → KeepsNumbers number self.new.flat.apps result }
+        ensures reply { IsSome (app_at self.old.flat number)
+            → KeepsNumbers number self.new.flat.apps result }
     {
         self.apps.tell(number, ignored)
     }
@@ -288,7 +299,8 @@ impl<const K: usize> Cluster<K> {
     /// result is how many ended.
     pub fn end_all(&mut self, owner: Owner, cause: Cause) -> u32
         ensures count { result ≡ length (containers_owned owner self.old.flat) }
-        ensures ended { self.new.flat ≡ after_ends cause (containers_owned owner self.old.flat) self.old.flat }
+        ensures ended { self.new.flat ≡
+            after_ends cause (containers_owned owner self.old.flat) self.old.flat }
         ensures none { containers_owned owner self.new.flat ≡ [] }
     {
         let _ = &self.nodes;
@@ -307,8 +319,10 @@ impl<const K: usize> Cluster<K> {
     /// number named.
     pub fn end_named(&mut self, owner: Owner, numbers: &[u64], cause: Cause) -> u16
         requires { length numbers.now ≤ 1024 }
-        ensures ended { self.new.flat ≡ after_ends cause (containers_named owner numbers.now self.old.flat) self.old.flat }
-        ensures ignored { result + length (containers_named owner numbers.now self.old.flat) ≡ length numbers.now }
+        ensures ended { self.new.flat ≡
+            after_ends cause (containers_named owner numbers.now self.old.flat) self.old.flat }
+        ensures ignored { result + length (containers_named owner numbers.now self.old.flat)
+            ≡ length numbers.now }
     {
         let _ = &self.nodes;
         let mut ignored = 0;
@@ -323,7 +337,8 @@ impl<const K: usize> Cluster<K> {
 
     /// The live container of an owner with the least number above `after`, none where there is none.
     fn next_of(&self, owner: Owner, after: u64) -> Option<Container<K>>
-        ensures { result ≡ find (λ c. owns owner c && nat_lt after c.number) self.now.flat.nodes.live }
+        ensures { result ≡
+            find (λ c. owns owner c && nat_lt after c.number) self.now.flat.nodes.live }
     {
         match owner {
             Owner::Application(app) => self.nodes.next_of_app(app, after),
@@ -333,7 +348,8 @@ impl<const K: usize> Cluster<K> {
 
     /// A live container ends: what it had is given back at every level of its queue, and its application is to be told of the cause.
     pub fn end(&mut self, container: &Container<K>, cause: Cause)
-        requires { find (λ c. c.number == container.now.number) self.old.flat.nodes.live ≡ Some container.now }
+        requires { find (λ c. c.number == container.now.number) self.old.flat.nodes.live
+            ≡ Some container.now }
         ensures { self.new.flat ≡ after_ends cause (container.now ∷ []) self.old.flat }
     {
         let Some(app) = self.apps.app(container.app()) else {
@@ -358,7 +374,8 @@ impl<const K: usize> Cluster<K> {
     ) -> Result<u64, NoMemory>
         requires { register_node_refusal self.old.flat host.now total.now ≡ None }
         ensures number { IfOk result (λ number. number ≡ self.old.flat.nodes.next_node) }
-        ensures ok { OnOk result (self.new.flat ≡ after_register_node self.old.flat host.now rack.now total.now) }
+        ensures ok { OnOk result
+            (self.new.flat ≡ after_register_node self.old.flat host.now rack.now total.now) }
         ensures err { OnErr result (self.new.flat ≡ self.old.flat) }
         ensures rows { self.new.rows ≡ self.old.rows }
         ensures accounts { self.new.accounts ≡ self.old.accounts }
@@ -370,10 +387,12 @@ impl<const K: usize> Cluster<K> {
     /// the result.
     pub fn beat(&mut self, number: u64, ignored: u16) -> HeartbeatReply
         requires { IsSome (node_at self.old.flat number) }
-        ensures flat { self.new.flat ≡ with_node number (after_beat ignored (length (containers_on self.old.flat.nodes number))) self.old.flat }
+        ensures flat { self.new.flat ≡ with_node number
+            (after_beat ignored (length (containers_on self.old.flat.nodes number))) self.old.flat }
         ensures rows { self.new.rows ≡ self.old.rows }
         ensures accounts { self.new.accounts ≡ self.old.accounts }
-        ensures reply { option_and_then (λ node. node.kept) (node_at self.new.flat number) ≡ Some result }
+        ensures reply { option_and_then (λ node. node.kept) (node_at self.new.flat number)
+            ≡ Some result }
     {
         self.nodes.beat(number, ignored)
     }

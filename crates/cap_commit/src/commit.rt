@@ -18,7 +18,8 @@ impl<const K: usize> Cluster<K> {
         requires { IsSome (app_at self.old.flat number) }
         ensures flat { self.new.flat ≡ self.old.flat }
         ensures rows { self.new.rows ≡ self.old.rows }
-        ensures ok { OnOk result (HasRooms number 0 1 (live_of number self.new.accounts + 1) self.new.accounts) }
+        ensures ok { OnOk result
+            (HasRooms number 0 1 (live_of number self.new.accounts + 1) self.new.accounts) }
     {
         let Some(app) = self.apps.app(number) else {
             unreachable!()
@@ -37,7 +38,6 @@ impl<const K: usize> Cluster<K> {
         ensures ok { IfOk result (λ c. self.new.flat ≡ after_grant self.old.flat c) }
         ensures err { OnErr result (self.new.flat ≡ self.old.flat) }
     {
-        let _ = &self.nodes;
         let (app, key, node) = (proposal.app(), proposal.key(), proposal.node());
         let resource = proposal.resource();
         let old = self.taken_back(proposal);

@@ -12,7 +12,14 @@ pub(crate) fn report_of<const K: usize>(
     leaf: bool,
 ) -> QueueReport<K>
     requires { queue.now.active ≤ applications_max }
-    ensures { result ≡ record { running = running; leaf = leaf; guaranteed = queue.now.guaranteed; maximum = queue.now.maximum; used = queue.now.used; apps = queue.now.active } }
+    ensures { result ≡ record {
+      running = running;
+      leaf = leaf;
+      guaranteed = queue.now.guaranteed;
+      maximum = queue.now.maximum;
+      used = queue.now.used;
+      apps = queue.now.active;
+    } }
 {
     QueueReport {
         running,

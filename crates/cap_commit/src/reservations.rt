@@ -11,8 +11,10 @@ use cap_model::{Key, Reservation};
 impl<const K: usize> Cluster<K> {
     /// Drops a reservation.
     fn unreserve(&mut self, reservation: &Reservation<K>)
-        requires { find (λ r. r.node == reservation.now.node) self.old.flat.nodes.reserved ≡ Some reservation.now }
-        ensures flat { self.new.flat ≡ without_reserved (λ r. r.node == reservation.now.node) self.old.flat }
+        requires { find (λ r. r.node == reservation.now.node) self.old.flat.nodes.reserved
+            ≡ Some reservation.now }
+        ensures flat { self.new.flat ≡ without_reserved
+            (λ r. r.node == reservation.now.node) self.old.flat }
         ensures accounts { self.new.accounts ≡ self.old.accounts }
     {
         let Some(app) = self.apps.app(reservation.app()) else {
@@ -35,7 +37,8 @@ impl<const K: usize> Cluster<K> {
 
     /// Drops the reservations for the ask of a key of an application but for the first so many, in order of making.
     pub(crate) fn keep_first(&mut self, number: u64, key: &Key, most: u32)
-        ensures flat { self.new.flat ≡ with_reserved (keep_first (is_for number key.now) most self.old.flat.nodes.reserved) self.old.flat }
+        ensures flat { self.new.flat ≡ with_reserved
+            (keep_first (is_for number key.now) most self.old.flat.nodes.reserved) self.old.flat }
         ensures accounts { self.new.accounts ≡ self.old.accounts }
     {
         while let Some(reservation) = self.nodes().reservation_for(number, key, most) {

@@ -12,4 +12,5 @@ mod simulation;
 mod stop;
 
 pub use cap_session::Counted;
+pub use output::write_out;
 pub use player::replay;

@@ -6,8 +6,9 @@ ghost use Rattle.cap_daemon.specs.Streams.{CountsWrite};
 use cap_session::{Counted, Sent, StreamFailed};
 use std::io::Write;
 
-/// Writes all the bytes and flushes. Where one of the two fails, that is one failure; a beginning of the bytes may have gone out.
-pub(crate) fn write_out<W: Write>(writer: &mut Counted<W>, bytes: &[u8]) -> Result<(), StreamFailed>
+/// Writes all the bytes and flushes. An error means that one of the two failed, which the writer counts as one failure; a beginning
+/// of the bytes may have been written.
+pub fn write_out<W: Write>(writer: &mut Counted<W>, bytes: &[u8]) -> Result<(), StreamFailed>
     requires { CanCount (state_of writer.old) }
     ensures counts { CountsWrite result (state_of writer.old) (state_of writer.new) }
     ensures bytes { OnOk result (Appends

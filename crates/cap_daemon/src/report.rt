@@ -47,7 +47,8 @@ fn refused(printed: Result<(), Stop>) -> u8
 /// Writes out what was printed, and after it that memory was refused, where that is the status. The status is 1 where this fails.
 fn tell<W: Write>(status: u8, script: &mut Script, writer: &mut Counted<W>) -> u8
     requires { CanCount (state_of writer.old) }
-    ensures told { (state_of writer.new).failures ≡ (state_of writer.old).failures → result ≡ status }
+    ensures told { (state_of writer.new).failures ≡ (state_of writer.old).failures
+        → result ≡ status }
     ensures failed { (state_of writer.new).failures ≢ (state_of writer.old).failures
         → ((state_of writer.new).failures ≡ (state_of writer.old).failures + 1) × (result ≡ 1) }
 {

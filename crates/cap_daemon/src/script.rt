@@ -47,7 +47,8 @@ impl Script {
     /// Plays one line.
     pub(crate) fn play(&mut self, line: &[u8]) -> Result<(), Stop>
         ensures good { OnOk result (PlaysLine line.now self.old.simulation self.new.simulation) }
-        ensures bad { (n : ℕ) → result ≡ Err (BadLine n) → MayNotFollow line.now self.old.simulation }
+        ensures bad { (n : ℕ) → result ≡ Err (BadLine n)
+            → MayNotFollow line.now self.old.simulation }
         ensures fault { (fault : ConfigFault) → result ≡ Err (bad_config fault)
             → FailsAtStep line.now self.old.simulation fault }
         ensures script { IfErr result IsOfScript }
@@ -223,7 +224,8 @@ fn make_room(room: &mut Vec<u8>, count: usize) -> Result<(), AllocError>
 /// Puts the bytes that hexadecimal digits write first into the room; false where they write none.
 fn decode_front(digits: &[u8], room: &mut [u8]) -> bool
     requires { length digits.now / 2 ≤ length room.old }
-    ensures bytes { result ≡ true → decode_of digits.now ≡ Ok (take (length digits.now / 2) room.new) }
+    ensures bytes { result ≡ true
+        → decode_of digits.now ≡ Ok (take (length digits.now / 2) room.new) }
     ensures bad { result ≡ false → IsOk (decode_of digits.now) → ⊥ }
 {
     let count = digits.len() / 2;

@@ -21,7 +21,8 @@ const NUMBERS_MAX: u16 = 1024;
 
 // The length of a list, at most so long.
 fn length_of(most: u16, bytes: &[u8]) -> Result<(u16, &[u8]), MessageFault>
-    ensures gives { Gives (λ x. (x.0, x.1.now)) result (passing_at (λ n. nat_le n most) (number_at w16) bytes.now) }
+    ensures gives { Gives (λ x. (x.0, x.1.now)) result
+        (passing_at (λ n. nat_le n most) (number_at w16) bytes.now) }
     ensures few { IfOk result (λ x. x.0 ≤ most) }
 {
     let (length, rest) = u16_of(bytes)?;
@@ -33,7 +34,8 @@ fn length_of(most: u16, bytes: &[u8]) -> Result<(u16, &[u8]), MessageFault>
 
 // Container numbers.
 pub(crate) fn numbers_of(alloc: Global, bytes: &[u8]) -> Result<(Numbers, &[u8]), MessageFault>
-    ensures gives { GivesInMemory (λ x. (x.0, x.1.now)) result (counted_at numbers_max (number_at w64) bytes.now) }
+    ensures gives { GivesInMemory (λ x. (x.0, x.1.now))
+        result (counted_at numbers_max (number_at w64) bytes.now) }
     ensures memory { IsErrOf result MessageFault.NoMemory → HasItemsAt 0 bytes.now }
 {
     let Ok((length, mut rest)) = length_of(NUMBERS_MAX, bytes) else {
@@ -59,7 +61,8 @@ pub(crate) fn numbers_of(alloc: Global, bytes: &[u8]) -> Result<(Numbers, &[u8])
 
 // Asks.
 pub(crate) fn asks_of(alloc: Global, bytes: &[u8]) -> Result<(Asks<2>, &[u8]), MessageFault>
-    ensures gives { GivesInMemory (λ x. (x.0, x.1.now)) result (counted_at asks_max ask_at bytes.now) }
+    ensures gives { GivesInMemory (λ x. (x.0, x.1.now))
+        result (counted_at asks_max ask_at bytes.now) }
     ensures memory { IsErrOf result MessageFault.NoMemory → HasItemsAt 0 bytes.now }
 {
     let Ok((length, mut rest)) = length_of(ASKS_MAX, bytes) else {

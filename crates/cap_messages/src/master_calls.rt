@@ -25,7 +25,8 @@ pub(crate) fn register_master_of(bytes: &[u8]) -> Result<Request<2>, MessageFaul
 #[tactic(auto, unfolding(crate::specs::MasterCalls::allocate_at))]
 pub(crate) fn allocate_of(alloc: Global, bytes: &[u8]) -> Result<Request<2>, MessageFault>
     ensures gives { GivesInMemory (λ x. x) result (allocate_at bytes.now) }
-    ensures memory { IsErrOf result MessageFault.NoMemory → HasItemsAt 12 bytes.now ⊎ HasItemsAt 14 bytes.now }
+    ensures memory { IsErrOf result MessageFault.NoMemory
+        → HasItemsAt 12 bytes.now ⊎ HasItemsAt 14 bytes.now }
 {
     let (app, rest) = u64_of(bytes)?;
     let (response, rest) = u32_of(rest)?;

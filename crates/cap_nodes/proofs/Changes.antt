@@ -1,6 +1,6 @@
 -- The table as nodes and containers come and go.
 use Rattle.std.proofs.Common.{◌≡◌, ℕ, ◌+◌, ◌≤◌, ◌<◌, Bool, true, false, cond, List, [], ◌∷◌, ◌++◌, length, map, not, sym, ap, ◌∙◌, arith, subst, refl, Option, Some, None}
-use Rattle.std.specs.Prelude.{filter, find, count_by, ◌==◌, IsSome, ◌||◌, option_and_then}
+use Rattle.std.specs.Prelude.{filter, find, count_by, ◌==◌, IsSome, IfSome, slice_get, ◌||◌, option_and_then}
 use Rattle.std.specs.List.{All, sum_by, list_any, AllByRecursion}
 use Rattle.std.proofs.lemmas.List.Elements.{All-from_recursion}
 use Rattle.cap_model.proofs.uses.Measures.{amounts_fit}
@@ -8,6 +8,7 @@ use Rattle.std.proofs.lemmas.Bool.{eqb-true}
 use Rattle.std.proofs.lemmas.Bool.Decides.{nat_tests}
 use Rattle.std.proofs.lemmas.List.Sums.{length-filter, sum_by-cons}
 use Rattle.std.proofs.lemmas.List.{ext_get_or}
+use Rattle.std.proofs.lemmas.Option.{slice_get-map}
 use Rattle.cap_vector.specs.Vector.{amount, plus, less, Fits, IsWithin, amount_max, zeros}
 use Rattle.cap_model.specs.Amounts.{fits, sum_where}
 use Rattle.cap_model.specs.Bounds.{IsRising}
@@ -17,7 +18,7 @@ use Rattle.cap_model.specs.RegisterNode.{sum_of_totals}
 use Rattle.cap_model.specs.Heartbeat.{after_beat}
 use Rattle.cap_nodes.specs.Tables.{left_of}
 use Rattle.cap_nodes.specs.Loads.{Load, IsTied, AreTied, load_at, change_load, held_more, held_less, beaten_load, HasOne}
-use Rattle.cap_nodes.proofs.Numbered.{none_at_end}
+use Rattle.cap_nodes.proofs.Numbered.{none_at_end, numbers-change}
 use Rattle.cap_nodes.proofs.Sums.{where-none, filter-none, none-filter, zeros-fit, where-less-own, where-had, sum-without, length-where, amount-where}
 use Rattle.cap_nodes.proofs.Ties.{is_found, all_changed, all_mapped, all_kept, all_each, all_pushed, still_there, there_pushed, tied_beside, tied_with, room_fits, untied_beside, untied_from, has_one}
 
@@ -119,6 +120,11 @@ module _ (K : ℕ) (loads : List Load) (live : List Container) (tied : AreTied K
       let t = tie_of n p there in
       ap (less p.node.total) (t.0.held ∙ ap (λ m. sum_where K (λ (c : Container). c.node == m) (λ c. c.resource) live) t.1)
       ∙ ap (λ o. left_of o (sum_where K (λ (c : Container). c.node == n) (λ c. c.resource) live)) (sym (node_of_load loads n p there))
+
+  -- what the node at an index has left
+  pub free_nth : (i : ℕ) (p : Load) → slice_get loads i ≡ Some p → load_at loads p.node.number ≡ Some p → (free : List ℕ) → free ≡ less p.node.total p.held →
+      IfSome (slice_get (nodes_of loads) i) (λ node. free ≡ left_of (find (λ x. x.number == node.number) (nodes_of loads)) (sum_where K (λ c. c.node == node.number) (λ c. c.resource) live))
+  free_nth i p at own free is = rw (slice_get-map (λ (q : Load). q.node) loads i, at) (is ∙ free_is p.node.number p own)
 
   -- one more node
   pub with_node : (next : ℕ) (node : ClusterNode) → IsRising 1 (map (λ p. p.node.number) loads) next → node.number ≡ next → IsWithin amount_max node.total →
@@ -322,3 +328,8 @@ held_all K live loads ties = All-from_recursion (λ (x : ClusterNode). fits (sum
 
 pub rising_nodes : (loads : List Load) (next : ℕ) → IsRising 1 (map (λ p. p.node.number) loads) next → IsRising 1 (map (λ (x : ClusterNode). x.number) (nodes_of loads)) next
 rising_nodes loads next rising = subst (λ ns. IsRising 1 ns next) (sym (numbers_of_nodes loads)) rising
+
+-- the numbers rise after a change that leaves them
+pub rising_changed : (n : ℕ) (change : Load → Load) → ((p : Load) → (change p).node.number ≡ p.node.number) → (loads : List Load) (next : ℕ) → IsRising 1 (map (λ p. p.node.number) loads) next →
+    IsRising 1 (map (λ p. p.node.number) (change_load n change loads)) next
+rising_changed n change keeps loads next rising = subst (λ ns. IsRising 1 ns next) (sym (numbers-change (λ (p : Load). p.node.number) n change keeps loads)) rising

@@ -1,11 +1,12 @@
 -- The present nodes by number, as one more comes, one changes and one goes.
-use Rattle.std.proofs.Common.{◌≡◌, ℕ, ◌+◌, ◌≤◌, ◌<◌, List, [], ◌∷◌, ◌++◌, length, length-append, map, not, sym, ap, ◌∙◌, arith, subst, Option, Some, None}
+use Rattle.std.proofs.Common.{◌≡◌, ℕ, ◌+◌, ◌≤◌, ◌<◌, List, [], ◌∷◌, ◌++◌, length, length-append, map, not, sym, ap, ◌∙◌, arith, subst, inl, inr, zero, suc, slice_get, Option, Some, None}
 use Rattle.std.specs.Prelude.{filter, ◌==◌, nat_eq, IfSome, IsSome}
 use Rattle.std.proofs.lemmas.Option.{same_Some}
 use Rattle.std.specs.Map.{lookup, remove_entry, set_value, values_of}
 use Rattle.cap_model.specs.Bounds.{IsRising}
 use Rattle.cap_model.specs.Limits.{nodes_max}
-use Rattle.cap_model.proofs.lists.Numbered.{rising_kept, rising_more}
+use Rattle.cap_model.proofs.lists.Members.{IsIn}
+use Rattle.cap_model.proofs.lists.Numbered.{rising_kept, rising_more, found_by_number}
 use Rattle.cap_model.proofs.lists.Filters.{length-kept}
 use Rattle.cap_nodes.specs.Loads.{Load, tagged_items, load_at, change_load}
 use Rattle.cap_nodes.proofs.Numbered.{remove-tagged, push-tagged, set-tagged, lookup-tagged, same_number, values-tagged, length-change, numbers-change, none_at_end}
@@ -33,6 +34,15 @@ are entries ps next e rising few =
 
 pub found : (entries : List (ℕ × Load)) (next n : ℕ) → IsPresent entries next → lookup (nat_eq n) entries ≡ load_at (values_of entries) n
 found entries next n h = ap (lookup (nat_eq n)) h.0 ∙ lookup-tagged (λ (p : Load). p.node.number) (nat_eq n) n (same_number n) (values_of entries)
+
+-- the load at an index is the one of its number
+read_in : {A : Type 0} (xs : List A) (i : ℕ) (x : A) → slice_get xs i ≡ Some x → IsIn x xs
+read_in [] i x e = absurd (cc e)
+read_in (y ∷ ys) zero x e = inl (cc e)
+read_in (y ∷ ys) (suc i) x e = inr (read_in ys i x e)
+
+pub nth_found : (loads : List Load) (next i : ℕ) (p : Load) → IsRising 1 (map (λ q. q.node.number) loads) next → slice_get loads i ≡ Some p → load_at loads p.node.number ≡ Some p
+nth_found loads next i p rising at = found_by_number (λ (q : Load). q.node.number) 1 loads next p rising (read_in loads i p at)
 
 pub absent : (entries : List (ℕ × Load)) (next : ℕ) → IsPresent entries next → lookup (nat_eq next) entries ≡ None
 absent entries next h = found entries next next h ∙ none_at_end (λ (p : Load). p.node.number) next 1 (values_of entries) h.1

@@ -128,7 +128,9 @@ impl<const K: usize> Containers<K> {
     /// The container of this number is taken out. Where there is none, nothing changes.
     pub(crate) fn remove(&mut self, number: u64)
         ensures rising { IsRising 1 (map (λ c. c.number) self.old.containers) self.old.next }
-        ensures left { self.new ≡ record self.old { containers = filter (λ c. not (c.number == number)) self.old.containers } }
+        ensures left { self.new ≡ record self.old {
+          containers = filter (λ c. not (c.number == number)) self.old.containers;
+        } }
     {
         match self.containers.remove(&number) {
             Some(container) => {

@@ -39,13 +39,16 @@ impl<const K: usize> Model for Nodes<K> {
     ghost use Rattle.std.specs.Prelude.{◌≡◌, [], map};
     ghost use Rattle.cap_model.specs.Flat.{NodeTable};
     ghost use Rattle.cap_model.specs.RegisterNode.{sum_of_totals};
+    ghost use Rattle.cap_model.specs.Bounds.{IsRising};
     ghost use Rattle.cap_nodes.specs.Loads.{AreTied, reservation_of};
 
     ghost Value = { NodeTable };
 
     ghost view = { λ n. record { present = map (λ p. p.node) n.present.loads; live = n.live.containers; reserved = map reservation_of n.reserved.containers; next_node = n.present.next; next_container = n.live.next } };
 
-    ghost invariant = { λ n. (AreTied K n.present.loads n.live.containers) × (n.total ≡ sum_of_totals K (map (λ p. p.node) n.present.loads)) };
+    ghost invariant = { λ n. AreTied K n.present.loads n.live.containers
+        × (n.total ≡ sum_of_totals K (map (λ p. p.node) n.present.loads))
+        × IsRising 1 (map (λ p. p.node.number) n.present.loads) n.present.next };
 }
 
 impl<const K: usize> Nodes<K> {
@@ -78,10 +81,21 @@ impl<const K: usize> Nodes<K> {
         }
     }
 
-    /// How many nodes are present.
+    /// The node at an index, in order of number. All have numbers from 1 that rise and are below the next.
+    pub fn nth(&self, index: usize) -> &Node<K>
+        requires { index < length self.now.present }
+        ensures at { slice_get self.now.present index ≡ Some result.now }
+        ensures found { node_in self.now result.now.number ≡ Some result.now }
+        ensures rising { IsRising 1 (map (λ node. node.number) self.now.present) self.now.next_node }
+    {
+        self.present.nth(index).node()
+    }
+
+    /// How many nodes are present. All have numbers from 1 that rise and are below the next.
     pub fn count(&self) -> usize
         ensures value { result ≡ length self.now.present }
         ensures few { result ≤ nodes_max }
+        ensures rising { IsRising 1 (map (λ node. node.number) self.now.present) self.now.next_node }
     {
         self.present.count()
     }
@@ -171,7 +185,6 @@ impl<const K: usize> Nodes<K> {
         ensures count { result ≡ length (filter (is_for app key.now) self.now.reserved) }
         ensures rising { IsRising 1 (map (λ node. node.number) self.now.present) self.now.next_node }
     {
-        let _next = self.present.next();
         self.reserved.count_for(app, key)
     }
 
@@ -202,6 +215,14 @@ impl<const K: usize> Nodes<K> {
             Some(load) => load.free(),
             None => unreachable!(),
         }
+    }
+
+    /// What the node at an index, in order of number, has left, in MiB and vcores.
+    pub fn free_at(&self, index: usize) -> Resource<K>
+        requires { index < length self.now.present }
+        ensures { IfSome (slice_get self.now.present index) (λ node. result ≡ free_on K self.now node.number) }
+    {
+        self.present.nth(index).free()
     }
 
     /// Takes a node in under the next number, which is the result, of a total in MiB and vcores, with no container. `NoMemory`
@@ -273,7 +294,8 @@ impl<const K: usize> Nodes<K> {
         node: u64,
         resource: &Resource<K>,
     ) -> Result<(), NoMemory>
-        ensures ok { OnOk result (self.new ≡ add_reservation (new_reservation app key.now node resource.now) self.old) }
+        ensures ok { OnOk result (self.new ≡
+            add_reservation (new_reservation app key.now node resource.now) self.old) }
         ensures err { OnErr result (self.new ≡ self.old) }
     {
         if self.reserved.count() >= LIVE_MAX || self.reserved.next() >= NUMBER_END {

@@ -1,5 +1,5 @@
 ghost use Rattle.std.specs.Prelude.{◌≡◌, ◌+◌, ◌<◌, ◌≤◌, [], Some, None, option_and_then, ◌==◌, IsSome, IfSome, IfOk, OnErr, bytes_eq, length, map, filter, not};
-ghost use Rattle.std.specs.List.{list_any};
+ghost use Rattle.std.specs.List.{list_any, slice_get};
 ghost use Rattle.std.specs.Option.{option_copied};
 ghost use Rattle.cap_vector.specs.Vector.{plus};
 ghost use Rattle.cap_model.specs.Bounds.{IsRising};
@@ -55,6 +55,15 @@ impl<const K: usize> Present<K> {
         ensures rising { IsRising 1 (map (λ p. p.node.number) self.now.loads) self.now.next }
     {
         self.loads.get(&number)
+    }
+
+    /// The node at an index, in order of number.
+    pub(crate) fn nth(&self, index: usize) -> &Load<K>
+        requires { index < length self.now.loads }
+        ensures at { slice_get self.now.loads index ≡ Some result.now }
+        ensures own { load_at self.now.loads result.now.node.number ≡ Some result.now }
+    {
+        &self.loads[index]
     }
 
     /// How many there are.

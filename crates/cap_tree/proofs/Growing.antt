@@ -25,7 +25,7 @@ use Rattle.cap_tree.specs.Measure.{Measure}
 use Rattle.cap_tree.specs.Queue.{Queue, HasSettingsOf, IsUnused, of_queue, of_users}
 use Rattle.cap_tree.specs.Count.{of_count}
 use Rattle.cap_tree.specs.UserLaws.{sum_of, sum-no_users}
-use Rattle.cap_tree.specs.Rows.{Row, AreRows, PositionsArePaths, settings_of_row, queues_of}
+use Rattle.cap_tree.specs.Rows.{Row, AreRows, PositionsArePaths, HasLastName, settings_of_row, queues_of}
 use Rattle.cap_tree.specs.Growth.{IsClosed, IsGrowing}
 use Rattle.cap_tree.proofs.RowPaths.{at_position, agree, same_row, leads_itself}
 use Rattle.cap_tree.proofs.Adding.{last-append}
@@ -250,6 +250,7 @@ grow K rows rows' q todo levels item w lv sh un a =
       paths = paths_more rows spot w.paths onto (λ r m. fresh r m ∙ sym (not_above r m));
       depths = all_more (λ r. length r.position ≡ depth r.path) rows spot w.depths (let l = length-append position (b.child ∷ []) in omega (arith, l, d, dq));
       unused = all_more (λ r. IsUnused K r.item) rows spot w.unused un;
+      names = all_more HasLastName rows spot w.names sh.name;
     } in
     record { growing = subst (λ x. IsGrowing K x todo) (sym new) grown; queues = ap queues_of new ∙ queues }
 
@@ -313,6 +314,7 @@ start K qs others first item e l sh un =
         paths = paths;
         depths = of_each (λ r. length r.position ≡ depth r.path) (spot ∷ []) (λ r m. one r m (sym depth_is));
         unused = of_each (λ r. IsUnused K r.item) (spot ∷ []) (λ r m. unused_one r m);
+        names = of_each HasLastName (spot ∷ []) (λ r m. named_one r m (sh.name ∙ ap name_of (sym name)));
       };
       queues = ap (λ x. x ∷ []) same;
     }
@@ -329,6 +331,10 @@ start K qs others first item e l sh un =
     unused_one : (r : Row) → IsIn r (record { position = []; path = item.name; item = item } ∷ []) → IsUnused K r.item
     unused_one r (inl d) = subst (λ (x : Row). IsUnused K x.item) d un
     unused_one r (inr d) = absurd d
+
+    named_one : (r : Row) → IsIn r (record { position = []; path = item.name; item = item } ∷ []) → item.name ≡ name_of item.name → HasLastName r
+    named_one r (inl d) z = subst HasLastName d z
+    named_one r (inr d) z = absurd d
 
     no_front : (q : QueueRow) (front rest : List ℕ) → IsIn q (queues_of (record { position = []; path = item.name; item = item } ∷ [])) → q.path ≡ front ++ 46 ∷ rest → ⊥
     no_front q front rest (inl d) c =
@@ -351,6 +357,7 @@ finished K rows qs w e l = record {
       let d = each_of (λ r. length r.position ≡ depth r.path) rows w.depths r m in
       let k = each_of (λ q. depth q.path ≤ depth_max) qs l.levels (settings_of_row r) (subst (IsIn (settings_of_row r)) e (in_map settings_of_row rows r m)) in
       omega (arith, d, k));
+  names = w.names;
 }
 
 pub none_listed : (qs : List QueueRow) → length qs < 1 → IsListing qs → ⊥

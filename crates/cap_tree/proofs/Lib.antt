@@ -1,5 +1,6 @@
 pub mod Adding
 pub mod Callers
+pub mod Copies
 pub mod Finding
 pub mod Finds
 pub mod Growing
@@ -9,6 +10,9 @@ pub mod Names
 pub mod OneUser
 pub mod Rooms
 pub mod RowPaths
+pub mod Service
+pub mod ServiceRows
 pub mod Spots
+pub mod UserCopies
 pub mod Users
 pub mod Within

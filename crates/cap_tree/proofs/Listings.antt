@@ -11,7 +11,7 @@ use Rattle.cap_model.proofs.lists.Members.{each_of, of_each, of_map}
 use Rattle.cap_tree.specs.Spot.{change_along, leads_to}
 use Rattle.cap_tree.specs.Queue.{Queue, with_running}
 use Rattle.cap_tree.specs.Rows.{Row, AreRows, queues_of, settings_of_row, changed_at, with_state}
-use Rattle.cap_tree.proofs.RowPaths.{short_kept, paths_kept}
+use Rattle.cap_tree.proofs.RowPaths.{names_kept, short_kept, paths_kept}
 
 -- where paths stay, what they say of each other stays
 module _ (f : QueueRow → QueueRow) (p : (q : QueueRow) → (f q).path ≡ q.path) where
@@ -75,11 +75,12 @@ module _ (above at : Queue → Queue) (ka : (r : Row) → settings_of_row (recor
   settings_kept position [] = refl
   settings_kept position (r ∷ rows) = λ i. row_cases (bytes_eq r.position position) (leads_to r.position position) r i ∷ settings_kept position rows i
 
-  pub rows_kept : (position : List ℕ) (rows : List Row) → AreRows rows → AreRows (map (change_along above at position) rows)
-  rows_kept position rows a = record {
+  pub rows_kept : ((q : Queue) → (above q).name ≡ q.name) → ((q : Queue) → (at q).name ≡ q.name) → (position : List ℕ) (rows : List Row) → AreRows rows → AreRows (map (change_along above at position) rows)
+  rows_kept na nt position rows a = record {
     listing = subst IsListing (sym (settings_kept position rows)) a.listing;
     paths = paths_kept above at position rows a.paths;
     short = short_kept above at position rows 15 a.short;
+    names = names_kept above at na nt position rows a.names;
   }
 
 -- a change of a queue's own state
@@ -129,4 +130,5 @@ state_kept running position path rows e a = record {
   listing = subst IsListing (sym (ap queues_of e ∙ state_in_settings path running rows)) (listing_kept (set_running path running) (same_path path running) (same_factor path running) (queues_of rows) a.listing);
   paths = paths_kept (λ x. x) (with_running running) position rows a.paths;
   short = short_kept (λ x. x) (with_running running) position rows 15 a.short;
+  names = names_kept (λ x. x) (with_running running) (λ q. refl) (λ q. refl) position rows a.names;
 }

@@ -80,7 +80,7 @@ module _ {T : Type 0} where
   along-none_below name i j p (k ∷ ks) h =
       along-none_under name i j p k (below name (suc j) ks) (λ e. absurd (omega arith)) ∙ along-none_below name i (suc j) p ks (omega arith)
 
-  along-below : (name : List ℕ) (i j n : ℕ) (p : List ℕ) (kids : List (List (Spot T))) → i ≡ j + n → along (i ∷ p) (below name j kids) ≡ map (under name i) (along p (get_or kids n []))
+  pub along-below : (name : List ℕ) (i j n : ℕ) (p : List ℕ) (kids : List (List (Spot T))) → i ≡ j + n → along (i ∷ p) (below name j kids) ≡ map (under name i) (along p (get_or kids n []))
   along-below name i j n p [] h = refl
   along-below name i j zero p (k ∷ ks) h =
       let e : j ≡ i = omega arith in
@@ -92,7 +92,7 @@ module _ {T : Type 0} where
   along-root_under name j [] rest = refl
   along-root_under name j (s ∷ ss) rest = along-root_under name j ss rest
 
-  along-root_below : (name : List ℕ) (j : ℕ) (kids : List (List (Spot T))) → along [] (below name j kids) ≡ []
+  pub along-root_below : (name : List ℕ) (j : ℕ) (kids : List (List (Spot T))) → along [] (below name j kids) ≡ []
   along-root_below name j [] = refl
   along-root_below name j (k ∷ ks) = along-root_under name j k (below name (suc j) ks) ∙ along-root_below name (suc j) ks
 

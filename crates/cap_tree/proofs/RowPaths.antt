@@ -6,14 +6,14 @@ use Rattle.std.proofs.lemmas.Bool.Decides.{nat_tests}
 use Rattle.std.proofs.lemmas.List.{length-append}
 use Rattle.std.proofs.lemmas.Slice.Eq.{bytes_eq-Decides}
 use Rattle.cap_model.specs.Settings.{QueueRow}
-use Rattle.cap_model.specs.Flat.{is_under}
+use Rattle.cap_model.specs.Flat.{is_under, name_of}
 use Rattle.cap_model.proofs.lists.Members.{IsIn, each_of, of_each, of_map}
 use Rattle.cap_model.proofs.paths.Paths.{IsUnder, under_is, under_itself}
 use Rattle.cap_model.proofs.lists.Filters.{map_same, filter_same}
 use Rattle.cap_tree.specs.Spot.{leads_to, item_at, path_at, change_along, along, first_failing, HoldsOfItem, IsPosition}
 use Rattle.cap_tree.specs.Queue.{Queue}
 use Rattle.cap_tree.proofs.Looking.{level_from, failing-cons}
-use Rattle.cap_tree.specs.Rows.{Row, PositionsArePaths, settings_of_row, queues_of, changed_at, rows_to, is_running}
+use Rattle.cap_tree.specs.Rows.{Row, HasLastName, PositionsArePaths, settings_of_row, queues_of, changed_at, rows_to, is_running}
 
 -- two are the same where each leads to the other
 
@@ -180,3 +180,18 @@ paths_kept above at position rows a =
     let sp : s.position ≡ (v.0).position = ap (λ (x : Row). x.position) (sym (v.2)) ∙ position_kept above at position (v.0) in
     let sq : s.path ≡ (v.0).path = ap (λ (x : Row). x.path) (sym (v.2)) ∙ path_kept above at position (v.0) in
     (λ i. leads_to (rp i) (sp i)) ∙ agree rows a (w.0) (v.0) (w.1) (v.1) ∙ sym (λ i. is_under (rq i) (sq i))))
+
+item_named : (above at : Queue → Queue) → ((q : Queue) → (above q).name ≡ q.name) → ((q : Queue) → (at q).name ≡ q.name) → (position : List ℕ) (r : Row) → (change_along above at position r).item.name ≡ r.item.name
+item_named above at na nt position r = by (bytes_eq r.position position) (leads_to r.position position)
+  where
+    by : (b c : Bool) → (cond b (record r { item = at r.item }) (cond c (record r { item = above r.item }) r)).item.name ≡ r.item.name
+    by true c = nt r.item
+    by false true = na r.item
+    by false false = refl
+
+-- and names, where it keeps a queue's name
+pub names_kept : (above at : Queue → Queue) → ((q : Queue) → (above q).name ≡ q.name) → ((q : Queue) → (at q).name ≡ q.name) → (position : List ℕ) (rows : List Row) → All HasLastName rows → All HasLastName (map (change_along above at position) rows)
+names_kept above at na nt position rows a =
+    of_each HasLastName (map (change_along above at position) rows) (λ r m.
+    let w = of_map (change_along above at position) rows r m in
+    subst HasLastName (w.2) (item_named above at na nt position (w.0) ∙ each_of HasLastName rows a (w.0) (w.1) ∙ ap name_of (sym (path_kept above at position (w.0)))))

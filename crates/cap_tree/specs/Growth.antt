@@ -7,7 +7,7 @@ use Rattle.cap_model.specs.Listing.{IsListed}
 use Rattle.cap_model.specs.Members.{IsIn}
 use Rattle.cap_tree.specs.Spot.{last_position}
 use Rattle.cap_tree.specs.Queue.{IsUnused}
-use Rattle.cap_tree.specs.Rows.{Row, PositionsArePaths, queues_of}
+use Rattle.cap_tree.specs.Rows.{Row, PositionsArePaths, HasLastName, queues_of}
 use Rattle.cap_model.specs.Texts.{dot}
 
 -- with each path all its beginnings before a dot are there
@@ -25,3 +25,4 @@ pub record IsGrowing (K : ℕ) (rows : List Row) (todo : List QueueRow) : Type 0
   pub paths : PositionsArePaths rows
   pub depths : All (λ r. length r.position ≡ depth r.path) rows
   pub unused : All (λ r. IsUnused K r.item) rows
+  pub names : All HasLastName rows

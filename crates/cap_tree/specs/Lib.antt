@@ -8,5 +8,7 @@ pub mod Paths
 pub mod Queue
 pub mod QueueLaws
 pub mod Rows
+pub mod Service
+pub mod ServiceLaws
 pub mod Spot
 pub mod UserLaws

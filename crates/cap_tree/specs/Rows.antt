@@ -4,7 +4,7 @@ use Rattle.smallvec.specs.SmallVec.{SmallVec}
 use Rattle.std.specs.Option.{option_map_or}
 use Rattle.std.specs.List.{All, list_all, list_any, starts_with}
 use Rattle.cap_model.specs.Settings.{QueueRow}
-use Rattle.cap_model.specs.Flat.{is_under}
+use Rattle.cap_model.specs.Flat.{is_under, name_of}
 use Rattle.cap_model.specs.Listing.{IsListing}
 use Rattle.cap_tree.specs.Finding.{IsStart}
 use Rattle.cap_tree.specs.declared.found.Found.{Found}
@@ -31,11 +31,16 @@ queues_of rows = map settings_of_row rows
 abbrev pub PositionsArePaths : List Row → Type 0
 PositionsArePaths rows = All (λ r. All (λ s. leads_to r.position s.position ≡ is_under r.path s.path) rows) rows
 
--- the rows of a tree: each path once, each queue before those under it, at most 15 levels under the root
+-- a queue has the last name of its path
+abbrev pub HasLastName : Row → Type 0
+HasLastName r = r.item.name ≡ name_of r.path
+
+-- the rows of a tree: each path once, each queue before those under it and with the last name of its path, at most 15 levels under the root
 pub record AreRows (rows : List Row) : Type 0 where
   pub listing : IsListing (queues_of rows)
   pub paths : PositionsArePaths rows
   pub short : All (λ r. length r.position ≤ 15) rows
+  pub names : All HasLastName rows
 
 -- the row after a change at the queue of that path, and at those above it
 abbrev pub changed_at : (Queue → Queue) → (Queue → Queue) → List ℕ → Row → Row

@@ -30,6 +30,10 @@ leads_below [] (y ∷ ys) = true
 leads_below (x ∷ xs) [] = false
 leads_below (x ∷ xs) (y ∷ ys) = x == y && leads_below xs ys
 
+-- the spot with an item made of its own
+abbrev pub made_of : {T U : Type 0} → (T → U) → Spot T → Spot U
+made_of f s = record { position = s.position; path = s.path; item = f s.item }
+
 module _ {T : Type 0} where
   -- the item at the position, if there is one
   abbrev pub item_at : List ℕ → List (Spot T) → Option T

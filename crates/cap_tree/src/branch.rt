@@ -1,14 +1,21 @@
 //! A tree of items, seen as a list of its spots.
-ghost use Rattle.std.specs.Prelude.{◌≡◌, ◌+◌, ◌-◌, ◌≤◌, ◌∷◌, [], ℕ, List, Some, Bool, IfSome, IfOk, OnOk, OnErr, map, length};
+ghost use Rattle.std.specs.Prelude.{◌≡◌, ◌+◌, ◌-◌, ◌≤◌, ◌∷◌, [], ℕ, List, Some, Bool, IfSome, IfOk, OnOk, OnErr, MatchOption, drop, map, length, ◌++◌};
 ghost use Rattle.std.specs.List.{All};
+ghost use Rattle.std.specs.Cmp.{IsTotalOrder};
+ghost use Rattle.std.specs.Cmp.Lexicographic.{slice_cmp};
+ghost use Rattle.std.specs.Option.{option_copied};
+ghost use Rattle.std.specs.declared.cmp.Ordering.{Ordering};
+ghost use Rattle.std.specs.declared.cmp.Ordering.TheVariants.{Equal};
 ghost use Rattle.cap_tree.specs.Measure.{Measure, MayChange};
-ghost use Rattle.cap_tree.specs.Spot.{HoldsOfItem, IsAdded, IsPosition, along, change_along, first, first_failing, has_below, item_at, spots};
+ghost use Rattle.cap_tree.specs.Spot.{HoldsOfItem, IsAdded, IsPosition, along, change_along, first, first_failing, has_below, item_at, made_of, spots};
 ghost use Rattle.cap_tree.specs.Finding.{IsFound, IsStart, is_parent};
 ghost use Rattle.cap_tree.specs.Branch.{IsBranch, root_count};
+ghost use Rattle.cap_tree.specs.Service.{HasNoneAfter, HasPathsOnce, IsFirstAfter, IsTop, child_item, children_at, is_after, is_before, items_along};
 
 use crate::found::{Kind, Path};
 use cap_model::NoMemory;
 use std::alloc::Allocator;
+use std::cmp::Ordering;
 use std::marker::Model;
 
 /// What a branch holds: a name, and counts of what is its own and all below.
@@ -74,6 +81,32 @@ pub trait Test<T> {
 
     fn passes(&self, item: &T) -> bool
         ensures { result ≡ passes self.now item.now };
+}
+
+/// A copy of an item under another allocator.
+pub trait CopyIn<U: Held, B: Allocator>: Held {
+    ghost copied: { Self → U };
+
+    fn copy_in(&self, alloc: B) -> Result<U, NoMemory>
+        ensures { IfOk result (λ copy. copy ≡ copied self.now) };
+
+    ghost name_copied: { (x : Self) → U.name (copied x) ≡ Self.name x };
+
+    ghost stored_copied: { (x : Self) (m : Measure) → U.stored (copied x) m ≡ Self.stored x m };
+
+    ghost own_copied: { (x : Self) (m : Measure) → U.own (copied x) m ≡ Self.own x m };
+}
+
+/// An item with its place in the order of service.
+pub trait Served: Held {
+    ghost order: { Self → Self → Ordering };
+
+    fn cmp_served(&self, other: &Self) -> Ordering
+        ensures { result ≡ order self.now other.now };
+
+    ghost total: { IsTotalOrder order };
+
+    ghost names: { (x y : Self) → order x y ≡ Equal → Self.name x ≡ Self.name y };
 }
 
 /// An item, with the trees under it.
@@ -269,5 +302,137 @@ impl<T: Held + Drop, A: Allocator + Copy> Branch<T, A> {
             }
         }
         None
+    }
+
+    /// A copy of the tree under another allocator, the children of an item in one piece of memory. The error means that an
+    /// allocation failed.
+    pub fn copy_in<U: Held + Drop, B: Allocator + Copy>(
+        &self,
+        alloc: B,
+    ) -> Result<Branch<U, B>, NoMemory>
+    where
+        T: CopyIn<U, B>,
+        ensures { IfOk result (λ copy. copy ≡ map (made_of T.copied) self.now) }
+    {
+        let item = match self.item.copy_in(alloc) {
+            Ok(item) => item,
+            Err(NoMemory) => return Err(NoMemory),
+        };
+        let Ok(mut children) = Vec::with_capacity(alloc, self.children.len()) else {
+            return Err(NoMemory);
+        };
+        for child in &self.children {
+            match child.copy_in(alloc) {
+                Ok(copy) => children.push_reserved(copy),
+                Err(NoMemory) => return Err(NoMemory),
+            }
+        }
+        Ok(Branch { item, children })
+    }
+
+    /// Its own item, which is above all others.
+    fn top(&self) -> &T
+        ensures { IsTop T.name result.now self.now }
+    {
+        &self.item
+    }
+
+    /// Which of the items that the steps lead to is served first: the first items that differ on the way decide, and an item
+    /// is before those under it. It takes no memory.
+    pub fn cmp_served(&self, a: &[u32], b: &[u32]) -> Ordering
+    where
+        T: Served,
+        requires a { IsPosition self.now a.now }
+        requires b { IsPosition self.now b.now }
+        requires once { HasPathsOnce self.now }
+        ensures all { result ≡
+            slice_cmp T.order (items_along a.now self.now) (items_along b.now self.now) }
+        ensures below { result ≡ slice_cmp T.order
+            (drop 1 (items_along a.now self.now)) (drop 1 (items_along b.now self.now)) }
+    {
+        let children = &self.children;
+        let [i, rest @ ..] = a else {
+            return 0.cmp(&b.len());
+        };
+        let [j, others @ ..] = b else {
+            return Ordering::Greater;
+        };
+        let child = &children[*i as usize];
+        if *i == *j {
+            return child.cmp_served(rest, others);
+        }
+        let other = &children[*j as usize];
+        child.top().cmp_served(other.top())
+    }
+
+    /// The index of the child that is served next after that one, the first where none is named, under the item that the steps
+    /// lead to. None where no child is left. It takes no memory.
+    pub fn next_child(&self, steps: &[u32], after: Option<u32>) -> Option<u32>
+    where
+        T: Served,
+        requires position { IsPosition self.now steps.now }
+        requires after { IfSome after (λ i. IsPosition self.now (steps.now ++ i ∷ [])) }
+        ensures { MatchOption result
+            (HasNoneAfter T.order (children_at steps.now self.now) after)
+            (IsFirstAfter T.order (children_at steps.now self.now) after) }
+    {
+        match steps {
+            [] => self.next_below(after),
+            [i, rest @ ..] => {
+                let child = &self.children[*i as usize];
+                child.next_child(rest, after)
+            }
+        }
+    }
+
+    /// The index of the child of its own item that is served next after that one, the first where none is named.
+    fn next_below(&self, after: Option<u32>) -> Option<u32>
+    where
+        T: Served,
+        requires { IfSome after (λ i. IsPosition self.now (i ∷ [])) }
+        ensures { MatchOption result
+            (HasNoneAfter T.order (children_at [] self.now) after)
+            (IsFirstAfter T.order (children_at [] self.now) after) }
+    {
+        let last = self.child(after);
+        let mut next = None;
+        for i in 0..self.children.len() {
+            let child = self.children[i].top();
+            if is_after(child, last) && is_before(child, self.child(next)) {
+                next = Some(i as u32);
+            }
+        }
+        next
+    }
+
+    /// The item of the child with that index, if one is named.
+    fn child(&self, index: Option<u32>) -> Option<&T>
+        requires { IfSome index (λ i. IsPosition self.now (i ∷ [])) }
+        ensures { option_copied result ≡ child_item self.now index }
+    {
+        match index {
+            None => None,
+            Some(i) => Some(self.children[i as usize].top()),
+        }
+    }
+}
+
+/// Whether an item is served after that one: always where there is none.
+fn is_after<T: Served>(item: &T, last: Option<&T>) -> bool
+    ensures { result ≡ is_after T.order item.now (option_copied last.entry) }
+{
+    match last {
+        None => true,
+        Some(last) => last.cmp_served(item).is_lt(),
+    }
+}
+
+/// Whether an item is served before that one: always where there is none.
+fn is_before<T: Served>(item: &T, next: Option<&T>) -> bool
+    ensures { result ≡ is_before T.order item.now (option_copied next.entry) }
+{
+    match next {
+        None => true,
+        Some(next) => item.cmp_served(next).is_lt(),
     }
 }

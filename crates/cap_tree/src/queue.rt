@@ -5,13 +5,14 @@ ghost use Rattle.cap_tree.specs.Count.{IsPart, MayMove, of_count};
 ghost use Rattle.cap_tree.specs.Measure.{Measure};
 ghost use Rattle.cap_tree.specs.Queue.{IsUnused, HasSettingsOf, count_in, moved_above, moved_at, of_queue, of_users, queue_count, stays_in_maximum, stays_in_user_limit, use_of, user_row, with_count, with_running};
 
-use crate::branch::Held;
+use crate::branch::{CopyIn, Held, Served};
 use crate::count::{Part, Total, moved};
 use cap_config::QueueRow;
 use cap_model::{NoMemory, PathText, ShortText};
-use cap_vector::{Resource, Sum, fits_exchanged};
+use cap_vector::{Resource, Shares, Sum, cmp_shares, fits_exchanged};
 use indexmap::IndexMap;
 use std::alloc::Allocator;
+use std::cmp::Ordering;
 use std::hash::{BuildHasherDefault, FoldHasher};
 use std::marker::Model;
 
@@ -63,6 +64,58 @@ impl<const K: usize, A: Allocator> Held for Queue<K, A> {
     fn name(&self) -> &[u8] {
         &self.name
     }
+}
+
+impl<const K: usize, A: Allocator, B: Allocator + Copy> CopyIn<Queue<K, B>, B> for Queue<K, A> {
+    ghost use Rattle.std.specs.Prelude.{refl};
+
+    ghost copied = { λ q. q };
+
+    fn copy_in(&self, alloc: B) -> Result<Queue<K, B>, NoMemory> {
+        let Ok(name) = Vec::from_slice(alloc, &self.name) else {
+            return Err(NoMemory);
+        };
+        let users = match copy_users(alloc, &self.users) {
+            Ok(users) => users,
+            Err(NoMemory) => return Err(NoMemory),
+        };
+        Ok(Queue {
+            name,
+            guaranteed: self.guaranteed,
+            maximum: self.maximum,
+            factor: self.factor,
+            running: self.running,
+            count: self.count,
+            users,
+        })
+    }
+
+    ghost name_copied = { λ x. refl };
+
+    ghost stored_copied = { λ x m. refl };
+
+    ghost own_copied = { λ x m. refl };
+}
+
+impl<const K: usize, A: Allocator> Served for Queue<K, A> {
+    ghost use Rattle.cap_tree.specs.Service.{queue_cmp};
+    ghost use Rattle.cap_tree.specs.ServiceLaws.{queue_cmp_total, same_name};
+
+    ghost order = { queue_cmp };
+
+    fn cmp_served(&self, other: &Queue<K, A>) -> Ordering {
+        let own = Shares::of(&self.count.used, &self.guaranteed);
+        let others = Shares::of(&other.count.used, &other.guaranteed);
+        let order = cmp_shares(&own, &others);
+        if order.is_ne() {
+            return order;
+        }
+        self.name.as_slice().cmp(other.name.as_slice())
+    }
+
+    ghost total = { queue_cmp_total };
+
+    ghost names = { same_name };
 }
 
 impl<const K: usize, A: Allocator + Copy> Queue<K, A> {
@@ -235,6 +288,24 @@ impl<const K: usize, A: Allocator> Queue<K, A> {
     {
         self.running = running;
     }
+}
+
+/// The same users under another allocator, with room for all at once. The error means that an allocation failed.
+fn copy_users<const K: usize, A: Allocator, B: Allocator + Copy>(
+    alloc: B,
+    users: &Users<K, A>,
+) -> Result<Users<K, B>, NoMemory>
+    ensures { IfOk result (λ copy. copy.entries ≡ users.now.entries) }
+{
+    let Ok(mut copy) = IndexMap::with_capacity(alloc, users.len()) else {
+        return Err(NoMemory);
+    };
+    for (user, count) in users.iter() {
+        let Ok(_) = copy.insert(*user, *count) else {
+            return Err(NoMemory);
+        };
+    }
+    Ok(copy)
 }
 
 /// The last name of a dotted path.

@@ -1,6 +1,8 @@
 //! The tree of queues, seen as the list of its rows.
-ghost use Rattle.std.specs.Prelude.{◌≡◌, ◌<◌, ◌≤◌, ◌+◌, length, ◌++◌, ◌∷◌, [], map, None, Some, IfErr, IfOk, OnOk, OnErr};
+ghost use Rattle.std.specs.Prelude.{◌≡◌, ◌<◌, ◌≤◌, ◌+◌, length, ◌++◌, ◌∷◌, [], map, None, Some, IfErr, IfOk, IfSome, MatchOption, OnOk, OnErr};
 ghost use Rattle.std.specs.List.{All};
+ghost use Rattle.std.specs.Cmp.Lexicographic.{slice_cmp};
+ghost use Rattle.cap_model.specs.Choice.{level_cmp};
 ghost use Rattle.cap_vector.specs.Vector.{IsWithin, amounts_exchanged, sum_max};
 ghost use Rattle.cap_model.specs.Limits.{number_end, queues_max};
 ghost use Rattle.cap_model.specs.Bounds.{depth};
@@ -12,6 +14,7 @@ ghost use Rattle.cap_tree.specs.Paths.{TreeFitsInMemory};
 ghost use Rattle.cap_tree.specs.Count.{IsPart};
 ghost use Rattle.cap_tree.specs.Queue.{IsUnused, MayGive, MayLeave, count_in, stays_in_user_limit, use_of};
 ghost use Rattle.cap_tree.specs.Rows.{AreRows, FindsQueue, HasRoomAtRoot, active_in, applied_row, entered_row, is_running, left_row, lowered_row, moved_rows, queues_of, root_use, used_at, user_row_at, with_state};
+ghost use Rattle.cap_tree.specs.Service.{HasNoChildAfter, IsNextChild, levels_at};
 ghost use Rattle.cap_tree.specs.Spot.{HoldsOfItem, IsPosition, item_at, path_at};
 
 use crate::branch::Branch;
@@ -25,6 +28,7 @@ use cap_model::{NoMemory, ShortText};
 use cap_vector::{Resource, Sum};
 use smallvec::SmallVec;
 use std::alloc::Allocator;
+use std::cmp::Ordering;
 use std::marker::Model;
 
 /// A tree of queues. Each queue keeps what is used and active in it and under it, and a leaf its users. Contracts see the
@@ -75,9 +79,23 @@ impl<const K: usize, A: Allocator + Copy> QueueTree<K, A> {
         })
     }
 
+    /// An equal tree under another allocator. An error means that an allocation failed.
+    pub fn copy_in<B: Allocator + Copy>(&self, alloc: B) -> Result<QueueTree<K, B>, NoMemory>
+        ensures { IfOk result (λ tree. tree ≡ self.now) }
+    {
+        match self.root.copy_in(alloc) {
+            Ok(root) => Ok(QueueTree {
+                root,
+                start: SmallVec::new(alloc),
+            }),
+            Err(NoMemory) => Err(NoMemory),
+        }
+    }
+
     /// What is found at a dotted path. It takes no memory, and looks only at the queues on the way and at their siblings. And what
-    /// is true of every tree: each path is there once and each queue before those under it, at most 15 levels under the root, and a
-    /// position leads to another exactly where the path is the other's or begins it before a dot.
+    /// is true of every tree: each path is there once and each queue before those under it, at most 15 levels under the root, a
+    /// position leads to another exactly where the path is the other's or begins it before a dot, and a queue has the last name of
+    /// its path.
     pub fn find(&self, path: &[u8]) -> Found<A>
         ensures found { FindsQueue path.now self.now result }
         ensures rows { AreRows self.now }
@@ -262,6 +280,30 @@ impl<const K: usize, A: Allocator + Copy> QueueTree<K, A> {
         ensures { item_at path.now.items self.now ≡ Some result.now }
     {
         self.root.get(path.as_slice())
+    }
+
+    /// Which of two queues is served first: at the first level below `root` where they differ, the one that uses the smaller
+    /// part of its own guarantee, by its dominant share first, and of two that are as full the lesser name in byte order. A
+    /// queue is before those under it. It takes no memory.
+    pub fn cmp_served(&self, a: &Path<A>, b: &Path<A>) -> Ordering
+        requires a { IsPosition self.now a.now.items }
+        requires b { IsPosition self.now b.now.items }
+        ensures { result ≡ slice_cmp level_cmp
+            (levels_at a.now.items self.now) (levels_at b.now.items self.now) }
+    {
+        self.root.cmp_served(a.as_slice(), b.as_slice())
+    }
+
+    /// The index of the child of the queue that is served next after that child, and of the first where none is named: the
+    /// less full child first, and of two that are as full the lesser name in byte order. None where no child is left. It takes
+    /// no memory.
+    pub fn next_child(&self, path: &Path<A>, after: Option<u32>) -> Option<u32>
+        requires position { IsPosition self.now path.now.items }
+        requires after { IfSome after (λ i. IsPosition self.now (path.now.items ++ i ∷ [])) }
+        ensures { MatchOption result (HasNoChildAfter self.now path.now.items after)
+            (IsNextChild self.now path.now.items after) }
+    {
+        self.root.next_child(path.as_slice(), after)
     }
 
     /// What is used in the queue and under it, in MiB and vcores.

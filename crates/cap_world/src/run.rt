@@ -23,8 +23,10 @@ impl World {
         ensures done { result.done ≤ length steps.now }
         ensures opening { result.world.opening ≡ opening.flat }
         ensures events { result.world.events ≡ result.events.items }
-        ensures made { IsMade opening.flat steps.now result.done result.events.items result.world.sight }
-        ensures headline { IsHeadline opening.flat steps.now result.done result.events.items result.world.sight }
+        ensures made { IsMade opening.flat steps.now result.done result.events.items
+            result.world.sight }
+        ensures headline { IsHeadline opening.flat steps.now result.done result.events.items
+            result.world.sight }
     {
         let mut world = World::open(alloc, opening);
         let mut events = Vec::new(alloc);

@@ -73,7 +73,8 @@ impl World {
     /// nothing. `NoMemory` leaves the world as it was and appends nothing; but in `Bytes` the connection has then ended, and the
     /// requests before the refusal were answered and their events appended.
     pub fn step(&mut self, step: Step, events: &mut Vec<Event<2>>) -> Result<Did, NoMemory>
-        ensures outcome { Outcome step.entry result self.old.sight self.new.sight events.old.items events.new.items }
+        ensures outcome { Outcome step.entry result self.old.sight self.new.sight events.old.items
+            events.new.items }
         ensures adds { Adds self.old self.new events.old.items events.new.items }
         ensures headline { IsWorld self.new }
     {

@@ -174,7 +174,11 @@ fn the_status_says_what_went_wrong(rt: HostRuntime) {
     ];
     for (words, script, fails, limit, status) in rows {
         let played = play(rt.alloc(), words, &[script], fails, limit);
-        let is_explained = status != 2 || played.printed.is_empty() != played.complaint.is_empty();
+        let is_shown = !played.printed.is_empty();
+        let is_explained = match words {
+            [_, "--help"] | [_, "--version"] => is_shown == (status == 0),
+            _ => status != 2 || is_shown == played.complaint.is_empty(),
+        };
         assert!(rt;
             played.status == status && is_explained,
             "{words:?} {script:?} {status}"

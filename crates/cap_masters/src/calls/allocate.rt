@@ -27,7 +27,8 @@ pub fn allocate<const K: usize>(
     asks: &Asks<K>,
     releases: &Numbers,
 ) -> Reply<K>
-    ensures replies { RepliesInFull cluster.old.flat (Allocate app response asks.now releases.now) result cluster.new.flat }
+    ensures replies { RepliesInFull cluster.old.flat (Allocate app response asks.now releases.now)
+        result cluster.new.flat }
     ensures numbers { HasNumbers cluster.new.flat result }
 {
     let repeated = match admit(cluster, app, response, asks.as_slice()) {
@@ -53,7 +54,8 @@ fn admit<const K: usize>(
 ) -> Result<Option<Reported>, Refusal>
     ensures ok { OnOk result (allocate_refusal cluster.now.flat app response asks.now ≡ None) }
     ensures repeated { IfOk result (λ r. r ≡ repeated_at cluster.now.flat app response) }
-    ensures err { IfErr result (λ refusal. allocate_refusal cluster.now.flat app response asks.now ≡ Some refusal) }
+    ensures err { IfErr result
+        (λ refusal. allocate_refusal cluster.now.flat app response asks.now ≡ Some refusal) }
     ensures resources { K ≤ resources_max }
 {
     let Some(app) = cluster.apps().app(app) else {
@@ -99,7 +101,8 @@ fn process<const K: usize>(
     releases: &Numbers,
 ) -> Result<Reported, NoMemory>
     requires { HasResponse cluster.old.flat app response }
-    ensures ok { OnOk result (cluster.new.flat ≡ after_processed_allocate cluster.old.flat app response asks.now releases.now) }
+    ensures ok { OnOk result (cluster.new.flat ≡
+        after_processed_allocate cluster.old.flat app response asks.now releases.now) }
     ensures told { IfOk result (λ reported. KeepsNumbers app cluster.new.flat.apps reported) }
     ensures err { OnErr result (cluster.new.flat ≡ cluster.old.flat) }
 {

@@ -11,7 +11,8 @@ use cap_model::{Refusal, Reply};
 /// unknown from then on. The reply gives how many containers ended. Refused with `UnknownApplication` or `NotRegistered`, which
 /// changes nothing. It takes no memory.
 pub fn finish_master<const K: usize>(cluster: &mut Cluster<K>, app: u64) -> Reply<K>
-    ensures replies { RepliesInFullAlways cluster.old.flat (FinishMaster app) result cluster.new.flat }
+    ensures replies { RepliesInFullAlways cluster.old.flat (FinishMaster app)
+        result cluster.new.flat }
     ensures numbers { HasNumbers cluster.new.flat result }
 {
     match refusal(cluster, app) {

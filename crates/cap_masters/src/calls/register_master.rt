@@ -10,7 +10,8 @@ use cap_model::{Refusal, Reply};
 /// container may have, in MiB and vcores. Refused with `UnknownApplication` or `AlreadyRegistered`, which changes nothing. It
 /// takes no memory.
 pub fn register_master<const K: usize>(cluster: &mut Cluster<K>, app: u64) -> Reply<K>
-    ensures replies { RepliesInFullAlways cluster.old.flat (RegisterMaster app) result cluster.new.flat }
+    ensures replies { RepliesInFullAlways cluster.old.flat (RegisterMaster app)
+        result cluster.new.flat }
     ensures numbers { HasNumbers cluster.new.flat result }
 {
     match refusal(cluster, app) {

@@ -15,7 +15,8 @@ pub fn submit<const K: usize>(
     path: &PathText,
     user: &ShortText,
 ) -> Reply<K>
-    ensures replies { RepliesInFull cluster.old.flat (Submit path.now user.now) result cluster.new.flat }
+    ensures replies { RepliesInFull cluster.old.flat (Submit path.now user.now)
+        result cluster.new.flat }
     ensures numbers { HasNumbers cluster.new.flat result }
 {
     match admit(cluster, path) {
@@ -31,7 +32,8 @@ pub fn submit<const K: usize>(
 fn admit<const K: usize>(cluster: &Cluster<K>, path: &PathText) -> Result<Position, Refusal>
     ensures position { IfOk result (λ position. IsAt cluster.now.rows path.now position.items) }
     ensures ok { IfOk result (λ position. submit_refusal cluster.now.flat path.now ≡ None) }
-    ensures err { IfErr result (λ refusal. submit_refusal cluster.now.flat path.now ≡ Some refusal) }
+    ensures err { IfErr result
+        (λ refusal. submit_refusal cluster.now.flat path.now ≡ Some refusal) }
 {
     let tree = cluster.tree();
     let position = match tree.find(path.as_bytes()) {

@@ -15,7 +15,8 @@ pub fn heartbeat<const K: usize>(
     response: u32,
     ended: &Numbers,
 ) -> Reply<K>
-    ensures replies { RepliesInFullAlways cluster.old.flat (Heartbeat node response ended.now) result cluster.new.flat }
+    ensures replies { RepliesInFullAlways cluster.old.flat (Heartbeat node response ended.now)
+        result cluster.new.flat }
     ensures numbers { HasNumbers cluster.new.flat result }
 {
     let Some(found) = cluster.nodes().node(node) else {

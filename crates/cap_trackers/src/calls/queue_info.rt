@@ -9,7 +9,8 @@ use cap_model::{PathText, Refusal, Reply};
 /// vcores, and how many applications are active in and under it. Refused with `UnknownQueue` where no queue has the path. It
 /// changes nothing and takes no memory.
 pub fn queue_info<const K: usize>(cluster: &Cluster<K>, path: &PathText) -> Reply<K>
-    ensures replies { RepliesInFullAlways cluster.now.flat (QueueInfo path.now) result cluster.now.flat }
+    ensures replies { RepliesInFullAlways cluster.now.flat (QueueInfo path.now)
+        result cluster.now.flat }
     ensures numbers { HasNumbers cluster.now.flat result }
 {
     match cluster.report(path.as_bytes()) {

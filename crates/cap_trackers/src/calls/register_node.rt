@@ -16,7 +16,8 @@ pub fn register_node<const K: usize>(
     rack: &ShortText,
     total: &Resource<K>,
 ) -> Reply<K>
-    ensures replies { RepliesInFull cluster.old.flat (RegisterNode host.now rack.now total.now) result cluster.new.flat }
+    ensures replies { RepliesInFull cluster.old.flat (RegisterNode host.now rack.now total.now)
+        result cluster.new.flat }
     ensures numbers { HasNumbers cluster.new.flat result }
 {
     match refusal(cluster, host, total) {

@@ -12,7 +12,8 @@ pub fn set_queue_state<const K: usize>(
     path: &PathText,
     running: bool,
 ) -> Reply<K>
-    ensures replies { RepliesInFullAlways cluster.old.flat (SetQueueState path.now running) result cluster.new.flat }
+    ensures replies { RepliesInFullAlways cluster.old.flat (SetQueueState path.now running)
+        result cluster.new.flat }
     ensures numbers { HasNumbers cluster.new.flat result }
 {
     let position = match cluster.tree().find(path.as_bytes()) {

@@ -22,23 +22,23 @@ pub returns-clause-proposed : goal.returns-clause-proposed
 returns-clause-proposed g c = λ i. record { kind = kind_is c.args.proposal.now.kind c.requires.kind i; app = c.app-app.ensures i; key = c.key-key.ensures i; node = c.node-node.ensures i; resource = c.resource-resource.ensures.value i }
 
 pub room_for_grant-requires : goal.room_for_grant-requires
-room_for_grant-requires g c = (cluster_fits _ c.self.invariant.resources, rw c.app-app.ensures (its_app c.args.self.now.flat c.args.proposal.now c.requires.passes))
+room_for_grant-requires g c = (cluster_fits _ c.taken_back-old.ensures.resources, rw c.app-app.ensures (its_app c.args.self.now.flat c.args.proposal.now c.requires.passes))
 
 pub place-requires : goal.place-requires
 place-requires g c =
     let q = c.args.proposal.now in
-    let x = c.self-2.inside in
-    let same = ap (λ (y : Held g.row.K). y.flat) c.self-2.view_is ∙ c.room_for_grant.ensures.flat in
+    let x = c.self.inside in
+    let same = ap (λ (y : Held g.row.K). y.flat) c.self.view_is ∙ c.room_for_grant.ensures.flat in
     let passes = subst (λ (f : Flat g.row.K). reason_of (sight_of f) q ≡ None) (sym same) c.requires.passes in
-    let kinds = c.self-2.invariant.resources in (
-      nodes_fit _ c.self-2.invariant.resources,
+    let kinds = c.self.invariant.resources in (
+      nodes_fit _ c.self.invariant.resources,
       (
         omega (arith, kinds),
         (
-          rw c.node-node.ensures (its_node _ c.self-2.invariant q passes c.requires.kind),
+          rw c.node-node.ensures (its_node _ c.self.invariant q passes c.requires.kind),
           (
-            rw (c.node-node.ensures, c.resource-resource.ensures.value) (its_room _ c.self-2.invariant q passes c.requires.kind),
-            (numbers_are_left _ c.self-2.invariant q passes c.requires.kind, few_live_yet _ c.self-2.invariant q passes c.requires.kind),
+            rw (c.node-node.ensures, c.resource-resource.ensures.value) (its_room _ c.self.invariant q passes c.requires.kind),
+            (numbers_are_left _ c.self.invariant q passes c.requires.kind, few_live_yet _ c.self.invariant q passes c.requires.kind),
           ),
         ),
       ),
@@ -47,17 +47,17 @@ place-requires g c =
 pub unreachable-requires : goal.unreachable-requires
 unreachable-requires g c =
     let q = c.args.proposal.now in
-    let x = c.self-2.inside in
-    let same = ap (λ (y : Held g.row.K). y.flat) c.self-2.view_is ∙ c.room_for_grant.ensures.flat in
+    let x = c.self.inside in
+    let same = ap (λ (y : Held g.row.K). y.flat) c.self.view_is ∙ c.room_for_grant.ensures.flat in
     let passes = subst (λ (f : Flat g.row.K). reason_of (sight_of f) q ≡ None) (sym same) c.requires.passes in
     let present = ap (λ (t : NodeTable). t.present) c.unreserve_on.ensures ∙ ap (λ (t : NodeTable). t.present) c.in-Ok-place.ensures.ok.1 in
-    found_again c.unreserve_on.new.self.present x.nodes.present c.node-node.result q.node present c.node-node.ensures c.in_default.ensures.found (its_node _ c.self-2.invariant q passes c.requires.kind)
+    found_again c.unreserve_on.new.self.present x.nodes.present c.node-node.result q.node present c.node-node.ensures c.in_default.ensures.found (its_node _ c.self.invariant q passes c.requires.kind)
 
 pub apply-requires : goal.apply-requires
 apply-requires g c =
     let q = c.args.proposal.now in
-    let x = c.self-2.inside in
-    let same = ap (λ (y : Held g.row.K). y.flat) c.self-2.view_is ∙ c.room_for_grant.ensures.flat in
+    let x = c.self.inside in
+    let same = ap (λ (y : Held g.row.K). y.flat) c.self.view_is ∙ c.room_for_grant.ensures.flat in
     let passes = subst (λ (f : Flat g.row.K). reason_of (sight_of f) q ≡ None) (sym same) c.requires.passes in
     let back = c.taken_back-old.ensures.value ∙ ap (λ (f : Flat g.row.K). taken_back (sight_of f) q) (sym same) in
     let few = c.taken_back-old.ensures.vector.count in
@@ -66,19 +66,19 @@ apply-requires g c =
     let found = c.in-Some-app.ensures.found in
     let a = c.in-Some-app.owner.now.app in
     let owner = ap (λ n. find (λ (y : App). y.number == n) x.apps.table.active) (sym c.app-app.ensures) ∙ sym found in
-    let position = c.position.ensures ∙ position_is _ c.self-2.invariant c.app-app.result c.in-Some-app.owner.now found c.in-Some-app.ensures.account in
+    let position = c.position.ensures ∙ position_is _ c.self.invariant c.app-app.result c.in-Some-app.owner.now found c.in-Some-app.ensures.account in
     let nodes = c.unreserve_on.ensures ∙ ap (λ (t : NodeTable). record t { reserved = filter (λ (r : Reservation). not (r.node == c.node-node.result)) t.reserved }) c.in-Ok-place.ensures.ok.1
     ∙ (λ i. nodes_with x.nodes (c.app-app.ensures i) (c.key-key.ensures i) (c.node-node.ensures i) (c.resource-resource.ensures.value i)) in
     let sound : IsSound g.row.K c.unreserve_on.new.self = record { rising = c.in-Some.ensures.rising; held = c.in-Some.ensures.held; homes = c.in-Some.ensures.homes; totals = c.in-Some.ensures.totals } in
-    let kinds = c.self-2.invariant.resources in (
-      tree_fits _ c.self-2.invariant.resources,
+    let kinds = c.self.invariant.resources in (
+      tree_fits _ c.self.invariant.resources,
       (
         omega arith,
         (
           omega (arith, kinds),
           (
-            rw (c.deref_mut-tree.ensures.value, c.user.ensures, position, back) (may_take_back _ c.self-2.invariant q passes c.requires.kind a owner (omega (arith, few, long)) count),
-            rw (c.deref_mut-tree.ensures.value, back, c.resource-resource.ensures.value) (root_stays _ c.self-2.invariant q passes c.requires.kind a owner (omega (arith, few, long)) count (subst (IsSound g.row.K) nodes sound)),
+            rw (c.deref_mut-tree.ensures.value, c.user.ensures, position, back) (may_take_back _ c.self.invariant q passes c.requires.kind a owner (omega (arith, few, long)) count),
+            rw (c.deref_mut-tree.ensures.value, back, c.resource-resource.ensures.value) (root_stays _ c.self.invariant q passes c.requires.kind a owner (omega (arith, few, long)) count (subst (IsSound g.row.K) nodes sound)),
           ),
         ),
       ),
@@ -87,23 +87,23 @@ apply-requires g c =
 pub add_grant-requires : goal.add_grant-requires
 add_grant-requires g c =
     let q = c.args.proposal.now in
-    let x = c.self-2.inside in
-    let same = ap (λ (y : Held g.row.K). y.flat) c.self-2.view_is ∙ c.room_for_grant.ensures.flat in
+    let x = c.self.inside in
+    let same = ap (λ (y : Held g.row.K). y.flat) c.self.view_is ∙ c.room_for_grant.ensures.flat in
     let passes = subst (λ (f : Flat g.row.K). reason_of (sight_of f) q ≡ None) (sym same) c.requires.passes in
-    let kinds = c.self-2.invariant.resources in
-    let room = rw (← c.self-2.view_is) at c.in-Ok.ensures.ok in
+    let kinds = c.self.invariant.resources in
+    let room = rw (← c.self.view_is) at c.in-Ok.ensures.ok in
     let stays = room_stays c.app-app.result x.apps.accounts c.take_one.new.self.accounts c.take_one.ensures.accounts room in
     let live = Rattle.cap_commit.proofs.Owning.live_kept c.app-app.result 0 x.apps.accounts c.take_one.new.self.accounts c.take_one.ensures.accounts c.app-app.result in
-    let counted = c.self-2.invariant.counted c.app-app.result in
+    let counted = c.self.invariant.counted c.app-app.result in
     let below = count_by-le-length (λ (d : Container). d.app == c.app-app.result) x.nodes.live in
-    let few = few_live_yet _ c.self-2.invariant q passes c.requires.kind in
+    let few = few_live_yet _ c.self.invariant q passes c.requires.kind in
     (omega arith, (omega (arith, kinds), (stays, omega (arith, live, counted, below, few))))
 
 pub invariant_of-self-2 : goal.invariant_of-self-2
 invariant_of-self-2 g c =
     let q = c.args.proposal.now in
-    let x = c.self-2.inside in
-    let same = ap (λ (y : Held g.row.K). y.flat) c.self-2.view_is ∙ c.room_for_grant.ensures.flat in
+    let x = c.self.inside in
+    let same = ap (λ (y : Held g.row.K). y.flat) c.self.view_is ∙ c.room_for_grant.ensures.flat in
     let passes = subst (λ (f : Flat g.row.K). reason_of (sight_of f) q ≡ None) (sym same) c.requires.passes in
     let back = c.taken_back-old.ensures.value ∙ ap (λ (f : Flat g.row.K). taken_back (sight_of f) q) (sym same) in
     let few = c.taken_back-old.ensures.vector.count in
@@ -112,22 +112,22 @@ invariant_of-self-2 g c =
     let found = c.in-Some-app.ensures.found in
     let a = c.in-Some-app.owner.now.app in
     let owner = ap (λ n. find (λ (y : App). y.number == n) x.apps.table.active) (sym c.app-app.ensures) ∙ sym found in
-    let position = c.position.ensures ∙ position_is _ c.self-2.invariant c.app-app.result c.in-Some-app.owner.now found c.in-Some-app.ensures.account in
+    let position = c.position.ensures ∙ position_is _ c.self.invariant c.app-app.result c.in-Some-app.owner.now found c.in-Some-app.ensures.account in
     let nodes = c.unreserve_on.ensures ∙ ap (λ (t : NodeTable). record t { reserved = filter (λ (r : Reservation). not (r.node == c.node-node.result)) t.reserved }) c.in-Ok-place.ensures.ok.1
     ∙ (λ i. nodes_with x.nodes (c.app-app.ensures i) (c.key-key.ensures i) (c.node-node.ensures i) (c.resource-resource.ensures.value i)) in
-    let path = ap (λ n. path_at n x.tree.value) position ∙ (placed_at _ c.self-2.invariant q.app a owner).position.path_is in
+    let path = ap (λ n. path_at n x.tree.value) position ∙ (placed_at _ c.self.invariant q.app a owner).position.path_is in
     let rows = (rw c.deref_mut-tree.ensures.value at c.apply.ensures) ∙ (λ i. map (applied_row g.row.K (path i) (c.user.ensures i) (back i) (c.resource-resource.ensures.value i)) x.tree.value) in
     let take = c.take_one.ensures.table ∙ (λ i. change_app (c.app-app.ensures i) (λ (app : App). record app { asks = take_one (c.key-key.ensures i) app.asks }) x.apps.table) in
     let add = c.add_grant.ensures.table ∙ ap (λ n. change_app n (λ (app : App). record app { grants = app.grants ++ c.new-grant.result ∷ [] }) c.take_one.new.self.table) c.app-app.ensures in
     let same_room = subst (λ n. UsesRoom n 0 0 0 x.apps.accounts c.take_one.new.self.accounts) c.app-app.ensures c.take_one.ensures.accounts in
     let room = subst (λ n. UsesRoom n 0 1 0 c.take_one.new.self.accounts c.add_grant.new.self.accounts) c.app-app.ensures c.add_grant.ensures.accounts in
-    rw (rows, nodes) (held_granted _ c.self-2.invariant q passes c.requires.kind a owner (omega (arith, few, long)) count c.take_one.new.self c.add_grant.new.self c.new-grant.result take add same_room room)
+    rw (rows, nodes) (held_granted _ c.self.invariant q passes c.requires.kind a owner (omega (arith, few, long)) count c.take_one.new.self c.add_grant.new.self c.new-grant.result take add same_room room)
 
 pub returns-clause-ok : goal.returns-clause-ok
 returns-clause-ok g c =
     let q = c.args.proposal.now in
-    let x = c.self-2.inside in
-    let same = ap (λ (y : Held g.row.K). y.flat) c.self-2.view_is ∙ c.room_for_grant.ensures.flat in
+    let x = c.self.inside in
+    let same = ap (λ (y : Held g.row.K). y.flat) c.self.view_is ∙ c.room_for_grant.ensures.flat in
     let passes = subst (λ (f : Flat g.row.K). reason_of (sight_of f) q ≡ None) (sym same) c.requires.passes in
     let back = c.taken_back-old.ensures.value ∙ ap (λ (f : Flat g.row.K). taken_back (sight_of f) q) (sym same) in
     let few = c.taken_back-old.ensures.vector.count in
@@ -136,7 +136,7 @@ returns-clause-ok g c =
     let found = c.in-Some-app.ensures.found in
     let a = c.in-Some-app.owner.now.app in
     let owner = ap (λ n. find (λ (y : App). y.number == n) x.apps.table.active) (sym c.app-app.ensures) ∙ sym found in
-    let position = c.position.ensures ∙ position_is _ c.self-2.invariant c.app-app.result c.in-Some-app.owner.now found c.in-Some-app.ensures.account in
+    let position = c.position.ensures ∙ position_is _ c.self.invariant c.app-app.result c.in-Some-app.owner.now found c.in-Some-app.ensures.account in
     let nodes = c.unreserve_on.ensures ∙ ap (λ (t : NodeTable). record t { reserved = filter (λ (r : Reservation). not (r.node == c.node-node.result)) t.reserved }) c.in-Ok-place.ensures.ok.1
     ∙ (λ i. nodes_with x.nodes (c.app-app.ensures i) (c.key-key.ensures i) (c.node-node.ensures i) (c.resource-resource.ensures.value i)) in
     let take = c.take_one.ensures.table ∙ (λ i. change_app (c.app-app.ensures i) (λ (app : App). record app { asks = take_one (c.key-key.ensures i) app.asks }) x.apps.table) in
@@ -149,5 +149,5 @@ returns-clause-ok g c =
     let home = c.in-Some.ensures.found ∙ (λ i. find (λ (n : ClusterNode). n.number == c.node-node.ensures i) (present i)) in
     let host = c.host.ensures ∙ ap (λ o. unwrap_or (option_map (λ (n : ClusterNode). n.host) o) []) home in
     let told = c.new-grant.ensures ∙ (λ i. record { container = c.in-Ok-place.ensures.ok.0 i; key = c.key-key.ensures i; node = c.node-node.ensures i; host = host i; resource = c.resource-resource.ensures.value i }) in
-    let is = granted_is _ c.self-2.invariant q passes c.requires.kind a owner (omega (arith, few, long)) count c.take_one.new.self c.add_grant.new.self c.new-grant.result take add same_room room c.apply.new.self settings told in
+    let is = granted_is _ c.self.invariant q passes c.requires.kind a owner (omega (arith, few, long)) count c.take_one.new.self c.add_grant.new.self c.new-grant.result take add same_room room c.apply.new.self settings told in
     rw nodes (is ∙ (λ i. after_grant (same i) (record { number = sym c.in-Ok-place.ensures.ok.0 i; app = sym c.app-app.ensures i; key = sym c.key-key.ensures i; node = sym c.node-node.ensures i; resource = sym c.resource-resource.ensures.value i })))

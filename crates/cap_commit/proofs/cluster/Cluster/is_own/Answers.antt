@@ -9,4 +9,4 @@ use Rattle.cap_commit.proofs.cluster.Cluster.is_own.Goals as goal
 pub returns : goal.returns
 returns g c =
     let p = c.args.proposal.now in
-    c.is_some.ensures ∙ ap is_some c.own_reservation.ensures ∙ own_there (is_grant p.kind) (is_for p.app p.key) (node_reservation (sight_of c.args.self.now.flat) p)
+    c.is_some.ensures ∙ ap is_some c.own_reservation.ensures.own ∙ own_there (is_grant p.kind) (is_for p.app p.key) (node_reservation (sight_of c.args.self.now.flat) p)

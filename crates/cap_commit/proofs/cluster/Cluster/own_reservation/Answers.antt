@@ -4,17 +4,17 @@ use Rattle.cap_model.specs.Flat.{Reservation}
 use Rattle.cap_commit.proofs.Seen.{own_is, none_either}
 use Rattle.cap_commit.proofs.cluster.Cluster.own_reservation.Goals as goal
 
-pub returns-in_default : goal.returns-in_default
-returns-in_default g c =
+pub returns-in_default-clause-own : goal.returns-in_default-clause-own
+returns-in_default-clause-own g c =
     let at = sym (c.in_default.ensures ∙ ap (λ n. find (λ (r : Reservation). r.node == n) c.self.inside.nodes.reserved) c.node.ensures) in
     rw (← c.self.view_is) (sym (own_is _ c.self.invariant c.args.proposal.now None at ∙ none_either _ None refl))
 
-pub returns-then-not-converts : goal.returns-then-not-converts
-returns-then-not-converts g c =
+pub returns-then-not-converts-clause-own : goal.returns-then-not-converts-clause-own
+returns-then-not-converts-clause-own g c =
     let at = sym (c.in-Some.ensures ∙ ap (λ n. find (λ (r : Reservation). r.node == n) c.self.inside.nodes.reserved) c.node.ensures) in
     rw (← c.self.view_is) (sym (own_is _ c.self.invariant c.args.proposal.now (Some c.in-Some.reservation) at ∙ ap (λ b. cond b (Some c.in-Some.reservation) None) (sym c.converts.ensures ∙ c.if-not-converts.true)))
 
-pub returns : goal.returns
-returns g c =
+pub returns-clause-own : goal.returns-clause-own
+returns-clause-own g c =
     let at = sym (c.in-Some.ensures ∙ ap (λ n. find (λ (r : Reservation). r.node == n) c.self.inside.nodes.reserved) c.node.ensures) in
     rw (← c.self.view_is) (sym (own_is _ c.self.invariant c.args.proposal.now (Some c.in-Some.reservation) at ∙ ap (λ b. cond b (Some c.in-Some.reservation) None) (sym c.converts.ensures ∙ c.if-not-converts.false)))

@@ -1,7 +1,7 @@
-use Rattle.std.proofs.Common.{map, ◌∙◌, ap, sym, List, arith}
-use Rattle.cap_nodes.specs.Loads.{reservation_of}
+use Rattle.std.proofs.Common.{map, ◌∙◌, ap, sym, List, refl, arith}
+use Rattle.cap_nodes.specs.Loads.{beaten_load, reservation_of}
 use Rattle.cap_model.specs.Flat.{ClusterNode, NodeTable}
-use Rattle.cap_nodes.proofs.Changes.{load_of_node, is_at, with_beat, nodes_beaten, totals_beaten, kept_shown}
+use Rattle.cap_nodes.proofs.Changes.{load_of_node, is_at, with_beat, nodes_beaten, totals_beaten, kept_shown, rising_changed}
 use Rattle.cap_nodes.proofs.nodes.Nodes.beat.Goals as goal
 
 pub beat-requires : goal.beat-requires
@@ -14,6 +14,7 @@ invariant_of-self g c =
     rw c.beat.ensures.loads (
       with_beat g.row.K c.self.inside.present.loads c.self.inside.live.containers c.self.invariant.0 c.args.number c.args.ignored,
       c.self.invariant.1 ∙ sym (totals_beaten g.row.K c.args.number c.args.ignored c.self.inside.present.loads),
+      rising_changed c.args.number (beaten_load c.args.ignored) (λ p. refl) c.self.inside.present.loads c.self.inside.present.next c.self.invariant.2,
     )
 
 pub returns-clause-table : goal.returns-clause-table

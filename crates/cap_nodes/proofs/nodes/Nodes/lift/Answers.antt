@@ -4,7 +4,7 @@ use Rattle.cap_model.specs.Flat.{ClusterNode, Container, NodeTable}
 use Rattle.cap_model.specs.RegisterNode.{sum_of_totals}
 use Rattle.cap_nodes.specs.Loads.{held_less, HasOne, reservation_of}
 use Rattle.cap_nodes.proofs.Presents.{if_found}
-use Rattle.cap_nodes.proofs.Changes.{home_of, has_it, nodes_of, without_one, same_nodes, at_of}
+use Rattle.cap_nodes.proofs.Changes.{home_of, has_it, nodes_of, without_one, same_nodes, at_of, rising_changed}
 use Rattle.cap_nodes.proofs.ByNumber.{one_completed}
 use Rattle.cap_nodes.proofs.nodes.Nodes.lift.Goals as goal
 
@@ -29,6 +29,7 @@ invariant_of-self g c =
     rw (c.lift.ensures.less, c.remove.ensures.left, c.number.ensures, c.node.ensures, c.resource.ensures.value) (
       without_one g.row.K c.self.inside.present.loads c.self.inside.live.containers c.self.invariant.0 c.self.inside.present.next c.self.inside.live.next c.args.container.now.number c.args.container.now at.load c.lift.ensures.rising c.remove.ensures.rising there at.at,
       c.self.invariant.1 ∙ ap (sum_of_totals g.row.K) (sym (same_nodes c.args.container.now.node (held_less c.args.container.now.resource) c.self.inside.present.loads (λ p. refl))),
+      rising_changed c.args.container.now.node (held_less c.args.container.now.resource) (λ p. refl) c.self.inside.present.loads c.self.inside.present.next c.self.invariant.2,
     )
 
 pub returns : goal.returns

@@ -1,4 +1,4 @@
-use Rattle.std.proofs.Common.{[], sym}
+use Rattle.std.proofs.Common.{[], sym, arith}
 use Rattle.cap_model.proofs.uses.NodeTotals.{totals-none}
 use Rattle.cap_nodes.specs.Loads.{AreTied}
 use Rattle.cap_nodes.proofs.nodes.Nodes.new.Goals as goal
@@ -6,4 +6,4 @@ use Rattle.cap_nodes.proofs.nodes.Nodes.new.Goals as goal
 pub invariant_of-result : goal.invariant_of-result
 invariant_of-result g c =
     let tied : AreTied g.row.K [] [] = record { ties = tt; homes = tt } in
-    rw (c.new.ensures, c.new-2.ensures, c.zero.ensures) (tied, sym (totals-none g.row.K))
+    rw (c.new.ensures, c.new-2.ensures, c.zero.ensures) (tied, sym (totals-none g.row.K), omega arith)

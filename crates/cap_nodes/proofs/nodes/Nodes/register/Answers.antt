@@ -4,6 +4,7 @@ use Rattle.cap_vector.proofs.AmountLemmas.{amount-plus}
 use Rattle.cap_model.specs.Flat.{ClusterNode}
 use Rattle.cap_model.specs.RegisterNode.{sum_of_totals}
 use Rattle.cap_model.proofs.uses.NodeTotals.{totals-push}
+use Rattle.cap_model.proofs.lists.Numbered.{rising_more}
 use Rattle.cap_nodes.specs.Loads.{Load}
 use Rattle.cap_nodes.proofs.Changes.{nodes_of, with_node, nodes_pushed}
 use Rattle.cap_nodes.proofs.nodes.Nodes.register.Goals as goal
@@ -18,4 +19,5 @@ invariant_of-self-2 g c =
     rw c.in-Ok.ensures.ok.1 (
       with_node g.row.K c.self.inside.present.loads c.self.inside.live.containers c.self.invariant.0 c.self.inside.present.next node c.in-Ok.ensures.rising refl small,
       c.in-Some.ensures.some ∙ ap (λ v. plus v c.args.total.now) c.self.invariant.1 ∙ sym (totals-push g.row.K (nodes_of c.self.inside.present.loads) node count) ∙ ap (sum_of_totals g.row.K) (sym (nodes_pushed c.self.inside.present.loads load)),
+      rising_more (λ (p : Load). p.node.number) 1 c.self.inside.present.loads load c.self.inside.present.next refl c.self.invariant.2,
     )

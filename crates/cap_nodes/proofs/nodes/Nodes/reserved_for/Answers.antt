@@ -7,4 +7,4 @@ pub returns-clause-count : goal.returns-clause-count
 returns-clause-count g c = rw (← c.self.view_is) (c.count_for.ensures ∙ sym (kept_count c.args.app c.args.key.now c.self.inside.reserved.containers))
 
 pub returns-clause-rising : goal.returns-clause-rising
-returns-clause-rising g c = rw (← c.self.view_is) (rising_nodes c.self.inside.present.loads c.self.inside.present.next c.next-next.ensures.rising)
+returns-clause-rising g c = rw (← c.self.view_is) (rising_nodes c.self.inside.present.loads c.self.inside.present.next c.self.invariant.2)

@@ -20,7 +20,7 @@ invariant_of-self-2 g c =
     let above = moved_above c.args.change.now.old c.args.change.now.new in
     let at = moved_at g.row.K c.args.change.now.user.now c.args.change.now.old c.args.change.now.new in
     record {
-      rows_are = subst AreRows (sym c.in-Ok.ensures.changed) (rows_kept above at (λ r. refl) (λ r. refl) c.as_slice.result.now c.self.inside.root c.self.invariant.rows_are);
+      rows_are = subst AreRows (sym c.in-Ok.ensures.changed) (rows_kept above at (λ r. refl) (λ r. refl) (λ q. refl) (λ q. refl) c.as_slice.result.now c.self.inside.root c.self.invariant.rows_are);
       start_is = c.self.invariant.start_is;
     }
 

@@ -1,0 +1,6 @@
+use Rattle.std.specs.Prelude.{slice_index_or}
+use Rattle.cap_commit.proofs.Reserved.{its_node_there}
+use Rattle.cap_commit.proofs.cluster.Cluster.nodes.Goals as goal
+
+pub returns-clause-present : goal.returns-clause-present
+returns-clause-present g c = λ k d b. its_node_there c.self.inside.nodes.present (slice_index_or c.self.inside.nodes.reserved k d) (c.self.invariant.reservations.fit k d b)

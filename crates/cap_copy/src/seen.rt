@@ -1,0 +1,165 @@
+//! What a snapshot keeps of an application, an ask and a node.
+ghost use Rattle.std.specs.Prelude.{◌≡◌};
+ghost use Rattle.cap_vector.specs.Vector.{IsResource};
+
+use cap_model::{Ask, Reservation, ShortText};
+use cap_tree::Path;
+use cap_vector::Resource;
+use std::alloc::Allocator;
+use std::marker::Model;
+
+/// A registered application.
+#[derive(Drop)]
+pub struct SeenApp<B: Allocator> {
+    pub(crate) number: u64,
+    pub(crate) user: ShortText,
+    pub(crate) position: Path<B>,
+}
+
+impl<B: Allocator> Model for SeenApp<B> {
+    ghost use Rattle.cap_copy.specs.Snapshot.{AppEntry};
+
+    ghost Value = { AppEntry };
+
+    ghost view = { λ a. record { number = a.number; user = a.user; position = a.position.items } };
+}
+
+impl<B: Allocator> SeenApp<B> {
+    /// Its number.
+    pub fn number(&self) -> u64
+        ensures { result ≡ self.now.number }
+    {
+        self.number
+    }
+
+    /// Its user.
+    pub fn user(&self) -> &ShortText
+        ensures { result.now ≡ self.now.user }
+    {
+        &self.user
+    }
+
+    /// Where its leaf queue is in the snapshot's tree.
+    pub fn position(&self) -> &Path<B>
+        ensures { result.now.items ≡ self.now.position }
+    {
+        &self.position
+    }
+}
+
+/// An ask of a registered application.
+#[derive(Drop)]
+pub struct SeenAsk<const K: usize> {
+    pub(crate) app: u64,
+    pub(crate) index: u32,
+    pub(crate) ask: Ask<K>,
+    pub(crate) wanted: u32,
+}
+
+impl<const K: usize> Model for SeenAsk<K> {
+    ghost use Rattle.cap_copy.specs.Snapshot.{AskEntry};
+
+    ghost Value = { AskEntry };
+
+    ghost view = { λ a. record { app = a.app; index = a.index; ask = a.ask; wanted = a.wanted } };
+}
+
+impl<const K: usize> SeenAsk<K> {
+    /// The number of its application.
+    pub fn app(&self) -> u64
+        ensures { result ≡ self.now.app }
+    {
+        self.app
+    }
+
+    /// The index of its application among those of the snapshot.
+    pub fn index(&self) -> usize
+        ensures { result ≡ self.now.index }
+    {
+        self.index as usize
+    }
+
+    /// What is asked for.
+    pub fn ask(&self) -> &Ask<K>
+        ensures { result.now ≡ self.now.ask }
+    {
+        &self.ask
+    }
+
+    /// How many containers it wants beyond those that nodes keep room for.
+    pub fn wanted(&self) -> u32
+        ensures { result ≡ self.now.wanted }
+    {
+        self.wanted
+    }
+}
+
+/// A node that is present, what it has left, and the reservation that it holds.
+#[derive(Drop)]
+pub struct SeenNode<const K: usize> {
+    pub(crate) number: u64,
+    pub(crate) host: ShortText,
+    pub(crate) rack: ShortText,
+    pub(crate) total: Resource<K>,
+    pub(crate) free: Resource<K>,
+    pub(crate) reservation: Option<Reservation<K>>,
+}
+
+impl<const K: usize> Model for SeenNode<K> {
+    ghost use Rattle.cap_model.specs.Sight.{NodeSight};
+
+    ghost Value = { NodeSight };
+
+    ghost view = { λ n. record {
+      number = n.number;
+      host = n.host;
+      rack = n.rack;
+      total = n.total;
+      free = n.free;
+      reservation = n.reservation;
+    } };
+}
+
+impl<const K: usize> SeenNode<K> {
+    /// Its number.
+    pub fn number(&self) -> u64
+        ensures { result ≡ self.now.number }
+    {
+        self.number
+    }
+
+    /// Its host.
+    pub fn host(&self) -> &ShortText
+        ensures { result.now ≡ self.now.host }
+    {
+        &self.host
+    }
+
+    /// Its rack.
+    pub fn rack(&self) -> &ShortText
+        ensures { result.now ≡ self.now.rack }
+    {
+        &self.rack
+    }
+
+    /// What it has in all, in MiB and vcores.
+    pub fn total(&self) -> &Resource<K>
+        ensures { result.now ≡ self.now.total }
+    {
+        &self.total
+    }
+
+    /// What it has left, in MiB and vcores.
+    pub fn free(&self) -> &Resource<K>
+        ensures { result.now ≡ self.now.free }
+    {
+        &self.free
+    }
+
+    /// The reservation that it holds, if any.
+    pub fn reservation(&self) -> Option<Reservation<K>>
+        ensures { result ≡ self.now.reservation }
+    {
+        self.reservation
+    }
+}

@@ -1,0 +1,215 @@
+-- When an ask of a snapshot is admitted on a node.
+use Rattle.std.proofs.Common.{◌≡◌, ℕ, ◌<◌, ◌≤◌, Bool, true, false, cond, List, [], length, Some, None, refl, sym, ◌∙◌, ap, subst, inl, inr, arith}
+use Rattle.std.specs.Prelude.{◌⊎◌, Option, is_none, is_some, unwrap_or, option_map, option_and_then, ◌&&◌, nat_le, nat_lt, bytes_eq}
+use Rattle.std.specs.Option.{option_map_or}
+use Rattle.std.specs.List.{list_all, slice_get}
+use Rattle.std.proofs.lemmas.Option.{slice_get_within}
+use Rattle.std.proofs.lemmas.Bool.{and_parts}
+use Rattle.std.proofs.lemmas.Bool.Decides.{nat_tests}
+use Rattle.cap_vector.specs.Vector.{amounts_exchanged, zeros}
+use Rattle.cap_model.specs.Limits.{live_max, number_end}
+use Rattle.cap_model.specs.Cascade.{holds_of}
+use Rattle.cap_model.specs.Amounts.{fits}
+use Rattle.cap_model.specs.declared.proposal.ProposalKind.{ProposalKind}
+use Rattle.cap_model.specs.declared.proposal.ProposalKind.TheVariants.{Grant, Reserve}
+use Rattle.cap_model.specs.Flat.{Reservation, ask_at, is_for}
+use Rattle.cap_model.specs.Asks.{Ask}
+use Rattle.cap_model.specs.Sight.{Sight, AppSight, NodeSight, seen_node, seen_queue, still_wanted, queues_to, QueueSight}
+use Rattle.cap_model.specs.Admission.{NodeProposal, IsAdmissible, NeedsOf, asks_resource, fits_free, fits_maximum, fits_total, fits_user_limit, is_grant, is_wanted, leaf_path, node_reservation, proposed_ask, stays_in_maxima, stays_in_user_limit, suits_place, takes_place, use_after, user_name}
+use Rattle.cap_model.proofs.lists.Tests.{bytes_itself}
+use Rattle.cap_tree.specs.Spot.{IsPosition, path_at}
+use Rattle.cap_tree.specs.Limits.{over_limit}
+use Rattle.cap_tree.specs.Rows.{Row, AreRows}
+use Rattle.cap_tree.specs.declared.limits.OverLimit.{OverLimit}
+use Rattle.cap_copy.specs.Snapshot.{AppEntry, AskEntry, IsAskEntry, Seen, asks_for, sight_in}
+use Rattle.cap_propose.specs.Proposing.{IsSeenNode, IsAdmittedAs, has_numbers, is_in_limits, kind_beside, proposal_of, room_back, room_kind}
+use Rattle.cap_propose.proofs.WithinLimits.{same_exchange, limits_are, maxima, user_limit}
+
+-- the kind for which there is room, over plain tests
+abbrev kind_where : (Reservation → Bool) → Bool → Bool → Bool → Option Reservation → Option ProposalKind
+kind_where t want free total None = cond want (cond free (Some Grant) (cond total (Some Reserve) None)) None
+kind_where t want free total (Some r) = cond (t r && free) (Some Grant) None
+
+abbrev Needs : ProposalKind → (Reservation → Bool) → Bool → Bool → Bool → Option Reservation → Type 0
+Needs Grant t want free total o = (free ≡ true) × (((o ≡ None) × (want ≡ true)) ⊎ (holds_of t o ≡ true))
+Needs Reserve t want free total o = (want ≡ true) × (o ≡ None) × (free ≡ false) × (total ≡ true)
+
+module _ (t : Reservation → Bool) where
+  to_kind : (k : ProposalKind) (want free total : Bool) (o : Option Reservation) → Needs k t want free total o → kind_where t want free total o ≡ Some k
+  to_kind Grant want free total None (f, inl h) = λ i. cond (h.1 i) (cond (f i) (Some Grant) (cond total (Some Reserve) None)) None
+  to_kind Grant want free total None (f, inr h) = absurd (cc h)
+  to_kind Grant want free total (Some r) (f, inl h) = absurd (cc (h.0))
+  to_kind Grant want free total (Some r) (f, inr h) = λ i. cond (h i && f i) (Some Grant) None
+  to_kind Reserve want free total None n = λ i. cond (n.0 i) (cond (n.2 i) (Some Grant) (cond (n.3 i) (Some Reserve) None)) None
+  to_kind Reserve want free total (Some r) n = absurd (cc (n.1))
+
+  both_true : (a b : Bool) (k : ProposalKind) → cond (a && b) (Some Grant) None ≡ Some k → (a ≡ true) × (b ≡ true) × (k ≡ Grant)
+  both_true true true k e = (refl, refl, cc)
+  both_true true false k e = absurd (cc e)
+  both_true false b k e = absurd (cc e)
+
+  of_kind : (k : ProposalKind) (want free total : Bool) (o : Option Reservation) → kind_where t want free total o ≡ Some k → Needs k t want free total o
+  of_kind Grant true true total None e = (refl, inl (refl, refl))
+  of_kind Grant true false true None e = absurd (cc e)
+  of_kind Grant true false false None e = absurd (cc e)
+  of_kind Grant false free total None e = absurd (cc e)
+  of_kind Reserve true true total None e = absurd (cc e)
+  of_kind Reserve true false true None e = (refl, refl, refl, refl)
+  of_kind Reserve true false false None e = absurd (cc e)
+  of_kind Reserve false free total None e = absurd (cc e)
+  of_kind Grant want free total (Some r) e = let b = both_true (t r) free Grant e in (b.1, inr b.0)
+  of_kind Reserve want free total (Some r) e = let b = both_true (t r) free Reserve e in absurd (cc (b.2))
+
+  -- what is taken back is the room of the node's reservation
+  back_is : (n : ℕ) (k : ProposalKind) (want free total : Bool) (o : Option Reservation) → kind_where t want free total o ≡ Some k → (r used : List ℕ) →
+      amounts_exchanged (cond (is_grant k && holds_of t o) (unwrap_or (option_map (λ (x : Reservation). x.resource) o) []) []) r used ≡ amounts_exchanged (option_map_or (λ (x : Reservation). x.resource) o (zeros n)) r used
+  back_is n Grant want free total None e r used = sym (same_exchange n r used)
+  back_is n Reserve want free total None e r used = sym (same_exchange n r used)
+  back_is n k want free total (Some x) e r used =
+      let b = both_true (t x) free k e in
+      λ i. amounts_exchanged (cond (is_grant (b.2 i) && b.0 i) x.resource []) r used
+
+module _ (K : ℕ) (seen : Seen) (node : NodeSight) (e : AskEntry) (at : IsSeenNode K seen node) (is : IsAskEntry K seen e) where
+  abbrev sight : Sight K
+  sight = sight_in K seen
+
+  abbrev of : ProposalKind → NodeProposal
+  of k = proposal_of k node.number e
+
+  abbrev own : Reservation → Bool
+  own = is_for e.app e.ask.key
+
+  ask_is : (k : ProposalKind) → proposed_ask sight (of k) ≡ Some e.ask
+  ask_is k = ap (option_and_then (λ (app : AppSight). ask_at e.ask.key app.asks)) is.found ∙ ap (λ n. ask_at e.ask.key (asks_for n seen.asks)) is.number ∙ is.asked
+
+  reservation_is : (k : ProposalKind) → node_reservation sight (of k) ≡ node.reservation
+  reservation_is k = ap (option_and_then (λ (n : NodeSight). n.reservation)) at
+
+  wanted_is : (k : ProposalKind) → is_wanted sight (of k) ≡ nat_le 1 e.wanted
+  wanted_is k = ap (holds_of (λ (a : Ask). nat_le 1 (still_wanted sight e.app a))) (ask_is k) ∙ ap (nat_le 1) (sym is.wanted)
+
+  free_is : (k : ProposalKind) → fits_free sight (of k) ≡ fits e.ask.resource node.free
+  free_is k = ap (holds_of (λ (n : NodeSight). fits e.ask.resource n.free)) at
+
+  total_is : (k : ProposalKind) → fits_total sight (of k) ≡ fits e.ask.resource node.total
+  total_is k = ap (holds_of (λ (n : NodeSight). fits e.ask.resource n.total)) at
+
+  place_is : (k : ProposalKind) → suits_place sight (of k) ≡ takes_place e.ask.place node
+  place_is k = ap (holds_of (λ (a : Ask). holds_of (takes_place a.place) (seen_node sight node.number))) (ask_is k) ∙ ap (holds_of (takes_place e.ask.place)) at
+
+  resource_is : (k : ProposalKind) → asks_resource sight (of k) ≡ true
+  resource_is k = ap (holds_of (λ (a : Ask). bytes_eq a.resource e.ask.resource)) (ask_is k) ∙ bytes_itself e.ask.resource
+
+  kind_is : room_kind node e ≡ kind_where own (nat_le 1 e.wanted) (fits e.ask.resource node.free) (fits e.ask.resource node.total) node.reservation
+  kind_is = by node.reservation
+    where
+      by : (o : Option Reservation) → kind_beside o node e ≡ kind_where own (nat_le 1 e.wanted) (fits e.ask.resource node.free) (fits e.ask.resource node.total) o
+      by None = refl
+      by (Some r) = refl
+
+  needs_are : (k l : ProposalKind) → NeedsOf sight (of l) k ≡ Needs k own (nat_le 1 e.wanted) (fits e.ask.resource node.free) (fits e.ask.resource node.total) node.reservation
+  needs_are Grant l = λ i. (free_is l i ≡ true) × (((reservation_is l i ≡ None) × (wanted_is l i ≡ true)) ⊎ (holds_of own (reservation_is l i) ≡ true))
+  needs_are Reserve l = λ i. (wanted_is l i ≡ true) × (reservation_is l i ≡ None) × (free_is l i ≡ false) × (total_is l i ≡ true)
+
+  -- a node has room for what is admissible there
+  has_room : (k : ProposalKind) → IsAdmissible sight (of k) → room_kind node e ≡ Some k
+  has_room k a = kind_is ∙ to_kind own k (nat_le 1 e.wanted) (fits e.ask.resource node.free) (fits e.ask.resource node.total) node.reservation (subst (λ T. T) (needs_are k k) a.1)
+
+  -- the limits, as the proposal has them and as the tree does
+  module _ (are : AreRows seen.rows) (k : ProposalKind) (room : room_kind node e ≡ Some k) where
+    old : List ℕ
+    old = room_back K node
+
+    after_is : (used : List ℕ) → use_after sight (of k) used ≡ amounts_exchanged (room_back K node) e.ask.resource used
+    after_is used =
+        (λ i. amounts_exchanged (cond (is_grant k && holds_of own (reservation_is k i)) (unwrap_or (option_map (λ (x : Reservation). x.resource) (reservation_is k i)) []) []) e.ask.resource used)
+        ∙ back_is own K k (nat_le 1 e.wanted) (fits e.ask.resource node.free) (fits e.ask.resource node.total) node.reservation (sym kind_is ∙ room) e.ask.resource used
+
+    leaf_is : leaf_path sight (of k) ≡ path_at is.app.position seen.rows
+    leaf_is = ap (λ o. unwrap_or (option_map (λ (a : AppSight). a.leaf) o) []) is.found
+
+    user_is : user_name sight (of k) ≡ is.app.user
+    user_is = ap (λ o. unwrap_or (option_map (λ (a : AppSight). a.user) o) []) is.found
+
+    maxima_are : stays_in_maxima sight (of k) ≡ maxima K seen.rows are is.app.position is.leaf is.app.user (room_back K node) e.ask.resource
+    maxima_are = λ i. list_all (λ (q : QueueSight). fits_maximum q.row.maximum (after_is q.used i)) (queues_to sight (leaf_is i))
+
+    user_limit_is : stays_in_user_limit sight (of k) ≡ user_limit K seen.rows are is.app.position is.leaf is.app.user (room_back K node) e.ask.resource
+    user_limit_is = λ i. holds_of (λ (q : QueueSight). fits_user_limit q.row.factor q.row.guaranteed (after_is (q.used_by (user_is i)) i)) (seen_queue sight (leaf_is i))
+
+    limits_here : is_in_limits K seen e (room_back K node) ≡ (stays_in_maxima sight (of k) && stays_in_user_limit sight (of k))
+    limits_here =
+        ap (holds_of (λ app. is_none (over_limit K app.position app.user (room_back K node) e.ask.resource seen.rows))) is.at
+        ∙ limits_are K seen.rows are is.app.position is.leaf is.app.user (room_back K node) e.ask.resource
+        ∙ (λ i. sym maxima_are i && sym user_limit_is i)
+
+  -- each way in which neither kind is admissible
+  abbrev pub IsRefused : Type 0
+  IsRefused = IsAdmittedAs sight node.number e None
+
+  pub without_room : room_kind node e ≡ None → IsRefused
+  without_room n k a = let h = has_room k a in absurd (cc (n, h))
+
+  pub elsewhere : takes_place e.ask.place node ≡ false → IsRefused
+  elsewhere n k a = let h = a.0.place in let p = place_is k in absurd (cc (n, h, p))
+
+  pub without_numbers : has_numbers seen ≡ false → IsRefused
+  without_numbers n k a = let l = a.0.few_live in let m = a.0.numbers_left in absurd (grind (arith, nat_tests, n, l, m))
+
+  pub over_limits : AreRows seen.rows → is_in_limits K seen e (room_back K node) ≡ false → IsRefused
+  over_limits are n k a =
+      let h = limits_here are k (has_room k a) in
+      let both : (stays_in_maxima sight (of k) && stays_in_user_limit sight (of k)) ≡ true = λ i. a.0.maxima i && a.0.user i in
+      absurd (cc (n, h, both))
+
+  -- and where one is
+  pub admitted : AreRows seen.rows → (k : ProposalKind) → room_kind node e ≡ Some k → takes_place e.ask.place node ≡ true → has_numbers seen ≡ true → is_in_limits K seen e (room_back K node) ≡ true → IsAdmissible sight (of k)
+  admitted are k room place numbers limits =
+      let both = and_parts (stays_in_maxima sight (of k)) (stays_in_user_limit sight (of k)) (sym (limits_here are k room) ∙ limits) in
+      let left = and_parts (nat_lt seen.live live_max) (nat_lt seen.next_container number_end) numbers in (
+        record {
+          registered = ap is_some is.found;
+          asked = ap is_some (ask_is k);
+          resource = resource_is k;
+          present = ap is_some at;
+          place = place_is k ∙ place;
+          maxima = both.0;
+          user = both.1;
+          few_live = grind (arith, nat_tests, left.0);
+          numbers_left = grind (arith, nat_tests, left.1);
+        },
+        subst (λ T. T) (sym (needs_are k k)) (of_kind own k (nat_le 1 e.wanted) (fits e.ask.resource node.free) (fits e.ask.resource node.total) node.reservation (sym kind_is ∙ room)),
+      )
+
+-- what the tree is asked of an ask's application
+module _ (K : ℕ) (seen : Seen) (e : AskEntry) (index : ℕ) (app : AppEntry) (at : slice_get seen.apps index ≡ Some app) (same : index ≡ e.index) where
+  entry_is : slice_get seen.apps e.index ≡ Some app
+  entry_is = ap (slice_get seen.apps) (sym same) ∙ at
+
+  pub app_there : (is : IsAskEntry K seen e) → e.index < length seen.apps
+  app_there is = slice_get_within seen.apps e.index is.app is.at
+
+  pub leaf_there : (is : IsAskEntry K seen e) (rows : List Row) (position : List ℕ) → rows ≡ seen.rows → position ≡ app.position → IsPosition rows position
+  leaf_there is rows position same_rows same_position =
+      let a : is.app ≡ app = ap (λ o. unwrap_or o app) (sym is.at ∙ entry_is) in
+      let p : is.app.position ≡ position = ap (λ (x : AppEntry). x.position) a ∙ sym same_position in
+      subst (λ r. IsPosition r position) (sym same_rows) (subst (IsPosition seen.rows) p is.leaf)
+
+  pub limits_tested : (rows : List Row) (position user old new : List ℕ) (o : Option OverLimit) → rows ≡ seen.rows → position ≡ app.position → user ≡ app.user → new ≡ e.ask.resource →
+      over_limit K position user old new rows ≡ o → is_none o ≡ is_in_limits K seen e old
+  limits_tested rows position user old new o same_rows same_position same_user same_new h =
+      ap is_none (sym h)
+      ∙ (λ i. is_none (over_limit K (same_position i) (same_user i) old (same_new i) (same_rows i)))
+      ∙ ap (holds_of (λ (a : AppEntry). is_none (over_limit K a.position a.user old e.ask.resource seen.rows))) (sym entry_is)
+
+-- the two tests on numbers, one after the other
+pub numbers_left : (seen : Seen) (live next : ℕ) → live ≡ seen.live → next ≡ seen.next_container → live < live_max → nat_lt next number_end ≡ has_numbers seen
+numbers_left seen live next same_live same_next few =
+    let first : nat_lt seen.live live_max ≡ true = grind (arith, nat_tests, same_live, few) in
+    λ i. sym first i && nat_lt (same_next i) number_end
+
+pub numbers_spent : (seen : Seen) (live : ℕ) → live ≡ seen.live → live_max ≤ live → nat_lt live live_max ≡ has_numbers seen
+numbers_spent seen live same_live many =
+    let first : nat_lt live live_max ≡ false = grind (arith, nat_tests, many) in
+    let there : nat_lt seen.live live_max ≡ false = grind (arith, nat_tests, same_live, many) in
+    first ∙ (λ i. sym there i && nat_lt seen.next_container number_end)

@@ -1,0 +1,2 @@
+pub mod Proposing
+pub mod Sizes

@@ -1,0 +1,65 @@
+-- What an ask may be proposed as on a node.
+use Rattle.std.specs.Prelude.{◌≡◌, ℕ, ◌+◌, ◌-◌, Bool, ◌&&◌, List, Option, Some, None, is_none, nat_le, nat_lt, if◌then◌else◌}
+use Rattle.std.specs.Option.{option_map_or}
+use Rattle.std.specs.List.{slice_get}
+use Rattle.cap_vector.specs.Vector.{zeros}
+use Rattle.cap_model.specs.Limits.{live_max, number_end}
+use Rattle.cap_model.specs.Cascade.{holds_of}
+use Rattle.cap_model.specs.Amounts.{fits}
+use Rattle.cap_model.specs.declared.proposal.ProposalKind.{ProposalKind}
+use Rattle.cap_model.specs.declared.proposal.ProposalKind.TheVariants.{Grant, Reserve}
+use Rattle.cap_model.specs.Flat.{Reservation, is_for}
+use Rattle.cap_model.specs.Sight.{Sight, NodeSight, seen_node}
+use Rattle.cap_model.specs.Admission.{NodeProposal, IsAdmissible}
+use Rattle.cap_model.specs.Choice.{IsNodeChoice, IsChoiceFrom}
+use Rattle.cap_tree.specs.Limits.{over_limit}
+use Rattle.cap_copy.specs.Snapshot.{AskEntry, Seen, sight_in}
+
+-- the proposal of an ask on the node of a number
+abbrev pub proposal_of : ProposalKind → ℕ → AskEntry → NodeProposal
+proposal_of kind node e = record { kind = kind; app = e.app; key = e.ask.key; node = node; resource = e.ask.resource }
+
+-- the kind for which a node has room, where it holds no reservation, and where it holds one
+abbrev pub kind_by_room : NodeSight → AskEntry → Option ProposalKind
+kind_by_room node e = if fits e.ask.resource node.free then Some Grant else (if fits e.ask.resource node.total then Some Reserve else None)
+
+abbrev pub kind_beside : Option Reservation → NodeSight → AskEntry → Option ProposalKind
+kind_beside None node e = if nat_le 1 e.wanted then kind_by_room node e else None
+kind_beside (Some r) node e = if is_for e.app e.ask.key r && fits e.ask.resource node.free then Some Grant else None
+
+-- the kind for which a node has room: a grant or a reservation where it holds no reservation, a grant where it holds the ask's own
+abbrev pub room_kind : NodeSight → AskEntry → Option ProposalKind
+room_kind node e = kind_beside node.reservation node e
+
+-- the room of the node's reservation, 0 of each of K resources where it holds none
+abbrev pub room_back : ℕ → NodeSight → List ℕ
+room_back K node = option_map_or (λ r. r.resource) node.reservation (zeros K)
+
+-- whether another container may be live, and has a number
+abbrev pub has_numbers : Seen → Bool
+has_numbers seen = nat_lt seen.live live_max && nat_lt seen.next_container number_end
+
+-- whether the queues and the user of an ask stay within their limits, with old taken away and the ask's resource added
+abbrev pub is_in_limits : ℕ → Seen → AskEntry → List ℕ → Bool
+is_in_limits K seen e old = holds_of (λ app. is_none (over_limit K app.position app.user old e.ask.resource seen.rows)) (slice_get seen.apps e.index)
+
+-- the index of the node that is so many after the first in a ring
+abbrev pub ring_index : ℕ → ℕ → ℕ → ℕ
+ring_index first turn count = if nat_lt turn (count - first) then first + turn else turn - (count - first)
+
+-- a node of a snapshot
+abbrev pub IsSeenNode : ℕ → Seen → NodeSight → Type 0
+IsSeenNode K seen node = seen_node (sight_in K seen) node.number ≡ Some node
+
+module _ {K : ℕ} where
+  -- the kind of proposal of the ask that is admissible on the node; none where neither kind is
+  abbrev pub IsAdmittedAs : Sight K → ℕ → AskEntry → Option ProposalKind → Type 0
+  IsAdmittedAs sight node e None = (kind : ProposalKind) → ¬ IsAdmissible sight (proposal_of kind node e)
+  IsAdmittedAs sight node e (Some kind) = IsAdmissible sight (proposal_of kind node e)
+
+-- a node has one choice, and so has a starting node
+abbrev pub NodeChoiceIsUnique : Type 0
+NodeChoiceIsUnique = (K : ℕ) (sight : Sight K) (n : ℕ) (a b : Option NodeProposal) → IsNodeChoice sight n a → IsNodeChoice sight n b → a ≡ b
+
+abbrev pub ChoiceFromIsUnique : Type 0
+ChoiceFromIsUnique = (K : ℕ) (sight : Sight K) (start : ℕ) (a b : Option NodeProposal) → IsChoiceFrom sight start a → IsChoiceFrom sight start b → a ≡ b

@@ -1,0 +1,153 @@
+//! Whether an ask may be proposed on a node, and as what.
+ghost use Rattle.std.specs.Prelude.{◌≡◌, ◌&&◌, ◌||◌, ◌∷◌, [], bytes_eq};
+ghost use Rattle.cap_vector.specs.Vector.{IsResource};
+ghost use Rattle.cap_model.specs.Amounts.{fits};
+ghost use Rattle.cap_model.specs.Texts.{star};
+ghost use Rattle.cap_model.specs.Flat.{is_for};
+ghost use Rattle.cap_model.specs.Admission.{takes_place};
+ghost use Rattle.cap_tree.specs.Rows.{AreRows};
+ghost use Rattle.cap_copy.specs.Snapshot.{IsAskEntry, sight_in};
+ghost use Rattle.cap_propose.specs.Sizes.{SnapshotFitsInMemory};
+ghost use Rattle.cap_propose.specs.Proposing.{IsAdmittedAs, IsSeenNode, has_numbers, is_in_limits, kind_by_room, room_back, room_kind};
+
+use cap_copy::{SeenAsk, SeenNode, Snapshot};
+use cap_model::{LIVE_MAX, NUMBER_END, ProposalKind, Reservation, ShortText};
+use cap_vector::{Resource, fits};
+use std::alloc::Allocator;
+
+/// What the ask may be proposed as on the node: a grant, or else a reservation. `None` exactly where neither is admissible there.
+pub(crate) fn admits<const K: usize, B: Allocator + Copy>(
+    snapshot: &Snapshot<K, B>,
+    node: &SeenNode<K>,
+    ask: &SeenAsk<K>,
+) -> Option<ProposalKind>
+    requires fits { SnapshotFitsInMemory K.row B.row B.Allocator }
+    requires node { IsSeenNode K snapshot.now node.now }
+    requires ask { IsAskEntry K snapshot.now ask.now }
+    ensures { IsAdmittedAs (sight_in K snapshot.now) node.now.number ask.now result }
+{
+    let Some(kind) = room_kind(node, ask) else {
+        return None;
+    };
+    if !suits(node, ask) {
+        return None;
+    }
+    if !has_numbers(snapshot) {
+        return None;
+    }
+    if !is_in_limits(snapshot, ask, &room_back(node)) {
+        return None;
+    }
+    Some(kind)
+}
+
+/// The kind of proposal for which the node has room. Where it holds a reservation, that is a grant for the same application and
+/// key alone.
+fn room_kind<const K: usize>(node: &SeenNode<K>, ask: &SeenAsk<K>) -> Option<ProposalKind>
+    ensures { result ≡ room_kind node.now ask.now }
+{
+    match node.reservation() {
+        Some(reservation) => {
+            if is_for(&reservation, ask) && fits_free(node, ask) {
+                Some(ProposalKind::Grant)
+            } else {
+                None
+            }
+        }
+        None => {
+            if ask.wanted() >= 1 {
+                kind_by_room(node, ask)
+            } else {
+                None
+            }
+        }
+    }
+}
+
+/// The kind of proposal for which a node without a reservation has room.
+fn kind_by_room<const K: usize>(node: &SeenNode<K>, ask: &SeenAsk<K>) -> Option<ProposalKind>
+    ensures { result ≡ kind_by_room node.now ask.now }
+{
+    if fits_free(node, ask) {
+        Some(ProposalKind::Grant)
+    } else if fits_total(node, ask) {
+        Some(ProposalKind::Reserve)
+    } else {
+        None
+    }
+}
+
+/// Whether what is asked for fits what the node has left.
+fn fits_free<const K: usize>(node: &SeenNode<K>, ask: &SeenAsk<K>) -> bool
+    ensures { result ≡ fits ask.now.ask.resource node.now.free }
+{
+    fits(&ask.ask().resource(), node.free())
+}
+
+/// Whether what is asked for fits what the node has in all.
+fn fits_total<const K: usize>(node: &SeenNode<K>, ask: &SeenAsk<K>) -> bool
+    ensures { result ≡ fits ask.now.ask.resource node.now.total }
+{
+    fits(&ask.ask().resource(), node.total())
+}
+
+/// Whether the reservation is for the ask's application and key.
+fn is_for<const K: usize>(reservation: &Reservation<K>, ask: &SeenAsk<K>) -> bool
+    ensures { result ≡ is_for ask.now.app ask.now.ask.key reservation.now }
+{
+    reservation.app() == ask.app() && reservation.key().is_same(&ask.ask().key())
+}
+
+/// Whether the ask's place is anywhere, the node's host or its rack.
+fn suits<const K: usize>(node: &SeenNode<K>, ask: &SeenAsk<K>) -> bool
+    ensures { result ≡ takes_place ask.now.ask.place node.now }
+{
+    takes_place(&ask.ask().place(), node.host(), node.rack())
+}
+
+/// Whether a place is anywhere (`*`), the host or the rack.
+fn takes_place(place: &ShortText, host: &ShortText, rack: &ShortText) -> bool
+    ensures { result ≡ (bytes_eq place.now (star ∷ []) || bytes_eq place.now host.now
+        || bytes_eq place.now rack.now) }
+{
+    let place = place.as_bytes();
+    place == b"*".as_slice() || place == host.as_bytes() || place == rack.as_bytes()
+}
+
+/// Whether another container may be live, and there is a number for it.
+fn has_numbers<const K: usize, B: Allocator + Copy>(snapshot: &Snapshot<K, B>) -> bool
+    ensures { result ≡ has_numbers snapshot.now }
+{
+    snapshot.live() < LIVE_MAX && snapshot.next_container() < NUMBER_END
+}
+
+/// The room of the node's reservation, in MiB and vcores: 0 of each where it holds none.
+fn room_back<const K: usize>(node: &SeenNode<K>) -> Resource<K>
+    ensures { result ≡ room_back K node.now }
+{
+    match node.reservation() {
+        Some(reservation) => reservation.resource(),
+        None => Resource::zero(),
+    }
+}
+
+/// Whether the queues from `root` down to the ask's leaf stay within their maximum capacities and its user within the user limit,
+/// with `old` taken away and what is asked for added, in MiB and vcores.
+fn is_in_limits<const K: usize, B: Allocator + Copy>(
+    snapshot: &Snapshot<K, B>,
+    ask: &SeenAsk<K>,
+    old: &Resource<K>,
+) -> bool
+    requires fits { SnapshotFitsInMemory K.row B.row B.Allocator }
+    requires ask { IsAskEntry K snapshot.now ask.now }
+    ensures value { result ≡ is_in_limits K snapshot.now ask.now old.now }
+    ensures rows { AreRows snapshot.now.rows }
+{
+    let app = snapshot.app(ask.index());
+    let tree = snapshot.tree();
+    let resource = ask.ask().resource();
+    match tree.accept(app.position(), app.user(), old, &resource) {
+        Ok(()) => true,
+        Err(_) => false,
+    }
+}

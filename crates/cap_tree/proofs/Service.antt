@@ -1,0 +1,243 @@
+-- The order of service, in a tree and its children.
+use Rattle.std.proofs.Common.{◌≡◌, ◌≢◌, ℕ, zero, suc, ◌+◌, ◌<◌, Bool, true, false, cond, List, [], ◌∷◌, ◌++◌, length, get_or, Option, Some, None, refl, sym, ◌∙◌, ap, arith, map, subst, drop, inl, inr, ◌⊎◌}
+use Rattle.std.specs.Prelude.{MatchOption, bytes_eq}
+use Rattle.std.specs.Option.{option_cmp}
+use Rattle.std.specs.Ordering.{nat_cmp, ordering_then, ordering_reverse, is_gt, is_lt}
+use Rattle.std.specs.declared.cmp.Ordering.{Ordering}
+use Rattle.std.specs.declared.cmp.Ordering.TheVariants.{Less, Equal, Greater}
+use Rattle.std.specs.Cmp.{IsTotalOrder, nat_cmp_is}
+use Rattle.std.specs.Cmp.Lexicographic.{slice_cmp, options_total}
+use Rattle.std.proofs.lemmas.Bool.{cases_lt}
+use Rattle.std.proofs.lemmas.Cmp.{on_total, tied_itself, upto}
+use Rattle.std.proofs.lemmas.List.{get_or_default}
+use Rattle.cap_model.proofs.lists.Members.{IsIn, in_left, in_right, in_map}
+use Rattle.cap_model.specs.Texts.{dot}
+use Rattle.cap_tree.specs.Spot.{Spot, leads_to, along, under, below, spots, item_at, HoldsOfItem, IsPosition}
+use Rattle.cap_tree.specs.Service.{HasPathsOnce, IsTop, items_along, children_at, child_item, is_after, is_before, IsThere, child_cmp, ComesAfter, HasNoneAfter, IsFirstAfter}
+use Rattle.cap_tree.proofs.Spots.{item_at-spots, holds-within}
+use Rattle.cap_tree.proofs.Looking.{along-below, along-root_below}
+use Rattle.cap_tree.proofs.RowPaths.{leads_itself}
+use Rattle.std.proofs.lemmas.Slice.Eq.{bytes_eq-Decides}
+
+module _ {T : Type 0} where
+  -- what is on the way to an item that is there
+
+  pub record IsSome (xs : List T) : Type 0 where
+    pub head : T
+    pub tail : List T
+    pub is : xs ≡ head ∷ tail
+
+  some_along : (p : List ℕ) (ss : List (Spot T)) → IsPosition ss p → IsSome (items_along p ss)
+  some_along p [] h = absurd h
+  some_along p (s ∷ ss) h = by (bytes_eq s.position p) (leads_to s.position p) refl refl h (some_along p ss)
+    where
+      by : (b c : Bool) → bytes_eq s.position p ≡ b → leads_to s.position p ≡ c → HoldsOfItem (λ _. Unit {0}) (cond b (Some s.item) (item_at p ss)) → (IsPosition ss p → IsSome (items_along p ss)) → IsSome (map (λ t. t.item) (cond c (s ∷ along p ss) (along p ss)))
+      by b true eb ec h r = record { head = s.item; tail = items_along p ss; is = refl }
+      by true false eb ec h r = absurd (let l = subst (λ q. leads_to s.position q ≡ true) ((bytes_eq-Decides s.position p).0 eb) (leads_itself s.position) in cc (l, ec))
+      by false false eb ec h r = r h
+
+  items_under : (nm : List ℕ) (i : ℕ) (ss : List (Spot T)) → map (λ s. s.item) (map (under nm i) ss) ≡ map (λ s. s.item) ss
+  items_under nm i [] = refl
+  items_under nm i (s ∷ ss) = ap (λ t. s.item ∷ t) (items_under nm i ss)
+
+  in_below : (nm : List ℕ) (i j n : ℕ) (ks : List (List (Spot T))) (d : List (Spot T)) (s : Spot T) → i ≡ j + n → n < length ks → IsIn s (get_or ks n d) → IsIn (under nm i s) (below nm j ks)
+  in_below nm i j n [] d s e h m = absurd (omega arith)
+  in_below nm i j zero (k ∷ ks) d s e h m =
+      let same : j ≡ i = omega arith in
+      subst (λ x. IsIn (under nm i s) (map (under nm x) k ++ below nm (suc x) ks)) (sym same) (in_left (under nm i s) (map (under nm i) k) (below nm (suc i) ks) (in_map (under nm i) k s m))
+  in_below nm i j (suc n) (k ∷ ks) d s e h m = in_right (under nm i s) (map (under nm j) k) (below nm (suc j) ks) (in_below nm i (suc j) n ks d s (omega arith) (omega arith) m)
+
+  -- what is in a child
+
+  module _ (name : T → List ℕ) (item : T) (kids : List (List (Spot T))) (value : List (Spot T)) (e : spots name item kids ≡ value) where
+    items_at_root : items_along [] value ≡ item ∷ []
+    items_at_root = ap (items_along []) (sym e) ∙ ap (λ ss. item ∷ map (λ s. s.item) ss) (along-root_below (name item) 0 kids)
+
+    module _ (i : ℕ) (kid : List (Spot T)) (within : i < length kids) (is : kid ≡ get_or kids i kid) where
+      kid_is : get_or kids i [] ≡ kid
+      kid_is = get_or_default kids i [] kid within ∙ sym is
+
+      item_in_child : (p : List ℕ) → item_at (i ∷ p) value ≡ item_at p kid
+      item_in_child p = ap (item_at (i ∷ p)) (sym e) ∙ item_at-spots name item i p kids ∙ ap (item_at p) kid_is
+
+      pub children_in_child : (p : List ℕ) → children_at (i ∷ p) value ≡ children_at p kid
+      children_in_child p = λ n j. item_in_child (p ++ j ∷ []) n
+
+      pub top_of_child : (x : T) → IsTop name x kid → item_at (i ∷ []) value ≡ Some x
+      top_of_child x t = item_in_child [] ∙ ap (item_at []) t.is
+
+      items_in_child : (p : List ℕ) → items_along (i ∷ p) value ≡ item ∷ items_along p kid
+      items_in_child p =
+          ap (items_along (i ∷ p)) (sym e)
+          ∙ ap (λ ss. item ∷ map (λ s. s.item) ss) (along-below (name item) i 0 i p kids (omega arith))
+          ∙ ap (λ t. item ∷ t) (items_under (name item) i (along p (get_or kids i [])))
+          ∙ ap (λ k. item ∷ items_along p k) kid_is
+
+      in_child_spot : (s : Spot T) → IsIn s kid → IsIn (under (name item) i s) value
+      in_child_spot s m = subst (IsIn (under (name item) i s)) e (inr (in_below (name item) i 0 i kids kid s (omega arith) within (subst (IsIn s) is m)))
+
+      pub once_in_child : HasPathsOnce value → HasPathsOnce kid
+      once_in_child once s t m n q = ap (drop 1) (once (under (name item) i s) (under (name item) i t) (in_child_spot s m) (in_child_spot t n) (ap (λ x. name item ++ dot ∷ x) q))
+
+    -- which of two is served first
+
+    module _ (order : T → T → Ordering) (total : IsTotalOrder order) where
+      pub record IsServed (a b : List ℕ) (r : Ordering) : Type 0 where
+        pub all : r ≡ slice_cmp order (items_along a value) (items_along b value)
+        pub below : r ≡ slice_cmp order (drop 1 (items_along a value)) (drop 1 (items_along b value))
+
+      both_begin : (a b : List ℕ) (xs ys : List T) (r : Ordering) → items_along a value ≡ item ∷ xs → items_along b value ≡ item ∷ ys → r ≡ slice_cmp order xs ys → IsServed a b r
+      both_begin a b xs ys r ea eb h = record {
+        all = h ∙ sym (ap (λ o. ordering_then o (slice_cmp order xs ys)) (tied_itself total item)) ∙ (λ j. slice_cmp order (sym ea j) (sym eb j));
+        below = h ∙ (λ j. slice_cmp order (drop 1 (sym ea j)) (drop 1 (sym eb j)));
+      }
+
+      child_along : (b : List ℕ) (j : ℕ) (q : List ℕ) → b ≡ j ∷ q → IsPosition value b → IsSome (drop 1 (items_along b value)) × (items_along b value ≡ item ∷ drop 1 (items_along b value))
+      child_along b j q eb h =
+          let there : IsPosition (spots name item kids) (j ∷ q) = subst (λ v. IsPosition v (j ∷ q)) (sym e) (subst (IsPosition value) eb h) in
+          let w = holds-within (λ _. Unit {0}) name item j q kids there in
+          let in_kid : IsPosition (get_or kids j []) q = subst (HoldsOfItem (λ _. Unit {0})) (item_at-spots name item j q kids) there in
+          let s = some_along q (get_or kids j []) in_kid in
+          let whole : items_along b value ≡ item ∷ items_along q (get_or kids j []) = ap (λ x. items_along x value) eb ∙ items_in_child j (get_or kids j []) w (get_or_default kids j [] (get_or kids j []) w) q in
+          let rest : drop 1 (items_along b value) ≡ items_along q (get_or kids j []) = ap (drop 1) whole in
+          (record { head = s.head; tail = s.tail; is = rest ∙ s.is }, whole ∙ ap (λ t. item ∷ t) (sym rest))
+
+      pub served_at_root : (a b : List ℕ) (r : Ordering) → a ≡ [] → IsPosition value b → r ≡ nat_cmp 0 (length b) → IsServed a b r
+      served_at_root a [] r ea h er = both_begin a [] [] [] r (ap (λ x. items_along x value) ea ∙ items_at_root) items_at_root er
+      served_at_root a (j ∷ q) r ea h er =
+          let c = child_along (j ∷ q) j q refl h in
+          both_begin a (j ∷ q) [] (drop 1 (items_along (j ∷ q) value)) r (ap (λ x. items_along x value) ea ∙ items_at_root) c.1 (er ∙ sym (nat_cmp_is 0 (length (j ∷ q)) Less (omega arith)) ∙ sym (ap (slice_cmp order []) c.0.is))
+
+      pub served_above : (a b : List ℕ) (i : ℕ) (p : List ℕ) (r : Ordering) → a ≡ i ∷ p → b ≡ [] → IsPosition value a → r ≡ Greater → IsServed a b r
+      served_above a b i p r ea eb h er =
+          let c = child_along a i p ea h in
+          both_begin a b (drop 1 (items_along a value)) [] r c.1 (ap (λ x. items_along x value) eb ∙ items_at_root) (er ∙ sym (ap (λ xs. slice_cmp order xs []) c.0.is))
+
+      pub served_in_child : (a b : List ℕ) (i j : ℕ) (p q : List ℕ) (kid : List (Spot T)) (r : Ordering) → a ≡ i ∷ p → b ≡ j ∷ q → i ≡ j → i < length kids → kid ≡ get_or kids i kid →
+          r ≡ slice_cmp order (items_along p kid) (items_along q kid) → IsServed a b r
+      served_in_child a b i j p q kid r ea eb same w k h =
+          both_begin a b (items_along p kid) (items_along q kid) r
+          (ap (λ x. items_along x value) ea ∙ items_in_child i kid w k p)
+          (ap (λ x. items_along x value) (eb ∙ ap (λ x. x ∷ q) (sym same)) ∙ items_in_child i kid w k q) h
+
+      first_decides : (o p : Ordering) → o ≢ Equal → o ≡ ordering_then o p
+      first_decides Less p h = refl
+      first_decides Equal p h = absurd (h refl)
+      first_decides Greater p h = refl
+
+      pub served_apart : ((x y : T) → order x y ≡ Equal → name x ≡ name y) → HasPathsOnce value → (a b : List ℕ) (i j : ℕ) (p q : List ℕ) (kid other : List (Spot T)) (x y : T) (r : Ordering) → a ≡ i ∷ p → b ≡ j ∷ q → i ≢ j →
+          i < length kids → kid ≡ get_or kids i kid → IsTop name x kid → j < length kids → other ≡ get_or kids j other → IsTop name y other → r ≡ order x y → IsServed a b r
+      served_apart names once a b i j p q kid other x y r ea eb apart w k t v l u er =
+          let xs = map (λ s. s.item) (along p (below (name x) 0 t.kids)) in
+          let ys = map (λ s. s.item) (along q (below (name y) 0 u.kids)) in
+          let first : items_along a value ≡ item ∷ x ∷ xs = ap (λ z. items_along z value) ea ∙ items_in_child i kid w k p ∙ ap (λ z. item ∷ items_along p z) t.is in
+          let second : items_along b value ≡ item ∷ y ∷ ys = ap (λ z. items_along z value) eb ∙ items_in_child j other v l q ∙ ap (λ z. item ∷ items_along q z) u.is in
+          let differ : order x y ≢ Equal = λ h.
+          (let m = in_child_spot i kid w k (record { position = []; path = name x; item = x }) (subst (IsIn _) (sym t.is) (inl refl)) in
+          let n = in_child_spot j other v l (record { position = []; path = name y; item = y }) (subst (IsIn _) (sym u.is) (inl refl)) in
+          apart (ap (λ z. get_or z 0 0) (once _ _ m n (ap (λ z. name item ++ dot ∷ z) (names x y h))))) in
+          both_begin a b (x ∷ xs) (y ∷ ys) r first second (er ∙ first_decides (order x y) (slice_cmp order xs ys) differ)
+
+-- the child with that index, none where none is named
+abbrev pub named : {T : Type 0} → (ℕ → Option T) → Option ℕ → Option T
+named child None = None
+named child (Some i) = child i
+
+pub child_named : {T : Type 0} (ss : List (Spot T)) (a : Option ℕ) → child_item ss a ≡ named (children_at [] ss) a
+child_named ss None = refl
+child_named ss (Some i) = refl
+
+-- the next of the children, one after the other
+
+module _ {T : Type 0} (order : T → T → Ordering) (total : IsTotalOrder order) (child : ℕ → Option T) (after : Option ℕ) where
+  -- of the first so many
+  abbrev pub IsFirstOf : ℕ → Option ℕ → Type 0
+  IsFirstOf k None = (j : ℕ) → j < k → IsThere order child j → ¬ ComesAfter order child after j
+  IsFirstOf k (Some n) = (n < k) × IsThere order child n × ComesAfter order child after n × ((j : ℕ) → j < k → IsThere order child j → ComesAfter order child after j → is_gt (child_cmp order child n j) ≡ false)
+
+  order_total : IsTotalOrder (child_cmp order child)
+  order_total = on_total child (options_total total)
+
+  less_is : (o : Ordering) → is_lt o ≡ true → o ≡ Less
+  less_is Less h = refl
+  less_is Equal h = absurd (cc h)
+  less_is Greater h = absurd (cc h)
+
+  not_less : (o : Ordering) → is_lt o ≡ false → o ≡ Less → ⊥
+  not_less Less h e = absurd (cc h)
+  not_less Equal h e = absurd (cc e)
+  not_less Greater h e = absurd (cc e)
+
+  module _ (k : ℕ) (x : T) (is : child k ≡ Some x) where
+    there : IsThere order child k
+    there = subst (HoldsOfItem (λ _. Unit {0})) (sym is) tt
+
+    comes_after : (a : Option ℕ) → is_after order x (named child a) ≡ true → ComesAfter order child a k
+    comes_after None h = tt
+    comes_after (Some last) h = by (child last) refl h
+      where
+        by : (o : Option T) → child last ≡ o → is_after order x o ≡ true → option_cmp order (child last) (child k) ≡ Less
+        by None eo h = λ i. option_cmp order (eo i) (is i)
+        by (Some l) eo h = (λ i. option_cmp order (eo i) (is i)) ∙ less_is (order l x) h
+
+    comes_not : (a : Option ℕ) → is_after order x (named child a) ≡ false → ¬ ComesAfter order child a k
+    comes_not None h = absurd (cc h)
+    comes_not (Some last) h = by (child last) refl h
+      where
+        by : (o : Option T) → child last ≡ o → is_after order x o ≡ false → option_cmp order (child last) (child k) ≡ Less → ⊥
+        by None eo h c = absurd (cc h)
+        by (Some l) eo h c = not_less (order l x) h (sym (λ i. option_cmp order (eo i) (is i)) ∙ c)
+
+    more_cases : (j : ℕ) → j < k + 1 → (j < k) ⊎ (j ≡ k)
+    more_cases j h = elim (cases_lt j k) [ inl l ↦ inl l | inr g ↦ inr (omega arith) ]
+
+    -- it comes before the one that was first so far
+    pub taken : (next : Option ℕ) → is_after order x (named child after) ≡ true → is_before order x (named child next) ≡ true → IsFirstOf k next → IsFirstOf (k + 1) (Some k)
+    taken next a b so_far = (omega arith, there, comes_after after a, λ j l t c. least next b so_far j t c (more_cases j l))
+      where
+        itself : (j : ℕ) → j ≡ k → is_gt (child_cmp order child k j) ≡ false
+        itself j e = ap (λ i. is_gt (child_cmp order child k i)) e ∙ ap is_gt (tied_itself order_total k)
+
+        sooner : (n : ℕ) → IsThere order child n → is_before order x (child n) ≡ true → is_gt (child_cmp order child k n) ≡ false
+        sooner n t b = by (child n) refl t b
+          where
+            by : (o : Option T) → child n ≡ o → HoldsOfItem (λ _. Unit {0}) o → is_before order x o ≡ true → is_gt (option_cmp order (child k) (child n)) ≡ false
+            by None eo t b = absurd t
+            by (Some y) eo t b = ap is_gt ((λ i. option_cmp order (is i) (eo i)) ∙ less_is (order x y) b)
+
+        least : (o : Option ℕ) → is_before order x (named child o) ≡ true → IsFirstOf k o → (j : ℕ) → IsThere order child j → ComesAfter order child after j → (j < k) ⊎ (j ≡ k) → is_gt (child_cmp order child k j) ≡ false
+        least o b s j t c (inr e) = itself j e
+        least None b s j t c (inl l) = absurd (s j l t c)
+        least (Some n) b s j t c (inl l) = upto order_total k n j (sooner n s.1 b) (s.3 j l t c)
+
+    -- it does not come after that one
+    pub passed : (next : Option ℕ) → is_after order x (named child after) ≡ false → IsFirstOf k next → IsFirstOf (k + 1) next
+    passed None a s = λ j l t c. elim (more_cases j l) [ inl m ↦ s j m t c | inr e ↦ comes_not after a (subst (ComesAfter order child after) e c) ]
+    passed (Some n) a s =
+        let w = s.0 in
+        (omega (arith, w), s.1, s.2, λ j l t c. elim (more_cases j l) [ inl m ↦ s.3 j m t c | inr e ↦ absurd (comes_not after a (subst (ComesAfter order child after) e c)) ])
+
+    -- it does not come before the one that was first so far
+    pub kept : (next : Option ℕ) → is_before order x (named child next) ≡ false → IsFirstOf k next → IsFirstOf (k + 1) next
+    kept None b s = absurd (cc b)
+    kept (Some n) b s =
+        let w = s.0 in
+        (omega (arith, w), s.1, s.2, λ j l t c. elim (more_cases j l) [ inl m ↦ s.3 j m t c | inr e ↦ ap (λ i. is_gt (child_cmp order child n i)) e ∙ later (child n) refl s.1 b ])
+      where
+        turned : (o : Ordering) → is_lt o ≡ false → is_gt (ordering_reverse o) ≡ false
+        turned Less h = absurd (cc h)
+        turned Equal h = refl
+        turned Greater h = refl
+
+        later : (o : Option T) → child n ≡ o → HoldsOfItem (λ _. Unit {0}) o → is_before order x o ≡ false → is_gt (child_cmp order child n k) ≡ false
+        later None eo t b = absurd t
+        later (Some y) eo t b = ap is_gt ((λ i. option_cmp order (eo i) (is i)) ∙ total.antisymm y x) ∙ turned (order x y) b
+
+  -- of all
+  pub of_all : (k : ℕ) (next : Option ℕ) → ((j : ℕ) → IsThere order child j → j < k) → IsFirstOf k next → MatchOption next (HasNoneAfter order child after) (IsFirstAfter order child after)
+  of_all k None within s = λ j t c. s j (within j t) t c
+  of_all k (Some n) within s = record { there = s.1; later = s.2; first = λ j t c. s.3 j (within j t) t c }
+
+  pub named_there : (k : ℕ) (next : Option ℕ) → IsFirstOf k next → (n : ℕ) → next ≡ Some n → IsThere order child n
+  named_there k None s n e = absurd (cc e)
+  named_there k (Some m) s n e = subst (IsThere order child) (cc e) s.1
