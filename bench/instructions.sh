@@ -1,6 +1,7 @@
 #!/usr/bin/env bash
-# Counts the instructions of four works by valgrind's callgrind, from the difference of two sizes: a ClusterInfo on one of 16 connections, a heartbeat, an
-# allocate of 20 asks among 256 applications, and a queue that is opened from its lines and shown. Prints them a request, with those that clear and copy
+# Counts the instructions of six works by valgrind's callgrind, from the difference of two sizes: a ClusterInfo on one of 16 connections, a heartbeat, an
+# allocate of 20 asks among 256 applications, a queue that is opened from its lines and shown, a turn of a worker (it copies, proposes and commits) in a cluster of
+# 512 nodes, 64 leaf queues and 256 applications, and one of 32 workers that all copy the same state first. Prints them a request, with those that clear and copy
 # memory apart, of which callgrind counts about one a byte; fails where both together are past the bound beside each. Needs valgrind, a package of most
 # distributions. Counts depend a little on the C library and the processor.
 . "$(dirname "${BASH_SOURCE[0]}")/common.sh"
@@ -69,6 +70,40 @@ queue() {
     }'
 }
 
+# 512 nodes, and 256 applications in 64 leaf queues, each with an ask that stays wanted; then n turns of the first of so many workers, or one turn of each
+turns() {
+  awk -v n="$1" -v workers="$2" '
+    function text(path,  i, hex) {
+      for (i = 1; i <= length(path); i++) hex = hex sprintf("%02x", index(ascii, substr(path, i, 1)) + 31)
+      return sprintf("%02x", length(path)) hex
+    }
+    function request(body) { printf "bytes 1 %08x%s\n", length(body) / 2, body }
+    BEGIN {
+      for (i = 32; i < 127; i++) ascii = ascii sprintf("%c", i)
+      for (i = 1; i <= 64; i++) leaves = leaves (i > 1 ? "," : "") "q" i
+      print "conf yarn.scheduler.capacity.root.queues=" leaves
+      for (i = 1; i <= 64; i++) {
+        print "conf yarn.scheduler.capacity.root.q" i ".capacity=[memory=65536,vcores=64]"
+        print "conf yarn.scheduler.capacity.root.q" i ".user-limit-factor=16"
+      }
+      print "open 1"
+      for (i = 1; i <= 512; i++) request(sprintf("0105%08x", i) text("n" i) text("/r1") sprintf("%016x%016x", 65536, 64))
+      for (i = 1; i <= 256; i++) {
+        request(sprintf("0101%08x", i) text("root.q" ((i - 1) % 64 + 1)) text("u1"))
+        request(sprintf("0102%08x%016x", i, i))
+        request(sprintf("0103%08x%016x%08x0001%08x%016x%08x%016x%016x", i, i, 0, 1, 0, 9999, 1024, 1) "012a0000")
+      }
+      for (i = 0; i < n; i++) {
+        for (w = 0; w < workers; w++) print "copy " w
+        for (w = 0; w < workers; w++) print "propose " w " " i + w
+        for (w = 0; w < workers; w++) print "commit " w
+      }
+    }'
+}
+turn() { turns "$1" 1; }
+# n turns of 32 workers that all copy the same state
+turn_of_32() { turns $(($1 / 32)) 32; }
+
 broken=0
 # measure WORK SIZE BOUND ANSWERS: of a work at a size and at twice the size, where so many lines of output match
 measure() {
@@ -87,4 +122,6 @@ measure cluster_info 2000 3500 '^out [0-9]* 00000033010a'
 measure heartbeat 2000 4000 '^out 1 000000110106[0-9a-f]\{8\}00'
 measure allocate 1024 45000 '^out 1 0000000f0103[0-9a-f]\{8\}00'
 measure queue 480 40000 '^out 1 000000[0-9a-f]\{2\}0108[0-9a-f]\{8\}00'
+measure turn 512 250000 '^done 0 grant'
+measure turn_of_32 512 250000 '^done [0-9]* grant'
 exit "$broken"

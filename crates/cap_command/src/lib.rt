@@ -1,6 +1,8 @@
 //! The command line of the program: words and streams in, exit status out.
 #![tactic(auto)]
 
+mod input;
+mod texts;
 mod words;
 
 pub use cap_daemon::Counted;

@@ -1,16 +1,19 @@
 ghost use Rattle.std.specs.Prelude.{◌≡◌, ◌<◌};
 ghost use Rattle.cap_session.specs.Counted.{state_of, CanCount};
 
-use cap_daemon::{Counted, replay, write_out};
+use crate::texts::{check_settings, explain_lines, print};
+use cap_daemon::{Counted, replay};
 use clap::error::ErrorKind;
 use clap::{Command, Error};
 use std::alloc::{AllocError, Global};
 use std::convert::AsStr;
 use std::io::{Read, Write};
 
-/// Runs the program on the words of its command line, of which the first is its own name. The result is the exit status: 0 done;
-/// 1 a stream failed; 2 bad words, or what `replay` answers to a script; 3 an allocation failed. The text for bad words is left in
-/// `complaint`, for the error stream; help and the version are written to the writer.
+/// Runs the program on the words of its command line, of which the first is its own name: `replay` plays a script, `check` looks at
+/// property lines, `explain` puts words under the lines of a script or of what `replay` printed. The result is the exit status: 0
+/// done; 1 a stream failed; 2 bad words, a fault of the settings, or what `replay` answers to a script; 3 an allocation failed. The text for
+/// bad words, and for a fault that `check` finds, is left in `complaint`, for the error stream; help and the version are written to
+/// the writer.
 pub fn run<'a, S: AsStr, R: Read, W: Write>(
     alloc: Global,
     words: &'a [S],
@@ -27,8 +30,12 @@ pub fn run<'a, S: AsStr, R: Read, W: Write>(
         return 3;
     };
     match command.try_get_matches_from(words) {
-        Ok(_) => replay(alloc, reader, writer),
-        Err(error) => explain(alloc, &error, writer, complaint),
+        Ok(matches) => match matches.subcommand_name() {
+            Some("check") => check_settings(alloc, reader, writer, complaint),
+            Some("explain") => explain_lines(alloc, reader, writer),
+            _ => replay(alloc, reader, writer),
+        },
+        Err(error) => report(alloc, &error, writer, complaint),
     }
 }
 
@@ -37,17 +44,25 @@ fn command_line<'a>(alloc: Global) -> Result<Command<'a>, Error> {
     let replay = Command::new(alloc, "replay").about(
         "Plays a script of connections from standard input, and prints what they are answered",
     );
+    let check = Command::new(alloc, "check").about(
+        "Reads property lines from standard input, and prints a table of their queues",
+    );
+    let explain = Command::new(alloc, "explain").about(
+        "Reads a script or what replay printed from standard input, and puts words under its lines",
+    );
     Ok(
         Command::new(alloc, "capsched")
             .version("0.1.0")
             .about("The allocation engine of a YARN cluster: a proved Capacity Scheduler")
             .subcommand_required(true)
-            .subcommand(replay)?,
+            .subcommand(replay)?
+            .subcommand(check)?
+            .subcommand(explain)?,
     )
 }
 
 /// Writes help and the version to the writer, and leaves the text for bad words in `complaint`. The result is the exit status.
-fn explain<W: Write>(
+fn report<W: Write>(
     alloc: Global,
     error: &Error,
     writer: &mut Counted<W>,
@@ -69,8 +84,5 @@ fn explain<W: Write>(
             Err(_) => 3,
         };
     }
-    match write_out(writer, text.as_bytes()) {
-        Ok(()) => 0,
-        Err(_) => 1,
-    }
+    print(writer, text.as_bytes())
 }

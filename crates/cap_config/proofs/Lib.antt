@@ -23,3 +23,5 @@ pub mod RowBounds
 pub mod Listing
 pub mod Fitting
 pub mod Fitted
+pub mod LineSteps
+pub mod Missing

@@ -11,3 +11,5 @@ pub mod Rows
 pub mod First
 pub mod Laws
 pub mod TreeLaws
+pub mod LineKeys
+pub mod Details

@@ -36,7 +36,7 @@ pub fn read_lines<'t>(alloc: Global, text: &'t [u8]) -> Result<Vec<Entry<'t>>, C
 }
 
 /// Whether the line says nothing: it is empty, or a comment.
-fn is_passed_over(bytes: &[u8]) -> bool
+pub fn is_passed_over(bytes: &[u8]) -> bool
     ensures { result ≡ is_passed_over bytes.now }
 {
     match bytes {
@@ -103,7 +103,8 @@ fn parts_of(bytes: &[u8]) -> Option<(&[u8], &[u8])>
     }
 }
 
-fn all_printable(bytes: &[u8]) -> bool
+/// Whether each byte is printable ASCII.
+pub fn all_printable(bytes: &[u8]) -> bool
     ensures { result ≡ list_all is_printable bytes.now }
 {
     bytes.iter().all(|byte| 0x20 <= *byte && *byte <= 0x7e)

@@ -56,7 +56,7 @@ fn exceeds_limit(amounts: &Resource<2>, limit: Option<Resource<2>>) -> bool
 }
 
 /// Whether an amount is more than the other's.
-fn exceeds(a: [u64; 2], b: [u64; 2]) -> bool
+pub fn exceeds(a: [u64; 2], b: [u64; 2]) -> bool
     ensures { result ≡ exceeds a b }
 {
     b[0] < a[0] || b[1] < a[1]

@@ -2,6 +2,7 @@
 #![tactic(auto)]
 
 mod config;
+mod detail;
 mod entry;
 mod fault;
 mod first_pass;
@@ -9,6 +10,7 @@ mod guarantees;
 mod index;
 mod key;
 pub mod laws;
+mod line_keys;
 mod names;
 mod queues;
 mod reading;
@@ -18,5 +20,8 @@ mod setting;
 mod value;
 
 pub use config::{Config, QueueRow};
+pub use detail::{Detail, Limit, detail_of};
 pub use fault::{ConfigFault, ConfigFaultKind};
+pub use line_keys::line_key;
 pub use reading::read_config;
+pub use setting::Setting;

@@ -34,7 +34,7 @@ pub fn is_queue(index: &Index, path: &[u8]) -> bool
 }
 
 /// Whether a queue lists this name.
-fn lists(index: &Index, path: &[u8], name: &[u8]) -> bool
+pub fn lists(index: &Index, path: &[u8], name: &[u8]) -> bool
     requires { IsIndex index.now }
     ensures { result ≡ contains_bytes (names_below index.now.entries.now path.now) name.now }
 {
@@ -107,7 +107,7 @@ pub fn guaranteed(index: &Index, path: &[u8]) -> Resource<2>
 }
 
 /// The amounts that an entry sets.
-fn amounts_at(entry: Option<&Entry>) -> Option<Resource<2>>
+pub fn amounts_at(entry: Option<&Entry>) -> Option<Resource<2>>
     ensures { result ≡ amounts_at None (option_copied entry.entry) }
 {
     match entry {

@@ -1,6 +1,6 @@
 ghost use Rattle.std.specs.Prelude.{◌≡◌};
 /// A property: of one queue, or of the whole cluster.
-#[derive(Clone, Copy)]
+#[derive(Clone, Copy, Debug)]
 pub enum Setting {
     /// `yarn.scheduler.capacity.<queue-path>.queues`
     Queues,

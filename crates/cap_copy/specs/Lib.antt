@@ -1,1 +1,4 @@
+pub mod Entries
+pub mod Sizes
 pub mod Snapshot
+pub mod Taking

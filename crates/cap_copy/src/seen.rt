@@ -9,7 +9,6 @@ use std::alloc::Allocator;
 use std::marker::Model;
 
 /// A registered application.
-#[derive(Drop)]
 pub struct SeenApp<B: Allocator> {
     pub(crate) number: u64,
     pub(crate) user: ShortText,
@@ -22,6 +21,16 @@ impl<B: Allocator> Model for SeenApp<B> {
     ghost Value = { AppEntry };
 
     ghost view = { λ a. record { number = a.number; user = a.user; position = a.position.items } };
+}
+
+impl<B: Allocator> Drop for SeenApp<B> {
+    fn drop(self) {
+        let SeenApp {
+            number: _,
+            user: _,
+            position: _,
+        } = self;
+    }
 }
 
 impl<B: Allocator> SeenApp<B> {

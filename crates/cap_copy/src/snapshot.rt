@@ -13,12 +13,12 @@ use std::marker::Model;
 /// are in the order in which they are served. It is a value of its own, and no change of the cluster is seen in it.
 #[derive(Drop)]
 pub struct Snapshot<const K: usize, B: Allocator> {
-    tree: QueueTree<K, B>,
-    apps: Vec<SeenApp<B>, B>,
-    asks: Vec<SeenAsk<K>, B>,
-    nodes: Vec<SeenNode<K>, B>,
-    live: usize,
-    next_container: u64,
+    pub(crate) tree: QueueTree<K, B>,
+    pub(crate) apps: Vec<SeenApp<B>, B>,
+    pub(crate) asks: Vec<SeenAsk<K>, B>,
+    pub(crate) nodes: Vec<SeenNode<K>, B>,
+    pub(crate) live: usize,
+    pub(crate) next_container: u64,
 }
 
 impl<const K: usize, B: Allocator> Model for Snapshot<K, B> {

@@ -1,5 +1,5 @@
 -- Which commands a line can be.
-use Rattle.std.proofs.Common.{◌≡◌, ℕ, Bool, true, false, cond, eqb, List, [], ◌∷◌, ◌++◌, refl, sym, ap, ◌∙◌, subst, arith, inl, inr, length, take, drop, take-append-drop}
+use Rattle.std.proofs.Common.{◌≡◌, ℕ, Bool, true, false, cond, eqb, List, [], ◌∷◌, ◌++◌, refl, sym, ap, ◌∙◌, subst, arith, inl, inr, length, get_or, take, drop, take-append-drop}
 use Rattle.std.specs.Cmp.Lexicographic.{pointwise, same_text}
 use Rattle.std.specs.Prelude.{nat_eq, ◌||◌}
 use Rattle.std.specs.List.{list_all}
@@ -10,7 +10,7 @@ use Rattle.cap_text.specs.Pieces.{lacks, IsCut}
 use Rattle.cap_text.proofs.Cuts.{one_cut}
 use Rattle.cap_text.proofs.Digits.{number_digits}
 use Rattle.cap_daemon.specs.declared.command.Command.{Command}
-use Rattle.cap_daemon.specs.declared.command.Command.TheVariants.{Nothing, Conf, Open, Bytes, End}
+use Rattle.cap_daemon.specs.declared.command.Command.TheVariants.{Nothing, Conf, Open, Bytes, End, Copy, Propose, Commit}
 use denote.Ref.{Bor}
 use Rattle.cap_daemon.specs.Script.{IsNumber, IsCommand, IsPiece, IsOpeningLine, IsLaterLine, IsStep, MayOpen, IsStepOrComment, MayStep}
 
@@ -25,17 +25,20 @@ digits_no_blank (d ∷ digits) h =
 number_no_blank : (digits : List ℕ) (n : ℕ) → IsNumber digits n → lacks 32 digits ≡ true
 number_no_blank digits n is = digits_no_blank digits (number_digits 10 digits n is.spelled)
 
--- what a line asks for shows in its first byte
+-- what a line asks for shows in its first byte, where that begins a comment, and else in its third
 abbrev kind_of : List ℕ → ℕ
 kind_of [] = 0
-kind_of (b ∷ line) = cond (eqb b 35) 0 b
+kind_of (b ∷ line) = cond (eqb b 35) 0 (get_or line 1 0)
 
 abbrev kind : Command → ℕ
 kind Nothing = 0
-kind (Conf property) = 99
-kind (Open n) = 111
-kind (End n) = 101
-kind (Bytes n piece) = 98
+kind (Conf property) = 110
+kind (Open n) = 101
+kind (End n) = 100
+kind (Bytes n piece) = 116
+kind (Copy w) = 112
+kind (Propose w start) = 111
+kind (Commit w) = 109
 
 its_kind : (line : List ℕ) (command : Command) → IsCommand line command → kind_of line ≡ kind command
 its_kind line Nothing (inl empty) = ap kind_of empty
@@ -44,6 +47,9 @@ its_kind line (Conf property) is = ap kind_of is
 its_kind line (Open n) is = ap kind_of is.1
 its_kind line (End n) is = ap kind_of is.1
 its_kind line (Bytes n piece) is = ap kind_of is.1
+its_kind line (Copy w) is = ap kind_of is.1
+its_kind line (Propose w start) is = ap kind_of is.2
+its_kind line (Commit w) is = ap kind_of is.1
 
 one_kind : (line : List ℕ) (command other : Command) → IsCommand line command → IsCommand line other → kind command ≡ kind other
 one_kind line command other is has = sym (its_kind line command is) ∙ its_kind line other has
@@ -62,13 +68,21 @@ no_command line left number piece starts cut none (Bytes n brought) is =
     none n (subst (λ (d : List ℕ). IsNumber d n) (sym (one_piece line number piece n brought whole cut.first is).0) is.2)
 no_command line left number piece starts cut none command is = absurd (omega (arith, ap kind_of starts, its_kind line command is))
 
+-- where no two numbers stand round the first blank of what is proposed, the line asks for nothing
+pub no_proposal : (line left worker start : List ℕ) → line ≡ 112 ∷ 114 ∷ 111 ∷ 112 ∷ 111 ∷ 115 ∷ 101 ∷ 32 ∷ left → IsCut 32 left worker start → ((w s : ℕ) → IsNumber worker w → IsNumber start s → false ≡ true) → (command : Command) → IsCommand line command → false ≡ true
+no_proposal line left worker start starts cut none (Propose w s) is =
+    let same : worker ++ 32 ∷ start ≡ is.0 ++ 32 ∷ is.1 = sym cut.whole ∙ ap (drop 8) (sym starts ∙ is.2) in
+    let one = one_cut 32 (worker ++ 32 ∷ start) worker start is.0 is.1 (record { whole = refl; first = cut.first }) (record { whole = same; first = number_no_blank is.0 w is.3 }) in
+    none w s (subst (λ (d : List ℕ). IsNumber d w) (sym one.0) is.3) (subst (λ (d : List ℕ). IsNumber d s) (sym one.1) is.4)
+no_proposal line left worker start starts cut none command is = absurd (omega (arith, ap kind_of starts, its_kind line command is))
+
 -- a line that begins so
 pub begins_so : (line left prefix : List ℕ) → pointwise nat_eq (take (length prefix) line) prefix ≡ true → left ≡ drop (length prefix) line → line ≡ prefix ++ left
 begins_so line left prefix same e = sym (take-append-drop (length prefix) line) ∙ ap (λ (x : List ℕ). x ++ drop (length prefix) line) (same_text (take (length prefix) line) prefix (sym same)) ∙ ap (λ (x : List ℕ). prefix ++ x) (sym e)
 
 -- the commands that may open a script
 abbrev opens : ℕ → Bool
-opens n = eqb n 0 || eqb n 99
+opens n = eqb n 0 || eqb n 110
 
 may_open : (command : Command) → MayOpen command → opens (kind command) ≡ true
 may_open Nothing may = refl
@@ -76,6 +90,9 @@ may_open (Conf property) may = refl
 may_open (Open n) may = absurd may
 may_open (End n) may = absurd may
 may_open (Bytes n piece) may = absurd may
+may_open (Copy w) may = absurd may
+may_open (Propose w start) may = absurd may
+may_open (Commit w) may = absurd may
 
 no_opening_by : (line : List ℕ) (command : Command) → IsCommand line command → opens (kind command) ≡ false → IsOpeningLine line → ⊥
 no_opening_by line command is other opening =
@@ -87,6 +104,9 @@ may_step (Conf property) may = absurd may
 may_step (Open n) may = refl
 may_step (End n) may = refl
 may_step (Bytes n piece) may = refl
+may_step (Copy w) may = refl
+may_step (Propose w start) may = refl
+may_step (Commit w) may = refl
 
 -- a step is no opening line
 pub step_never_opens : (line : List ℕ) → IsStep line → IsOpeningLine line → ⊥

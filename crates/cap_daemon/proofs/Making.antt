@@ -14,6 +14,7 @@ use Rattle.cap_world.specs.declared.step.Did.{Did}
 use Rattle.cap_world.specs.declared.step.Did.TheVariants as dids
 use Rattle.cap_world.specs.World.{WorldState, Known, Adds}
 use Rattle.cap_world.specs.Steps.{Outcome}
+use Rattle.cap_world.specs.Working.{Tried, made_by}
 use Rattle.cap_world.specs.Making.{Makes}
 use Rattle.cap_daemon.specs.Script.{IsOpeningLine}
 use Rattle.cap_daemon.specs.World.{BringSteps, at_start, passed, brought, IsStepOf}
@@ -49,14 +50,31 @@ feeds_from c piece from to before after more base was is grows feeds = record {
   sent = feeds.sent;
 }
 
+tried_from : (w : ℕ) (old new : WorldState) (before after more base : List (Event 2)) → after ≡ before ++ more → Tried w old new before after → Tried w old new base (base ++ more)
+tried_from w old new before after more base grows tried = record {
+  below = tried.below;
+  was = tried.was;
+  at = tried.at;
+  proposal = tried.proposal;
+  choice = tried.choice;
+  verdict = tried.verdict;
+  is = tried.is;
+  change = tried.change;
+  connections = tried.connections;
+  events = ap (λ (es : List (Event 2)). base ++ es) (append_cancel_left before more (made_by tried.verdict) (sym grows ∙ tried.events));
+}
+
 -- the same step, after other events
 outcome_from : (step : Step) (did : Did) (old new : WorldState) (before after more base : List (Event 2)) → after ≡ before ++ more → Outcome step (Ok did) old new before after → Outcome step (Ok did) old new base (base ++ more)
 outcome_from step dids.Idle old new before after more base grows o = (o.0, o.1, same_events before after more base grows o.2)
-outcome_from (steps.Open c) dids.Done old new before after more base grows o = (o.0, o.1, o.2, same_events before after more base grows o.3)
-outcome_from (steps.End c) dids.Done old new before after more base grows o = (o.0, o.1, same_events before after more base grows o.2)
+outcome_from (steps.Open c) dids.Done old new before after more base grows o = (o.0, o.1, o.2, o.3, same_events before after more base grows o.4)
+outcome_from (steps.End c) dids.Done old new before after more base grows o = (o.0, o.1, o.2, same_events before after more base grows o.3)
 outcome_from (steps.Bytes c piece) dids.Done old new before after more base grows o =
     let fed = o.2 in
-    (o.0, o.1, (fed.0, fed.1, fed.2, fed.3, fed.4, feeds_from c piece.now old.cluster new.cluster before after more base fed.0 fed.1 grows fed.5, fed.6))
+    (o.0, o.1, (fed.0, fed.1, fed.2, fed.3, fed.4, feeds_from c piece.now old.cluster new.cluster before after more base fed.0 fed.1 grows fed.5, fed.6), o.3)
+outcome_from (steps.Copy w) dids.Done old new before after more base grows o = (o.0, same_events before after more base grows o.1)
+outcome_from (steps.Propose w start) dids.Done old new before after more base grows o = (o.0, same_events before after more base grows o.1)
+outcome_from (steps.Commit w) dids.Done old new before after more base grows o = tried_from w old new before after more base grows o
 
 -- a step by the events that the world keeps
 pub outcome_kept : (step : Step) (did : Did) (old new : Known) (before after : List (Event 2)) → Adds old new before after → Outcome step (Ok did) old.sight new.sight before after → Outcome step (Ok did) old.sight new.sight old.events new.events

@@ -8,7 +8,7 @@ use Rattle.cap_config.specs.declared.fault.ConfigFault.{ConfigFault}
 use Rattle.cap_config.specs.First.{first_fault}
 use denote.Ref.{Bor}
 use Rattle.cap_daemon.specs.declared.command.Command.{Command}
-use Rattle.cap_daemon.specs.declared.command.Command.TheVariants.{Nothing, Conf, Open, Bytes, End}
+use Rattle.cap_daemon.specs.declared.command.Command.TheVariants.{Nothing, Conf, Open, Bytes, End, Copy, Propose, Commit}
 use Rattle.cap_daemon.specs.Script.{IsCommand, IsOpeningLine, IsLaterLine, IsStep, IsScript, MayStep, IsStepOrComment}
 use Rattle.cap_daemon.specs.Settings.{property_of, with_line, properties, settings_text, settings_fault}
 use Rattle.cap_world.specs.declared.step.Step.{Step}
@@ -17,7 +17,7 @@ use Rattle.cap_world.specs.declared.step.Did.{Did}
 use Rattle.cap_world.specs.World.{Known, start}
 use Rattle.cap_world.specs.Steps.{Outcome}
 use Rattle.cap_daemon.specs.declared.simulation.Simulation.{Simulation}
-use Rattle.cap_daemon.specs.World.{IsStepFor, IsStepOf, IsOpened, HasPlayed, IsWorldOf, HasPlayedAll, Begins, FailsToBegin, Performs}
+use Rattle.cap_daemon.specs.World.{IsStepFor, IsStepOf, IsOpened, HasPlayed, IsWorldOf, HasPlayedAll, Begins, FailsToBegin, MakesStep, Performs}
 use Rattle.cap_daemon.specs.Progress.{Stands, StopsAtStep}
 use Rattle.cap_daemon.proofs.Commands.{step_never_opens}
 use Rattle.cap_daemon.proofs.Making.{bring_none, bring_no_more, bring_more, makes_more}
@@ -85,6 +85,9 @@ brings_nothing line (Conf property) is may = absurd may
 brings_nothing line (Open n) is may = rw (is.1) refl
 brings_nothing line (End n) is may = rw (is.1) refl
 brings_nothing line (Bytes n piece) is may = rw (is.1) refl
+brings_nothing line (Copy w) is may = rw (is.1) refl
+brings_nothing line (Propose w start) is may = rw (is.2) refl
+brings_nothing line (Commit w) is may = rw (is.1) refl
 
 brings : (line property : List ℕ) → line ≡ 99 ∷ 111 ∷ 110 ∷ 102 ∷ 32 ∷ property → property_of line ≡ Some property
 brings line property is = rw is refl
@@ -161,6 +164,12 @@ may_step (End n) step is = tt
 may_step (Bytes n digits) (steps.Open m) is = absurd is
 may_step (Bytes n digits) (steps.End m) is = absurd is
 may_step (Bytes n digits) (steps.Bytes m piece) is = (is.1, rw is.2 refl)
+may_step (Bytes n digits) (steps.Copy w) is = absurd is
+may_step (Bytes n digits) (steps.Propose w start) is = absurd is
+may_step (Bytes n digits) (steps.Commit w) is = absurd is
+may_step (Copy w) step is = tt
+may_step (Propose w start) step is = tt
+may_step (Commit w) step is = tt
 
 is_later : (line : List ℕ) (command : Command) → IsCommand line command → MayStep command → IsLaterLine line
 is_later line Nothing is may = absurd may
@@ -168,6 +177,9 @@ is_later line (Conf property) is may = absurd may
 is_later line (Open n) is may = (Open n, is, may)
 is_later line (End n) is may = (End n, is, may)
 is_later line (Bytes n piece) is may = (Bytes n piece, is, may)
+is_later line (Copy w) is may = (Copy w, is, may)
+is_later line (Propose w start) is may = (Propose w start, is, may)
+is_later line (Commit w) is may = (Commit w, is, may)
 
 -- the world of these lines, also where it was opened just now
 played_in : (done : List (List ℕ)) (text : List ℕ) (was : Option Known) (now : Known) → text ≡ settings_text (properties done) → IsWorldOf done was → IsOpened text was now → HasPlayed done now
@@ -202,6 +214,10 @@ after_step done line command old new stands is performs =
       gathered = a.same ∙ stands.gathered ∙ sym (unchanged done line none);
       world = rw a.stands (played_step done line performs.step performs.did a.mid a.now none (command, is, performs.asked) a.opening a.made (played_now done old a.mid stands a.opened), λ all. step_never_opens line (command, is, may) (last_opens done line all));
     }
+
+-- the same by the step that was made
+pub after_make : (done : List (List ℕ)) (line : List ℕ) (command : Command) (step : Step) (old new : Simulation) → Stands done old → IsCommand line command → IsStepFor command step → MakesStep step old new → Stands (done ++ line ∷ []) new
+after_make done line command step old new stands is asked makes = after_step done line command old new stands is (record { step = step; did = makes.0; asked = asked; advances = makes.1 })
 
 -- the end of the input
 pub played_at_end : (done : List (List ℕ)) (old new : Simulation) → Stands done old → Begins old new → HasPlayedAll done new.world

@@ -4,7 +4,7 @@ use Rattle.std.specs.List.{All}
 use Rattle.std.specs.Str.Lines.{lines}
 use Rattle.hex.specs.Hex.{decode_of}
 use Rattle.cap_daemon.specs.declared.command.Command.{Command}
-use Rattle.cap_daemon.specs.declared.command.Command.TheVariants.{Nothing, Conf, Open, Bytes, End}
+use Rattle.cap_daemon.specs.declared.command.Command.TheVariants.{Nothing, Conf, Open, Bytes, End, Copy, Propose, Commit}
 use Rattle.cap_text.specs.Numbers.{number_of}
 
 -- 1 to 10 decimal digits spell the number, and it fits a u32
@@ -23,6 +23,9 @@ IsCommand line (Conf property) = line ≡ codes "conf" ++ 32 ∷ property.now
 IsCommand line (Open n) = IsNumbered line (codes "open") n
 IsCommand line (End n) = IsNumbered line (codes "end") n
 IsCommand line (Bytes n piece) = (digits : List ℕ) × (line ≡ codes "bytes" ++ 32 ∷ digits ++ 32 ∷ piece.now) × IsNumber digits n
+IsCommand line (Copy w) = IsNumbered line (codes "copy") w
+IsCommand line (Propose w start) = (digits others : List ℕ) × (line ≡ codes "propose" ++ 32 ∷ digits ++ 32 ∷ others) × IsNumber digits w × IsNumber others start
+IsCommand line (Commit w) = IsNumbered line (codes "commit") w
 
 -- hexadecimal digits of at least one byte
 abbrev pub IsPiece : List ℕ → Type 0
@@ -34,13 +37,16 @@ MayOpen Nothing = Unit {0}
 MayOpen (Conf property) = Unit {0}
 MayOpen _ = ⊥
 
--- the steps of connections
+-- the steps of connections and workers
 abbrev pub MayStep : Command → Type 0
 MayStep Nothing = ⊥
 MayStep (Conf property) = ⊥
 MayStep (Open n) = Unit {0}
 MayStep (End n) = Unit {0}
 MayStep (Bytes n piece) = IsPiece piece.now
+MayStep (Copy w) = Unit {0}
+MayStep (Propose w start) = Unit {0}
+MayStep (Commit w) = Unit {0}
 
 -- from the first step on stand steps, comments and empty lines
 abbrev pub IsStepOrComment : Command → Type 0

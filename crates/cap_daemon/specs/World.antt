@@ -14,7 +14,7 @@ use Rattle.cap_world.specs.Steps.{Outcome}
 use Rattle.cap_world.specs.Making.{Makes}
 use Rattle.cap_daemon.specs.declared.command.Command.{Command}
 use Rattle.cap_daemon.specs.declared.simulation.Simulation.{Simulation}
-use Rattle.cap_daemon.specs.declared.command.Command.TheVariants.{Nothing, Conf, Open, Bytes, End}
+use Rattle.cap_daemon.specs.declared.command.Command.TheVariants.{Nothing, Conf, Open, Bytes, End, Copy, Propose, Commit}
 use Rattle.cap_daemon.specs.Script.{IsCommand, IsOpeningLine}
 use Rattle.cap_daemon.specs.Settings.{properties, settings_text}
 
@@ -22,6 +22,9 @@ use Rattle.cap_daemon.specs.Settings.{properties, settings_text}
 abbrev pub IsPieceStep : ℕ → List ℕ → Step → Type 0
 IsPieceStep n digits (steps.Open m) = ⊥
 IsPieceStep n digits (steps.End m) = ⊥
+IsPieceStep n digits (steps.Copy w) = ⊥
+IsPieceStep n digits (steps.Propose w start) = ⊥
+IsPieceStep n digits (steps.Commit w) = ⊥
 IsPieceStep n digits (steps.Bytes m piece) = (m ≡ n) × (0 < length digits) × (decode_of digits ≡ Ok piece.now)
 
 -- the step that a command asks for
@@ -31,6 +34,9 @@ IsStepFor (Conf property) step = ⊥
 IsStepFor (Open n) step = step ≡ steps.Open n
 IsStepFor (End n) step = step ≡ steps.End n
 IsStepFor (Bytes n digits) step = IsPieceStep n digits.now step
+IsStepFor (Copy w) step = step ≡ steps.Copy w
+IsStepFor (Propose w start) step = step ≡ steps.Propose w start
+IsStepFor (Commit w) step = step ≡ steps.Commit w
 
 -- the step of a line
 abbrev pub IsStepOf : List ℕ → Step → Type 0
@@ -95,6 +101,10 @@ pub record Advances (step : Step) (did : Did) (old new : Simulation) : Type 0 wh
   pub opened : IsOpened (settings_text old.settings) old.world mid
   pub opening : now.opening ≡ mid.opening
   pub made : Outcome step (Ok did) mid.sight now.sight mid.events now.events
+
+-- the world that stood or was opened now made this step, or it did not apply
+abbrev pub MakesStep : Step → Simulation → Simulation → Type 0
+MakesStep step old new = (did : Did) × Advances step did old new
 
 -- the world made the step that a command asks for
 pub record Performs (command : Command) (old new : Simulation) : Type 0 where

@@ -4,7 +4,7 @@ ghost use Rattle.cap_daemon.specs.Script.{IsCommand, IsNumber};
 
 use cap_text::split_once;
 
-/// The greatest number of digits that a connection's number may have.
+/// The greatest number of digits that a number may have.
 const DIGITS_MAX: usize = 10;
 
 /// What a line of the script asks for.
@@ -18,6 +18,10 @@ pub(crate) enum Command<'a> {
     /// A piece in hexadecimal, which is not looked at yet.
     Bytes(u32, &'a [u8]),
     End(u32),
+    Copy(u32),
+    /// A worker, and the node from which it looks.
+    Propose(u32, u32),
+    Commit(u32),
 }
 
 /// The command of a line, where it has one.
@@ -36,6 +40,16 @@ pub(crate) fn command_of(line: &[u8]) -> Option<Command<'_>>
     }
     if let Some(number) = line.strip_prefix(b"end ") {
         return Some(Command::End(number_of(number)?));
+    }
+    if let Some(number) = line.strip_prefix(b"copy ") {
+        return Some(Command::Copy(number_of(number)?));
+    }
+    if let Some(numbers) = line.strip_prefix(b"propose ") {
+        let (worker, start) = split_once(numbers, b' ')?;
+        return Some(Command::Propose(number_of(worker)?, number_of(start)?));
+    }
+    if let Some(number) = line.strip_prefix(b"commit ") {
+        return Some(Command::Commit(number_of(number)?));
     }
     let (number, piece) = split_once(line.strip_prefix(b"bytes ")?, b' ')?;
     match number_of(number) {

@@ -5,14 +5,14 @@ ghost use Rattle.cap_daemon.specs.declared.command.Command.{Command};
 ghost use Rattle.cap_daemon.specs.declared.stop.Stop.TheVariants.{BadLine, Config as bad_config, Output as write_failed};
 ghost use Rattle.cap_daemon.specs.Script.{IsPiece};
 ghost use Rattle.cap_daemon.specs.Settings.{with_line};
-ghost use Rattle.cap_daemon.specs.World.{Performs, Begins, FailsToBegin};
+ghost use Rattle.cap_daemon.specs.World.{Performs, Begins, FailsToBegin, MakesStep};
 ghost use Rattle.cap_daemon.specs.Progress.{PlaysLine, MayNotFollow, FailsAtStep};
 ghost use Rattle.cap_session.specs.Counted.{state_of, CanCount};
 ghost use Rattle.cap_daemon.specs.Streams.{IsOfScript, CountsWrite};
 
 use crate::command::{Command, command_of};
 use crate::output::write_out;
-use crate::print::{print_fault, print_frames, print_number};
+use crate::print::{print_choice, print_fault, print_frames, print_number, print_verdict};
 use crate::simulation::Simulation;
 use crate::stop::Stop;
 use cap_config::ConfigFault;
@@ -58,9 +58,12 @@ impl Script {
             None => Err(Stop::BadLine(self.lines)),
             Some(Command::Nothing) => Ok(()),
             Some(Command::Conf(property)) => self.add(property),
-            Some(Command::Open(number)) => self.open(number),
+            Some(Command::Open(number)) => self.make(Step::Open(number)),
             Some(Command::Bytes(number, digits)) => self.bytes(number, digits),
-            Some(Command::End(number)) => self.end(number),
+            Some(Command::End(number)) => self.make(Step::End(number)),
+            Some(Command::Copy(worker)) => self.make(Step::Copy(worker)),
+            Some(Command::Propose(worker, start)) => self.make(Step::Propose(worker, start)),
+            Some(Command::Commit(worker)) => self.make(Step::Commit(worker)),
         }
     }
 
@@ -82,34 +85,17 @@ impl Script {
         Ok(())
     }
 
-    /// Opens the connection of this number.
-    fn open(&mut self, number: u32) -> Result<(), Stop>
-        ensures performs { OnOk result
-            (Performs (Command.Open number) self.old.simulation self.new.simulation) }
+    /// Makes a step that brings no piece, and prints what became of it.
+    fn make(&mut self, step: Step) -> Result<(), Stop>
+        ensures makes { OnOk result
+            (MakesStep step.entry self.old.simulation self.new.simulation) }
         ensures fault { (fault : ConfigFault) → result ≡ Err (bad_config fault)
             → FailsToBegin self.old.simulation fault }
         ensures only { (n : ℕ) → result ≡ Err (BadLine n) → ⊥ }
         ensures script { IfErr result IsOfScript }
     {
-        match self.simulation.step(Step::Open(number)) {
-            Ok(Did::Done) => print_number(&mut self.printed, b"opened ", number)?,
-            Ok(Did::Idle) => self.printed.extend_from_slice(b"idle\n")?,
-            Err(stop) => return Err(stop),
-        }
-        Ok(())
-    }
-
-    /// Ends the connection of this number.
-    fn end(&mut self, number: u32) -> Result<(), Stop>
-        ensures performs { OnOk result
-            (Performs (Command.End number) self.old.simulation self.new.simulation) }
-        ensures fault { (fault : ConfigFault) → result ≡ Err (bad_config fault)
-            → FailsToBegin self.old.simulation fault }
-        ensures only { (n : ℕ) → result ≡ Err (BadLine n) → ⊥ }
-        ensures script { IfErr result IsOfScript }
-    {
-        match self.simulation.step(Step::End(number)) {
-            Ok(Did::Done) => print_number(&mut self.printed, b"closed ", number)?,
+        match self.simulation.step(step) {
+            Ok(Did::Done) => print_done(&mut self.printed, &self.simulation, step)?,
             Ok(Did::Idle) => self.printed.extend_from_slice(b"idle\n")?,
             Err(stop) => return Err(stop),
         }
@@ -131,16 +117,13 @@ impl Script {
         };
         let piece = &self.room[..count];
         let before = self.simulation.output(number).len();
-        let did = self.simulation.step(Step::Bytes(number, piece));
+        let step = Step::Bytes(number, piece);
+        let did = self.simulation.step(step);
         let output = self.simulation.output(number);
         let more = output.get(before..).unwrap_or(&[]);
         print_frames(&mut self.printed, number, more)?;
         match did {
-            Ok(Did::Done) => {
-                if !self.simulation.is_open(number) {
-                    print_number(&mut self.printed, b"ended ", number)?;
-                }
-            }
+            Ok(Did::Done) => print_done(&mut self.printed, &self.simulation, step)?,
             Ok(Did::Idle) => self.printed.extend_from_slice(b"idle\n")?,
             Err(stop) => return Err(stop),
         }
@@ -208,6 +191,26 @@ impl Script {
             Ok(()) => Ok(()),
             Err(_) => Err(Stop::Output),
         }
+    }
+}
+
+/// Prints what a step did. A piece prints nothing more than its frames, unless its connection has ended.
+fn print_done(
+    printed: &mut Vec<u8>,
+    simulation: &Simulation,
+    step: Step,
+) -> Result<(), AllocError> {
+    match step {
+        Step::Open(number) => print_number(printed, b"opened ", number),
+        Step::Bytes(number, _) if simulation.is_open(number) => Ok(()),
+        Step::Bytes(number, _) => print_number(printed, b"ended ", number),
+        Step::End(number) => print_number(printed, b"closed ", number),
+        Step::Copy(worker) => print_number(printed, b"copied ", worker),
+        Step::Propose(worker, _) => print_choice(printed, worker, simulation.choice(worker)),
+        Step::Commit(worker) => match simulation.verdict(worker) {
+            Some(verdict) => print_verdict(printed, worker, verdict),
+            None => Ok(()),
+        },
     }
 }
 

@@ -7,7 +7,7 @@ ghost use Rattle.cap_daemon.specs.World.{Begins, FailsToBegin, Advances};
 
 use crate::settings::Settings;
 use crate::stop::Stop;
-use cap_model::{Event, NoMemory};
+use cap_model::{Event, NoMemory, Proposal, Verdict};
 use cap_world::{Did, Step, World};
 use std::alloc::{AllocError, Global};
 
@@ -115,6 +115,22 @@ impl Simulation {
         match &self.world {
             Some(world) => world.is_open(number),
             None => false,
+        }
+    }
+
+    /// The proposal of a worker that stands, if any.
+    pub(crate) fn choice(&self, worker: u32) -> Option<Proposal<2>> {
+        match &self.world {
+            Some(world) => world.choice(worker),
+            None => None,
+        }
+    }
+
+    /// The verdict of a worker's last commit, if any.
+    pub(crate) fn verdict(&self, worker: u32) -> Option<&Verdict<2>> {
+        match &self.world {
+            Some(world) => world.verdict(worker),
+            None => None,
         }
     }
 }

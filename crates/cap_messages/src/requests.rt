@@ -21,7 +21,7 @@ use std::alloc::Global;
 
 // Version, kind and call id.
 #[tactic(auto, unfolding(crate::specs::Reading::head_at))]
-fn head_of(bytes: &[u8]) -> Result<((u8, u8, u32), &[u8]), MessageFault>
+pub(crate) fn head_of(bytes: &[u8]) -> Result<((u8, u8, u32), &[u8]), MessageFault>
     ensures { Gives (λ x. ((x.0.0, (x.0.1, x.0.2)), x.1.now)) result (head_at bytes.now) }
 {
     let (version, rest) = byte_of(bytes)?;

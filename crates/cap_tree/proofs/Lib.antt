@@ -8,6 +8,7 @@ pub mod Listings
 pub mod Looking
 pub mod Names
 pub mod OneUser
+pub mod Ranking
 pub mod Rooms
 pub mod RowPaths
 pub mod Service

@@ -85,11 +85,13 @@ module _ {T : Type 0} where
       pub record IsServed (a b : List ℕ) (r : Ordering) : Type 0 where
         pub all : r ≡ slice_cmp order (items_along a value) (items_along b value)
         pub below : r ≡ slice_cmp order (drop 1 (items_along a value)) (drop 1 (items_along b value))
+        pub apart : r ≡ Equal → a ≡ b
 
-      both_begin : (a b : List ℕ) (xs ys : List T) (r : Ordering) → items_along a value ≡ item ∷ xs → items_along b value ≡ item ∷ ys → r ≡ slice_cmp order xs ys → IsServed a b r
-      both_begin a b xs ys r ea eb h = record {
+      both_begin : (a b : List ℕ) (xs ys : List T) (r : Ordering) → items_along a value ≡ item ∷ xs → items_along b value ≡ item ∷ ys → r ≡ slice_cmp order xs ys → (r ≡ Equal → a ≡ b) → IsServed a b r
+      both_begin a b xs ys r ea eb h tie = record {
         all = h ∙ sym (ap (λ o. ordering_then o (slice_cmp order xs ys)) (tied_itself total item)) ∙ (λ j. slice_cmp order (sym ea j) (sym eb j));
         below = h ∙ (λ j. slice_cmp order (drop 1 (sym ea j)) (drop 1 (sym eb j)));
+        apart = tie;
       }
 
       child_along : (b : List ℕ) (j : ℕ) (q : List ℕ) → b ≡ j ∷ q → IsPosition value b → IsSome (drop 1 (items_along b value)) × (items_along b value ≡ item ∷ drop 1 (items_along b value))
@@ -103,22 +105,24 @@ module _ {T : Type 0} where
           (record { head = s.head; tail = s.tail; is = rest ∙ s.is }, whole ∙ ap (λ t. item ∷ t) (sym rest))
 
       pub served_at_root : (a b : List ℕ) (r : Ordering) → a ≡ [] → IsPosition value b → r ≡ nat_cmp 0 (length b) → IsServed a b r
-      served_at_root a [] r ea h er = both_begin a [] [] [] r (ap (λ x. items_along x value) ea ∙ items_at_root) items_at_root er
+      served_at_root a [] r ea h er = both_begin a [] [] [] r (ap (λ x. items_along x value) ea ∙ items_at_root) items_at_root er (λ _. ea)
       served_at_root a (j ∷ q) r ea h er =
           let c = child_along (j ∷ q) j q refl h in
           both_begin a (j ∷ q) [] (drop 1 (items_along (j ∷ q) value)) r (ap (λ x. items_along x value) ea ∙ items_at_root) c.1 (er ∙ sym (nat_cmp_is 0 (length (j ∷ q)) Less (omega arith)) ∙ sym (ap (slice_cmp order []) c.0.is))
+          (λ t. let less = nat_cmp_is 0 (length (j ∷ q)) Less (omega arith) in absurd (cc (less, er, t)))
 
       pub served_above : (a b : List ℕ) (i : ℕ) (p : List ℕ) (r : Ordering) → a ≡ i ∷ p → b ≡ [] → IsPosition value a → r ≡ Greater → IsServed a b r
       served_above a b i p r ea eb h er =
           let c = child_along a i p ea h in
-          both_begin a b (drop 1 (items_along a value)) [] r c.1 (ap (λ x. items_along x value) eb ∙ items_at_root) (er ∙ sym (ap (λ xs. slice_cmp order xs []) c.0.is))
+          both_begin a b (drop 1 (items_along a value)) [] r c.1 (ap (λ x. items_along x value) eb ∙ items_at_root) (er ∙ sym (ap (λ xs. slice_cmp order xs []) c.0.is)) (λ t. absurd (cc (er, t)))
 
       pub served_in_child : (a b : List ℕ) (i j : ℕ) (p q : List ℕ) (kid : List (Spot T)) (r : Ordering) → a ≡ i ∷ p → b ≡ j ∷ q → i ≡ j → i < length kids → kid ≡ get_or kids i kid →
-          r ≡ slice_cmp order (items_along p kid) (items_along q kid) → IsServed a b r
-      served_in_child a b i j p q kid r ea eb same w k h =
+          r ≡ slice_cmp order (items_along p kid) (items_along q kid) → (r ≡ Equal → p ≡ q) → IsServed a b r
+      served_in_child a b i j p q kid r ea eb same w k h tie =
           both_begin a b (items_along p kid) (items_along q kid) r
           (ap (λ x. items_along x value) ea ∙ items_in_child i kid w k p)
           (ap (λ x. items_along x value) (eb ∙ ap (λ x. x ∷ q) (sym same)) ∙ items_in_child i kid w k q) h
+          (λ t. ea ∙ (λ n. same n ∷ tie t n) ∙ sym eb)
 
       first_decides : (o p : Ordering) → o ≢ Equal → o ≡ ordering_then o p
       first_decides Less p h = refl
@@ -136,7 +140,7 @@ module _ {T : Type 0} where
           (let m = in_child_spot i kid w k (record { position = []; path = name x; item = x }) (subst (IsIn _) (sym t.is) (inl refl)) in
           let n = in_child_spot j other v l (record { position = []; path = name y; item = y }) (subst (IsIn _) (sym u.is) (inl refl)) in
           apart (ap (λ z. get_or z 0 0) (once _ _ m n (ap (λ z. name item ++ dot ∷ z) (names x y h))))) in
-          both_begin a b (x ∷ xs) (y ∷ ys) r first second (er ∙ first_decides (order x y) (slice_cmp order xs ys) differ)
+          both_begin a b (x ∷ xs) (y ∷ ys) r first second (er ∙ first_decides (order x y) (slice_cmp order xs ys) differ) (λ t. absurd (differ (sym er ∙ t)))
 
 -- the child with that index, none where none is named
 abbrev pub named : {T : Type 0} → (ℕ → Option T) → Option ℕ → Option T

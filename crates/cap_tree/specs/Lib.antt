@@ -7,8 +7,10 @@ pub mod Measure
 pub mod Paths
 pub mod Queue
 pub mod QueueLaws
+pub mod Ranking
 pub mod Rows
 pub mod Service
 pub mod ServiceLaws
+pub mod ServiceOrder
 pub mod Spot
 pub mod UserLaws

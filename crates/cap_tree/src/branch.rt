@@ -349,6 +349,7 @@ impl<T: Held + Drop, A: Allocator + Copy> Branch<T, A> {
             slice_cmp T.order (items_along a.now self.now) (items_along b.now self.now) }
         ensures below { result ≡ slice_cmp T.order
             (drop 1 (items_along a.now self.now)) (drop 1 (items_along b.now self.now)) }
+        ensures apart { result ≡ Equal → a.now ≡ b.now }
     {
         let children = &self.children;
         let [i, rest @ ..] = a else {

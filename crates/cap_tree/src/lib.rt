@@ -6,10 +6,12 @@ mod change;
 mod count;
 mod found;
 mod limits;
+mod order;
 mod queue;
 mod tree;
 
 pub use found::{Found, Path};
 pub use limits::OverLimit;
+pub use order::Waiting;
 pub use queue::Queue;
 pub use tree::QueueTree;

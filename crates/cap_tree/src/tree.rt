@@ -2,6 +2,7 @@
 ghost use Rattle.std.specs.Prelude.{◌≡◌, ◌<◌, ◌≤◌, ◌+◌, length, ◌++◌, ◌∷◌, [], map, None, Some, IfErr, IfOk, IfSome, MatchOption, OnOk, OnErr};
 ghost use Rattle.std.specs.List.{All};
 ghost use Rattle.std.specs.Cmp.Lexicographic.{slice_cmp};
+ghost use Rattle.std.specs.declared.cmp.Ordering.TheVariants.{Equal};
 ghost use Rattle.cap_model.specs.Choice.{level_cmp};
 ghost use Rattle.cap_vector.specs.Vector.{IsWithin, amounts_exchanged, sum_max};
 ghost use Rattle.cap_model.specs.Limits.{number_end, queues_max};
@@ -284,14 +285,26 @@ impl<const K: usize, A: Allocator + Copy> QueueTree<K, A> {
 
     /// Which of two queues is served first: at the first level below `root` where they differ, the one that uses the smaller
     /// part of its own guarantee, by its dominant share first, and of two that are as full the lesser name in byte order. A
-    /// queue is before those under it. It takes no memory.
+    /// queue is before those under it. No two queues are alike. It takes no memory.
     pub fn cmp_served(&self, a: &Path<A>, b: &Path<A>) -> Ordering
         requires a { IsPosition self.now a.now.items }
         requires b { IsPosition self.now b.now.items }
-        ensures { result ≡ slice_cmp level_cmp
+        ensures order { result ≡ slice_cmp level_cmp
             (levels_at a.now.items self.now) (levels_at b.now.items self.now) }
+        ensures apart { result ≡ Equal → a.now.items ≡ b.now.items }
     {
-        self.root.cmp_served(a.as_slice(), b.as_slice())
+        self.cmp_at(a.as_slice(), b.as_slice())
+    }
+
+    /// The same by the child indexes that lead to the two queues.
+    pub(crate) fn cmp_at(&self, a: &[u32], b: &[u32]) -> Ordering
+        requires a { IsPosition self.now a.now }
+        requires b { IsPosition self.now b.now }
+        ensures order { result ≡ slice_cmp level_cmp
+            (levels_at a.now self.now) (levels_at b.now self.now) }
+        ensures apart { result ≡ Equal → a.now ≡ b.now }
+    {
+        self.root.cmp_served(a, b)
     }
 
     /// The index of the child of the queue that is served next after that child, and of the first where none is named: the

@@ -126,6 +126,10 @@ same_match : (b : Bool) (P Q : Type 0) → (b ≡ true → P) → Q → MatchBoo
 same_match true P Q p q = p refl
 same_match false P Q p q = q
 
+-- a step of a worker is heard by none
+same_heard : (heard : Hearing) (c : ℕ) (old new : WorldState) → new.connections ≡ old.connections → Agrees heard (connection_at c old.connections) → Next (λ next. next ≡ heard) (connection_at c new.connections)
+same_heard heard c old new e a = (heard, refl, subst (λ (x : List (ℕ × Connection)). Agrees heard (connection_at c x)) (sym e) a)
+
 pub hears_done : (c : ℕ) (step : Step) (did : Did) (old new : WorldState) (before after : List (Event 2)) (heard : Hearing) → Outcome step (Ok did) old new before after → Agrees heard (connection_at c old.connections) → Next (HearsStep c step heard) (connection_at c new.connections)
 hears_done c (steps.Open d) dids.Done old new before after heard o a =
     chosen (d == c) (opened heard) heard (own_or_other c d new_connection old.connections new.connections heard (λ next. next ≡ opened heard) o.1 a
@@ -153,6 +157,12 @@ hears_done c (steps.Bytes d piece) dids.Idle old new before after heard o a = (
   same_match (d == c) (HearsPiece piece.now heard heard) (heard ≡ heard) (λ t. no_piece piece.now heard (connection_at c old.connections) (subst (λ (x : ℕ). is_open x old ≡ false) (eqb-true d c t) o.0) a) refl,
   subst (λ (x : WorldState). Agrees heard (connection_at c x.connections)) (sym o.1) a,
 )
+hears_done c (steps.Copy w) dids.Done old new before after heard o a = same_heard heard c old new o.0.connections a
+hears_done c (steps.Propose w start) dids.Done old new before after heard o a = same_heard heard c old new o.0.connections a
+hears_done c (steps.Commit w) dids.Done old new before after heard o a = same_heard heard c old new o.connections a
+hears_done c (steps.Copy w) dids.Idle old new before after heard o a = same_heard heard c old new (ap (λ (x : WorldState). x.connections) o.1) a
+hears_done c (steps.Propose w start) dids.Idle old new before after heard o a = same_heard heard c old new (ap (λ (x : WorldState). x.connections) o.1) a
+hears_done c (steps.Commit w) dids.Idle old new before after heard o a = same_heard heard c old new (ap (λ (x : WorldState). x.connections) o.1) a
 
 -- ---- what was answered for what was heard
 
@@ -194,20 +204,27 @@ cut_short by piece from to before after (live taken) calls was is lives a starve
     ] in
     (subst (λ (x : List ℕ). AnswersSome (x ++ piece) calls is.session.unsent) a.1 all, ap is_open_standing starved)
 
+-- nothing changed
+still_heard : (c : ℕ) (old new : WorldState) (heard : Hearing) (calls : List Call) → new ≡ old → Agrees heard (connection_at c old.connections) → HasAnswersAt calls (connection_at c new.connections) → IsHeard heard calls (output_of c new) (is_open c new)
+still_heard c old new heard calls e a has =
+    is_heard heard calls (connection_at c new.connections) (subst (λ (x : WorldState). Agrees heard (connection_at c x.connections)) (sym e) a) has
+
 pub heard_starved : (c : ℕ) (step : Step) (old new : WorldState) (before after : List (Event 2)) (heard : Hearing) (calls : List Call) → Starves step old new before after → Agrees heard (connection_at c old.connections) → HasAnswersAt calls (connection_at c new.connections)
     → IsHeardBefore (Some step) c heard calls (output_of c new) (is_open c new)
-heard_starved c (steps.Open d) old new before after heard calls s a has =
-    is_heard heard calls (connection_at c new.connections) (subst (λ (x : WorldState). Agrees heard (connection_at c x.connections)) (sym s.1) a) has
+heard_starved c (steps.Open d) old new before after heard calls s a has = still_heard c old new heard calls s.1 a has
 heard_starved c (steps.End d) old new before after heard calls s a has = absurd s
+heard_starved c (steps.Copy w) old new before after heard calls s a has = still_heard c old new heard calls s.1 a has
+heard_starved c (steps.Propose w start) old new before after heard calls s a has = absurd s
+heard_starved c (steps.Commit w) old new before after heard calls s a has = still_heard c old new heard calls s.1 a has
 heard_starved c (steps.Bytes d piece) old new before after heard calls s a has =
     elim (cases_Bool (d == c)) [
       | inl t ↦
           let same : c ≡ d = sym (eqb-true d c t) in
-          let at : connection_at c new.connections ≡ Some s.1 = rw (s.4 c, t) refl in
+          let at : connection_at c new.connections ≡ Some s.0.1 = rw (s.0.4 c, t) refl in
           rw (t, at)
-          (cut_short d piece.now old.cluster new.cluster before after heard calls s.0 s.1 s.3 (subst (λ (x : Option Connection). Agrees heard x) (rw same s.2) a) s.6 s.5 (subst (λ (x : Option Connection). HasAnswersAt calls x) at has))
+          (cut_short d piece.now old.cluster new.cluster before after heard calls s.0.0 s.0.1 s.0.3 (subst (λ (x : Option Connection). Agrees heard x) (rw same s.0.2) a) s.0.6 s.0.5 (subst (λ (x : Option Connection). HasAnswersAt calls x) at has))
       | inr f ↦
-          let at : connection_at c new.connections ≡ connection_at c old.connections = rw (s.4 c, f) refl in
+          let at : connection_at c new.connections ≡ connection_at c old.connections = rw (s.0.4 c, f) refl in
           rw (f, at) (is_heard heard calls (connection_at c old.connections) a (subst (λ (x : Option Connection). HasAnswersAt calls x) at has))
     ]
 

@@ -4,7 +4,11 @@ use Rattle.std.specs.Prelude.{◌==◌}
 use Rattle.std.proofs.lemmas.Bool.{cases_Bool, eqb-true, eq-eqb}
 use Rattle.std.proofs.lemmas.List.Elements.{filter_map-append, All-nil}
 use Rattle.cap_model.specs.declared.event.Event.{Event}
+use Rattle.cap_model.specs.declared.proposal.Verdict.{Verdict}
+use Rattle.cap_model.specs.declared.proposal.Verdict.TheVariants as verdicts
+use Rattle.cap_model.specs.Admission.{NodeProposal}
 use Rattle.cap_model.specs.Flat.{Flat}
+use Rattle.cap_model.specs.Verdicts.{IsOf, IsVerdict}
 use Rattle.cap_frames.specs.Stream.{rest, IsStream, IsPayload, IsBytes}
 use Rattle.cap_frames.proofs.Streams.{written_is_read}
 use Rattle.cap_world.specs.declared.connection.Standing.{Standing}
@@ -19,6 +23,7 @@ use Rattle.cap_world.specs.Answers.{call_by, calls_by, as_events}
 use Rattle.cap_world.specs.Connection.{Connection, new_connection, AnswersAs, HasAnswers}
 use Rattle.cap_world.specs.Serving.{Feeds}
 use Rattle.cap_world.specs.World.{WorldState, connection_at, Changes, HasAnswersAt, IsLawful}
+use Rattle.cap_world.specs.Working.{made_by}
 use Rattle.cap_world.specs.Steps.{Fed, Outcome}
 use Rattle.cap_world.proofs.Serving.{run_more, answered_more}
 
@@ -48,6 +53,10 @@ keeps old new e each opening events w = record {
   run = rw (append-nil events, e) w.run;
   each = λ c. rw (append-nil events) (each c (calls_by c events) (w.each c));
 }
+
+-- no connection changes
+same_connections : (old new : WorldState) → new.connections ≡ old.connections → (c : ℕ) (calls : List Call) → HasAnswersAt calls (connection_at c old.connections) → HasAnswersAt calls (connection_at c new.connections)
+same_connections old new e c calls a = subst (λ (x : List (ℕ × Connection)). HasAnswersAt calls (connection_at c x)) (sym e) a
 
 -- one connection changes, so that what was answered stays so
 keeps_one : (c : ℕ) (old new : List (ℕ × Connection)) (is : Connection) → Changes c is old new
@@ -90,6 +99,21 @@ fed_goes c piece old new before after was is at live change f opening events w =
   ];
 }
 
+-- ---- a proposal that was tried
+
+made_no_call : (c : ℕ) (p : NodeProposal) (event : Event 2) → IsOf p event → calls_by c (event ∷ []) ≡ []
+made_no_call c p (Event.Call by request reply) is = absurd is
+made_no_call c p (Event.Grant container) is = refl
+made_no_call c p (Event.Reserve reservation) is = refl
+
+tried_goes : (p : NodeProposal) (verdict : Verdict 2) (old new : WorldState) → IsVerdict p old.cluster new.cluster verdict → new.connections ≡ old.connections
+    → (opening : Flat 2) (events : List (Event 2)) → IsLawful opening events old → IsLawful opening (events ++ made_by verdict) new
+tried_goes p (verdicts.Done event) old new is same opening events w = record {
+  run = run_more events (event ∷ []) opening old.cluster new.cluster w.run (new.cluster, is.1, refl);
+  each = λ c. rw (calls_more c events (event ∷ []), made_no_call c p event is.0, append-nil (calls_by c events)) (same_connections old new same c (calls_by c events) (w.each c));
+}
+tried_goes p (verdicts.Rejected reason) old new is same opening events w = keeps old new is.1 (same_connections old new same) opening events w
+
 -- ---- any step
 
 quiet : (old new : WorldState) (before after : List (Event 2)) → after ≡ before → ((opening : Flat 2) (events : List (Event 2)) → IsLawful opening events old → IsLawful opening (events ++ []) new) → Goes old new before after
@@ -106,14 +130,23 @@ fed_at_goes c piece standing old new before after x =
 
 pub outcome_goes : (step : Step) (result : Result Did NoMemory) (old new : WorldState) (before after : List (Event 2)) → Outcome step result old new before after → Goes old new before after
 outcome_goes (steps.Open c) (Ok dids.Done) old new before after o =
-    quiet old new before after o.3 (keeps old new o.2 (keeps_one c old.connections new.connections new_connection o.1 (λ calls a. opens calls (rw o.0 at a))))
+    quiet old new before after o.4 (keeps old new o.2 (keeps_one c old.connections new.connections new_connection o.1 (λ calls a. opens calls (rw o.0 at a))))
 outcome_goes (steps.End c) (Ok dids.Done) old new before after o =
     let ended = o.0 in
-    quiet old new before after o.2 (keeps old new o.1 (keeps_one c old.connections new.connections (record ended.0 { standing = standings.Ended }) ended.3 (λ calls a. ends_so ended.0 ended.2 calls (rw ended.1 at a))))
+    quiet old new before after o.3 (keeps old new o.1 (keeps_one c old.connections new.connections (record ended.0 { standing = standings.Ended }) ended.3 (λ calls a. ends_so ended.0 ended.2 calls (rw ended.1 at a))))
 outcome_goes (steps.Bytes c piece) (Ok dids.Done) old new before after o = fed_at_goes c piece.now o.0 old new before after o.2
 outcome_goes (steps.Open c) (Ok dids.Idle) old new before after o = same_goes old new before after o.2 o.1
 outcome_goes (steps.End c) (Ok dids.Idle) old new before after o = same_goes old new before after o.2 o.1
 outcome_goes (steps.Bytes c piece) (Ok dids.Idle) old new before after o = same_goes old new before after o.2 o.1
 outcome_goes (steps.Open c) (Err e) old new before after o = same_goes old new before after o.2 o.1
 outcome_goes (steps.End c) (Err e) old new before after o = absurd o
-outcome_goes (steps.Bytes c piece) (Err e) old new before after o = fed_at_goes c piece.now standings.Starved old new before after o
+outcome_goes (steps.Bytes c piece) (Err e) old new before after o = fed_at_goes c piece.now standings.Starved old new before after o.0
+outcome_goes (steps.Copy w) (Ok dids.Done) old new before after o = quiet old new before after o.1 (keeps old new o.0.cluster (same_connections old new o.0.connections))
+outcome_goes (steps.Propose w start) (Ok dids.Done) old new before after o = quiet old new before after o.1 (keeps old new o.0.cluster (same_connections old new o.0.connections))
+outcome_goes (steps.Commit w) (Ok dids.Done) old new before after o = (made_by o.verdict, o.events, tried_goes o.proposal o.verdict old new o.is o.connections)
+outcome_goes (steps.Copy w) (Ok dids.Idle) old new before after o = same_goes old new before after o.2 o.1
+outcome_goes (steps.Propose w start) (Ok dids.Idle) old new before after o = same_goes old new before after o.2 o.1
+outcome_goes (steps.Commit w) (Ok dids.Idle) old new before after o = same_goes old new before after o.2 o.1
+outcome_goes (steps.Copy w) (Err e) old new before after o = same_goes old new before after o.2 o.1
+outcome_goes (steps.Propose w start) (Err e) old new before after o = absurd o
+outcome_goes (steps.Commit w) (Err e) old new before after o = same_goes old new before after o.2 o.1

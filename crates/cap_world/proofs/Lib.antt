@@ -1,5 +1,9 @@
+mod Alike
 mod Serving
+mod Sighting
+mod Starving
 mod Tables
+mod Working
 pub mod Lawful
 pub mod Keeping
 pub mod Heard

@@ -43,11 +43,14 @@ HearsPiece piece unopened new = new ≡ unopened
 HearsPiece piece (over taken) new = new ≡ over taken
 HearsPiece piece (live taken) new = (GoesOn (taken ++ piece) × (new ≡ live (taken ++ piece))) ⊎ (HasBadLength (taken ++ piece) × (new ≡ over (taken ++ piece)))
 
--- connection c hears a step: its own alone
+-- connection c hears a step: its own alone, and none of the workers'
 abbrev pub HearsStep : ℕ → Step → Hearing → Hearing → Type 0
 HearsStep c (steps.Open d) old new = new ≡ (if d == c then opened old else old)
 HearsStep c (steps.Bytes d piece) old new = MatchBool (d == c) (HearsPiece piece.now old new) (new ≡ old)
 HearsStep c (steps.End d) old new = new ≡ (if d == c then ended old else old)
+HearsStep c (steps.Copy w) old new = new ≡ old
+HearsStep c (steps.Propose w start) old new = new ≡ old
+HearsStep c (steps.Commit w) old new = new ≡ old
 
 -- connection c hears the steps one after the other
 abbrev pub Hears : ℕ → List Step → Hearing → Hearing → Type 0
@@ -71,6 +74,9 @@ abbrev pub IsHeardBefore : Option Step → ℕ → Hearing → List Call → Lis
 IsHeardBefore None c heard calls output is_open = IsHeard heard calls output is_open
 IsHeardBefore (Some (steps.Open d)) c heard calls output is_open = IsHeard heard calls output is_open
 IsHeardBefore (Some (steps.End d)) c heard calls output is_open = IsHeard heard calls output is_open
+IsHeardBefore (Some (steps.Copy w)) c heard calls output is_open = IsHeard heard calls output is_open
+IsHeardBefore (Some (steps.Propose w start)) c heard calls output is_open = IsHeard heard calls output is_open
+IsHeardBefore (Some (steps.Commit w)) c heard calls output is_open = IsHeard heard calls output is_open
 IsHeardBefore (Some (steps.Bytes d piece)) c heard calls output is_open = MatchBool (d == c) (IsCutShort piece.now heard calls output is_open) (IsHeard heard calls output is_open)
 
 -- The headline. Whatever the steps, the events are one run of the flat cluster from the opening to the world's cluster; and each connection's

@@ -1,8 +1,12 @@
 pub mod Answers
 pub mod Connection
 pub mod Serving
+pub mod Sights
+pub mod Worker
 pub mod World
+pub mod Working
 pub mod Steps
 pub mod Making
 pub mod Hearing
 pub mod Laws
+pub mod WorkerLaws

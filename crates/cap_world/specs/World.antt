@@ -1,9 +1,11 @@
--- A world of connections over one cluster, and what has happened in it.
+-- A world of connections and workers over one cluster, and what has happened in it.
 use Rattle.std.specs.Prelude.{◌≡◌, ℕ, List, [], ◌∷◌, ◌++◌, Option, Some, None, Bool, false, ◌==◌, if◌then◌else◌, nat_eq, drop}
 use Rattle.std.specs.List.{flat_map}
 use Rattle.std.specs.Map.{lookup}
 use Rattle.std.specs.Global.{Vec}
 use Rattle.cap_model.specs.declared.event.Event.{Event}
+use Rattle.cap_model.specs.declared.proposal.Verdict.{Verdict}
+use Rattle.cap_model.specs.Admission.{NodeProposal}
 use Rattle.cap_model.specs.Settings.{Settings}
 use Rattle.cap_commit.specs.Held.{Held}
 use Rattle.cap_model.specs.Flat.{Flat, opened_cluster}
@@ -11,11 +13,13 @@ use Rattle.cap_model.specs.Events.{Run}
 use Rattle.cap_session.specs.Answers.{Call}
 use Rattle.cap_world.specs.Answers.{calls_by}
 use Rattle.cap_world.specs.Connection.{Connection, HasAnswers, is_open_standing}
+use Rattle.cap_world.specs.Worker.{WorkerState}
 
--- what is seen of a world: the cluster, and the connections that were ever opened, by number
+-- what is seen of a world: the cluster, and by number the connections that were ever opened, and the workers that ever copied it
 pub record WorldState : Type 0 where
   pub cluster : Flat 2
   pub connections : List (ℕ × Connection)
+  pub workers : List (ℕ × WorkerState)
 
 -- the connection of a number, if it was ever opened
 abbrev pub connection_at : ℕ → List (ℕ × Connection) → Option Connection
@@ -36,9 +40,28 @@ output_from (Some connection) = connection.session.unsent
 abbrev pub output_of : ℕ → WorldState → List ℕ
 output_of c sight = output_from (connection_at c sight.connections)
 
--- one connection is this now, and each other is what it was
-abbrev pub Changes : ℕ → Connection → List (ℕ × Connection) → List (ℕ × Connection) → Type 0
-Changes c connection old new = (d : ℕ) → connection_at d new ≡ (if c == d then Some connection else connection_at d old)
+-- the worker of a number, if it ever copied the cluster
+abbrev pub worker_at : ℕ → List (ℕ × WorkerState) → Option WorkerState
+worker_at w workers = lookup (nat_eq w) workers
+
+abbrev pub choice_in : Option WorkerState → Option NodeProposal
+choice_in None = None
+choice_in (Some worker) = worker.choice
+
+abbrev pub verdict_in : Option WorkerState → Option (Verdict 2)
+verdict_in None = None
+verdict_in (Some worker) = worker.verdict
+
+-- the proposal of a worker that stands, and the verdict of its last commit
+abbrev pub choice_of : ℕ → WorldState → Option NodeProposal
+choice_of w sight = choice_in (worker_at w sight.workers)
+
+abbrev pub verdict_of : ℕ → WorldState → Option (Verdict 2)
+verdict_of w sight = verdict_in (worker_at w sight.workers)
+
+-- one connection, or one worker, is this now, and each other is what it was
+abbrev pub Changes : {X : Type 0} → ℕ → X → List (ℕ × X) → List (ℕ × X) → Type 0
+Changes c value old new = (d : ℕ) → lookup (nat_eq d) new ≡ (if c == d then Some value else lookup (nat_eq d) old)
 
 -- what the calls of a connection answered it, if it was ever opened; else it has none
 abbrev pub HasAnswersAt : List Call → Option Connection → Type 0
@@ -61,7 +84,7 @@ abbrev pub IsWorld : Known → Type 0
 IsWorld world = IsLawful world.opening world.events world.sight
 
 abbrev pub start : Flat 2 → Known
-start opening = record { opening = opening; events = []; sight = record { cluster = opening; connections = [] } }
+start opening = record { opening = opening; events = []; sight = record { cluster = opening; connections = []; workers = [] } }
 
 -- The opening stays, and the same events are added to the world's and to the list that was lent.
 pub record Adds (old new : Known) (before after : List (Event 2)) : Type 0 where

@@ -1,7 +1,8 @@
 //! The connections that were ever opened, by number.
-ghost use Rattle.std.specs.Prelude.{◌≡◌, List, Ok};
+ghost use Rattle.std.specs.Prelude.{◌≡◌, ℕ, List, Ok};
 ghost use Rattle.cap_model.specs.declared.event.Event.{Event};
 ghost use Rattle.cap_model.specs.Flat.{Flat};
+ghost use Rattle.cap_world.specs.Worker.{WorkerState};
 ghost use Rattle.cap_world.specs.World.{connection_at, is_open_connection, output_from};
 ghost use Rattle.cap_world.specs.Steps.{Outcome};
 
@@ -40,9 +41,11 @@ pub(crate) fn open(
     connections: &mut Connections,
     number: u32,
 ) -> Result<Did, NoMemory>
-    ensures { (cluster : Flat 2) (events : List (Event 2)) → Outcome (Step.Open number) result
-        (record { cluster = cluster; connections = connections.old.entries })
-        (record { cluster = cluster; connections = connections.new.entries }) events events }
+    ensures { (cluster : Flat 2) (workers : List (ℕ × WorkerState)) (events : List (Event 2)) →
+        Outcome (Step.Open number) result
+        (record { cluster = cluster; connections = connections.old.entries; workers = workers })
+        (record { cluster = cluster; connections = connections.new.entries; workers = workers })
+        events events }
 {
     if connections.contains_key(&number) {
         return Ok(Did::Idle);
@@ -56,9 +59,11 @@ pub(crate) fn open(
 
 /// Ends a connection, if it is open.
 pub(crate) fn end(connections: &mut Connections, number: u32) -> Did
-    ensures { (cluster : Flat 2) (events : List (Event 2)) → Outcome (Step.End number) (Ok result)
-        (record { cluster = cluster; connections = connections.old.entries })
-        (record { cluster = cluster; connections = connections.new.entries }) events events }
+    ensures { (cluster : Flat 2) (workers : List (ℕ × WorkerState)) (events : List (Event 2)) →
+        Outcome (Step.End number) (Ok result)
+        (record { cluster = cluster; connections = connections.old.entries; workers = workers })
+        (record { cluster = cluster; connections = connections.new.entries; workers = workers })
+        events events }
 {
     let Some(connection) = connections.get_mut(&number) else {
         return Did::Idle;
@@ -79,9 +84,18 @@ pub(crate) fn feed(
     cluster: &mut Cluster<2>,
     events: &mut Vec<Event<2>>,
 ) -> Result<Did, NoMemory>
-    ensures { Outcome (Step.Bytes number piece.entry) result
-        (record { cluster = cluster.old.flat; connections = connections.old.entries })
-        (record { cluster = cluster.new.flat; connections = connections.new.entries }) events.old.items events.new.items }
+    ensures { (workers : List (ℕ × WorkerState)) → Outcome (Step.Bytes number piece.entry) result
+        (record {
+          cluster = cluster.old.flat;
+          connections = connections.old.entries;
+          workers = workers;
+        })
+        (record {
+          cluster = cluster.new.flat;
+          connections = connections.new.entries;
+          workers = workers;
+        })
+        events.old.items events.new.items }
 {
     let Some(connection) = connections.get_mut(&number) else {
         return Ok(Did::Idle);

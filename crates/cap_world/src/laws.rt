@@ -1,5 +1,6 @@
 //! Laws of worlds, for callers to cite. The functions do nothing.
 ghost use Rattle.cap_world.specs.Laws.{WorldsStayBounded, OpeningsAreBounded, ContainersAreUsedOnce, ContainersAreKept, GrantsAreReportedOnce, EndsAreReportedOnce};
+ghost use Rattle.cap_world.specs.WorkerLaws.{CommitsAreExact, CopiedChoicesAreMade, ProposalsAreOfCopies, QuietStepsMakeNoEvent};
 
 /// Whatever the steps, every state of the cluster is bounded, where the opening is: each queue's use is the sum under it and
 /// within its maximum, each user's within the user limit, and no node is over its total. The cluster that the settings of a
@@ -21,4 +22,20 @@ pub fn containers_are_used_once()
 pub fn news_is_reported_once()
     ensures grants { GrantsAreReportedOnce }
     ensures ends { EndsAreReportedOnce }
+{}
+
+/// `Open`, `End`, `Copy` and `Propose`, and a step that does not apply, make no event. The `Commit` of a proposal makes its own
+/// event exactly where it is admissible then, unless memory is refused; else its verdict is the first reason against it, and
+/// nothing of the cluster changes.
+pub fn commits_are_exact()
+    ensures quiet { QuietStepsMakeNoEvent }
+    ensures commits { CommitsAreExact }
+{}
+
+/// What a worker proposes is the choice of the cluster as it was at the worker's last `Copy`, whatever steps came between. Where
+/// it copies, proposes and commits with no other step between and no want of memory, the choice of the state before is made, and
+/// nothing where there is none.
+pub fn proposals_are_of_copies()
+    ensures proposed { ProposalsAreOfCopies }
+    ensures made { CopiedChoicesAreMade }
 {}

@@ -1,4 +1,5 @@
-//! Any order of steps over one cluster: connections that open, bring bytes in pieces, and end.
+//! Any order of steps over one cluster: connections that open, bring bytes in pieces, and end; workers that copy it, propose on
+//! their copies, and commit what they propose.
 #![tactic(auto)]
 
 mod connection;
@@ -7,10 +8,15 @@ mod laws;
 mod run;
 mod service;
 mod step;
+mod worker;
+mod workers;
 mod world;
 
 pub use cap_model::NoMemory;
-pub use laws::{containers_are_used_once, news_is_reported_once, worlds_stay_bounded};
+pub use laws::{
+    commits_are_exact, containers_are_used_once, news_is_reported_once, proposals_are_of_copies,
+    worlds_stay_bounded,
+};
 pub use run::Outcome;
 pub use step::{Did, Step};
 pub use world::World;

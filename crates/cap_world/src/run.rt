@@ -17,8 +17,8 @@ pub struct Outcome {
 }
 
 impl World {
-    /// Makes the steps one after the other, up to the first for which an allocation fails: a piece on an open connection, or a
-    /// number that opens for the first time.
+    /// Makes the steps one after the other, up to the first for which an allocation fails: a piece on an open connection, a
+    /// number that opens for the first time, a worker's copy, or the commit of a proposal that is admissible.
     pub fn run(alloc: Global, opening: Cluster<2>, steps: &[Step]) -> Outcome
         ensures done { result.done ≤ length steps.now }
         ensures opening { result.world.opening ≡ opening.flat }

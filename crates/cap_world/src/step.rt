@@ -7,6 +7,12 @@ pub enum Step<'a> {
     Bytes(u32, &'a [u8]),
     /// The connection ends.
     End(u32),
+    /// The worker of this number, 0 to 63, copies the cluster.
+    Copy(u32),
+    /// The worker proposes on its copy, with the nodes as a ring from this place on.
+    Propose(u32, u32),
+    /// The worker's proposal is tried on the cluster.
+    Commit(u32),
 }
 
 /// What became of a step.

@@ -1,39 +1,46 @@
-ghost use Rattle.std.specs.Prelude.{◌≡◌};
-ghost use Rattle.cap_world.specs.World.{Adds, IsWorld, start, is_open, output_of};
+ghost use Rattle.std.specs.Prelude.{◌≡◌, option_map};
+ghost use Rattle.cap_world.specs.World.{Adds, IsWorld, start, is_open, output_of, choice_of, verdict_of};
 ghost use Rattle.cap_world.specs.Steps.{Outcome};
 
 use crate::connections::{self, Connections};
 use crate::step::{Did, Step};
+use crate::workers::{self, Workers};
 use cap_commit::Cluster;
-use cap_model::{Event, NoMemory};
+use cap_model::{Event, NoMemory, Proposal, Verdict};
 use http_server::Log;
 use std::alloc::Global;
 use std::marker::Model;
 
-/// Connections over one cluster. Contracts see its opening cluster, its events, the cluster now, and each connection ever
-/// opened with the bytes that it took and was answered.
+/// Connections and workers over one cluster. Contracts see its opening cluster, its events, the cluster now, each connection ever
+/// opened with the bytes that it took and was answered, and each worker that ever copied the cluster with its snapshot, its
+/// proposal and its last verdict.
 #[derive(Drop)]
 pub struct World {
     alloc: Global,
     cluster: Cluster<2>,
     connections: Connections,
+    workers: Workers,
     // These two exist for contracts alone.
     opening: Log<Cluster<2>, usize>,
     events: Log<Vec<Event<2>>, usize>,
 }
 
 impl Model for World {
+    ghost use Rattle.std.specs.Coded.{codes};
+    ghost use Rattle.cap_tree.specs.Queue.{users_code};
     ghost use Rattle.cap_world.specs.World.{Known, IsLawful, events_of, opening_of};
 
     ghost Value = { Known };
 
-    ghost view = { λ w. record { opening = opening_of w.opening.items; events = events_of w.events.items; sight = record { cluster = w.cluster.flat; connections = w.connections.entries } } };
+    ghost coded = { Prim.hlevel (codes, users_code) };
 
-    ghost invariant = { λ w. IsLawful (opening_of w.opening.items) (events_of w.events.items) (record { cluster = w.cluster.flat; connections = w.connections.entries }) };
+    ghost view = { λ w. record { opening = opening_of w.opening.items; events = events_of w.events.items; sight = record { cluster = w.cluster.flat; connections = w.connections.entries; workers = w.workers.entries } } };
+
+    ghost invariant = { λ w. IsLawful (opening_of w.opening.items) (events_of w.events.items) (record { cluster = w.cluster.flat; connections = w.connections.entries; workers = w.workers.entries }) };
 }
 
 impl World {
-    /// A world with no connection over the cluster. It takes no memory.
+    /// A world with no connection and no worker's copy over the cluster. It takes no memory.
     pub fn open(alloc: Global, cluster: Cluster<2>) -> World
         ensures { result ≡ start cluster.flat }
     {
@@ -42,6 +49,7 @@ impl World {
             alloc,
             cluster,
             connections: Connections::new(alloc),
+            workers: Workers::new(alloc),
             opening,
             events: Log::new(),
         }
@@ -69,9 +77,25 @@ impl World {
         connections::output(&self.connections, number)
     }
 
+    /// The proposal that stands of the worker of this number: what it chose last, if it neither copied the cluster nor committed
+    /// since.
+    pub fn choice(&self, worker: u32) -> Option<Proposal<2>>
+        ensures { result ≡ choice_of worker self.now.sight }
+    {
+        workers::choice(&self.workers, worker)
+    }
+
+    /// What the last commit of the worker of this number came to: an event, or the reason of a rejection.
+    pub fn verdict(&self, worker: u32) -> Option<&Verdict<2>>
+        ensures { option_map (λ verdict. verdict.now) result ≡ verdict_of worker self.now.sight }
+    {
+        workers::verdict(&self.workers, worker)
+    }
+
     /// Makes one step, and appends its events to the list as they are made. A step that does not apply is `Idle` and changes
     /// nothing. `NoMemory` leaves the world as it was and appends nothing; but in `Bytes` the connection has then ended, and the
-    /// requests before the refusal were answered and their events appended.
+    /// requests before the refusal were answered and their events appended. A `Propose` takes no memory, nor does the `Commit` of
+    /// a proposal that is rejected.
     pub fn step(&mut self, step: Step, events: &mut Vec<Event<2>>) -> Result<Did, NoMemory>
         ensures outcome { Outcome step.entry result self.old.sight self.new.sight events.old.items
             events.new.items }
@@ -83,6 +107,7 @@ impl World {
             self.alloc,
             &mut self.cluster,
             &mut self.connections,
+            &mut self.workers,
             step,
             events,
         );
@@ -96,16 +121,29 @@ fn act(
     alloc: Global,
     cluster: &mut Cluster<2>,
     connections: &mut Connections,
+    workers: &mut Workers,
     step: Step,
     events: &mut Vec<Event<2>>,
 ) -> Result<Did, NoMemory>
     ensures { Outcome step.entry result
-        (record { cluster = cluster.old.flat; connections = connections.old.entries })
-        (record { cluster = cluster.new.flat; connections = connections.new.entries }) events.old.items events.new.items }
+        (record {
+          cluster = cluster.old.flat;
+          connections = connections.old.entries;
+          workers = workers.old.entries;
+        })
+        (record {
+          cluster = cluster.new.flat;
+          connections = connections.new.entries;
+          workers = workers.new.entries;
+        })
+        events.old.items events.new.items }
 {
     match step {
         Step::Open(c) => connections::open(alloc, connections, c),
         Step::Bytes(c, piece) => connections::feed(alloc, connections, c, piece, cluster, events),
         Step::End(c) => Ok(connections::end(connections, c)),
+        Step::Copy(w) => workers::copy(alloc, workers, w, cluster),
+        Step::Propose(w, start) => Ok(workers::propose(workers, w, start)),
+        Step::Commit(w) => workers::commit(workers, w, cluster, events),
     }
 }

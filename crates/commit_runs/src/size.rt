@@ -1,6 +1,6 @@
 use cap_text::number_of;
 
-/// How much there is of what, and how many grants and ends are made.
+/// How much there is of what, how many grants and ends are made, how many snapshots are then taken, and how often so many bytes are copied.
 #[derive(Clone, Copy)]
 pub struct Size {
     pub nodes: u64,
@@ -8,9 +8,12 @@ pub struct Size {
     pub applications: u64,
     pub grants: u64,
     pub ends: u64,
+    pub snapshots: u64,
+    pub copies: u64,
+    pub bytes: u64,
 }
 
-/// The size that five numbers of a line say.
+/// The size that the numbers of a line say, of which the last three may be left out for 0.
 pub fn read_size(line: &str) -> Option<Size> {
     let mut words = line.split(' ');
     let size = Size {
@@ -19,6 +22,9 @@ pub fn read_size(line: &str) -> Option<Size> {
         applications: number(words.next())?,
         grants: number(words.next())?,
         ends: number(words.next())?,
+        snapshots: number_or_0(words.next())?,
+        copies: number_or_0(words.next())?,
+        bytes: number_or_0(words.next())?,
     };
     Some(size)
 }
@@ -26,4 +32,12 @@ pub fn read_size(line: &str) -> Option<Size> {
 /// The number that 1 to 9 digits of a word spell.
 fn number(word: Option<&str>) -> Option<u64> {
     number_of(word?.as_bytes(), 9)
+}
+
+/// The same, and 0 where there is no word.
+fn number_or_0(word: Option<&str>) -> Option<u64> {
+    match word {
+        Some(_) => number(word),
+        None => Some(0),
+    }
 }

@@ -1,17 +1,20 @@
 use crate::cluster::{CONTAINER, KEY, add_applications, add_nodes, open};
 use crate::size::Size;
+use crate::snapshots::{copy_all, take_all};
 use cap_commit::{Cluster, Proposal, ProposalKind, Reason, Verdict};
 use cap_model::{List, Numbers};
 use cap_trackers::heartbeat;
 use cap_vector::Resource;
 use std::alloc::Global;
 
-/// What was made: how many grants and ends, and why one more grant, a reservation that fits and one that never fits are rejected.
+/// What was made: how many grants and ends, why one more grant, a reservation that fits and one that never fits are rejected, and how
+/// many bytes the last snapshot took.
 #[derive(Clone, Copy)]
 pub struct Done {
     pub granted: u64,
     pub ended: u64,
     pub reasons: [Option<Reason>; 3],
+    pub bytes: usize,
 }
 
 /// Makes the grants and ends of a size in a new cluster: in turn of the applications and of the nodes.
@@ -28,10 +31,13 @@ fn work(alloc: Global, cluster: &mut Cluster<2>, size: &Size) -> Option<Done> {
     let granted = grant_all(cluster, size)?;
     end_all(alloc, cluster, size)?;
     let live = cluster.nodes().live_count() as u64;
+    let bytes = take_all(alloc, cluster, size.snapshots)?;
+    copy_all(alloc, size.bytes as usize, size.copies)?;
     Some(Done {
         granted,
         ended: granted.saturating_sub(live),
         reasons: reasons(cluster, size)?,
+        bytes,
     })
 }
 

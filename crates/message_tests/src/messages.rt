@@ -1,8 +1,8 @@
 ghost use Rattle.cap_messages.specs.Spelling.{IsOfKind};
 
 use cap_messages::{
-    MessageFault, Out, REPLY_ROOM, kind, read_request, replies_have_one_spelling,
-    requests_have_one_spelling, write_fault, write_reply,
+    Answer, MessageFault, Out, REPLY_ROOM, kind, read_reply, read_request,
+    replies_have_one_spelling, requests_have_one_spelling, write_fault, write_reply,
 };
 use cap_model::{
     AllocateView, ClusterReport, Grant, HeartbeatReply, Key, QueueReport, Refusal, ReplyView,
@@ -348,13 +348,22 @@ fn kind_of(reply: &ReplyView<'_, 2>) -> u8
     }
 }
 
-/// Whether these bytes are what is written of a reply.
+/// Whether these bytes are read as the reply to a request of this call id and kind.
+fn is_read(alloc: Global, bytes: &[u8], id: u32, of: u8) -> bool {
+    match read_reply(alloc, bytes) {
+        Ok(Answer::Reply { call_id, kind, .. }) => call_id == id && kind == of,
+        _ => false,
+    }
+}
+
+/// Whether these bytes are what is written of a reply, and are read as one.
 fn is_written(alloc: Global, call_id: u32, reply: Option<ReplyView<'_, 2>>, bytes: &[u8]) -> bool {
     let (Some(reply), Ok(mut out)) = (reply, Out::with_capacity(alloc, REPLY_ROOM)) else {
         return false;
     };
-    write_reply(call_id, kind_of(&reply), &reply, &mut out);
-    out.as_slice() == bytes
+    let kind = kind_of(&reply);
+    write_reply(call_id, kind, &reply, &mut out);
+    out.as_slice() == bytes && is_read(alloc, bytes, call_id, kind)
 }
 
 #[test]
@@ -401,13 +410,14 @@ fn replies_of_a_number_are_written(rt: HostRuntime) {
     }
 }
 
-/// Whether a refusal of a request of this kind is written as seven bytes that end in this status.
+/// Whether a refusal of a request of this kind is written as seven bytes that end in this status, and read from them.
 fn is_refused(alloc: Global, call_id: u8, kind: u8, refusal: Refusal, status: u8) -> bool {
     let Ok(mut out) = Out::with_capacity(alloc, REPLY_ROOM) else {
         return false;
     };
     write_reply(call_id as u32, kind, &ReplyWith::Refused(refusal), &mut out);
-    out.as_slice() == [1, kind, 0, 0, 0, call_id, status].as_slice()
+    let bytes = [1, kind, 0, 0, 0, call_id, status];
+    out.as_slice() == bytes.as_slice() && is_read(alloc, &bytes, call_id as u32, kind)
 }
 
 #[test]
@@ -511,18 +521,74 @@ fn replies_to_masters_are_written(rt: HostRuntime) {
     assert!(rt; is_granted(rt.alloc(), ALLOCATE_REPLY));
 }
 
-/// Whether this fault is written as seven bytes that end in its number.
+/// Whether this fault is written as seven bytes that end in its number, and read from them.
 fn is_fault(alloc: Global, number: u8) -> bool {
     let Ok(mut out) = Out::with_capacity(alloc, REPLY_ROOM) else {
         return false;
     };
     write_fault(number, &mut out);
-    out.as_slice() == [1, 0, 0, 0, 0, 0, number].as_slice()
+    let bytes = [1, 0, 0, 0, 0, 0, number];
+    let is_read = match read_reply(alloc, &bytes) {
+        Ok(Answer::Fault(status)) => status == number,
+        _ => false,
+    };
+    out.as_slice() == bytes.as_slice() && is_read
 }
 
 #[test]
 fn faults_are_written(rt: HostRuntime) {
     assert!(rt; is_fault(rt.alloc(), 40) && is_fault(rt.alloc(), 41));
+}
+
+/// Whether these bytes are no reply.
+fn is_no_reply(alloc: Global, bytes: &[u8]) -> bool {
+    match read_reply(alloc, bytes) {
+        Err(MessageFault::Bad) => true,
+        _ => false,
+    }
+}
+
+/// Whether each beginning of the bytes but all of them is no reply.
+fn is_no_reply_cut_off(alloc: Global, bytes: &[u8]) -> bool {
+    (0..bytes.len()).all(|length| is_no_reply(alloc, &bytes[..length]))
+}
+
+#[test]
+fn what_is_cut_off_is_no_reply(rt: HostRuntime) {
+    for bytes in [
+        CLUSTER_INFO_REPLY,
+        QUEUE_INFO_REPLY,
+        ALLOCATIONS,
+        ALLOCATE_REPLY,
+    ] {
+        assert!(rt; is_no_reply_cut_off(rt.alloc(), bytes));
+    }
+}
+
+#[test]
+fn other_bytes_are_no_reply(rt: HostRuntime) {
+    let cases: [&[u8]; 10] = [
+        // another version, a kind without a reply, a status without a refusal
+        &[2, 9, 0, 0, 0, 1, 0],
+        &[1, 11, 0, 0, 0, 1, 0],
+        &[1, 9, 0, 0, 0, 1, 17],
+        &[1, 9, 0, 0, 0, 1, 21],
+        // a byte left over, after success, a refusal and a fault
+        &[1, 9, 0, 0, 0, 1, 0, 0],
+        &[1, 9, 0, 0, 0, 1, 1, 0],
+        &[1, 0, 0, 0, 0, 0, 41, 0],
+        // a fault with a call id
+        &[1, 0, 0, 0, 0, 1, 41],
+        // an end of cause 4
+        &[
+            1, 3, 0, 0, 0, 1, 0, 0, 0, 0, 1, 0, 0, 0, 1, 0, 0, 0, 0, 0, 0, 0, 1, 4,
+        ],
+        // 65 ends are counted
+        &[1, 3, 0, 0, 0, 1, 0, 0, 0, 0, 1, 0, 0, 0, 65],
+    ];
+    for bytes in cases {
+        assert!(rt; is_no_reply(rt.alloc(), bytes), "{bytes:?}");
+    }
 }
 
 #[test]

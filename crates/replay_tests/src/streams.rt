@@ -148,9 +148,12 @@ fn play(alloc: Global, words: &[&str], pieces: &[&[u8]], fails: bool, limit: usi
 }
 
 // Bad words and a bad script are 2, a failed read or write is 1, whatever the words were.
+/// Property lines without a fault.
+const QUEUES: &[u8] = b"yarn.scheduler.capacity.root.queues=a\n";
+
 #[test]
 fn the_status_says_what_went_wrong(rt: HostRuntime) {
-    let rows: [(&[&str], &[u8], bool, usize, u8); 14] = [
+    let rows: [(&[&str], &[u8], bool, usize, u8); 22] = [
         (&["capsched", "replay"], b"", false, 0, 0),
         (&["capsched", "replay"], b"open 1\n", false, 9, 0),
         (&["capsched", "replay"], b"open 1\n", true, 9, 1),
@@ -171,6 +174,14 @@ fn the_status_says_what_went_wrong(rt: HostRuntime) {
         (&["capsched", "--help"], b"open 1\n", false, 9999, 0),
         (&["capsched", "--version"], b"open 1\n", false, 99, 0),
         (&["capsched", "--version"], b"open 1\n", false, 0, 1),
+        (&["capsched", "check"], b"", false, 9999, 2),
+        (&["capsched", "check"], QUEUES, false, 9999, 0),
+        (&["capsched", "check"], QUEUES, true, 9999, 1),
+        (&["capsched", "check"], QUEUES, false, 0, 1),
+        (&["capsched", "explain"], b"", false, 0, 0),
+        (&["capsched", "explain"], b"open 1\n", false, 9, 0),
+        (&["capsched", "explain"], b"open 1\n", true, 9, 1),
+        (&["capsched", "explain"], b"open 1\n", false, 0, 1),
     ];
     for (words, script, fails, limit, status) in rows {
         let played = play(rt.alloc(), words, &[script], fails, limit);
@@ -184,6 +195,31 @@ fn the_status_says_what_went_wrong(rt: HostRuntime) {
             "{words:?} {script:?} {status}"
         );
     }
+}
+
+// A fault of the settings is left for the error stream, with its line, its key and what is wrong.
+#[test]
+fn a_fault_of_the_settings_has_words(rt: HostRuntime) {
+    let pieces: [&[u8]; 2] = [QUEUES, b"yarn.scheduler.capacity.root.b.state=STOPPED"];
+    let played = play(rt.alloc(), &["capsched", "check"], &pieces, false, 9999);
+    let words =
+        "line 2: yarn.scheduler.capacity.root.b.state: root.b is not listed by the .queues line of the queue above it\n";
+    assert!(rt; (played.status, played.printed.len()) == (2, 0));
+    assert!(rt; played.complaint.as_str() == words);
+}
+
+// A request in two pieces of the script, and two reads of the script.
+#[test]
+fn lines_are_explained(rt: HostRuntime) {
+    let pieces: [&[u8]; 2] = [
+        b"open 1\nbytes 1 00000006010a\nbyt",
+        b"es 1 00000001\nout 1 0000000700000000000029\n",
+    ];
+    let played = play(rt.alloc(), &["capsched", "explain"], &pieces, false, 9999);
+    let words =
+        b"open 1\nbytes 1 00000006010a\nbytes 1 00000001\n# 1 -> ClusterInfo 1\nout 1 0000000700000000000029\n";
+    assert!(rt; played.status == 0);
+    assert!(rt; played.printed.as_slice() == words.as_slice());
 }
 
 #[test]

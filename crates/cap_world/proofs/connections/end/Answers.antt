@@ -5,8 +5,8 @@ use Rattle.cap_world.proofs.Tables.{set_value_same}
 use Rattle.cap_world.proofs.connections.end.Goals as goal
 
 pub returns-then-not-is_open : goal.returns-then-not-is_open
-returns-then-not-is_open c cluster events =
+returns-then-not-is_open c cluster workers events =
     let w = c.in-Some.connection.now in
     let at : connection_at c.args.number c.args.connections.now.entries ≡ Some w = sym c.in-Some.ensures.value in
     let writes = c.get_mut.follows.holds w in
-    (ap is_open_connection at ∙ sym c.is_open.ensures ∙ c.if-not-is_open.true, ap (λ (es : List (ℕ × Connection)). let s : WorldState = record { cluster = cluster; connections = es } in s) (writes.0 ∙ set_value_same (nat_eq c.args.number) c.args.connections.now.entries w at), refl)
+    (ap is_open_connection at ∙ sym c.is_open.ensures ∙ c.if-not-is_open.true, ap (λ (es : List (ℕ × Connection)). let s : WorldState = record { cluster = cluster; connections = es; workers = workers } in s) (writes.0 ∙ set_value_same (nat_eq c.args.number) c.args.connections.now.entries w at), refl)

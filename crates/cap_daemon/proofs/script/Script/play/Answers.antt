@@ -1,9 +1,10 @@
-use Rattle.std.proofs.Common.{subst}
+use Rattle.std.proofs.Common.{refl, subst}
 use Rattle.cap_daemon.specs.Script.{IsCommand}
-use Rattle.cap_daemon.specs.declared.command.Command.TheVariants.{Open, Bytes, End}
+use Rattle.cap_daemon.specs.declared.command.Command.TheVariants.{Open, Bytes, End, Copy, Propose, Commit}
+use Rattle.cap_world.specs.declared.step.Step.TheVariants as steps
 use Rattle.cap_daemon.proofs.Commands.{no_opening, no_later, no_later_conf}
 use Rattle.cap_daemon.proofs.Results.{on_ok, on_ok_twice}
-use Rattle.cap_daemon.proofs.Scripts.{no_script, no_script_conf, has_stepped, after_comment, after_property, after_step, fails_at_step}
+use Rattle.cap_daemon.proofs.Scripts.{no_script, no_script_conf, has_stepped, after_comment, after_property, after_step, after_make, fails_at_step}
 use Rattle.cap_daemon.proofs.script.Script.play.Goals as goal
 
 pub returns-in-Some-Nothing-clause-good : goal.returns-in-Some-Nothing-clause-good
@@ -22,23 +23,53 @@ returns-in-Some-Conf-clause-bad c = λ n e done stands.
 
 pub returns-in-Some-Open-clause-good : goal.returns-in-Some-Open-clause-good
 returns-in-Some-Open-clause-good c =
-    on_ok c.open.result c.open.ensures.performs (λ performs. λ done stands.
-    after_step done c.args.line.now (Open c.in-Some-Open.number) c.args.self.now.simulation c.open.new.self.simulation stands (subst (λ x. IsCommand c.args.line.now x) c.in-Some-Open.field-0-is c.in-Some-Open.ensures.found) performs)
+    on_ok c.make.result c.make.ensures.makes (λ makes. λ done stands.
+    after_make done c.args.line.now (Open c.in-Some-Open.number) (steps.Open c.in-Some-Open.number) c.args.self.now.simulation c.make.new.self.simulation stands (subst (λ x. IsCommand c.args.line.now x) c.in-Some-Open.field-0-is c.in-Some-Open.ensures.found) refl makes)
 
 pub returns-in-Some-Open-clause-fault : goal.returns-in-Some-Open-clause-fault
 returns-in-Some-Open-clause-fault c = λ fault e done stands.
     fails_at_step done c.args.line.now c.args.self.now.simulation fault stands
-    (Open c.in-Some-Open.number, subst (λ x. IsCommand c.args.line.now x) c.in-Some-Open.field-0-is c.in-Some-Open.ensures.found, tt) (c.open.ensures.fault fault e)
+    (Open c.in-Some-Open.number, subst (λ x. IsCommand c.args.line.now x) c.in-Some-Open.field-0-is c.in-Some-Open.ensures.found, tt) (c.make.ensures.fault fault e)
 
 pub returns-in-Some-End-clause-good : goal.returns-in-Some-End-clause-good
 returns-in-Some-End-clause-good c =
-    on_ok c.end.result c.end.ensures.performs (λ performs. λ done stands.
-    after_step done c.args.line.now (End c.in-Some-End.number) c.args.self.now.simulation c.end.new.self.simulation stands (subst (λ x. IsCommand c.args.line.now x) c.in-Some-End.field-0-is c.in-Some-End.ensures.found) performs)
+    on_ok c.make-in-Some-End.result c.make-in-Some-End.ensures.makes (λ makes. λ done stands.
+    after_make done c.args.line.now (End c.in-Some-End.number) (steps.End c.in-Some-End.number) c.args.self.now.simulation c.make-in-Some-End.new.self.simulation stands (subst (λ x. IsCommand c.args.line.now x) c.in-Some-End.field-0-is c.in-Some-End.ensures.found) refl makes)
 
 pub returns-in-Some-End-clause-fault : goal.returns-in-Some-End-clause-fault
 returns-in-Some-End-clause-fault c = λ fault e done stands.
     fails_at_step done c.args.line.now c.args.self.now.simulation fault stands
-    (End c.in-Some-End.number, subst (λ x. IsCommand c.args.line.now x) c.in-Some-End.field-0-is c.in-Some-End.ensures.found, tt) (c.end.ensures.fault fault e)
+    (End c.in-Some-End.number, subst (λ x. IsCommand c.args.line.now x) c.in-Some-End.field-0-is c.in-Some-End.ensures.found, tt) (c.make-in-Some-End.ensures.fault fault e)
+
+pub returns-in-Some-Copy-clause-good : goal.returns-in-Some-Copy-clause-good
+returns-in-Some-Copy-clause-good c =
+    on_ok c.make-in-Some-Copy.result c.make-in-Some-Copy.ensures.makes (λ makes. λ done stands.
+    after_make done c.args.line.now (Copy c.in-Some-Copy.worker) (steps.Copy c.in-Some-Copy.worker) c.args.self.now.simulation c.make-in-Some-Copy.new.self.simulation stands (subst (λ x. IsCommand c.args.line.now x) c.in-Some-Copy.field-0-is c.in-Some-Copy.ensures.found) refl makes)
+
+pub returns-in-Some-Copy-clause-fault : goal.returns-in-Some-Copy-clause-fault
+returns-in-Some-Copy-clause-fault c = λ fault e done stands.
+    fails_at_step done c.args.line.now c.args.self.now.simulation fault stands
+    (Copy c.in-Some-Copy.worker, subst (λ x. IsCommand c.args.line.now x) c.in-Some-Copy.field-0-is c.in-Some-Copy.ensures.found, tt) (c.make-in-Some-Copy.ensures.fault fault e)
+
+pub returns-in-Some-Propose-clause-good : goal.returns-in-Some-Propose-clause-good
+returns-in-Some-Propose-clause-good c =
+    on_ok c.make-in-Some-Propose.result c.make-in-Some-Propose.ensures.makes (λ makes. λ done stands.
+    after_make done c.args.line.now (Propose c.in-Some-Propose.worker c.in-Some-Propose.start) (steps.Propose c.in-Some-Propose.worker c.in-Some-Propose.start) c.args.self.now.simulation c.make-in-Some-Propose.new.self.simulation stands (subst (λ x. IsCommand c.args.line.now x) c.in-Some-Propose.field-0-is c.in-Some-Propose.ensures.found) refl makes)
+
+pub returns-in-Some-Propose-clause-fault : goal.returns-in-Some-Propose-clause-fault
+returns-in-Some-Propose-clause-fault c = λ fault e done stands.
+    fails_at_step done c.args.line.now c.args.self.now.simulation fault stands
+    (Propose c.in-Some-Propose.worker c.in-Some-Propose.start, subst (λ x. IsCommand c.args.line.now x) c.in-Some-Propose.field-0-is c.in-Some-Propose.ensures.found, tt) (c.make-in-Some-Propose.ensures.fault fault e)
+
+pub returns-in-Some-Commit-clause-good : goal.returns-in-Some-Commit-clause-good
+returns-in-Some-Commit-clause-good c =
+    on_ok c.make-in-Some-Commit.result c.make-in-Some-Commit.ensures.makes (λ makes. λ done stands.
+    after_make done c.args.line.now (Commit c.in-Some-Commit.worker) (steps.Commit c.in-Some-Commit.worker) c.args.self.now.simulation c.make-in-Some-Commit.new.self.simulation stands (subst (λ x. IsCommand c.args.line.now x) c.in-Some-Commit.field-0-is c.in-Some-Commit.ensures.found) refl makes)
+
+pub returns-in-Some-Commit-clause-fault : goal.returns-in-Some-Commit-clause-fault
+returns-in-Some-Commit-clause-fault c = λ fault e done stands.
+    fails_at_step done c.args.line.now c.args.self.now.simulation fault stands
+    (Commit c.in-Some-Commit.worker, subst (λ x. IsCommand c.args.line.now x) c.in-Some-Commit.field-0-is c.in-Some-Commit.ensures.found, tt) (c.make-in-Some-Commit.ensures.fault fault e)
 
 pub returns-in-Some-Bytes-clause-good : goal.returns-in-Some-Bytes-clause-good
 returns-in-Some-Bytes-clause-good c =

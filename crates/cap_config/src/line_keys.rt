@@ -1,0 +1,96 @@
+ghost use Rattle.std.specs.Prelude.{◌≡◌};
+ghost use Rattle.std.specs.List.{list_all};
+ghost use Rattle.std.specs.Option.{option_map};
+ghost use Rattle.std.specs.Str.Lines.{lines};
+ghost use Rattle.cap_config.specs.LineKeys.{shown, shown_first, key_shown, nth_line, line_key, shows, is_shown, first_with};
+ghost use Rattle.cap_text.specs.Pieces.{parts_at};
+
+use crate::first_pass::{all_printable, is_passed_over};
+use cap_text::{split_line, split_once, trimmed};
+use std::str;
+
+/// The key in the line with this number, counted from 1: the bytes before its first `=`, without spaces round them. None
+/// where there is no such line, the line is a comment or empty, or the key has no byte or one that is not printable.
+#[tactic(auto, unfolding(crate::specs::LineKeys::line_key))]
+pub fn line_key(text: &[u8], number: usize) -> Option<&str>
+    ensures { option_map (λ key. key.now) result ≡ line_key text.now number }
+{
+    match nth_line(text, number) {
+        Some(line) => key_shown(line),
+        None => None,
+    }
+}
+
+/// The line with this number, counted from 1.
+fn nth_line(text: &[u8], number: usize) -> Option<&[u8]>
+    ensures { option_map (λ line. line.now) result ≡ nth_line number (lines text.now) }
+{
+    let mut rest = text;
+    let mut left = number;
+    while !rest.is_empty() {
+        let (line, after) = split_line(rest);
+        if left == 1 {
+            return Some(line);
+        }
+        left = left.saturating_sub(1);
+        rest = after;
+    }
+    None
+}
+
+/// The key that a line shows.
+#[tactic(auto, unfolding(crate::specs::LineKeys::key_shown))]
+fn key_shown(line: &[u8]) -> Option<&str>
+    ensures { option_map (λ key. key.now) result ≡ key_shown line.now }
+{
+    if is_passed_over(line) {
+        return None;
+    }
+    match split_once(line, b'=') {
+        Some((key, _)) => shown(trimmed(key)),
+        None => None,
+    }
+}
+
+/// These bytes, where there is one at least and all are printable.
+#[tactic(auto, unfolding(crate::specs::LineKeys::shown))]
+fn shown(bytes: &[u8]) -> Option<&str>
+    ensures { option_map (λ shown. shown.now) result ≡ shown bytes.now }
+{
+    if bytes.is_empty() || !all_printable(bytes) {
+        return None;
+    }
+    let Ok(shown) = str::from_utf8(bytes) else {
+        unreachable!()
+    };
+    Some(shown)
+}
+
+/// The number of the first line that shows this key, of those before the line numbered `end`.
+pub fn first_with(text: &[u8], key: &[u8], end: usize) -> Option<usize>
+    ensures { result ≡ first_with key.now end 0 (lines text.now) }
+{
+    let mut rest = text;
+    let mut number = 0;
+    while !rest.is_empty() {
+        let (line, after) = split_line(rest);
+        number += 1;
+        if number == end {
+            return None;
+        }
+        if shows(key, line) {
+            return Some(number);
+        }
+        rest = after;
+    }
+    None
+}
+
+fn shows(key: &[u8], line: &[u8]) -> bool
+    ensures { result ≡ shows key.now line.now }
+{
+    match key_shown(line) {
+        Some(shown) => shown.as_bytes() == key,
+        None => false,
+    }
+}

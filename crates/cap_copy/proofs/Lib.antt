@@ -1,0 +1,4 @@
+pub mod Blocks
+pub mod Serving
+pub mod Sights
+pub mod Steps

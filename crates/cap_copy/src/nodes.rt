@@ -1,0 +1,35 @@
+//! The nodes of a snapshot.
+ghost use Rattle.std.specs.Prelude.{◌≡◌, IfOk, map};
+ghost use Rattle.cap_model.specs.Bounds.{IsRising};
+ghost use Rattle.cap_copy.specs.Taking.{node_seen};
+
+use crate::seen::SeenNode;
+use cap_model::NoMemory;
+use cap_nodes::Nodes;
+use std::alloc::Allocator;
+
+/// The nodes that are present, in order of number, in one piece of memory. An error means that an allocation failed. All have
+/// numbers from 1 that rise and are below the next.
+pub(crate) fn seen_nodes<const K: usize, B: Allocator + Copy>(
+    alloc: B,
+    nodes: &Nodes<K>,
+) -> Result<Vec<SeenNode<K>, B>, NoMemory>
+    ensures entries { IfOk result (λ seen. seen.items ≡ map (node_seen K nodes.now) nodes.now.present) }
+    ensures rising { IsRising 1 (map (λ node. node.number) nodes.now.present) nodes.now.next_node }
+{
+    let Ok(mut seen) = Vec::with_capacity(alloc, nodes.count()) else {
+        return Err(NoMemory);
+    };
+    for index in 0..nodes.count() {
+        let node = nodes.nth(index);
+        seen.push_reserved(SeenNode {
+            number: node.number(),
+            host: *node.host(),
+            rack: *node.rack(),
+            total: node.total(),
+            free: nodes.free_at(index),
+            reservation: nodes.reservation_on(node.number()),
+        });
+    }
+    Ok(seen)
+}

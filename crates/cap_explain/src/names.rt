@@ -1,0 +1,87 @@
+use cap_model::{Cause, Key, Refusal};
+use cap_vector::Amounts;
+use std::alloc::AllocError;
+use std::str;
+
+/// The characters of a text, `?` if they can't be shown.
+pub(crate) fn shown(text: &[u8]) -> &str {
+    str::from_utf8(text).unwrap_or("?")
+}
+
+/// A number of things, with the plural's `s` where there isn't one of them.
+pub(crate) fn put_count(words: &mut String, count: u64, name: &str) -> Result<(), AllocError> {
+    write!(words, "{count} {name}")?;
+    if count == 1 {
+        return Ok(());
+    }
+    words.push_str("s")
+}
+
+/// Amounts, in MiB and vcores.
+pub(crate) fn put_amounts<const MAX: u64>(
+    words: &mut String,
+    amounts: &Amounts<2, MAX>,
+) -> Result<(), AllocError> {
+    let [memory, vcores] = amounts.amounts();
+    write!(words, "[{memory} MiB, ")?;
+    put_count(words, vcores, "vcore")?;
+    words.push_str("]")
+}
+
+/// The priority of a key, and its allocation request id if that isn't 0.
+pub(crate) fn put_key(words: &mut String, key: &Key) -> Result<(), AllocError> {
+    write!(words, " priority {}", key.priority)?;
+    if key.request == 0 {
+        return Ok(());
+    }
+    write!(words, " request {}", key.request)
+}
+
+/// The name of a request's kind.
+pub(crate) fn kind_name(kind: u8) -> &'static str {
+    match kind {
+        1 => "Submit",
+        2 => "RegisterMaster",
+        3 => "Allocate",
+        4 => "FinishMaster",
+        5 => "RegisterNode",
+        6 => "Heartbeat",
+        7 => "NodeGone",
+        8 => "QueueInfo",
+        9 => "SetQueueState",
+        10 => "ClusterInfo",
+        _ => "request",
+    }
+}
+
+/// Why a container ended.
+pub(crate) fn cause_words(cause: Cause) -> &'static str {
+    match cause {
+        Cause::Released => "released",
+        Cause::EndedOnNode => "on its node",
+        Cause::NodeLost => "node lost",
+    }
+}
+
+/// Why a request is refused.
+pub(crate) fn refusal_words(refusal: Refusal) -> &'static str {
+    match refusal {
+        Refusal::UnknownQueue => "no queue has this path",
+        Refusal::NotLeaf => "the queue has queues below it",
+        Refusal::QueueStopped => "the queue or one above it is STOPPED",
+        Refusal::TooManyApplications => "as many applications are active as are allowed",
+        Refusal::UnknownApplication => "no active application has this number",
+        Refusal::AlreadyRegistered => "the application's master has registered before",
+        Refusal::NotRegistered => "the application's master has not registered",
+        Refusal::BadResponseId => "the response id is neither the last one nor one to repeat",
+        Refusal::AskTooLarge => "an ask is over the maximum allocation",
+        Refusal::TooManyAsks => "the application would have asks under more than 256 keys",
+        Refusal::UnknownNode => "no present node has this number",
+        Refusal::HostTaken => "a present node has this host",
+        Refusal::TotalTooLarge => "the nodes would have more than 2^40 of a resource together",
+        Refusal::TooManyNodes => "4096 nodes are present",
+        Refusal::ZeroResource => "the node has nothing",
+        Refusal::NumbersSpent => "all numbers are used",
+        Refusal::NoMemory => "an allocation failed",
+    }
+}

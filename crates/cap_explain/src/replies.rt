@@ -1,0 +1,141 @@
+use crate::names::{cause_words, kind_name, put_amounts, put_count, put_key, refusal_words, shown};
+use cap_messages::Answer;
+use cap_model::{
+    AllocateReply, ClusterReport, End, Grant, HeartbeatReply, OwnedReply, QueueReport, ReplyWith,
+};
+use cap_vector::Resource;
+use std::alloc::AllocError;
+
+/// An answer in words: the kind and the call id of its request, and what it says.
+pub(crate) fn put_answer(words: &mut String, answer: &Answer) -> Result<(), AllocError> {
+    match answer {
+        Answer::Reply {
+            call_id,
+            kind,
+            reply,
+        } => {
+            write!(words, "{} {call_id}: ", kind_name(*kind))?;
+            put_reply(words, reply)
+        }
+        Answer::Fault(status) => {
+            let why = match *status {
+                40 => "no frame has this length, and the connection ends",
+                41 => "the payload is no request",
+                _ => "unknown",
+            };
+            write!(words, "fault {status}: {why}")
+        }
+    }
+}
+
+/// What a reply says.
+fn put_reply(words: &mut String, reply: &OwnedReply<2>) -> Result<(), AllocError> {
+    match reply {
+        ReplyWith::Refused(refusal) => {
+            let (status, why) = (refusal.status(), refusal_words(*refusal));
+            write!(words, "refused {status}, {why}")
+        }
+        ReplyWith::Submit { app } => write!(words, "application {app}"),
+        ReplyWith::RegisterMaster { minimum, maximum } => put_range(words, minimum, maximum),
+        ReplyWith::Allocate { reply } => put_allocated(words, reply),
+        ReplyWith::FinishMaster { ended } | ReplyWith::NodeGone { ended } => {
+            put_count(words, u64::from(*ended), "container")?;
+            words.push_str(" ended")
+        }
+        ReplyWith::RegisterNode { node } => write!(words, "node {node}"),
+        ReplyWith::Heartbeat { reply } => put_beat(words, reply),
+        ReplyWith::QueueInfo { report } => put_queue(words, report),
+        ReplyWith::SetQueueState => words.push_str("done"),
+        ReplyWith::ClusterInfo { report } => put_cluster(words, report),
+    }
+}
+
+/// The least and the most that a container may have.
+fn put_range(
+    words: &mut String,
+    minimum: &Resource<2>,
+    maximum: &Resource<2>,
+) -> Result<(), AllocError> {
+    words.push_str("containers from ")?;
+    put_amounts(words, minimum)?;
+    words.push_str(" to ")?;
+    put_amounts(words, maximum)
+}
+
+/// What an Allocate is answered.
+fn put_allocated(words: &mut String, reply: &AllocateReply<2>) -> Result<(), AllocError> {
+    write!(
+        words,
+        "response {}, {} ignored",
+        reply.response, reply.ignored
+    )?;
+    put_grants(words, &reply.grants)?;
+    put_ends(words, &reply.ends)
+}
+
+/// What is granted.
+fn put_grants(words: &mut String, grants: &[Grant<2>]) -> Result<(), AllocError> {
+    for grant in grants {
+        let (container, node, host) = (grant.container(), grant.node(), grant.host());
+        let host = shown(host.as_bytes());
+        write!(
+            words,
+            ", granted container {container} on node {node} ({host}) "
+        )?;
+        put_amounts(words, &grant.resource())?;
+        put_key(words, &grant.key())?;
+    }
+    Ok(())
+}
+
+/// What has ended.
+fn put_ends(words: &mut String, ends: &[End]) -> Result<(), AllocError> {
+    for end in ends {
+        let (container, cause) = (end.container, cause_words(end.cause));
+        write!(words, ", ended container {container} ({cause})")?;
+    }
+    Ok(())
+}
+
+/// What a Heartbeat is answered.
+fn put_beat(words: &mut String, reply: &HeartbeatReply) -> Result<(), AllocError> {
+    write!(
+        words,
+        "response {}, {} ignored, ",
+        reply.response, reply.ignored
+    )?;
+    put_count(words, u64::from(reply.live), "container")?;
+    words.push_str(" live")
+}
+
+/// What is shown of a queue.
+fn put_queue(words: &mut String, report: &QueueReport<2>) -> Result<(), AllocError> {
+    words.push_str(if report.running { "RUNNING" } else { "STOPPED" })?;
+    words.push_str(if report.leaf { ", leaf" } else { ", parent" })?;
+    words.push_str(", capacity ")?;
+    put_amounts(words, &report.guaranteed)?;
+    match &report.maximum {
+        Some(maximum) => {
+            words.push_str(", maximum ")?;
+            put_amounts(words, maximum)?;
+        }
+        None => words.push_str(", no maximum")?,
+    }
+    words.push_str(", used ")?;
+    put_amounts(words, &report.used)?;
+    words.push_str(", ")?;
+    put_count(words, u64::from(report.apps), "application")
+}
+
+/// What is shown of the cluster.
+fn put_cluster(words: &mut String, report: &ClusterReport<2>) -> Result<(), AllocError> {
+    put_count(words, u64::from(report.nodes), "node")?;
+    words.push_str(", ")?;
+    put_count(words, u64::from(report.apps), "application")?;
+    words.push_str(", ")?;
+    put_count(words, u64::from(report.containers), "container")?;
+    words.push_str(", in all ")?;
+    put_amounts(words, &report.totals)?;
+    words.push_str(", used ")?;
+    put_amounts(words, &report.used)
+}

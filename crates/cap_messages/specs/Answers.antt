@@ -1,0 +1,15 @@
+-- What the bytes of a reply say.
+use Rattle.std.specs.Prelude.{◌≡◌, ℕ, List}
+use Rattle.cap_messages.specs.declared.answers.Answer.{Answer}
+use Rattle.cap_messages.specs.declared.answers.Answer.TheVariants as Answer
+use Rattle.cap_messages.specs.Spelling.{IsReply, IsOfKind, fault_reply}
+
+-- the bytes spell the answer
+abbrev pub Says : List ℕ → Answer → Type 0
+Says bytes (Answer.Reply id kind reply) = IsReply bytes id kind reply
+Says bytes (Answer.Fault status) = bytes ≡ fault_reply status
+
+-- a fault, or a reply of its kind
+abbrev pub IsKindly : Answer → Type 0
+IsKindly (Answer.Reply id kind reply) = IsOfKind kind reply
+IsKindly (Answer.Fault status) = Unit {0}

@@ -1,0 +1,29 @@
+-- The order in which what waits at queues is served.
+use Rattle.std.specs.Prelude.{◌≡◌, ℕ, ◌<◌, ◌==◌, false, List, [], ◌∷◌, length, filter}
+use Rattle.std.specs.List.{All, slice_get}
+use Rattle.std.specs.Option.{option_map_or}
+use Rattle.std.specs.Ordering.{nat_cmp, then_cmp, on, is_gt}
+use Rattle.std.specs.declared.cmp.Ordering.{Ordering}
+use Rattle.std.specs.Cmp.Lexicographic.{slice_cmp}
+use Rattle.cap_model.specs.Choice.{level_cmp}
+use Rattle.cap_tree.specs.Rows.{Row}
+use Rattle.cap_tree.specs.Service.{levels_at}
+
+-- the position of that index, the root's where there is none
+abbrev pub position_nth : ℕ → List (List ℕ) → List ℕ
+position_nth i positions = option_map_or (λ position. position) (slice_get positions i) []
+
+-- which of two indexes is served first: by the queues of their positions, then the earlier index
+abbrev pub waiting_cmp : List Row → List (List ℕ) → ℕ → ℕ → Ordering
+waiting_cmp rows positions = then_cmp (on (λ i. levels_at (position_nth i positions) rows) (slice_cmp level_cmp)) nat_cmp
+
+-- none comes after one that follows it
+abbrev pub AreInOrder : (ℕ → ℕ → Ordering) → List ℕ → Type 0
+AreInOrder cmp [] = Unit {0}
+AreInOrder cmp (i ∷ is) = All (λ j. is_gt (cmp i j) ≡ false) is × AreInOrder cmp is
+
+-- the index of each position, once, in the order of service
+pub record IsServiceOrder (rows : List Row) (positions : List (List ℕ)) (order : List ℕ) : Type 0 where
+  pub each : (i : ℕ) → i < length positions → filter (λ j. j == i) order ≡ i ∷ []
+  pub within : All (λ i. i < length positions) order
+  pub sorted : AreInOrder (waiting_cmp rows positions) order

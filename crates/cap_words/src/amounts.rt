@@ -1,0 +1,43 @@
+ghost use Rattle.std.specs.Prelude.{◌≡◌, ◌++◌, OnOk, string_bytes};
+ghost use Rattle.cap_words.specs.Amounts.{amounts_words, over_words};
+
+use itoa::{Buffer, Integer};
+use std::alloc::AllocError;
+
+/// Adds a number in decimal.
+pub(crate) fn put_number<I: Integer>(words: &mut String, number: I) -> Result<(), AllocError>
+    ensures { OnOk result (string_bytes words.new ≡ string_bytes words.old ++ I.text number) }
+{
+    let mut buffer = Buffer::new();
+    words.push_str(buffer.format(number))
+}
+
+/// Adds amounts in MiB and vcores as property lines have them, without the brackets.
+pub(crate) fn put_amounts(words: &mut String, amounts: [u64; 2]) -> Result<(), AllocError>
+    ensures { OnOk result (string_bytes words.new
+        ≡ string_bytes words.old ++ amounts_words amounts) }
+{
+    words.push_str("memory=")?;
+    put_number(words, amounts[0])?;
+    words.push_str(",vcores=")?;
+    put_number(words, amounts[1])
+}
+
+/// Adds an amount of a resource and the limit that it is over. Nothing where it is not.
+pub(crate) fn put_over(
+    words: &mut String,
+    resource: &str,
+    amount: u64,
+    most: u64,
+) -> Result<(), AllocError>
+    ensures { OnOk result (string_bytes words.new
+        ≡ string_bytes words.old ++ over_words resource.now amount most) }
+{
+    if amount <= most {
+        return Ok(());
+    }
+    words.push_str(resource)?;
+    put_number(words, amount)?;
+    words.push_str(" over ")?;
+    put_number(words, most)
+}

@@ -1,0 +1,221 @@
+-- What the steps of workers come to.
+use Rattle.std.proofs.Common.{◌≡◌, ℕ, ◌<◌, ◌≤◌, false, List, [], ◌∷◌, ◌++◌, Option, Some, None, Result, Ok, Err, refl, sym, ap, subst, ◌∙◌, append-nil, inl, inr, arith}
+use Rattle.std.specs.Prelude.{◌==◌}
+use Rattle.std.specs.List.{AllByRecursion}
+use Rattle.std.proofs.lemmas.Bool.{cases_Bool, eqb-true, eq-eqb}
+use Rattle.cap_model.specs.declared.event.Event.{Event}
+use Rattle.cap_model.specs.declared.no_memory.NoMemory.{NoMemory}
+use Rattle.cap_model.specs.declared.proposal.Verdict.{Verdict}
+use Rattle.cap_model.specs.declared.proposal.Verdict.TheVariants as verdicts
+use Rattle.cap_model.specs.Flat.{Flat}
+use Rattle.cap_model.specs.Sight.{Sight, NodeSight, sight_of}
+use Rattle.cap_model.specs.Admission.{NodeProposal, IsAdmissible, reason_of}
+use Rattle.cap_model.specs.Choice.{IsFirstChoice, ring_from}
+use Rattle.cap_model.specs.Candidates.{choice_from}
+use Rattle.cap_model.specs.Events.{Step as ClusterStep}
+use Rattle.cap_model.specs.Verdicts.{IsOf, IsVerdict}
+use Rattle.cap_model.proofs.choice.Choosing.{choice_from_is_computed}
+use Rattle.cap_model.proofs.choice.Reasons.{rejected_exactly}
+use Rattle.cap_copy.specs.Snapshot.{Seen, sight_in}
+use Rattle.cap_world.specs.declared.step.Step.{Step}
+use Rattle.cap_world.specs.declared.step.Step.TheVariants as steps
+use Rattle.cap_world.specs.declared.step.Did.{Did}
+use Rattle.cap_world.specs.declared.step.Did.TheVariants as dids
+use Rattle.cap_world.specs.Worker.{WorkerState, workers_max, with_copy, with_verdict}
+use Rattle.cap_world.specs.World.{WorldState, worker_at, choice_in, verdict_in, choice_of, verdict_of, Changes}
+use Rattle.cap_world.specs.Working.{Copied, made_by}
+use Rattle.cap_world.specs.Steps.{Outcome}
+use Rattle.cap_world.specs.Making.{Makes}
+use Rattle.cap_world.specs.WorkerLaws.{QuietStepsMakeNoEvent, IsExact, CommitsAreExact, IsNoCopy, ProposalsAreOfCopies, IsMadeOf, CopiedChoicesAreMade}
+use Rattle.cap_world.proofs.Alike.{same_choice}
+
+-- ---- steps without events
+
+idle_events : (step : Step) (result : Result Did NoMemory) (old new : WorldState) (before after : List (Event 2)) → Outcome step result old new before after → result ≡ Ok dids.Idle → after ≡ before
+idle_events step result old new before after o e =
+    (subst (λ (r : Result Did NoMemory). Outcome step r old new before after) e o).2
+
+pub quiet_steps : QuietStepsMakeNoEvent
+quiet_steps step result old new before after o (inr e) = idle_events step result old new before after o e
+quiet_steps (steps.Bytes c piece) result old new before after o (inl q) = absurd q
+quiet_steps (steps.Commit w) result old new before after o (inl q) = absurd q
+quiet_steps (steps.Open c) (Ok dids.Done) old new before after o (inl q) = o.4
+quiet_steps (steps.Open c) (Ok dids.Idle) old new before after o (inl q) = o.2
+quiet_steps (steps.Open c) (Err e) old new before after o (inl q) = o.2
+quiet_steps (steps.End c) (Ok dids.Done) old new before after o (inl q) = o.3
+quiet_steps (steps.End c) (Ok dids.Idle) old new before after o (inl q) = o.2
+quiet_steps (steps.End c) (Err e) old new before after o (inl q) = absurd o
+quiet_steps (steps.Copy w) (Ok dids.Done) old new before after o (inl q) = o.1
+quiet_steps (steps.Copy w) (Ok dids.Idle) old new before after o (inl q) = o.2
+quiet_steps (steps.Copy w) (Err e) old new before after o (inl q) = o.2
+quiet_steps (steps.Propose w start) (Ok dids.Done) old new before after o (inl q) = o.1
+quiet_steps (steps.Propose w start) (Ok dids.Idle) old new before after o (inl q) = o.2
+quiet_steps (steps.Propose w start) (Err e) old new before after o (inl q) = absurd o
+
+-- ---- commits
+
+-- the worker that changed
+changed : (w : ℕ) (value : WorkerState) (old new : List (ℕ × WorkerState)) → Changes w value old new → worker_at w new ≡ Some value
+changed w value old new change = rw (change w, eq-eqb w w refl) refl
+
+other_than : (w v : ℕ) (value : WorkerState) (old new : List (ℕ × WorkerState)) → Changes v value old new → (v == w) ≡ false → worker_at w new ≡ worker_at w old
+other_than w v value old new change other = rw (change w, other) refl
+
+-- a step that makes what was proposed needs it to be admissible
+step_admissible : (p : NodeProposal) (event : Event 2) (old new : Flat 2) → IsOf p event → ClusterStep old event new → IsAdmissible (sight_of old) p
+step_admissible p (Event.Call by request reply) old new is step = absurd is
+step_admissible p (Event.Grant container) old new is step = subst (λ (x : NodeProposal). IsAdmissible (sight_of old) x) is step.0
+step_admissible p (Event.Reserve reservation) old new is step = subst (λ (x : NodeProposal). IsAdmissible (sight_of old) x) is step.0
+
+not_rejected : {A : Type 0} (p : NodeProposal) (old : Flat 2) (reason : Rattle.cap_model.specs.declared.proposal.Reason.Reason) → reason_of (sight_of old) p ≡ Some reason → IsAdmissible (sight_of old) p → A
+not_rejected p old reason rejected adm = let none = (rejected_exactly 2 (sight_of old) p).1 adm in absurd (cc (none, rejected))
+
+-- the proposal that stands is the one that was tried
+same_proposal : (w : ℕ) (old : WorldState) (was : WorkerState) (p q : NodeProposal) → worker_at w old.workers ≡ Some was → was.choice ≡ Some q → choice_of w old ≡ Some p → p ≡ q
+same_proposal w old was p q at has stands =
+    let both : Some p ≡ Some q = sym stands ∙ ap choice_in at ∙ has in cc both
+
+exact_verdict : (w : ℕ) (p : NodeProposal) (verdict : Verdict 2) (old new : WorldState) (before after : List (Event 2)) → IsVerdict p old.cluster new.cluster verdict → after ≡ before ++ made_by verdict → verdict_of w new ≡ Some verdict → IsExact w p (Ok dids.Done) old new before after
+exact_verdict w p (verdicts.Done event) old new before after is events kept = record {
+  made = λ adm. inr (event, is.0, events, kept);
+  rejected = λ no. absurd (no (step_admissible p event old.cluster new.cluster is.0 is.1));
+}
+exact_verdict w p (verdicts.Rejected reason) old new before after is events kept = record {
+  made = λ adm. not_rejected p old.cluster reason is.0 adm;
+  rejected = λ no. (reason, is.0, is.1, events ∙ append-nil before, kept);
+}
+
+too_far : {A : Type 0} (w : ℕ) → w < workers_max → workers_max ≤ w → A
+too_far w below past = absurd (omega (arith, below, past))
+
+pub commits_exact : CommitsAreExact
+commits_exact w p (Ok dids.Done) old new before after below stands o =
+    let same = same_proposal w old o.was p o.proposal o.at o.choice stands in
+    let kept = ap verdict_in (changed w (with_verdict o.verdict o.was) old.workers new.workers o.change) in
+    exact_verdict w p o.verdict old new before after (subst (λ (x : NodeProposal). IsVerdict x old.cluster new.cluster o.verdict) (sym same) o.is) o.events kept
+commits_exact w p (Ok dids.Idle) old new before after below stands o = elim o.0 [ inl past ↦ too_far w below past | inr none ↦ absurd (cc (none, stands)) ]
+commits_exact w p (Err e) old new before after below stands o =
+    let same : p ≡ o.0.proposal = (let both : Some p ≡ Some o.0.proposal = sym stands ∙ o.0.choice in cc both) in
+    record { made = λ adm. inl refl; rejected = λ no. absurd (no (subst (λ (x : NodeProposal). IsAdmissible (sight_of old.cluster) x) (sym same) o.0.admissible)) }
+
+-- ---- copies
+
+-- a worker has this snapshot
+record HasSeen (w : ℕ) (seen : Seen) (sight : WorldState) : Type 0 where
+  worker : WorkerState
+  at : worker_at w sight.workers ≡ Some worker
+  is : worker.seen ≡ seen
+
+still_seen : (w : ℕ) (seen : Seen) (old new : WorldState) → HasSeen w seen old → new.workers ≡ old.workers → HasSeen w seen new
+still_seen w seen old new h e = record { worker = h.worker; at = ap (worker_at w) e ∙ h.at; is = h.is }
+
+-- a worker changes, and keeps its snapshot
+seen_kept : (w v : ℕ) (seen : Seen) (old new : WorldState) (was is : WorkerState) → HasSeen w seen old → worker_at v old.workers ≡ Some was → Changes v is old.workers new.workers → is.seen ≡ was.seen → HasSeen w seen new
+seen_kept w v seen old new was is h at change keeps =
+    elim (cases_Bool (v == w)) [
+      | inl t ↦
+          let same : v ≡ w = eqb-true v w t in
+          let both : Some was ≡ Some h.worker = sym (subst (λ (n : ℕ). worker_at n old.workers ≡ Some was) same at) ∙ h.at in
+          let own : was ≡ h.worker = cc both in
+          record { worker = is; at = subst (λ (n : ℕ). worker_at n new.workers ≡ Some is) same (changed v is old.workers new.workers change); is = keeps ∙ ap (λ (x : WorkerState). x.seen) own ∙ h.is }
+      | inr f ↦ record { worker = h.worker; at = other_than w v is old.workers new.workers change f ∙ h.at; is = h.is }
+    ]
+
+seen_after : (w : ℕ) (seen : Seen) (step : Step) (did : Did) (old new : WorldState) (before after : List (Event 2)) → IsNoCopy w step → Outcome step (Ok did) old new before after → HasSeen w seen old → HasSeen w seen new
+seen_after w seen step dids.Idle old new before after other o h = still_seen w seen old new h (ap (λ (x : WorldState). x.workers) o.1)
+seen_after w seen (steps.Open c) dids.Done old new before after other o h = still_seen w seen old new h o.3
+seen_after w seen (steps.End c) dids.Done old new before after other o h = still_seen w seen old new h o.2
+seen_after w seen (steps.Bytes c piece) dids.Done old new before after other o h = still_seen w seen old new h o.3
+seen_after w seen (steps.Copy v) dids.Done old new before after other o h =
+    elim (cases_Bool (v == w)) [
+      | inl t ↦ absurd (other (eqb-true v w t))
+      | inr f ↦ record { worker = h.worker; at = other_than w v (with_copy o.0.seen (worker_at v old.workers)) old.workers new.workers o.0.change f ∙ h.at; is = h.is }
+    ]
+seen_after w seen (steps.Propose v start) dids.Done old new before after other o h = seen_kept w v seen old new o.0.was _ h o.0.at o.0.change refl
+seen_after w seen (steps.Commit v) dids.Done old new before after other o h = seen_kept w v seen old new o.was _ h o.at o.change refl
+
+-- a Copy of a worker, and a Propose of one that has a snapshot, are done
+copied_seen : (w : ℕ) (was : Option WorkerState) (seen : Seen) → (with_copy seen was).seen ≡ seen
+copied_seen w None seen = refl
+copied_seen w (Some was) seen = refl
+
+copy_done : (w : ℕ) (did : Did) (old new : WorldState) (before after : List (Event 2)) → w < workers_max → Outcome (steps.Copy w) (Ok did) old new before after → Copied w old new × (after ≡ before)
+copy_done w dids.Done old new before after below o = o
+copy_done w dids.Idle old new before after below o = too_far w below o.0
+
+copy_seen : (w : ℕ) (old new : WorldState) (c : Copied w old new) → HasSeen w c.seen new
+copy_seen w old new c = record { worker = with_copy c.seen (worker_at w old.workers); at = changed w _ old.workers new.workers c.change; is = copied_seen w (worker_at w old.workers) c.seen }
+
+-- what a worker that has a snapshot proposes
+record IsProposed (w start : ℕ) (seen : Seen) (old new : WorldState) (before after : List (Event 2)) : Type 0 where
+  choice : choice_of w new ≡ choice_from (sight_in 2 seen) start
+  cluster : new.cluster ≡ old.cluster
+  events : after ≡ before
+
+propose_done : (w start : ℕ) (seen : Seen) (did : Did) (old new : WorldState) (before after : List (Event 2)) → w < workers_max → HasSeen w seen old → Outcome (steps.Propose w start) (Ok did) old new before after → IsProposed w start seen old new before after
+propose_done w start seen dids.Done old new before after below h o =
+    let both : Some o.0.was ≡ Some h.worker = sym o.0.at ∙ h.at in
+    let own : o.0.was ≡ h.worker = cc both in
+    record {
+      choice = ap choice_in (changed w _ old.workers new.workers o.0.change) ∙ ap (λ (x : WorkerState). choice_from (sight_in 2 x.seen) start) own ∙ ap (λ (x : Seen). choice_from (sight_in 2 x) start) h.is;
+      cluster = o.0.cluster;
+      events = o.1;
+    }
+propose_done w start seen dids.Idle old new before after below h o = elim o.0 [ inl past ↦ too_far w below past | inr none ↦ (let at = h.at in absurd (cc (none, at))) ]
+
+proposed_after : (w start : ℕ) (seen : Seen) (others : List Step) (old new : WorldState) (before after : List (Event 2)) → w < workers_max → AllByRecursion (IsNoCopy w) others → HasSeen w seen old → Makes (others ++ steps.Propose w start ∷ []) old new before after
+    → choice_of w new ≡ choice_from (sight_in 2 seen) start
+proposed_after w start seen [] old new before after below all h made =
+    let p = propose_done w start seen made.2 old made.0 before made.1 below h made.3 in
+    ap (choice_of w) made.4.0 ∙ p.choice
+proposed_after w start seen (step ∷ others) old new before after below all h made =
+    proposed_after w start seen others made.0 new made.1 after below all.1 (seen_after w seen step made.2 old made.0 before made.1 all.0 made.3 h) made.4
+
+pub proposals_of_copies : ProposalsAreOfCopies
+proposals_of_copies w start others old new before after below all made =
+    let c = copy_done w made.2 old made.0 before made.1 below made.3 in
+    proposed_after w start c.0.seen others made.0 new made.1 after below all (copy_seen w old made.0 c.0) made.4
+    ∙ same_choice (sight_in 2 c.0.seen) (sight_of old.cluster) c.0.sight start
+
+-- ---- copy, propose and commit
+
+first_admissible : (sight : Sight 2) (nodes : List NodeSight) (p : NodeProposal) → IsFirstChoice sight nodes (Some p) → IsAdmissible sight p
+first_admissible sight [] p h = absurd (cc h)
+first_admissible sight (node ∷ nodes) p (inl h) = h.1.1
+first_admissible sight (node ∷ nodes) p (inr h) = first_admissible sight nodes p h.1
+
+chosen_admissible : (sight : Sight 2) (start : ℕ) (p : NodeProposal) → choice_from sight start ≡ Some p → IsAdmissible sight p
+chosen_admissible sight start p e =
+    first_admissible sight (ring_from start sight.nodes) p (subst (λ (o : Option NodeProposal). IsFirstChoice sight (ring_from start sight.nodes) o) e (choice_from_is_computed 2 sight start))
+
+made_so : (p : NodeProposal) (verdict : Verdict 2) (old new : WorldState) (before after : List (Event 2)) → IsAdmissible (sight_of old.cluster) p → IsVerdict p old.cluster new.cluster verdict → after ≡ before ++ made_by verdict → IsMadeOf (Some p) old new before after
+made_so p (verdicts.Done event) old new before after adm is events = (event, is.0, is.1, events)
+made_so p (verdicts.Rejected reason) old new before after adm is events = not_rejected p old.cluster reason is.0 adm
+
+commit_done : (w : ℕ) (choice : Option NodeProposal) (did : Did) (old new : WorldState) (before after : List (Event 2)) → w < workers_max → choice_of w old ≡ choice → ((p : NodeProposal) → choice ≡ Some p → IsAdmissible (sight_of old.cluster) p)
+    → Outcome (steps.Commit w) (Ok did) old new before after → IsMadeOf choice old new before after
+commit_done w None dids.Idle old new before after below stands adm o = (ap (λ (x : WorldState). x.cluster) o.1, o.2)
+commit_done w None dids.Done old new before after below stands adm o =
+    let has : choice_of w old ≡ Some o.proposal = ap choice_in o.at ∙ o.choice in absurd (cc (has, stands))
+commit_done w (Some p) dids.Idle old new before after below stands adm o = elim o.0 [ inl past ↦ too_far w below past | inr none ↦ absurd (cc (none, stands)) ]
+commit_done w (Some p) dids.Done old new before after below stands adm o =
+    let same = same_proposal w old o.was p o.proposal o.at o.choice stands in
+    made_so p o.verdict old new before after (adm p refl) (subst (λ (x : NodeProposal). IsVerdict x old.cluster new.cluster o.verdict) (sym same) o.is) o.events
+
+-- the same of a state whose cluster and events are the same
+moved_back : (choice : Option NodeProposal) (old mid new last : WorldState) (before between after events : List (Event 2)) → mid.cluster ≡ old.cluster → last ≡ new → between ≡ before → events ≡ after → IsMadeOf choice mid new between after → IsMadeOf choice old last before events
+moved_back None old mid new last before between after events c l b e m = (ap (λ (x : WorldState). x.cluster) l ∙ m.0 ∙ c, e ∙ m.1 ∙ b)
+moved_back (Some p) old mid new last before between after events c l b e m =
+    (m.0, m.1, subst (λ (x : Flat 2). ClusterStep x m.0 last.cluster) c (subst (λ (x : WorldState). ClusterStep mid.cluster m.0 x.cluster) (sym l) m.2), e ∙ m.3 ∙ ap (λ (es : List (Event 2)). es ++ m.0 ∷ []) b)
+
+pub copied_choices : CopiedChoicesAreMade
+copied_choices w start old new before after below made =
+    let c = copy_done w made.2 old made.0 before made.1 below made.3 in
+    let second = made.4 in
+    let p = propose_done w start c.0.seen second.2 made.0 second.0 made.1 second.1 below (copy_seen w old made.0 c.0) second.3 in
+    let third = second.4 in
+    let cluster : second.0.cluster ≡ old.cluster = p.cluster ∙ c.0.cluster in
+    let chosen = p.choice ∙ same_choice (sight_in 2 c.0.seen) (sight_of old.cluster) c.0.sight start in
+    let adm : (q : NodeProposal) → choice_from (sight_of old.cluster) start ≡ Some q → IsAdmissible (sight_of second.0.cluster) q = λ q e. subst (λ (x : Flat 2). IsAdmissible (sight_of x) q) (sym cluster) (chosen_admissible (sight_of old.cluster) start q e) in
+    moved_back (choice_from (sight_of old.cluster) start) old second.0 third.0 new before second.1 third.1 after cluster third.4.0 (p.events ∙ c.1) third.4.1
+    (commit_done w (choice_from (sight_of old.cluster) start) third.2 second.0 third.0 second.1 third.1 below chosen adm third.3)

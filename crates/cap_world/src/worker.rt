@@ -1,0 +1,91 @@
+ghost use Rattle.std.specs.Prelude.{◌≡◌, None, Some, option_map};
+ghost use Rattle.cap_model.specs.Candidates.{choice_from};
+ghost use Rattle.cap_copy.specs.Snapshot.{sight_in};
+ghost use Rattle.cap_world.specs.Worker.{with_choice, with_copy, with_verdict};
+
+use cap_copy::Snapshot;
+use cap_model::{Proposal, Verdict};
+use cap_propose::propose;
+use std::alloc::Global;
+use std::marker::Model;
+
+/// One worker: its snapshot, the proposal that stands, if any, and the verdict of its last commit, if any.
+pub(crate) struct Worker {
+    snapshot: Snapshot<2, Global>,
+    choice: Option<Proposal<2>>,
+    verdict: Option<Verdict<2>>,
+}
+
+impl Drop for Worker {
+    fn drop(self) {
+        let Worker {
+            snapshot: _,
+            choice: _,
+            verdict: _,
+        } = self;
+    }
+}
+
+impl Model for Worker {
+    ghost use Rattle.std.specs.Coded.{codes};
+    ghost use Rattle.cap_tree.specs.Queue.{users_code};
+    ghost use Rattle.cap_world.specs.Worker.{WorkerState};
+
+    ghost Value = { WorkerState };
+
+    ghost coded = { Prim.hlevel (codes, users_code) };
+
+    ghost view = { λ w. record { seen = w.snapshot; choice = w.choice; verdict = w.verdict } };
+}
+
+impl Worker {
+    /// A worker with this snapshot, and nothing else.
+    pub(crate) fn new(snapshot: Snapshot<2, Global>) -> Worker
+        ensures { result ≡ with_copy snapshot None }
+    {
+        Worker {
+            snapshot,
+            choice: None,
+            verdict: None,
+        }
+    }
+
+    /// Takes another snapshot. No proposal stands then, and the verdict stays.
+    pub(crate) fn renew(&mut self, snapshot: Snapshot<2, Global>)
+        ensures { self.new ≡ with_copy snapshot (Some self.old) }
+    {
+        self.snapshot = snapshot;
+        self.choice = None;
+    }
+
+    /// The proposal that stands.
+    pub(crate) fn choice(&self) -> Option<Proposal<2>>
+        ensures { result ≡ self.now.choice }
+    {
+        self.choice
+    }
+
+    /// The verdict of its last commit.
+    pub(crate) fn verdict(&self) -> Option<&Verdict<2>>
+        ensures { option_map (λ verdict. verdict.now) result ≡ self.now.verdict }
+    {
+        self.verdict.as_ref()
+    }
+
+    /// Proposes on its snapshot, with the nodes as a ring from the node at `start` on. The choice stands in place of the proposal
+    /// before, and none where there is none.
+    pub(crate) fn propose(&mut self, start: u32)
+        ensures { self.new ≡
+            with_choice (choice_from (sight_in 2 self.old.seen) start) self.old }
+    {
+        self.choice = propose(&self.snapshot, start);
+    }
+
+    /// Keeps the verdict of its proposal, which stands no longer.
+    pub(crate) fn conclude(&mut self, verdict: Verdict<2>)
+        ensures { self.new ≡ with_verdict verdict self.old }
+    {
+        self.choice = None;
+        self.verdict = Some(verdict);
+    }
+}

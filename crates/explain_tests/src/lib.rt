@@ -1,0 +1,5 @@
+//! Tests of what lines say in words.
+#![tactic(auto)]
+
+#[cfg(test)]
+mod words;

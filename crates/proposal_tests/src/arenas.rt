@@ -1,0 +1,125 @@
+use bumpalo::Bump;
+use cap_commit::Cluster;
+use cap_copy::{Snapshot, copy_tree};
+use cap_masters::{allocate, register_master, submit};
+use cap_model::{Ask, Key, List, PathText, Proposal, ShortText};
+use cap_propose::propose;
+use cap_testing::cluster;
+use cap_trackers::register_node;
+use cap_tree::{Found, QueueTree};
+use cap_vector::Resource;
+use std::alloc::Global;
+
+/// A queue `g` with two leaf queues.
+const GROUP: &[u8] = b"yarn.scheduler.capacity.root.queues=g
+yarn.scheduler.capacity.root.g.queues=p,q
+yarn.scheduler.capacity.root.g.capacity=[memory=8192,vcores=8]
+yarn.scheduler.capacity.root.g.p.capacity=[memory=4096,vcores=4]
+yarn.scheduler.capacity.root.g.q.capacity=[memory=4096,vcores=4]
+";
+
+fn join(cluster: &mut Cluster<2>, host: &str) -> Option<()> {
+    let host = ShortText::new(host.as_bytes())?;
+    let rack = ShortText::new(b"/r1")?;
+    let _reply = register_node(cluster, &host, &rack, &Resource::new([4096, 4])?);
+    Some(())
+}
+
+/// Application 1 of `u1` in `root.g.q`, registered, which asks for three containers of (1024, 1).
+fn enter(alloc: Global, cluster: &mut Cluster<2>) -> Option<()> {
+    let path = PathText::new(b"root.g.q")?;
+    let user = ShortText::new(b"u1")?;
+    let _reply = submit(cluster, &path, &user);
+    let _reply = register_master(cluster, 1);
+    let key = Key {
+        priority: 1,
+        request: 0,
+    };
+    let mut asks = Vec::new(alloc);
+    asks.push(Ask::new(&key, 3, &Resource::new([1024, 1])?, &ShortText::any()))
+        .ok()?;
+    let none = List::of(Vec::new(alloc));
+    let _reply = allocate(cluster, 1, 0, &List::of(asks), &none);
+    Some(())
+}
+
+/// The application's grants are made so often, each by a snapshot outside an arena, on the first of two nodes.
+fn after_turns(alloc: Global, turns: usize) -> Option<Cluster<2>> {
+    let mut cluster = cluster(alloc, GROUP)?;
+    join(&mut cluster, "n1")?;
+    join(&mut cluster, "n2")?;
+    enter(alloc, &mut cluster)?;
+    for _ in 0..turns {
+        let proposal = proposed(alloc, &cluster)?;
+        let _verdict = cluster.try_commit(proposal).ok()?;
+    }
+    Some(cluster)
+}
+
+fn proposed(alloc: Global, cluster: &Cluster<2>) -> Option<Proposal<2>> {
+    let snapshot =
+        Snapshot::take(alloc, cluster.tree(), cluster.apps(), cluster.nodes()).ok()?;
+    propose(&snapshot, 0)
+}
+
+fn use_of(tree: &QueueTree<2, Global>, path: &str) -> Option<[u64; 2]> {
+    match tree.find(path.as_bytes()) {
+        Found::Leaf(position) | Found::Parent(position) => {
+            Some(tree.use_of(&position).amounts())
+        }
+        Found::Missing => None,
+    }
+}
+
+/// What is used in `root.g.q` and in `root.g.p`.
+fn uses(tree: &QueueTree<2, Global>) -> Option<[[u64; 2]; 2]> {
+    Some([use_of(tree, "root.g.q")?, use_of(tree, "root.g.p")?])
+}
+
+/// After so many turns, what the cluster's tree shows, and what a copy shows of its copy in an arena.
+fn copied(alloc: Global, turns: usize) -> Option<[[[u64; 2]; 2]; 2]> {
+    let cluster = after_turns(alloc, turns)?;
+    let arena = Bump::new(alloc);
+    let inside = copy_tree(&arena, cluster.tree()).ok()?;
+    let outside = copy_tree(alloc, &inside).ok()?;
+    Some([uses(cluster.tree())?, uses(&outside)?])
+}
+
+#[test]
+fn a_tree_is_copied_into_an_arena_and_out_of_it(rt: HostRuntime) {
+    for (turns, shown) in [(0, [[0, 0], [0, 0]]), (2, [[2048, 2], [0, 0]])] {
+        assert!(rt; copied(rt.alloc(), turns) == Some([shown, shown]));
+    }
+}
+
+/// Whether a grant is proposed in an arena from a starting node, of which application, on which node, and of what resource.
+fn proposed_in(arena: &Bump, cluster: &Cluster<2>, start: u32) -> Option<(bool, u64, u64, [u64; 2])> {
+    let snapshot =
+        Snapshot::take(arena, cluster.tree(), cluster.apps(), cluster.nodes()).ok()?;
+    let proposal = propose(&snapshot, start)?;
+    let resource = proposal.resource().amounts();
+    Some((proposal.is_grant(), proposal.app(), proposal.node(), resource))
+}
+
+/// The same for two starting nodes, in one arena that is reset in between.
+fn proposed_twice(alloc: Global, turns: usize) -> Option<[Option<(bool, u64, u64, [u64; 2])>; 2]> {
+    let cluster = after_turns(alloc, turns)?;
+    let mut arena = Bump::new(alloc);
+    let first = proposed_in(&arena, &cluster, 0);
+    arena.reset().ok()?;
+    let second = proposed_in(&arena, &cluster, 5);
+    Some([first, second])
+}
+
+#[test]
+fn an_arena_holds_one_snapshot_after_the_other(rt: HostRuntime) {
+    let on_first = Some((true, 1, 1, [1024, 1]));
+    let on_second = Some((true, 1, 2, [1024, 1]));
+    for (turns, answer) in [
+        (0, [on_first, on_second]),
+        (2, [on_first, on_second]),
+        (3, [None, None]),
+    ] {
+        assert!(rt; proposed_twice(rt.alloc(), turns) == Some(answer));
+    }
+}
