@@ -57,8 +57,7 @@ fn after_turns(alloc: Global, turns: usize) -> Option<Cluster<2>> {
 }
 
 fn proposed(alloc: Global, cluster: &Cluster<2>) -> Option<Proposal<2>> {
-    let snapshot =
-        Snapshot::take(alloc, cluster.tree(), cluster.apps(), cluster.nodes()).ok()?;
+    let snapshot = Snapshot::take(alloc, cluster.tree(), cluster.apps(), cluster.nodes()).ok()?;
     propose(&snapshot, 0)
 }
 
@@ -93,12 +92,20 @@ fn a_tree_is_copied_into_an_arena_and_out_of_it(rt: HostRuntime) {
 }
 
 /// Whether a grant is proposed in an arena from a starting node, of which application, on which node, and of what resource.
-fn proposed_in(arena: &Bump, cluster: &Cluster<2>, start: u32) -> Option<(bool, u64, u64, [u64; 2])> {
-    let snapshot =
-        Snapshot::take(arena, cluster.tree(), cluster.apps(), cluster.nodes()).ok()?;
+fn proposed_in(
+    arena: &Bump,
+    cluster: &Cluster<2>,
+    start: u32,
+) -> Option<(bool, u64, u64, [u64; 2])> {
+    let snapshot = Snapshot::take(arena, cluster.tree(), cluster.apps(), cluster.nodes()).ok()?;
     let proposal = propose(&snapshot, start)?;
     let resource = proposal.resource().amounts();
-    Some((proposal.is_grant(), proposal.app(), proposal.node(), resource))
+    Some((
+        proposal.is_grant(),
+        proposal.app(),
+        proposal.node(),
+        resource,
+    ))
 }
 
 /// The same for two starting nodes, in one arena that is reset in between.
