@@ -1,8 +1,9 @@
 ghost use Rattle.std.specs.Prelude.{◌≡◌, ◌<◌};
 ghost use Rattle.cap_session.specs.Counted.{state_of, CanCount};
 
+use crate::streams::explain_streams;
 use crate::texts::{check_settings, explain_lines, print};
-use cap_daemon::{Counted, replay};
+use cap_daemon::{Counted, replay_with_words};
 use clap::error::ErrorKind;
 use clap::{Command, Error};
 use std::alloc::{AllocError, Global};
@@ -11,9 +12,9 @@ use std::io::{Read, Write};
 
 /// Runs the program on the words of its command line, of which the first is its own name: `replay` plays a script, `check` looks at
 /// property lines, `explain` puts words under the lines of a script or of what `replay` printed. The result is the exit status: 0
-/// done; 1 a stream failed; 2 bad words, a fault of the settings, or what `replay` answers to a script; 3 an allocation failed. The text for
-/// bad words, and for a fault that `check` finds, is left in `complaint`, for the error stream; help and the version are written to
-/// the writer.
+/// done; 1 a stream failed; 2 bad words, a bad line of a script or a fault of its settings; 3 an allocation failed. What was wrong is
+/// left in words in `complaint`, for the error stream: with status 2, and with status 1 the stream and the system's error. Help and
+/// the version are written to the writer.
 pub fn run<'a, S: AsStr, R: Read, W: Write>(
     alloc: Global,
     words: &'a [S],
@@ -29,14 +30,18 @@ pub fn run<'a, S: AsStr, R: Read, W: Write>(
     let Ok(command) = command_line(alloc) else {
         return 3;
     };
-    match command.try_get_matches_from(words) {
+    let status = match command.try_get_matches_from(words) {
         Ok(matches) => match matches.subcommand_name() {
             Some("check") => check_settings(alloc, reader, writer, complaint),
             Some("explain") => explain_lines(alloc, reader, writer),
-            _ => replay(alloc, reader, writer),
+            _ => replay_with_words(alloc, reader, writer, complaint),
         },
         Err(error) => report(alloc, &error, writer, complaint),
+    };
+    if status == 1 {
+        let _explained = explain_streams(alloc, reader, writer, complaint);
     }
+    status
 }
 
 /// The command line of the program.

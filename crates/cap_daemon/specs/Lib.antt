@@ -4,3 +4,4 @@ pub mod World
 pub mod Streams
 pub mod Progress
 pub mod Print
+pub mod Status

@@ -2,6 +2,7 @@
 #![tactic(auto)]
 
 mod command;
+mod expected;
 mod output;
 mod player;
 mod print;
@@ -10,7 +11,8 @@ mod script;
 mod settings;
 mod simulation;
 mod stop;
+mod words;
 
 pub use cap_session::Counted;
 pub use output::write_out;
-pub use player::replay;
+pub use player::{replay, replay_with_words};

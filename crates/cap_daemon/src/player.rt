@@ -1,16 +1,18 @@
-ghost use Rattle.std.specs.Prelude.{◌≡◌, ◌<◌, ◌+◌, ◌++◌, ◌⊎◌, [], ℕ, true, length, Err, OnOk, IfOk, IfErr, None};
+ghost use Rattle.std.specs.Prelude.{◌≡◌, ◌<◌, ◌+◌, ◌++◌, [], ℕ, true, length, Err, OnOk, IfOk, IfErr, None};
 ghost use Rattle.cap_text.specs.Pieces.{lacks};
 ghost use Rattle.cap_config.specs.declared.fault.ConfigFault.{ConfigFault};
 ghost use Rattle.cap_daemon.specs.declared.stop.Stop.TheVariants.{BadLine, Config as bad_config, Input as read_failed};
 ghost use Rattle.cap_daemon.specs.Script.{HasBadLine};
-ghost use Rattle.cap_daemon.specs.Settings.{HasSettingsFault, IsDone};
+ghost use Rattle.cap_daemon.specs.Settings.{HasSettingsFault};
 ghost use Rattle.cap_daemon.specs.Progress.{IsPlayed, ForPlayed, PlaysLine, MayNotFollow, FailsAtStep, whole_line, IsPlayedOut};
 ghost use Rattle.cap_session.specs.Counted.{state_of, CanCount};
-ghost use Rattle.cap_daemon.specs.Streams.{misses, IsRead, HasEnded, GaveText, GaveWholeText, after_bytes, CountsReads, GivesNoEnd, MayWrite, input_failures, output_failures, IsOfScript};
+ghost use Rattle.cap_daemon.specs.Status.{IsReplayed};
+ghost use Rattle.cap_daemon.specs.Streams.{misses, IsRead, HasEnded, GaveText, GaveWholeText, after_bytes, CountsReads, MayWrite, input_failures, output_failures, IsOfScript};
 
 use crate::report::finish;
 use crate::script::Script;
 use crate::stop::Stop;
+use crate::words::explain_end;
 use cap_session::{Counted, Got};
 use cap_text::{split_once, without_return};
 use std::alloc::{AllocError, Global};
@@ -33,23 +35,27 @@ pub fn replay<R: Read, W: Write>(
 ) -> u8
     requires reader { CanCount (state_of reader.old) }
     requires writer { CanCount (state_of writer.old) }
-    ensures status { result < 4 }
-    // It is done only where the input has ended, each of its lines stands where it may, and the settings have no fault.
-    ensures done { result ≡ 0 → GaveWholeText R.remaining reader.old reader.new IsDone }
-    // It answers 2 only where what was read has a line that may not stand there, or settings with a fault.
-    ensures refused { result ≡ 2 → GaveText R.remaining reader.old reader.new
-        (λ text. HasBadLine text ⊎ ((fault : ConfigFault)
-        × HasSettingsFault text (HasEnded R.remaining reader.old reader.new) fault)) }
-    // It answers 1 wherever a read or a write has failed, or a read was quiet,
-    ensures failed { ((misses (state_of reader.old) < misses (state_of reader.new))
-        ⊎ ((state_of writer.old).failures < (state_of writer.new).failures)) → result ≡ 1 }
-    // and else only where 2^32 reads were made, and each gave at least one byte.
-    ensures only { result ≡ 1 → (misses (state_of reader.old) < misses (state_of reader.new))
-        ⊎ (((state_of writer.old).failures < (state_of writer.new).failures)
-        ⊎ GivesNoEnd (state_of reader.old) (state_of reader.new)) }
+    ensures { IsReplayed R.remaining reader.old reader.new writer.old writer.new result }
+{
+    replay_with_words(alloc, reader, writer, &mut String::new(alloc))
+}
+
+/// Plays a script as `replay` does, and adds a line of words where the exit status is 2: for a bad line its number and what is
+/// expected there; for a fault of the settings the number of its line among the `conf` lines, its key and what is wrong. If an
+/// allocation for the words fails, they may be cut off or missing, and nothing else changes.
+pub fn replay_with_words<R: Read, W: Write>(
+    alloc: Global,
+    reader: &mut Counted<R>,
+    writer: &mut Counted<W>,
+    words: &mut String,
+) -> u8
+    requires reader { CanCount (state_of reader.old) }
+    requires writer { CanCount (state_of writer.old) }
+    ensures { IsReplayed R.remaining reader.old reader.new writer.old writer.new result }
 {
     let mut script = Script::new(alloc);
     let played = play_all(alloc, reader, writer, &mut script);
+    let _explained = explain_end(alloc, &script, played, words);
     finish(played, &mut script, writer)
 }
 

@@ -11,6 +11,7 @@ ghost use Rattle.cap_session.specs.Counted.{state_of, CanCount};
 ghost use Rattle.cap_daemon.specs.Streams.{IsOfScript, CountsWrite};
 
 use crate::command::{Command, command_of};
+use crate::expected::Expected;
 use crate::output::write_out;
 use crate::print::{print_choice, print_fault, print_frames, print_number, print_verdict};
 use crate::simulation::Simulation;
@@ -26,6 +27,8 @@ use std::io::Write;
 pub(crate) struct Script {
     simulation: Simulation,
     lines: u64,
+    // What is expected at the last line, if it is bad: words alone depend on it.
+    expected: Expected,
     // Room for the bytes of a piece, kept from line to line.
     room: Vec<u8>,
     printed: Vec<u8>,
@@ -39,6 +42,7 @@ impl Script {
         Script {
             simulation: Simulation::new(alloc),
             lines: 0,
+            expected: Expected::Command,
             room: Vec::new(alloc),
             printed: Vec::new(alloc),
         }
@@ -55,7 +59,7 @@ impl Script {
     {
         self.lines = self.lines.saturating_add(1);
         match command_of(line) {
-            None => Err(Stop::BadLine(self.lines)),
+            None => Err(self.bad_line(Expected::after(line))),
             Some(Command::Nothing) => Ok(()),
             Some(Command::Conf(property)) => self.add(property),
             Some(Command::Open(number)) => self.make(Step::Open(number)),
@@ -65,6 +69,25 @@ impl Script {
             Some(Command::Propose(worker, start)) => self.make(Step::Propose(worker, start)),
             Some(Command::Commit(worker)) => self.make(Step::Commit(worker)),
         }
+    }
+
+    /// That the line which is played is bad, and what is expected there.
+    fn bad_line(&mut self, expected: Expected) -> Stop
+        ensures line { result ≡ BadLine self.old.lines }
+        ensures same { self.new ≡ record self.old { expected = expected } }
+    {
+        self.expected = expected;
+        Stop::BadLine(self.lines)
+    }
+
+    /// What is expected at the bad line that ended the script.
+    pub(crate) fn expected(&self) -> Expected {
+        self.expected
+    }
+
+    /// The property lines that the settings are read from.
+    pub(crate) fn settings_text(&self) -> &[u8] {
+        self.simulation.settings_text()
     }
 
     /// One more property line, which may stand before the first step alone.
@@ -79,7 +102,7 @@ impl Script {
     {
         let stepped = self.simulation.has_begun();
         if stepped {
-            return Err(Stop::BadLine(self.lines));
+            return Err(self.bad_line(Expected::Earlier));
         }
         self.simulation.add(property)?;
         Ok(())
@@ -142,12 +165,12 @@ impl Script {
     {
         let count = digits.len() / 2;
         if count == 0 {
-            return Err(Stop::BadLine(self.lines));
+            return Err(self.bad_line(Expected::Piece));
         }
         make_room(&mut self.room, count)?;
         let decoded = decode_front(digits, self.room.as_mut_slice());
         if !decoded {
-            return Err(Stop::BadLine(self.lines));
+            return Err(self.bad_line(Expected::Piece));
         }
         Ok(count)
     }

@@ -57,7 +57,7 @@ impl Settings {
     }
 
     /// The text that is read.
-    fn text(&self) -> &[u8]
+    pub(crate) fn text(&self) -> &[u8]
         ensures { result.now ≡ settings_text self.now }
     {
         match &self.text {

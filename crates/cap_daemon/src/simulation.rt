@@ -102,6 +102,11 @@ impl Simulation {
         Ok(())
     }
 
+    /// The property lines that the settings are read from.
+    pub(crate) fn settings_text(&self) -> &[u8] {
+        self.settings.text()
+    }
+
     /// All bytes that a connection was answered, none before the first step.
     pub(crate) fn output(&self, number: u32) -> &[u8] {
         match &self.world {

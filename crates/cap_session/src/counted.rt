@@ -1,7 +1,7 @@
 //! Readers and writers whose failures are counted.
 ghost use Rattle.std.specs.Prelude.{◌≡◌, ◌<◌, ◌++◌, length, take};
 ghost use Rattle.std.specs.Io.KnownBytes.{Appends, Keeps};
-ghost use Rattle.cap_session.specs.Counted.{state_of, inner_of, new_stream, bytes_in, CanCount, after_read, after_write, after_writes, after_flush, Gives, Takes, sent_count, IsSentCount, got_of, put_of};
+ghost use Rattle.cap_session.specs.Counted.{state_of, inner_of, new_stream, bytes_in, CanCount, after_read, after_write, after_writes, after_flush, one_failure, Gives, Takes, sent_count, IsSentCount, got_of, put_of};
 
 use http_server::Log;
 use std::io;
@@ -15,6 +15,7 @@ pub struct Counted<T> {
     failures: u64,
     quiets: u64,
     ends: u64,
+    error: Option<io::Error>,
     // These exist for contracts alone: an entry for each read that gave bytes, the bytes, and those that were taken.
     reads: Log<(), ()>,
     given: Log<u8, ()>,
@@ -79,6 +80,7 @@ impl<T> Counted<T> {
             failures: 0,
             quiets: 0,
             ends: 0,
+            error: None,
             reads: Log::new(),
             given: Log::new(),
             taken: Log::new(),
@@ -105,6 +107,24 @@ impl<T> Counted<T> {
     {
         self.ends
     }
+
+    /// The error of the last call that failed. `None` where none did, or where it was a write that took no byte.
+    pub fn error(&self) -> Option<io::Error>
+        ensures { result ≡ self.now.error }
+    {
+        self.error
+    }
+
+    /// Counts a failure, and keeps its error.
+    fn fail(&mut self, error: Option<io::Error>)
+        requires { CanCount (state_of self.old) }
+        ensures state { state_of self.new ≡ one_failure (state_of self.old) }
+        ensures inner { inner_of self.new ≡ inner_of self.old }
+        ensures error { self.new.error ≡ error }
+    {
+        self.failures += 1;
+        self.error = error;
+    }
 }
 
 impl<R: Read> Counted<R> {
@@ -117,7 +137,8 @@ impl<R: Read> Counted<R> {
         ensures bytes { Gives (R.remaining (inner_of self.old)) (R.remaining (inner_of self.new))
             buf.new result }
     {
-        let got = classify_read(&self.inner.read(buf));
+        let answer = self.inner.read(buf);
+        let got = classify_read(&answer);
         match got {
             Got::Bytes(n) => {
                 self.reads = self.reads.and(&(), &());
@@ -125,7 +146,7 @@ impl<R: Read> Counted<R> {
             }
             Got::End => self.ends += 1,
             Got::Quiet => self.quiets += 1,
-            Got::Fault => self.failures += 1,
+            Got::Fault => self.fail(answer.err()),
         }
         got
     }
@@ -140,10 +161,11 @@ impl<W: Write> Counted<W> {
         ensures bytes { Takes (W.contents (inner_of self.old)) (W.contents (inner_of self.new))
             buf.now result }
     {
-        let put = classify_write(&self.inner.write(buf));
+        let answer = self.inner.write(buf);
+        let put = classify_write(&answer);
         match put {
             Put::Bytes(n) => log_bytes(&mut self.taken, &buf[..n]),
-            Put::Fault => self.failures += 1,
+            Put::Fault => self.fail(answer.err()),
         }
         put
     }
@@ -175,8 +197,8 @@ impl<W: Write> Counted<W> {
     {
         match self.inner.flush() {
             Ok(()) => Ok(()),
-            Err(_) => {
-                self.failures += 1;
+            Err(error) => {
+                self.fail(Some(error));
                 Err(StreamFailed)
             }
         }

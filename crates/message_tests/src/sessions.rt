@@ -191,24 +191,25 @@ impl Read for Same {
     }
 }
 
-/// What a read gives, and how many failures, quiet reads and ends are counted then.
-fn read_once(answer: Result<usize, ErrorKind>) -> (Got, [u64; 3]) {
+/// What a read gives, how many failures, quiet reads and ends are counted then, and whether an error is kept.
+fn read_once(answer: Result<usize, ErrorKind>) -> (Got, [u64; 3], bool) {
     let mut reader = Counted::new(Same { answer });
     let mut buf = [0; 4];
     let got = reader.read(&mut buf);
-    (got, [reader.failures(), reader.quiets(), reader.ends()])
+    let counts = [reader.failures(), reader.quiets(), reader.ends()];
+    (got, counts, reader.error().is_some())
 }
 
 #[test]
 fn what_is_counted_of_reads(rt: HostRuntime) {
     for (answer, want) in [
-        (Ok(3), (Got::Bytes(3), [0, 0, 0])),
-        (Ok(9), (Got::Bytes(4), [0, 0, 0])),
-        (Ok(0), (Got::End, [0, 0, 1])),
-        (Err(ErrorKind::WouldBlock), (Got::Quiet, [0, 1, 0])),
-        (Err(ErrorKind::TimedOut), (Got::Quiet, [0, 1, 0])),
-        (Err(ErrorKind::Interrupted), (Got::Fault, [1, 0, 0])),
-        (Err(ErrorKind::Other), (Got::Fault, [1, 0, 0])),
+        (Ok(3), (Got::Bytes(3), [0, 0, 0], false)),
+        (Ok(9), (Got::Bytes(4), [0, 0, 0], false)),
+        (Ok(0), (Got::End, [0, 0, 1], false)),
+        (Err(ErrorKind::WouldBlock), (Got::Quiet, [0, 1, 0], false)),
+        (Err(ErrorKind::TimedOut), (Got::Quiet, [0, 1, 0], false)),
+        (Err(ErrorKind::Interrupted), (Got::Fault, [1, 0, 0], true)),
+        (Err(ErrorKind::Other), (Got::Fault, [1, 0, 0], true)),
     ] {
         assert!(rt; read_once(answer) == want);
     }

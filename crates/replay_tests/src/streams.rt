@@ -147,10 +147,10 @@ fn play(alloc: Global, words: &[&str], pieces: &[&[u8]], fails: bool, limit: usi
     }
 }
 
-// Bad words and a bad script are 2, a failed read or write is 1, whatever the words were.
 /// Property lines without a fault.
 const QUEUES: &[u8] = b"yarn.scheduler.capacity.root.queues=a\n";
 
+// Bad words and a bad script are 2, a failed read or write is 1, whatever the words were; each has words for the error stream.
 #[test]
 fn the_status_says_what_went_wrong(rt: HostRuntime) {
     let rows: [(&[&str], &[u8], bool, usize, u8); 22] = [
@@ -186,10 +186,9 @@ fn the_status_says_what_went_wrong(rt: HostRuntime) {
     for (words, script, fails, limit, status) in rows {
         let played = play(rt.alloc(), words, &[script], fails, limit);
         let is_shown = !played.printed.is_empty();
-        let is_explained = match words {
-            [_, "--help"] | [_, "--version"] => is_shown == (status == 0),
-            _ => status != 2 || is_shown == played.complaint.is_empty(),
-        };
+        let is_help = matches!(words, [_, "--help"] | [_, "--version"]);
+        let is_explained = played.complaint.is_empty() == (status == 0)
+            && (!is_help || is_shown == (status == 0));
         assert!(rt;
             played.status == status && is_explained,
             "{words:?} {script:?} {status}"
@@ -197,15 +196,128 @@ fn the_status_says_what_went_wrong(rt: HostRuntime) {
     }
 }
 
-// A fault of the settings is left for the error stream, with its line, its key and what is wrong.
+/// Words for a bad line after `open` or `end`.
+const CONNECTION: &str =
+    "after the space the number of a connection is expected, 0 to 4294967295\n";
+
+/// Words for a bad line after `bytes`.
+const PIECE: &str =
+    "after the space the number of a connection, a space and an even number of hexadecimal digits are expected\n";
+
+/// Words for a bad line after `copy` or `commit`.
+const WORKER: &str = "after the space the number of a worker is expected, 0 to 4294967295\n";
+
+/// Words for a bad line that begins with no word of a script.
+const WORD: &str =
+    "a line begins with # or with one of conf, open, bytes, end, copy, propose, commit and a space\n";
+
+/// Words for a bad line after `propose`.
+const START: &str =
+    "after the space the number of a worker, a space and the number of a first node are expected, each 0 to 4294967295\n";
+
+// What is expected at a bad line is left for the error stream.
+#[test]
+fn a_bad_line_has_words(rt: HostRuntime) {
+    let rows: [(&[u8], &str, &str); 11] = [
+        (b"# one\n\nopen one\n", "line 3: ", CONNECTION),
+        (b"end 4294967296", "line 1: ", CONNECTION),
+        (b"bytes 1", "line 1: ", PIECE),
+        (b"open 1\r\nbytes 1 0\r\n", "line 2: ", PIECE),
+        (b"bytes 1 0g", "line 1: ", PIECE),
+        (b"copy 00000000001", "line 1: ", WORKER),
+        (b"commit ", "line 1: ", WORKER),
+        (b"propose 1", "line 1: ", START),
+        (b"open 1\nopen\t1", "line 2: ", WORD),
+        (b"open", "line 1: ", WORD),
+        (
+            b"open 1\nconf x=1",
+            "line 2: ",
+            "a conf line is expected before all steps\n",
+        ),
+    ];
+    for (script, line, words) in rows {
+        let played = play(rt.alloc(), &["capsched", "replay"], &[script], false, 99);
+        let is_explained = played.complaint.strip_prefix(line) == Some(words);
+        assert!(rt; played.status == 2 && is_explained, "{words}");
+    }
+}
+
+// A fault of the settings is left for the error stream, with its line, its key and what is wrong; in a script its line among the
+// `conf` lines.
 #[test]
 fn a_fault_of_the_settings_has_words(rt: HostRuntime) {
-    let pieces: [&[u8]; 2] = [QUEUES, b"yarn.scheduler.capacity.root.b.state=STOPPED"];
-    let played = play(rt.alloc(), &["capsched", "check"], &pieces, false, 9999);
+    let lines: &[u8] = b"yarn.scheduler.capacity.root.b.state=STOPPED";
     let words =
         "line 2: yarn.scheduler.capacity.root.b.state: root.b is not listed by the .queues line of the queue above it\n";
-    assert!(rt; (played.status, played.printed.len()) == (2, 0));
-    assert!(rt; played.complaint.as_str() == words);
+    let checked = play(
+        rt.alloc(),
+        &["capsched", "check"],
+        &[QUEUES, lines],
+        false,
+        9999,
+    );
+    assert!(rt; (checked.status, checked.printed.len()) == (2, 0));
+    assert!(rt; checked.complaint.as_str() == words);
+    let pieces: [&[u8]; 4] = [b"conf ", QUEUES, b"\n# b\nconf ", lines];
+    let played = play(rt.alloc(), &["capsched", "replay"], &pieces, false, 9999);
+    assert!(rt; played.printed.as_slice() == b"config 2 5\n".as_slice());
+    assert!(rt; played.complaint.strip_prefix("conf ") == Some(words));
+    let rootless: &[u8] = b"conf yarn.scheduler.capacity.maximum-applications=1";
+    let played = play(
+        rt.alloc(),
+        &["capsched", "replay"],
+        &[rootless],
+        false,
+        9999,
+    );
+    assert!(rt;
+        played.complaint.as_str()
+            == "root needs a .queues line, and a .queues line names at least one queue\n"
+    );
+}
+
+// Which stream failed, and the system's error.
+#[test]
+fn a_failed_stream_has_words(rt: HostRuntime) {
+    let rows: [(&[&str], bool, usize, &str); 5] = [
+        (
+            &["capsched", "replay"],
+            true,
+            99,
+            "standard input: other error\n",
+        ),
+        (
+            &["capsched", "replay"],
+            false,
+            0,
+            "standard output: other error\n",
+        ),
+        (
+            &["capsched", "replay"],
+            true,
+            0,
+            "standard output: other error\n",
+        ),
+        (
+            &["capsched", "explain"],
+            true,
+            99,
+            "standard input: other error\n",
+        ),
+        (
+            &["capsched", "--help"],
+            false,
+            0,
+            "standard output: other error\n",
+        ),
+    ];
+    for (words, fails, limit, said) in rows {
+        let played = play(rt.alloc(), words, &[b"open 1\n"], fails, limit);
+        assert!(rt;
+            played.status == 1 && played.complaint.as_str() == said,
+            "{said}"
+        );
+    }
 }
 
 // A request in two pieces of the script, and two reads of the script.

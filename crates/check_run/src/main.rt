@@ -1,0 +1,1 @@
+../../capsched/src/main.rt
