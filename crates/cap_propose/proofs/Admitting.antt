@@ -22,7 +22,7 @@ use Rattle.cap_tree.specs.Limits.{over_limit}
 use Rattle.cap_tree.specs.Rows.{Row, AreRows}
 use Rattle.cap_tree.specs.declared.limits.OverLimit.{OverLimit}
 use Rattle.cap_copy.specs.Snapshot.{AppEntry, AskEntry, IsAskEntry, Seen, asks_for, sight_in}
-use Rattle.cap_propose.specs.Proposing.{IsSeenNode, IsAdmittedAs, has_numbers, is_in_limits, kind_beside, proposal_of, room_back, room_kind}
+use Rattle.cap_propose.specs.Proposing.{IsSeenNode, IsAdmittedAs, IsClosed, IsOpen, has_numbers, is_in_limits, kind_beside, kind_by_room, proposal_of, room_back, room_kind, takes}
 use Rattle.cap_propose.proofs.WithinLimits.{same_exchange, limits_are, maxima, user_limit}
 
 -- the kind for which there is room, over plain tests
@@ -162,6 +162,32 @@ module _ (K : ℕ) (seen : Seen) (node : NodeSight) (e : AskEntry) (at : IsSeenN
       let both : (stays_in_maxima sight (of k) && stays_in_user_limit sight (of k)) ≡ true = λ i. a.0.maxima i && a.0.user i in
       absurd (cc (n, h, both))
 
+  -- each way in which a node without a reservation can't hold a proposal of the ask
+  module _ (unreserved : node.reservation ≡ None) where
+    pub unwanted : nat_le 1 e.wanted ≡ false → IsRefused
+    unwanted n = without_room (ap (λ o. kind_beside o node e) unreserved ∙ ap (λ b. cond b (kind_by_room node e) None) n)
+
+    pub no_room : kind_by_room node e ≡ None → IsRefused
+    no_room n = without_room (ap (λ o. kind_beside o node e) unreserved ∙ ap (λ k. cond (nat_le 1 e.wanted) k None) n ∙ either (nat_le 1 e.wanted))
+      where
+        none : Option ProposalKind
+        none = None
+
+        either : (b : Bool) → cond b none none ≡ none
+        either true = refl
+        either false = refl
+
+    pub over_limits_there : AreRows seen.rows → is_in_limits K seen e (zeros K) ≡ false → IsRefused
+    over_limits_there are n = over_limits are (ap (λ o. is_in_limits K seen e (option_map_or (λ (r : Reservation). r.resource) o (zeros K))) unreserved ∙ n)
+
+    pub not_taken : takes node e ≡ false → IsRefused
+    not_taken n = by (kind_by_room node e) refl (takes_place e.ask.place node) refl
+      where
+        by : (k : Option ProposalKind) → kind_by_room node e ≡ k → (b : Bool) → takes_place e.ask.place node ≡ b → IsRefused
+        by None k b p = no_room k
+        by (Some kind) k false p = elsewhere p
+        by (Some kind) k true p = absurd (cc (n, unreserved, k, p))
+
   -- and where one is
   pub admitted : AreRows seen.rows → (k : ProposalKind) → room_kind node e ≡ Some k → takes_place e.ask.place node ≡ true → has_numbers seen ≡ true → is_in_limits K seen e (room_back K node) ≡ true → IsAdmissible sight (of k)
   admitted are k room place numbers limits =
@@ -180,6 +206,34 @@ module _ (K : ℕ) (seen : Seen) (node : NodeSight) (e : AskEntry) (at : IsSeenN
         },
         subst (λ T. T) (sym (needs_are k k)) (of_kind own k (nat_le 1 e.wanted) (fits e.ask.resource node.free) (fits e.ask.resource node.total) node.reservation (sym kind_is ∙ room)),
       )
+
+  -- and where a node takes the ask
+  module _ (takes_it : takes node e ≡ true) where
+    three : (a b c : Bool) → (a && b && c) ≡ true → (a ≡ true) × (b ≡ true) × (c ≡ true)
+    three true true true h = (refl, refl, refl)
+    three true true false h = absurd (cc h)
+    three true false c h = absurd (cc h)
+    three false b c h = absurd (cc h)
+
+    parts : (is_none node.reservation ≡ true) × (is_some (kind_by_room node e) ≡ true) × (takes_place e.ask.place node ≡ true)
+    parts = three (is_none node.reservation) (is_some (kind_by_room node e)) (takes_place e.ask.place node) takes_it
+
+    pub holds_none : node.reservation ≡ None
+    holds_none = by node.reservation (parts.0)
+      where
+        by : (o : Option Reservation) → is_none o ≡ true → o ≡ None
+        by None h = refl
+        by (Some r) h = absurd (cc h)
+
+    pub room_there : is_some (kind_by_room node e) ≡ true
+    room_there = parts.1
+
+    pub admitted_there : AreRows seen.rows → nat_le 1 e.wanted ≡ true → has_numbers seen ≡ true → is_in_limits K seen e (zeros K) ≡ true → (k : ProposalKind) → kind_by_room node e ≡ Some k → IsAdmissible sight (of k)
+    admitted_there are wanted numbers limits k kind =
+        admitted are k
+        (ap (λ o. kind_beside o node e) holds_none ∙ ap (λ b. cond b (kind_by_room node e) None) wanted ∙ kind)
+        (parts.2) numbers
+        (ap (λ o. is_in_limits K seen e (option_map_or (λ (r : Reservation). r.resource) o (zeros K))) holds_none ∙ limits)
 
 -- what the tree is asked of an ask's application
 module _ (K : ℕ) (seen : Seen) (e : AskEntry) (index : ℕ) (app : AppEntry) (at : slice_get seen.apps index ≡ Some app) (same : index ≡ e.index) where
@@ -213,3 +267,20 @@ numbers_spent seen live same_live many =
     let first : nat_lt live live_max ≡ false = grind (arith, nat_tests, many) in
     let there : nat_lt seen.live live_max ≡ false = grind (arith, nat_tests, same_live, many) in
     first ∙ (λ i. sym there i && nat_lt seen.next_container number_end)
+
+-- an ask that nothing is wanted of, that no number is left for, or that is over a limit, is closed
+module _ (K : ℕ) (seen : Seen) (e : AskEntry) (is : IsAskEntry K seen e) where
+  pub closed_unwanted : (wanted : ℕ) → wanted ≡ e.wanted → wanted ≡ 0 → IsClosed K seen e
+  closed_unwanted wanted same n node at unreserved = unwanted K seen node e at is unreserved (grind (arith, nat_tests, same, n))
+
+  pub closed_without_numbers : has_numbers seen ≡ false → IsClosed K seen e
+  closed_without_numbers n node at unreserved = without_numbers K seen node e at is n
+
+  pub closed_over_limits : AreRows seen.rows → is_in_limits K seen e (zeros K) ≡ false → IsClosed K seen e
+  closed_over_limits are n node at unreserved = over_limits_there K seen node e at is unreserved are n
+
+  -- and else it is open
+  pub open_is : AreRows seen.rows → (wanted : ℕ) → wanted ≡ e.wanted → (wanted ≡ 0 → ⊥) → has_numbers seen ≡ true → is_in_limits K seen e (zeros K) ≡ true → IsOpen K seen e
+  open_is are wanted same some numbers limits node kind at takes_it has =
+      let left : nat_le 1 e.wanted ≡ true = grind (arith, nat_tests, same, some) in
+      admitted_there K seen node e at is takes_it are left numbers limits kind has

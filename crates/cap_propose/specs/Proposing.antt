@@ -1,5 +1,5 @@
 -- What an ask may be proposed as on a node.
-use Rattle.std.specs.Prelude.{◌≡◌, ℕ, ◌+◌, ◌-◌, Bool, ◌&&◌, List, Option, Some, None, is_none, nat_le, nat_lt, if◌then◌else◌}
+use Rattle.std.specs.Prelude.{◌≡◌, ℕ, ◌+◌, ◌-◌, ◌<◌, Bool, true, false, ◌&&◌, List, length, Option, Some, None, IsSome, is_none, is_some, option_map, nat_le, nat_lt, if◌then◌else◌}
 use Rattle.std.specs.Option.{option_map_or}
 use Rattle.std.specs.List.{slice_get}
 use Rattle.cap_vector.specs.Vector.{zeros}
@@ -10,8 +10,9 @@ use Rattle.cap_model.specs.declared.proposal.ProposalKind.{ProposalKind}
 use Rattle.cap_model.specs.declared.proposal.ProposalKind.TheVariants.{Grant, Reserve}
 use Rattle.cap_model.specs.Flat.{Reservation, is_for}
 use Rattle.cap_model.specs.Sight.{Sight, NodeSight, seen_node}
-use Rattle.cap_model.specs.Admission.{NodeProposal, IsAdmissible}
+use Rattle.cap_model.specs.Admission.{NodeProposal, IsAdmissible, takes_place}
 use Rattle.cap_model.specs.Choice.{IsNodeChoice, IsChoiceFrom}
+use Rattle.cap_model.specs.Candidates.{choice_on}
 use Rattle.cap_tree.specs.Limits.{over_limit}
 use Rattle.cap_copy.specs.Snapshot.{AskEntry, Seen, sight_in}
 
@@ -47,6 +48,14 @@ is_in_limits K seen e old = holds_of (λ app. is_none (over_limit K app.position
 abbrev pub ring_index : ℕ → ℕ → ℕ → ℕ
 ring_index first turn count = if nat_lt turn (count - first) then first + turn else turn - (count - first)
 
+-- whether a node without a reservation has the place and the room that are asked for
+abbrev pub takes : NodeSight → AskEntry → Bool
+takes node e = is_none node.reservation && is_some (kind_by_room node e) && takes_place e.ask.place node
+
+-- the node that comes after so many in the ring from the node at an index on
+abbrev pub node_after : Seen → ℕ → ℕ → Option NodeSight
+node_after seen first turn = slice_get seen.nodes (ring_index first turn (length seen.nodes))
+
 -- a node of a snapshot
 abbrev pub IsSeenNode : ℕ → Seen → NodeSight → Type 0
 IsSeenNode K seen node = seen_node (sight_in K seen) node.number ≡ Some node
@@ -56,6 +65,55 @@ module _ {K : ℕ} where
   abbrev pub IsAdmittedAs : Sight K → ℕ → AskEntry → Option ProposalKind → Type 0
   IsAdmittedAs sight node e None = (kind : ProposalKind) → ¬ IsAdmissible sight (proposal_of kind node e)
   IsAdmittedAs sight node e (Some kind) = IsAdmissible sight (proposal_of kind node e)
+
+-- an ask of which no node without a reservation can hold a proposal
+abbrev pub IsClosed : ℕ → Seen → AskEntry → Type 0
+IsClosed K seen e = (node : NodeSight) → IsSeenNode K seen node → node.reservation ≡ None → IsAdmittedAs (sight_in K seen) node.number e None
+
+-- an ask that is admissible on each node that takes it
+abbrev pub IsOpen : ℕ → Seen → AskEntry → Type 0
+IsOpen K seen e = (node : NodeSight) (kind : ProposalKind) → IsSeenNode K seen node → takes node e ≡ true → kind_by_room node e ≡ Some kind → IsAdmissible (sight_in K seen) (proposal_of kind node.number e)
+
+-- of the first so many nodes of the ring, none without a reservation admits the ask; nor any of the first so many asks
+abbrev pub IsPassed : ℕ → Seen → ℕ → ℕ → AskEntry → Type 0
+IsPassed K seen first nodes e = (turn : ℕ) (node : NodeSight) → turn < nodes → node_after seen first turn ≡ Some node → node.reservation ≡ None → IsAdmittedAs (sight_in K seen) node.number e None
+
+abbrev pub ArePassed : ℕ → Seen → ℕ → ℕ → ℕ → Type 0
+ArePassed K seen first nodes asks = (index : ℕ) (e : AskEntry) → index < asks → slice_get seen.asks index ≡ Some e → IsPassed K seen first nodes e
+
+-- the node after so many takes the ask
+abbrev pub TakesAt : Seen → ℕ → ℕ → AskEntry → Type 0
+TakesAt seen first turn e = (node : NodeSight) → node_after seen first turn ≡ Some node → takes node e ≡ true
+
+-- the first of so many nodes that takes the ask, none before it admits it; or none of them does
+abbrev pub IsFirstTaker : ℕ → Seen → ℕ → ℕ → AskEntry → Option ℕ → Type 0
+IsFirstTaker K seen first nodes e None = IsPassed K seen first nodes e
+IsFirstTaker K seen first nodes e (Some turn) = (turn < nodes) × IsPassed K seen first turn e × TakesAt seen first turn e
+
+-- the ask as a proposal of the kind for which a node has room, where it holds no reservation
+abbrev pub proposal_by_room : NodeSight → AskEntry → Option NodeProposal
+proposal_by_room node e = option_map (λ kind. proposal_of kind node.number e) (kind_by_room node e)
+
+-- the node after so many, if the ring has so many, has a choice, which is the ask at an index
+pub record IsProposed (K : ℕ) (seen : Seen) (node : NodeSight) (e : AskEntry) : Type 0 where
+  pub some : IsSome (proposal_by_room node e)
+  pub chosen : proposal_by_room node e ≡ choice_on (sight_in K seen) node.number
+
+pub record IsChosenThere (K : ℕ) (seen : Seen) (first turn index : ℕ) : Type 0 where
+  pub within : index < length seen.asks
+  pub proposed : (node : NodeSight) (e : AskEntry) → node_after seen first turn ≡ Some node → slice_get seen.asks index ≡ Some e → IsProposed K seen node e
+
+abbrev pub IsChosenAt : ℕ → Seen → ℕ → ℕ → ℕ → Type 0
+IsChosenAt K seen first turn index = turn < length seen.nodes → IsChosenThere K seen first turn index
+
+-- none of the first so many asks is for a reservation's application and key
+abbrev pub AreForOthers : Seen → Reservation → ℕ → Type 0
+AreForOthers seen r asks = (index : ℕ) (e : AskEntry) → index < asks → slice_get seen.asks index ≡ Some e → is_for e.app e.ask.key r ≡ false
+
+-- the index of the first ask that a reservation is for, if any
+abbrev pub IsReservedAsk : Seen → Reservation → Option ℕ → Type 0
+IsReservedAsk seen r None = AreForOthers seen r (length seen.asks)
+IsReservedAsk seen r (Some index) = (index < length seen.asks) × AreForOthers seen r index × ((e : AskEntry) → slice_get seen.asks index ≡ Some e → is_for e.app e.ask.key r ≡ true)
 
 -- a node has one choice, and so has a starting node
 abbrev pub NodeChoiceIsUnique : Type 0

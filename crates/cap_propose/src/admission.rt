@@ -1,5 +1,5 @@
 //! Whether an ask may be proposed on a node, and as what.
-ghost use Rattle.std.specs.Prelude.{◌≡◌, ◌&&◌, ◌||◌, ◌∷◌, [], bytes_eq};
+ghost use Rattle.std.specs.Prelude.{◌≡◌, ◌&&◌, ◌||◌, ◌∷◌, [], bytes_eq, false, true};
 ghost use Rattle.cap_vector.specs.Vector.{IsResource};
 ghost use Rattle.cap_model.specs.Amounts.{fits};
 ghost use Rattle.cap_model.specs.Texts.{star};
@@ -8,7 +8,7 @@ ghost use Rattle.cap_model.specs.Admission.{takes_place};
 ghost use Rattle.cap_tree.specs.Rows.{AreRows};
 ghost use Rattle.cap_copy.specs.Snapshot.{IsAskEntry, sight_in};
 ghost use Rattle.cap_propose.specs.Sizes.{SnapshotFitsInMemory};
-ghost use Rattle.cap_propose.specs.Proposing.{IsAdmittedAs, IsSeenNode, has_numbers, is_in_limits, kind_by_room, room_back, room_kind};
+ghost use Rattle.cap_propose.specs.Proposing.{IsAdmittedAs, IsClosed, IsOpen, IsSeenNode, has_numbers, is_in_limits, kind_by_room, room_back, room_kind, takes};
 
 use cap_copy::{SeenAsk, SeenNode, Snapshot};
 use cap_model::{LIVE_MAX, NUMBER_END, ProposalKind, Reservation, ShortText};
@@ -41,6 +41,33 @@ pub(crate) fn admits<const K: usize, B: Allocator + Copy>(
     Some(kind)
 }
 
+/// Whether the ask may be proposed at all on nodes that hold no reservation: it wants a container that no room is reserved for, there
+/// is a number for another one, and its queues and user stay within their limits with it. None of that depends on the node.
+pub(crate) fn is_open<const K: usize, B: Allocator + Copy>(
+    snapshot: &Snapshot<K, B>,
+    ask: &SeenAsk<K>,
+) -> bool
+    requires fits { SnapshotFitsInMemory K.row B.row B.Allocator }
+    requires ask { IsAskEntry K snapshot.now ask.now }
+    ensures admits { result ≡ true → IsOpen K snapshot.now ask.now }
+    ensures closed { result ≡ false → IsClosed K snapshot.now ask.now }
+{
+    if ask.wanted() == 0 {
+        return false;
+    }
+    if !has_numbers(snapshot) {
+        return false;
+    }
+    is_in_limits(snapshot, ask, &Resource::zero())
+}
+
+/// Whether the node holds no reservation, and has the place and the room that are asked for.
+pub(crate) fn takes<const K: usize>(node: &SeenNode<K>, ask: &SeenAsk<K>) -> bool
+    ensures { result ≡ takes node.now ask.now }
+{
+    node.reservation().is_none() && kind_by_room(node, ask).is_some() && suits(node, ask)
+}
+
 /// The kind of proposal for which the node has room. Where it holds a reservation, that is a grant for the same application and
 /// key alone.
 fn room_kind<const K: usize>(node: &SeenNode<K>, ask: &SeenAsk<K>) -> Option<ProposalKind>
@@ -65,7 +92,10 @@ fn room_kind<const K: usize>(node: &SeenNode<K>, ask: &SeenAsk<K>) -> Option<Pro
 }
 
 /// The kind of proposal for which a node without a reservation has room.
-fn kind_by_room<const K: usize>(node: &SeenNode<K>, ask: &SeenAsk<K>) -> Option<ProposalKind>
+pub(crate) fn kind_by_room<const K: usize>(
+    node: &SeenNode<K>,
+    ask: &SeenAsk<K>,
+) -> Option<ProposalKind>
     ensures { result ≡ kind_by_room node.now ask.now }
 {
     if fits_free(node, ask) {
@@ -92,7 +122,7 @@ fn fits_total<const K: usize>(node: &SeenNode<K>, ask: &SeenAsk<K>) -> bool
 }
 
 /// Whether the reservation is for the ask's application and key.
-fn is_for<const K: usize>(reservation: &Reservation<K>, ask: &SeenAsk<K>) -> bool
+pub(crate) fn is_for<const K: usize>(reservation: &Reservation<K>, ask: &SeenAsk<K>) -> bool
     ensures { result ≡ is_for ask.now.app ask.now.ask.key reservation.now }
 {
     reservation.app() == ask.app() && reservation.key().is_same(&ask.ask().key())

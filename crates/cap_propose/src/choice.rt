@@ -1,13 +1,13 @@
 //! The choice on a node, and from a starting node over the ring of all nodes.
-ghost use Rattle.std.specs.Prelude.{◌≡◌, ◌<◌};
+ghost use Rattle.std.specs.Prelude.{◌≡◌, ◌<◌, ◌≤◌, Some, length};
 ghost use Rattle.cap_model.specs.Candidates.{choice_from, choice_on};
-ghost use Rattle.cap_copy.specs.Snapshot.{sight_in};
+ghost use Rattle.cap_copy.specs.Snapshot.{IsAskEntry, IsSnapshot, sight_in};
 ghost use Rattle.cap_propose.specs.Sizes.{SnapshotFitsInMemory};
-ghost use Rattle.cap_propose.specs.Proposing.{IsSeenNode, proposal_of, ring_index};
+ghost use Rattle.cap_propose.specs.Proposing.{ArePassed, IsChosenAt, IsFirstTaker, IsReservedAsk, IsSeenNode, proposal_by_room, proposal_of, ring_index};
 
-use crate::admission::admits;
+use crate::admission::{admits, is_for, is_open, kind_by_room, takes};
 use cap_copy::{SeenAsk, SeenNode, Snapshot};
-use cap_model::{Proposal, ProposalKind};
+use cap_model::{Proposal, ProposalKind, Reservation};
 use std::alloc::Allocator;
 
 /// What a scheduler thread proposes on the snapshot, with the nodes as a ring from the node at `start` on (beyond the last it begins
@@ -26,13 +26,21 @@ pub fn propose<const K: usize, B: Allocator + Copy>(
         return None;
     }
     let first = start as usize % count;
-    for turn in 0..count {
+    let nearest = nearest_taker(snapshot, first);
+    for turn in 0..nearest.turn {
         let node = snapshot.node(wrapped(first, turn, count));
-        if let Some(proposal) = choice_on(snapshot, node) {
+        let Some(reservation) = node.reservation() else {
+            continue;
+        };
+        if let Some(proposal) = conversion(snapshot, node, &reservation) {
             return Some(proposal);
         }
     }
-    None
+    if nearest.turn == count {
+        return None;
+    }
+    let node = snapshot.node(wrapped(first, nearest.turn, count));
+    proposal_by_room(node, snapshot.ask(nearest.ask))
 }
 
 /// The index of the node that is so many after the first, where the first comes again after the last.
@@ -49,19 +57,102 @@ fn wrapped(first: usize, turn: usize, count: usize) -> usize
     }
 }
 
-/// The choice on the node: the first ask that may be proposed there, since the asks are in the order of service.
-fn choice_on<const K: usize, B: Allocator + Copy>(
+/// A node of the ring that holds no reservation and takes an ask: how many nodes come before it, and the index of the first ask that
+/// it takes, in the order of service.
+#[derive(Clone, Copy)]
+struct Taker {
+    turn: usize,
+    ask: usize,
+}
+
+/// The nearest node that holds no reservation and takes an ask, in the ring from the node at index `first` on. Where there is none,
+/// all nodes come before it. The limits of an ask are tested once for all these nodes, since they don't depend on the node.
+fn nearest_taker<const K: usize, B: Allocator + Copy>(
+    snapshot: &Snapshot<K, B>,
+    first: usize,
+) -> Taker
+    requires fits { SnapshotFitsInMemory K.row B.row B.Allocator }
+    requires first { first < length snapshot.now.nodes }
+    ensures within { result.turn ≤ length snapshot.now.nodes }
+    ensures passed { ArePassed K snapshot.now first result.turn (length snapshot.now.asks) }
+    ensures chosen { IsChosenAt K snapshot.now first result.turn result.ask }
+{
+    let mut nearest = Taker {
+        turn: snapshot.node_count(),
+        ask: 0,
+    };
+    for index in 0..snapshot.ask_count() {
+        if nearest.turn == 0 {
+            return nearest;
+        }
+        let ask = snapshot.ask(index);
+        if !is_open(snapshot, ask) {
+            continue;
+        }
+        let Some(turn) = first_taker(snapshot, first, ask, nearest.turn) else {
+            continue;
+        };
+        nearest = Taker { turn, ask: index };
+    }
+    nearest
+}
+
+/// How many nodes of the ring come before the first that takes the ask; `None` if none of the first `end` nodes takes it.
+fn first_taker<const K: usize, B: Allocator + Copy>(
+    snapshot: &Snapshot<K, B>,
+    first: usize,
+    ask: &SeenAsk<K>,
+    end: usize,
+) -> Option<usize>
+    requires fits { SnapshotFitsInMemory K.row B.row B.Allocator }
+    requires ask { IsAskEntry K snapshot.now ask.now }
+    requires first { first < length snapshot.now.nodes }
+    requires end { end ≤ length snapshot.now.nodes }
+    ensures { IsFirstTaker K snapshot.now first end ask.now result }
+{
+    let count = snapshot.node_count();
+    for turn in 0..end {
+        let node = snapshot.node(wrapped(first, turn, count));
+        if takes(node, ask) {
+            return Some(turn);
+        }
+    }
+    None
+}
+
+/// The choice on a node that holds a reservation: the grant of the ask that it is for, where that is admissible there.
+fn conversion<const K: usize, B: Allocator + Copy>(
     snapshot: &Snapshot<K, B>,
     node: &SeenNode<K>,
+    reservation: &Reservation<K>,
 ) -> Option<Proposal<K>>
     requires fits { SnapshotFitsInMemory K.row B.row B.Allocator }
     requires node { IsSeenNode K snapshot.now node.now }
+    requires reservation { node.now.reservation ≡ Some reservation.now }
     ensures { result ≡ choice_on (sight_in K snapshot.now) node.now.number }
 {
+    let Some(index) = reserved_ask(snapshot, reservation) else {
+        return None;
+    };
+    let ask = snapshot.ask(index);
+    let Some(kind) = admits(snapshot, node, ask) else {
+        return None;
+    };
+    Some(proposal(kind, node, ask))
+}
+
+/// The index of the ask that the reservation is for, if it is still among the asks.
+fn reserved_ask<const K: usize, B: Allocator + Copy>(
+    snapshot: &Snapshot<K, B>,
+    reservation: &Reservation<K>,
+) -> Option<usize>
+    requires { SnapshotFitsInMemory K.row B.row B.Allocator }
+    ensures first { IsReservedAsk snapshot.now reservation.now result }
+    ensures whole { IsSnapshot K snapshot.now }
+{
     for index in 0..snapshot.ask_count() {
-        let ask = snapshot.ask(index);
-        if let Some(kind) = admits(snapshot, node, ask) {
-            return Some(proposal(kind, node, ask));
+        if is_for(reservation, snapshot.ask(index)) {
+            return Some(index);
         }
     }
     None
@@ -78,4 +169,12 @@ fn proposal<const K: usize>(kind: ProposalKind, node: &SeenNode<K>, ask: &SeenAs
         node: node.number(),
         resource: ask.ask().resource(),
     }
+}
+
+/// The ask as a proposal of the kind for which the node has room, where it has room for one.
+fn proposal_by_room<const K: usize>(node: &SeenNode<K>, ask: &SeenAsk<K>) -> Option<Proposal<K>>
+    ensures { result ≡ proposal_by_room node.now ask.now }
+{
+    let kind = kind_by_room(node, ask)?;
+    Some(proposal(kind, node, ask))
 }

@@ -1,0 +1,81 @@
+-- The choice on a node that holds a reservation.
+use Rattle.std.proofs.Common.{◌≡◌, ℕ, ◌+◌, ◌<◌, ◌≤◌, Bool, true, false, cond, length, Some, None, refl, sym, ◌∙◌, ap, subst, inl, inr, arith}
+use Rattle.std.specs.Prelude.{◌&&◌, ◌==◌, unwrap_or}
+use Rattle.std.specs.List.{slice_get}
+use Rattle.std.proofs.lemmas.Bool.{and_parts, cases_lt}
+use Rattle.std.proofs.lemmas.Bool.Decides.{nat_tests}
+use Rattle.cap_model.specs.declared.proposal.ProposalKind.{ProposalKind}
+use Rattle.cap_model.specs.declared.proposal.ProposalKind.TheVariants.{Grant}
+use Rattle.cap_model.specs.Amounts.{fits}
+use Rattle.cap_model.specs.Asks.{same_key}
+use Rattle.cap_model.specs.Flat.{Reservation, ask_at, is_for}
+use Rattle.cap_model.specs.Sight.{NodeSight}
+use Rattle.cap_model.specs.Admission.{IsAdmissible}
+use Rattle.cap_model.specs.Candidates.{choice_on}
+use Rattle.cap_model.proofs.calls.KeptAsks.{same_key_is}
+use Rattle.cap_copy.specs.Snapshot.{AskEntry, IsAskEntry, IsSnapshot, Seen, asks_for, sight_in}
+use Rattle.cap_propose.specs.Proposing.{AreForOthers, IsAdmittedAs, IsSeenNode, kind_beside, proposal_of}
+use Rattle.cap_propose.proofs.Admitting.{without_room}
+use Rattle.cap_propose.proofs.Choosing.{NoneBefore, entry_is, first_chosen, none_chosen}
+
+-- a reservation is no larger than a proposal
+pub reservation_fits : (n : ℕ) → prog.Memory.up 8 (40 + n) < 9223372036854775808 → prog.Memory.up 8 (32 + n) < 9223372036854775808
+reservation_fits n h = omega (arith, h)
+
+module _ (K : ℕ) (seen : Seen) (r : Reservation) where
+  -- two asks for one reservation are one proposal
+  own_app : (e : AskEntry) → is_for e.app e.ask.key r ≡ true → r.app ≡ e.app
+  own_app e h = let a = (and_parts (r.app == e.app) (same_key r.key e.ask.key) h).0 in grind (arith, nat_tests, a)
+
+  own_key : (e : AskEntry) → is_for e.app e.ask.key r ≡ true → r.key ≡ e.ask.key
+  own_key e h = same_key_is r.key e.ask.key (and_parts (r.app == e.app) (same_key r.key e.ask.key) h).1
+
+  own_ask : (e : AskEntry) → IsAskEntry K seen e → is_for e.app e.ask.key r ≡ true → ask_at r.key (asks_for r.app seen.asks) ≡ Some e.ask
+  own_ask e is h = (λ i. ask_at (own_key e h i) (asks_for (own_app e h i) seen.asks)) ∙ is.asked
+
+  same_proposal : (k : ProposalKind) (n : ℕ) (e f : AskEntry) → IsAskEntry K seen e → IsAskEntry K seen f → is_for e.app e.ask.key r ≡ true → is_for f.app f.ask.key r ≡ true → proposal_of k n e ≡ proposal_of k n f
+  same_proposal k n e f is is_f h g =
+      let app : e.app ≡ f.app = sym (own_app e h) ∙ own_app f g in
+      let ask : e.ask ≡ f.ask = ap (λ o. unwrap_or o e.ask) (sym (own_ask e is h) ∙ own_ask f is_f g) in
+      λ i. record { kind = k; app = app i; key = (ask i).key; node = n; resource = (ask i).resource }
+
+  pub none_yet : AreForOthers seen r 0
+  none_yet index e h at = absurd (omega (arith, h))
+
+  pub one_other_more : (i : ℕ) (e : AskEntry) → slice_get seen.asks i ≡ Some e → is_for e.app e.ask.key r ≡ false → AreForOthers seen r i → AreForOthers seen r (i + 1)
+  one_other_more i e at other all j f h there = elim (cases_lt j i) [
+    | inl below ↦ all j f below there
+    | inr past ↦
+        let j_is : j ≡ i = omega (arith, h, past) in
+        let same : e ≡ f = ap (λ o. unwrap_or o e) (sym at ∙ ap (slice_get seen.asks) (sym j_is) ∙ there) in
+        subst (λ x. is_for x.app x.ask.key r ≡ false) same other
+  ]
+
+  pub all_others : (i : ℕ) → length seen.asks ≤ i → AreForOthers seen r i → AreForOthers seen r (length seen.asks)
+  all_others i le all j f h there = all j f (omega (arith, le, h)) there
+
+  pub it_is_for : (i : ℕ) (e : AskEntry) → slice_get seen.asks i ≡ Some e → is_for e.app e.ask.key r ≡ true → (f : AskEntry) → slice_get seen.asks i ≡ Some f → is_for f.app f.ask.key r ≡ true
+  it_is_for i e at h f there = subst (λ x. is_for x.app x.ask.key r ≡ true) (ap (λ o. unwrap_or o e) (sym at ∙ there)) h
+
+  module _ (whole : IsSnapshot K seen) (node : NodeSight) (at_node : IsSeenNode K seen node) (holds : node.reservation ≡ Some r) where
+    other_refused : (e : AskEntry) → IsAskEntry K seen e → is_for e.app e.ask.key r ≡ false → IsAdmittedAs (sight_in K seen) node.number e None
+    other_refused e is other =
+        without_room K seen node e at_node is
+        (ap (λ o. kind_beside o node e) holds ∙ ap (λ b. cond (b && fits e.ask.resource node.free) (Some Grant) None) other)
+
+    others_refused : (i : ℕ) → AreForOthers seen r i → NoneBefore K seen node.number i
+    others_refused i all = record { refused = λ j f h there. other_refused f (entry_is K seen whole j f there) (all j f h there) }
+
+    pub none_for : AreForOthers seen r (length seen.asks) → None ≡ choice_on (sight_in K seen) node.number
+    none_for all = none_chosen K seen whole node.number (length seen.asks) (omega arith) (others_refused (length seen.asks) all)
+
+    module _ (i : ℕ) (e : AskEntry) (at : slice_get seen.asks i ≡ Some e) (own : is_for e.app e.ask.key r ≡ true) where
+      pub refused_there : IsAdmittedAs (sight_in K seen) node.number e None → None ≡ choice_on (sight_in K seen) node.number
+      refused_there never = none_chosen K seen whole node.number (length seen.asks) (omega arith) (record { refused = λ j f h there. each f (entry_is K seen whole j f there) (is_for f.app f.ask.key r) refl })
+        where
+          each : (f : AskEntry) → IsAskEntry K seen f → (b : Bool) → is_for f.app f.ask.key r ≡ b → IsAdmittedAs (sight_in K seen) node.number f None
+          each f is true h = λ k a. never k (subst (λ p. IsAdmissible (sight_in K seen) p) (same_proposal k node.number f e is (entry_is K seen whole i e at) h own) a)
+          each f is false h = other_refused f is h
+
+      pub admitted_own : (k : ProposalKind) → AreForOthers seen r i → IsAdmittedAs (sight_in K seen) node.number e (Some k) → Some (proposal_of k node.number e) ≡ choice_on (sight_in K seen) node.number
+      admitted_own k all a = first_chosen K seen whole node.number i e k at (others_refused i all) a

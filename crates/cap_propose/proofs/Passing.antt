@@ -1,0 +1,116 @@
+-- The nodes of the ring without a reservation that are passed over, since no ask is admitted there.
+use Rattle.std.proofs.Common.{◌≡◌, ℕ, ◌+◌, ◌<◌, ◌≤◌, true, false, length, Some, None, refl, sym, ◌∙◌, ap, subst, inl, inr, arith}
+use Rattle.std.specs.Prelude.{Option, IsSome, not, option_map, unwrap_or}
+use Rattle.std.specs.List.{slice_get}
+use Rattle.std.proofs.lemmas.Bool.{cases_lt}
+use Rattle.std.proofs.lemmas.Option.{slice_get_within}
+use Rattle.cap_model.specs.Sight.{NodeSight}
+use Rattle.cap_model.specs.Admission.{NodeProposal}
+use Rattle.cap_model.specs.Candidates.{choice_on}
+use Rattle.cap_model.specs.declared.proposal.ProposalKind.{ProposalKind}
+use Rattle.cap_copy.specs.Snapshot.{AskEntry, IsAskEntry, IsSnapshot, Seen, sight_in}
+use Rattle.cap_propose.specs.Proposing.{ArePassed, IsAdmittedAs, IsChosenAt, IsClosed, IsOpen, IsPassed, IsProposed, IsSeenNode, TakesAt, kind_by_room, node_after, proposal_by_room, proposal_of, ring_index, takes}
+use Rattle.cap_propose.proofs.Admitting.{holds_none, not_taken, room_there}
+use Rattle.cap_propose.proofs.Choosing.{NoneBefore, entry_is, first_chosen, node_is, none_chosen}
+
+pub at_most : (l m n : ℕ) → l < m → m ≤ n → l ≤ n
+at_most l m n h g = omega (arith, h, g)
+
+pub below : (l m n count : ℕ) → l < m → m ≤ n → count ≡ n → l < count
+below l m n count h g e = omega (arith, h, g, e)
+
+pub past_end : (turn end count n : ℕ) → end ≤ turn → end ≡ count → count ≡ n → n ≤ turn
+past_end turn end count n h e f = omega (arith, h, e, f)
+
+pub before_end : (turn count n : ℕ) → turn ≤ n → count ≡ n → (turn ≡ count → ⊥) → (turn < n) × (turn < count)
+before_end turn count n h e some = (omega (arith, h, e, some), omega (arith, h, e, some))
+
+pub last_turn : (turn end : ℕ) → turn ≤ end → end ≤ turn → turn ≡ end
+last_turn turn end h g = omega (arith, h, g)
+
+module _ (K : ℕ) (seen : Seen) (first : ℕ) where
+  -- fewer nodes
+  pub fewer : (e : AskEntry) (m n : ℕ) → m ≤ n → IsPassed K seen first n e → IsPassed K seen first m e
+  fewer e m n le p turn node h at unreserved = p turn node (omega (arith, le, h)) at unreserved
+
+  -- one node more, at the index that the ring has there
+  pub node_at : (turn index count : ℕ) (node : NodeSight) → count ≡ length seen.nodes → index ≡ ring_index first turn count → slice_get seen.nodes index ≡ Some node → node_after seen first turn ≡ Some node
+  node_at turn index count node count_is index_is at = ap (slice_get seen.nodes) (sym (index_is ∙ ap (ring_index first turn) count_is)) ∙ at
+
+  module _ (whole : IsSnapshot K seen) (e : AskEntry) (is : IsAskEntry K seen e) where
+    pub one_node_more : (turn index count : ℕ) (node : NodeSight) → count ≡ length seen.nodes → index ≡ ring_index first turn count → slice_get seen.nodes index ≡ Some node →
+        takes node e ≡ false → IsPassed K seen first turn e → IsPassed K seen first (turn + 1) e
+    one_node_more turn index count node count_is index_is at not p t m h there unreserved = elim (cases_lt t turn) [
+      | inl below ↦ p t m below there unreserved
+      | inr past ↦
+          let t_is : t ≡ turn = omega (arith, h, past) in
+          let here = node_at turn index count node count_is index_is at in
+          let same : node ≡ m = ap (λ o. unwrap_or o node) (sym here ∙ ap (node_after seen first) (sym t_is) ∙ there) in
+          let refused = not_taken K seen node e (node_is K seen whole index node at) is (ap (λ (x : NodeSight). x.reservation) same ∙ unreserved) not in
+          subst (λ (x : NodeSight). IsAdmittedAs (sight_in K seen) x.number e None) same refused
+    ]
+
+    pub closed_passed : (n : ℕ) → IsClosed K seen e → IsPassed K seen first n e
+    closed_passed n closed turn node h at unreserved = closed node (node_is K seen whole (ring_index first turn (length seen.nodes)) node at) unreserved
+
+  -- one ask more, and as many nodes or fewer
+  pub one_ask_more : (m n i : ℕ) (e : AskEntry) → m ≤ n → slice_get seen.asks i ≡ Some e → ArePassed K seen first n i → IsPassed K seen first m e → ArePassed K seen first m (i + 1)
+  one_ask_more m n i e le at all here j f h there = elim (cases_lt j i) [
+    | inl below ↦ fewer f m n le (all j f below there)
+    | inr past ↦
+        let j_is : j ≡ i = omega (arith, h, past) in
+        let same : e ≡ f = ap (λ o. unwrap_or o e) (sym at ∙ ap (slice_get seen.asks) (sym j_is) ∙ there) in
+        subst (IsPassed K seen first m) same here
+  ]
+
+  pub all_asks : (n i : ℕ) → length seen.asks ≤ i → ArePassed K seen first n i → ArePassed K seen first n (length seen.asks)
+  all_asks n i le all j f h there = all j f (omega (arith, le, h)) there
+
+  -- a node that is passed over has no choice
+  pub passed_has_none : (whole : IsSnapshot K seen) (turn index count n : ℕ) (node : NodeSight) → count ≡ length seen.nodes → index ≡ ring_index first turn count → slice_get seen.nodes index ≡ Some node →
+      turn < n → node.reservation ≡ None → ArePassed K seen first n (length seen.asks) → None ≡ choice_on (sight_in K seen) node.number
+  passed_has_none whole turn index count n node count_is index_is at h unreserved all =
+      none_chosen K seen whole node.number (length seen.asks) (omega arith)
+      (record { refused = λ j f below there. all j f below there turn node h (node_at turn index count node count_is index_is at) unreserved })
+
+  -- what a node takes that none of the asks before is admitted on is its choice
+  module _ (whole : IsSnapshot K seen) (turn n i : ℕ) (e : AskEntry) (at : slice_get seen.asks i ≡ Some e) (is_open : IsOpen K seen e) (takes_it : TakesAt seen first turn e) (h : turn < n) (all : ArePassed K seen first n i) where
+    proposed_there : (node : NodeSight) → node_after seen first turn ≡ Some node → IsProposed K seen node e
+    proposed_there node there = by (kind_by_room node e) refl
+      where
+        at_node : IsSeenNode K seen node
+        at_node = node_is K seen whole (ring_index first turn (length seen.nodes)) node there
+
+        is : IsAskEntry K seen e
+        is = entry_is K seen whole i e at
+
+        unreserved : node.reservation ≡ None
+        unreserved = holds_none K seen node e at_node is (takes_it node there)
+
+        by : (k : Option ProposalKind) → kind_by_room node e ≡ k → IsProposed K seen node e
+        by None k = let room = room_there K seen node e at_node is (takes_it node there) in absurd (cc (room, k))
+        by (Some kind) k =
+            let a = is_open node kind at_node (takes_it node there) k in
+            let none : NoneBefore K seen node.number i = record { refused = λ j f below to. all j f below to turn node h there unreserved } in
+            let same : proposal_by_room node e ≡ Some (proposal_of kind node.number e) = ap (option_map (λ x. proposal_of x node.number e)) k in
+            record {
+              some = subst (λ o. IsSome o) (sym same) cc;
+              chosen = same ∙ first_chosen K seen whole node.number i e kind at none a;
+            }
+
+    pub chosen_there : IsChosenAt K seen first turn i
+    chosen_there within = record {
+      within = slice_get_within seen.asks i e at;
+      proposed = λ node f there to. subst (λ x. IsProposed K seen node x) (ap (λ o. unwrap_or o e) (sym at ∙ to)) (proposed_there node there);
+    }
+
+  pub takes_here : (turn index count : ℕ) (node : NodeSight) (e : AskEntry) → count ≡ length seen.nodes → index ≡ ring_index first turn count → slice_get seen.nodes index ≡ Some node → takes node e ≡ true → TakesAt seen first turn e
+  takes_here turn index count node e count_is index_is at taken m there =
+      let here = node_at turn index count node count_is index_is at in
+      let same : node ≡ m = ap (λ o. unwrap_or o node) (sym here ∙ there) in
+      subst (λ (x : NodeSight). takes x e ≡ true) same taken
+
+-- where a proposal is the choice on a node, it is some one
+pub some_proposal : (o : Option NodeProposal) → IsSome o → (p : NodeProposal) × (o ≡ Some p)
+some_proposal None h = absurd (cc h)
+some_proposal (Some p) h = (p, refl)

@@ -1,0 +1,5 @@
+use Rattle.cap_propose.specs.Proposing.{IsPassed}
+use Rattle.cap_propose.proofs.choice.first_taker.Given as goal
+
+abbrev pub invariant-loop-turn : goal.invariant-loop-turn
+invariant-loop-turn g l = IsPassed g.row.K l.snapshot l.first l.turn l.ask
