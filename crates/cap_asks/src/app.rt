@@ -54,12 +54,23 @@ impl<const K: usize> Model for App<K> {
         user = a.user;
         registered = a.registered;
         response = a.response;
-        kept = option_map (λ ignored. record { response = a.response; ignored = ignored; grants = a.grants.told; ends = a.ends.told }) a.ignored;
+        kept = option_map (λ ignored. record {
+          response = a.response;
+          ignored = ignored;
+          grants = a.grants.told;
+          ends = a.ends.told;
+        }) a.ignored;
         asks = a.asks.asks;
         grants = a.grants.waiting;
         ends = a.ends.waiting;
       };
-      account = record { position = a.position.items; live = a.live; asks = a.asks.room; grants = a.grants.room; ends = a.ends.room };
+      account = record {
+        position = a.position.items;
+        live = a.live;
+        asks = a.asks.room;
+        grants = a.grants.room;
+        ends = a.ends.room;
+      };
     } };
 
     ghost invariant = { λ a. (a.response < response_end) × (a.live ≤ a.ends.room) };
@@ -276,7 +287,8 @@ impl<const K: usize> App<K> {
     /// Puts an ask in place of the one of its key, or in order of key; a count of 0 takes the key away.
     pub(crate) fn put_ask(&mut self, ask: &Ask<K>)
         requires { 1 ≤ self.old.account.asks }
-        ensures app { self.new.app ≡ record self.old.app { asks = put_ask ask.now self.old.app.asks } }
+        ensures app { self.new.app ≡
+            record self.old.app { asks = put_ask ask.now self.old.app.asks } }
         ensures account { TakesRoom 1 0 0 self.old.account self.new.account }
     {
         self.asks.put(ask);
@@ -284,7 +296,8 @@ impl<const K: usize> App<K> {
 
     /// One container less is wanted for this key; an ask that comes to 0 goes.
     pub(crate) fn take_one(&mut self, key: &Key)
-        ensures app { self.new.app ≡ record self.old.app { asks = take_one key.now self.old.app.asks } }
+        ensures app { self.new.app ≡
+            record self.old.app { asks = take_one key.now self.old.app.asks } }
         ensures account { TakesRoom 0 0 0 self.old.account self.new.account }
     {
         self.asks.take_one(key);
@@ -294,7 +307,8 @@ impl<const K: usize> App<K> {
     pub(crate) fn add_grant(&mut self, grant: &Grant<K>)
         requires room { HasRoom 0 1 (self.old.account.live + 1) self.old.account }
         requires few { self.old.account.live < live_max }
-        ensures app { self.new.app ≡ record self.old.app { grants = self.old.app.grants ++ grant.now ∷ [] } }
+        ensures app { self.new.app ≡
+            record self.old.app { grants = self.old.app.grants ++ grant.now ∷ [] } }
         ensures account { TakesRoom 0 1 0 self.old.account self.new.account }
     {
         self.grants.add(*grant);
@@ -304,7 +318,8 @@ impl<const K: usize> App<K> {
     /// One container less is live, whose end waits, last.
     pub(crate) fn add_end(&mut self, end: &End)
         requires { 1 ≤ self.old.account.live }
-        ensures app { self.new.app ≡ record self.old.app { ends = self.old.app.ends ++ end.now ∷ [] } }
+        ensures app { self.new.app ≡
+            record self.old.app { ends = self.old.app.ends ++ end.now ∷ [] } }
         ensures account { TakesRoom 0 0 1 self.old.account self.new.account }
     {
         self.ends.add(*end);

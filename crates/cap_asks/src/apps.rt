@@ -81,7 +81,8 @@ impl<const K: usize> Apps<K> {
     ) -> Result<u64, NoMemory>
         requires { self.old.table.next < number_end }
         ensures number { IfOk result (λ number. number ≡ self.old.table.next) }
-        ensures rising { IsRising 1 (map (λ app. app.number) self.old.table.active) self.old.table.next }
+        ensures rising { IsRising 1 (map (λ app. app.number) self.old.table.active)
+            self.old.table.next }
         ensures table { OnOk result (self.new.table ≡ add_app leaf.now user.now self.old.table) }
         ensures accounts { OnOk result (Enters position.items self.old self.new) }
         ensures succeeds { 1 ≤ self.old.vacant → IsOk result }
@@ -101,7 +102,8 @@ impl<const K: usize> Apps<K> {
     /// How many are active. All have numbers from 1 that rise and are below the next.
     pub fn count(&self) -> usize
         ensures value { result ≡ length self.now.table.active }
-        ensures rising { IsRising 1 (map (λ app. app.number) self.now.table.active) self.now.table.next }
+        ensures rising { IsRising 1 (map (λ app. app.number) self.now.table.active)
+            self.now.table.next }
     {
         self.active.len()
     }
@@ -111,8 +113,10 @@ impl<const K: usize> Apps<K> {
         requires { index < length self.now.table.active }
         ensures app { slice_get self.now.table.active index ≡ Some result.now.app }
         ensures found { app_in self.now.table result.now.app.number ≡ Some result.now.app }
-        ensures account { account_of result.now.app.number self.now.accounts ≡ Some result.now.account }
-        ensures rising { IsRising 1 (map (λ app. app.number) self.now.table.active) self.now.table.next }
+        ensures account { account_of result.now.app.number self.now.accounts
+            ≡ Some result.now.account }
+        ensures rising { IsRising 1 (map (λ app. app.number) self.now.table.active)
+            self.now.table.next }
     {
         &self.active[index]
     }
@@ -128,15 +132,18 @@ impl<const K: usize> Apps<K> {
     /// below the next.
     pub fn app(&self, n: u64) -> Option<&App<K>>
         ensures found { option_map (λ app. app.now.app) result ≡ app_in self.now.table n }
-        ensures account { option_map (λ app. app.now.account) result ≡ account_of n self.now.accounts }
-        ensures rising { IsRising 1 (map (λ app. app.number) self.now.table.active) self.now.table.next }
+        ensures account { option_map (λ app. app.now.account) result
+            ≡ account_of n self.now.accounts }
+        ensures rising { IsRising 1 (map (λ app. app.number) self.now.table.active)
+            self.now.table.next }
     {
         self.active.get(&n)
     }
 
     /// The master of an application has reported. Where none of this number is active, nothing changes.
     pub fn register(&mut self, n: u64)
-        ensures table { self.new.table ≡ change_app n (λ app. record app { registered = true }) self.old.table }
+        ensures table { self.new.table ≡
+            change_app n (λ app. record app { registered = true }) self.old.table }
         ensures accounts { UsesRoom n 0 0 0 self.old.accounts self.new.accounts }
     {
         let Some(app) = self.active.get_mut(&n) else {
@@ -163,7 +170,8 @@ impl<const K: usize> Apps<K> {
     /// How many of the reservations of its key an ask of an application leaves: as many as it counts, and none where its resource or
     /// place changes.
     pub fn reservations_left(&self, n: u64, ask: &Ask<K>) -> u32
-        ensures { result ≡ option_map_or (λ app. reservations_left app ask.now) (app_in self.now.table n) 0 }
+        ensures { result ≡
+            option_map_or (λ app. reservations_left app ask.now) (app_in self.now.table n) 0 }
     {
         match self.app(n) {
             Some(app) => app.reservations_left(ask),
@@ -201,7 +209,8 @@ impl<const K: usize> Apps<K> {
     pub fn add_grant(&mut self, n: u64, grant: &Grant<K>)
         requires room { HasRooms n 0 1 (live_of n self.old.accounts + 1) self.old.accounts }
         requires few { live_of n self.old.accounts < live_max }
-        ensures table { self.new.table ≡ change_app n (with_waiting_grant grant.now) self.old.table }
+        ensures table { self.new.table ≡
+            change_app n (with_waiting_grant grant.now) self.old.table }
         ensures accounts { UsesRoom n 0 1 0 self.old.accounts self.new.accounts }
     {
         let Some(app) = self.active.get_mut(&n) else {
@@ -226,7 +235,8 @@ impl<const K: usize> Apps<K> {
     /// the reply, whose numbers are the result, is kept. `ignored` is how many releases of the request named nothing. Where none of
     /// this number is active, nothing changes, and the numbers are 0.
     pub fn tell(&mut self, n: u64, ignored: u16) -> Reported
-        ensures rising { IsRising 1 (map (λ app. app.number) self.old.table.active) self.old.table.next }
+        ensures rising { IsRising 1 (map (λ app. app.number) self.old.table.active)
+            self.old.table.next }
         ensures table { self.new.table ≡ change_app n (after_next_reply ignored) self.old.table }
         ensures accounts { UsesRoom n 0 0 0 self.old.accounts self.new.accounts }
         ensures told { IsSome (app_in self.old.table n) → KeepsNumbers n self.new.table result }
@@ -245,7 +255,8 @@ impl<const K: usize> Apps<K> {
     /// The reply of these numbers to the master of an application, with the grants and ends that it was told last. Where none of
     /// this number is active, there are none.
     pub fn reply(&self, n: u64, reported: &Reported) -> AllocateView<'_, K>
-        ensures { KeepsNumbers n self.now.table reported.now → kept_of n self.now.table ≡ Some result }
+        ensures { KeepsNumbers n self.now.table reported.now
+            → kept_of n self.now.table ≡ Some result }
     {
         match self.active.get(&n) {
             Some(app) => app.reply(reported),

@@ -26,7 +26,10 @@ impl<const K: usize> Model for Asks<K> {
 
     ghost Value = { HeldAsks };
 
-    ghost view = { λ a. record { asks = a.items.items; room = vec_capacity a.items - vec_len a.items } };
+    ghost view = { λ a. record {
+      asks = a.items.items;
+      room = vec_capacity a.items - vec_len a.items;
+    } };
 
     ghost invariant = { λ a. AreKept a.items.items };
 }
@@ -135,7 +138,8 @@ impl<const K: usize> Asks<K> {
 
     /// Whether an ask of this key stands after these asks were put, one after the other.
     fn stands_after(&self, asks: &[Ask<K>], key: &Key) -> bool
-        ensures { result ≡ is_some (ask_at key.now (fold (λ kept ask. put_ask ask kept) self.now.asks asks.now)) }
+        ensures { result ≡ is_some
+            (ask_at key.now (fold (λ kept ask. put_ask ask kept) self.now.asks asks.now)) }
     {
         let mut stands = self.get(key).is_some();
         for ask in asks {
@@ -149,7 +153,8 @@ impl<const K: usize> Asks<K> {
     /// Whether more keys than allowed would stand after these asks were put, one after the other. It looks at them only where the
     /// asks, old and new, are more than that many.
     pub(crate) fn has_too_many_keys(&self, asks: &[Ask<K>]) -> bool
-        ensures { result ≡ nat_lt keys_max (length (fold (λ kept ask. put_ask ask kept) self.now.asks asks.now)) }
+        ensures { result ≡ nat_lt keys_max
+            (length (fold (λ kept ask. put_ask ask kept) self.now.asks asks.now)) }
     {
         let mut count = self.items.len() as u128;
         if count + asks.len() as u128 <= KEYS_MAX {

@@ -20,7 +20,11 @@ impl<T> Model for News<T> {
 
     ghost Value = { HeldNews T };
 
-    ghost view = { λ n. record { told = take n.told n.items.items; waiting = drop n.told n.items.items; room = vec_capacity n.items - vec_len n.items } };
+    ghost view = { λ n. record {
+      told = take n.told n.items.items;
+      waiting = drop n.told n.items.items;
+      room = vec_capacity n.items - vec_len n.items;
+    } };
 
     ghost invariant = { λ n. (n.told ≤ length n.items.items) × (n.told ≤ news_max) };
 }

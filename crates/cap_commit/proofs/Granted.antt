@@ -1,7 +1,7 @@
 -- A cluster after a grant: what it keeps, and that its use is a sum.
 use Rattle.std.proofs.Common.{◌≡◌, ℕ, ◌+◌, ◌<◌, ◌≤◌, Bool, true, false, cond, List, [], ◌∷◌, ◌++◌, length, length-append, map, Some, None, refl, sym, ◌∙◌, ap, subst, inl, inr, arith}
 use Rattle.std.specs.Prelude.{Option, IsSome, not, ◌==◌, find, filter, if◌then◌else◌}
-use Rattle.std.specs.List.{All, sum_by}
+use Rattle.std.specs.List.{sum_by}
 use Rattle.std.proofs.lemmas.Bool.{cases_lt}
 use Rattle.std.proofs.lemmas.Bool.Decides.{nat_tests}
 use Rattle.std.proofs.lemmas.List.{get_or_past, length-map}
@@ -17,7 +17,6 @@ use Rattle.cap_model.specs.declared.ask.Key.{Key}
 use Rattle.cap_model.specs.declared.proposal.ProposalKind.{ProposalKind}
 use Rattle.cap_model.specs.Sight.{sight_of}
 use Rattle.cap_model.specs.Admission.{NodeProposal, is_grant, reason_of}
-use Rattle.cap_model.specs.Bounds.{IsRising}
 use Rattle.cap_model.specs.Events.{after_grant, launch, news_of, take_one}
 use Rattle.cap_model.specs.RegisterNode.{sum_of_totals}
 use Rattle.cap_model.specs.Uses.{held_on}
@@ -36,6 +35,7 @@ use Rattle.cap_tree.specs.Count.{use_alone}
 use Rattle.cap_tree.specs.Rows.{Row, applied_row, queues_of, root_use, user_row_at}
 use Rattle.cap_asks.specs.Held.{Account}
 use Rattle.cap_asks.specs.Apps.{HasRooms, HeldApps, UsesRoom, live_of, position_of}
+use Rattle.cap_nodes.specs.Tables.{IsSound}
 use Rattle.cap_nodes.proofs.ByNumber.{turned}
 use Rattle.cap_commit.specs.Held.{AreReserved, Parts, IsHeld, IsInLeaf, IsRowOf, fits_its_node, flat_of, of_cluster}
 use Rattle.cap_commit.specs.Admission.{taken_back}
@@ -47,13 +47,6 @@ use Rattle.cap_commit.proofs.Owning.{count_for, live_kept, owned_stands}
 use Rattle.cap_commit.proofs.Reserved.{its_node_there, part_reserved}
 use Rattle.cap_commit.proofs.RowsAt.{row_at}
 use Rattle.cap_commit.proofs.Ties.{in_queue, of_user_in}
-
--- what a table of nodes with one more container says
-pub record IsSound (K : ℕ) (t : NodeTable) : Type 0 where
-  pub rising : IsRising 1 (map (λ node. node.number) t.present) t.next_node
-  pub held : All (λ node. fits (held_on K t node.number) node.total ≡ true) t.present
-  pub homes : All (λ c. IsSome (node_in t c.node)) t.live
-  pub totals : IsWithin amount_max (sum_of_totals K t.present)
 
 module _ (K : ℕ) (t : NodeTable) (s : IsSound K t) where
   node_of : (n : ℕ) → IsSome (node_in t n) → (x : ClusterNode) × IsIn x t.present × (x.number ≡ n)

@@ -28,7 +28,8 @@ use Rattle.cap_tree.proofs.OneUser.{count_where}
 use Rattle.cap_asks.specs.Apps.{position_of}
 use Rattle.cap_commit.specs.Held.{AreReserved, Parts, IsHeld, IsInLeaf, IsRowOf, fits_its_node, flat_of, of_cluster}
 use Rattle.cap_commit.proofs.Counting.{count_positive}
-use Rattle.cap_commit.proofs.Granted.{IsSound, live_few, reserved_few}
+use Rattle.cap_nodes.specs.Tables.{IsSound}
+use Rattle.cap_commit.proofs.Granted.{live_few, reserved_few}
 use Rattle.cap_commit.proofs.Granting.{its_app, none_active, past_where, zero_where}
 use Rattle.cap_commit.proofs.Holding.{leaf_same, still_placed}
 use Rattle.cap_commit.proofs.Moving.{HasMoved, may_give, moved_settings, moved_stays, of_test, tied_moved}

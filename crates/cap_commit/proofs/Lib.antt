@@ -13,7 +13,7 @@ pub mod Ending
 pub mod Unreserving
 pub mod Dropping
 pub mod Reporting
-pub mod Naming
+pub mod EndsLeft
 pub mod Viewing
 pub mod Limiting
 pub mod Granting

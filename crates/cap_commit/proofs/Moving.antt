@@ -1,5 +1,5 @@
 -- The rows of a tree keep what the flat cluster counts where a part of what a user counts in a leaf moves.
-use Rattle.std.proofs.Common.{◌≡◌, ℕ, ◌+◌, ◌-◌, ◌<◌, ◌≤◌, Bool, true, false, List, length, map, Some, None, Option, refl, sym, ◌∙◌, ap, subst, inl, inr, arith}
+use Rattle.std.proofs.Common.{◌≡◌, ℕ, ◌+◌, ◌-◌, ◌<◌, ◌≤◌, Bool, true, false, List, length, map, Some, None, refl, sym, ◌∙◌, ap, subst, inl, inr, arith}
 use Rattle.std.specs.Prelude.{bytes_eq, ◌&&◌}
 use Rattle.std.specs.List.{All}
 use Rattle.std.specs.Option.{option_map_or}
@@ -15,8 +15,8 @@ use Rattle.cap_model.proofs.uses.Tallies.{Test, count_of, used_by, length_used}
 use Rattle.cap_model.proofs.lists.Tests.{bytes_turned}
 use Rattle.cap_tree.specs.Measure.{Measure}
 use Rattle.cap_tree.specs.Spot.{item_at}
-use Rattle.cap_tree.specs.Count.{Count, IsPart, count_moved, of_count, zero_count, one_app, use_alone}
-use Rattle.cap_tree.specs.Queue.{Queue, MayGive, MayLeave, count_in, moved_above, moved_at, of_user, user_row}
+use Rattle.cap_tree.specs.Count.{Count, IsPart, of_count, zero_count, one_app, use_alone}
+use Rattle.cap_tree.specs.Queue.{Queue, MayGive, MayLeave, count_in, moved_above, moved_at, user_row}
 use Rattle.cap_tree.specs.QueueLaws.{zero_counts, user_counts}
 use Rattle.cap_tree.specs.Rows.{Row, IsAt, moved_row, queues_of, user_row_at}
 use Rattle.cap_tree.proofs.Listings.{settings_stay}

@@ -1,6 +1,6 @@
-ghost use Rattle.std.specs.Prelude.{◌≡◌, ◌≤◌, ◌+◌, ◌==◌, ◌&&◌, ◌∷◌, [], Some, None, IfOk, OnOk, OnErr, IsOk, IfSome, IsSome, is_some, length, find, nat_lt, ◌<◌, option_and_then};
+ghost use Rattle.std.specs.Prelude.{◌≡◌, ◌≤◌, ◌+◌, ◌==◌, ◌&&◌, ◌∷◌, [], Some, None, IfOk, OnOk, OnErr, IsOk, IfSome, IsSome, is_some, length, find, ◌<◌, option_and_then};
 ghost use Rattle.std.specs.List.{All};
-ghost use Rattle.cap_model.specs.Limits.{applications_max, resources_max};
+ghost use Rattle.cap_model.specs.Limits.{applications_max, live_max, resources_max};
 ghost use Rattle.cap_model.specs.Flat.{opened_cluster, queue_at, app_at, node_at, node_in, with_app, with_node, with_reserved, containers_on, containers_of};
 ghost use Rattle.cap_model.specs.Bounds.{AreApart};
 ghost use Rattle.cap_model.specs.Uses.{queue_use};
@@ -55,9 +55,19 @@ impl<const K: usize> Model for Cluster<K> {
 
     ghost coded = { Prim.hlevel (codes, users_code) };
 
-    ghost view = { λ c. held_of (record { rows = c.tree.value; limits = c.limits; apps = c.apps; nodes = c.nodes }) };
+    ghost view = { λ c. held_of (record {
+      rows = c.tree.value;
+      limits = c.limits;
+      apps = c.apps;
+      nodes = c.nodes;
+    }) };
 
-    ghost invariant = { λ c. IsHeld {K = K} (record { rows = c.tree.value; limits = c.limits; apps = c.apps; nodes = c.nodes }) };
+    ghost invariant = { λ c. IsHeld {K = K} (record {
+      rows = c.tree.value;
+      limits = c.limits;
+      apps = c.apps;
+      nodes = c.nodes;
+    }) };
 }
 
 impl<const K: usize> Cluster<K> {
@@ -267,7 +277,8 @@ impl<const K: usize> Cluster<K> {
     /// reply, whose numbers are the result, is kept. Where no application has the number, nothing changes.
     pub fn tell(&mut self, number: u64, ignored: u16) -> Reported
         ensures told { IfSome (app_at self.old.flat number)
-            (λ app. self.new.flat ≡ with_app number (after_telling app.response ignored) self.old.flat) }
+            (λ app. self.new.flat ≡
+            with_app number (after_telling app.response ignored) self.old.flat) }
         ensures unknown { app_at self.old.flat number ≡ None → self.new.flat ≡ self.old.flat }
         ensures rows { self.new.rows ≡ self.old.rows }
         ensures room { UsesRoom number 0 0 0 self.old.accounts self.new.accounts }
@@ -303,11 +314,8 @@ impl<const K: usize> Cluster<K> {
             after_ends cause (containers_owned owner self.old.flat) self.old.flat }
         ensures none { containers_owned owner self.new.flat ≡ [] }
     {
-        let _ = &self.nodes;
         let mut ended = 0;
-        let mut after = 0;
-        while let Some(container) = self.next_of(owner, after) {
-            after = container.number();
+        while let Some(container) = self.first_of(owner) {
             self.end(&container, cause);
             ended += 1;
         }
@@ -324,7 +332,6 @@ impl<const K: usize> Cluster<K> {
         ensures ignored { result + length (containers_named owner numbers.now self.old.flat)
             ≡ length numbers.now }
     {
-        let _ = &self.nodes;
         let mut ignored = 0;
         for number in numbers {
             match self.nodes.container(*number) {
@@ -335,14 +342,17 @@ impl<const K: usize> Cluster<K> {
         ignored
     }
 
-    /// The live container of an owner with the least number above `after`, none where there is none.
-    fn next_of(&self, owner: Owner, after: u64) -> Option<Container<K>>
-        ensures { result ≡
-            find (λ c. owns owner c && nat_lt after c.number) self.now.flat.nodes.live }
+    /// The live container of an owner with the least number, none where there is none. All that are live have numbers from 1 that rise
+    /// and are below the next, and no more are live than 65,536.
+    fn first_of(&self, owner: Owner) -> Option<Container<K>>
+        ensures first { result ≡ find (owns owner) self.now.flat.nodes.live }
+        ensures numbers { HasDistinctNumbers self.now.flat }
+        ensures few { length self.now.flat.nodes.live ≤ live_max }
+        ensures resources { K ≤ resources_max }
     {
         match owner {
-            Owner::Application(app) => self.nodes.next_of_app(app, after),
-            Owner::Node(node) => self.nodes.next_on_node(node, after),
+            Owner::Application(app) => self.nodes.next_of_app(app, 0),
+            Owner::Node(node) => self.nodes.next_on_node(node, 0),
         }
     }
 

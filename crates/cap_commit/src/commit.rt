@@ -84,9 +84,6 @@ impl<const K: usize> Cluster<K> {
             Ok(()) => {}
             Err(NoMemory) => return Err(NoMemory),
         }
-        let Some(_home) = self.nodes.node(node) else {
-            unreachable!()
-        };
         let Some(owner) = self.apps.app(app) else {
             unreachable!()
         };

@@ -1,5 +1,3 @@
 -- Containers that end one after the other, and those that some numbers name.
-pub mod Draining
-pub mod Drains
 pub mod EndsInOrder
 pub mod NamedEnds

@@ -76,8 +76,7 @@ impl<const K: usize> Container<K> {
         ensures value { result ≡ self.now.resource }
         ensures vector { IsResource K self.now.resource }
     {
-        let _amounts = self.resource.amounts();
-        self.resource
+        self.resource.copied()
     }
 }
 
@@ -136,7 +135,6 @@ impl<const K: usize> Reservation<K> {
         ensures value { result ≡ self.now.resource }
         ensures vector { IsResource K self.now.resource }
     {
-        let _amounts = self.resource.amounts();
-        self.resource
+        self.resource.copied()
     }
 }

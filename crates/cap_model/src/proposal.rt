@@ -133,8 +133,7 @@ impl<const K: usize> Proposal<K> {
         ensures value { result ≡ self.now.resource }
         ensures vector { IsResource K self.now.resource }
     {
-        let _amounts = self.resource.amounts();
-        self.resource
+        self.resource.copied()
     }
 }
 

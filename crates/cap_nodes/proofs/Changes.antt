@@ -16,8 +16,8 @@ use Rattle.cap_model.specs.declared.replies.HeartbeatReply.{HeartbeatReply}
 use Rattle.cap_model.specs.Flat.{ClusterNode, Container}
 use Rattle.cap_model.specs.RegisterNode.{sum_of_totals}
 use Rattle.cap_model.specs.Heartbeat.{after_beat}
-use Rattle.cap_nodes.specs.Tables.{left_of}
-use Rattle.cap_nodes.specs.Loads.{Load, IsTied, AreTied, load_at, change_load, held_more, held_less, beaten_load, HasOne}
+use Rattle.cap_nodes.specs.Tables.{IsSound, left_of}
+use Rattle.cap_nodes.specs.Loads.{Load, IsTied, AreTied, load_at, change_load, held_more, held_less, beaten_load, HasOne, reservation_of}
 use Rattle.cap_nodes.proofs.Numbered.{none_at_end, numbers-change}
 use Rattle.cap_nodes.proofs.Sums.{where-none, filter-none, none-filter, zeros-fit, where-less-own, where-had, sum-without, length-where, amount-where}
 use Rattle.cap_nodes.proofs.Ties.{is_found, all_changed, all_mapped, all_kept, all_each, all_pushed, still_there, there_pushed, tied_beside, tied_with, room_fits, untied_beside, untied_from, has_one}
@@ -333,3 +333,14 @@ rising_nodes loads next rising = subst (λ ns. IsRising 1 ns next) (sym (numbers
 pub rising_changed : (n : ℕ) (change : Load → Load) → ((p : Load) → (change p).node.number ≡ p.node.number) → (loads : List Load) (next : ℕ) → IsRising 1 (map (λ p. p.node.number) loads) next →
     IsRising 1 (map (λ p. p.node.number) (change_load n change loads)) next
 rising_changed n change keeps loads next rising = subst (λ ns. IsRising 1 ns next) (sym (numbers-change (λ (p : Load). p.node.number) n change keeps loads)) rising
+
+-- what is true of every table
+pub sound_table : (K : ℕ) (loads : List Load) (live reserved : List Container) (next_node next_container : ℕ) (total : List ℕ) →
+    AreTied K loads live × (total ≡ sum_of_totals K (nodes_of loads)) × IsRising 1 (map (λ p. p.node.number) loads) next_node × IsWithin amount_max total →
+    IsSound K (record { present = nodes_of loads; live = live; reserved = map reservation_of reserved; next_node = next_node; next_container = next_container })
+sound_table K loads live reserved next_node next_container total h = record {
+  rising = rising_nodes loads next_node h.2;
+  held = held_all K live loads h.0.ties;
+  homes = homes_all K loads live h.0;
+  totals = subst (IsWithin amount_max) h.1 h.3;
+}

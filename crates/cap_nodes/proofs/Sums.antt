@@ -8,13 +8,23 @@ use Rattle.std.proofs.lemmas.List.{ext_get_or, get_or_past, get_or-replicate, le
 use Rattle.std.proofs.lemmas.Bool.{cases_lt}
 use Rattle.std.proofs.lemmas.List.Sums.{sum_by_push, sum_by-cons}
 use Rattle.std.proofs.lemmas.List.FromFn.{length-map-range_with_len}
-use Rattle.cap_vector.specs.Vector.{amount, plus, less, zeros, Fits}
-use Rattle.cap_vector.proofs.AmountLemmas.{amount-plus, amount-less, length-less}
+use Rattle.cap_vector.specs.Vector.{amount, plus, less, zeros, Fits, IsWithin}
+use Rattle.cap_vector.proofs.AmountLemmas.{amount-plus, amount-less, amount-zeros, length-less}
 use Rattle.cap_model.specs.Amounts.{sum_where, part}
 use Rattle.cap_model.specs.Bounds.{IsRising}
 use Rattle.cap_model.proofs.uses.Measures.{amount_of}
 use Rattle.cap_model.proofs.lists.Sums.{one_where}
 use Rattle.cap_nodes.proofs.Numbered.{not_later}
+
+-- a sum of no totals, and one without a total, is within the bound
+pub zeros_within : (bound K : ℕ) → IsWithin bound (zeros K)
+zeros_within bound K k = let none = amount-zeros K k in omega (arith, none)
+
+pub less_within : (bound : ℕ) (old gone new : List ℕ) → new ≡ less old gone → IsWithin bound old → IsWithin bound new
+less_within bound old gone new is within k =
+    let least = within k in
+    let same : amount new k ≡ amount old k - amount gone k = ap (λ v. amount v k) is ∙ amount-less old gone k in
+    omega (arith, least, same)
 
 module _ {X : Type 0} (num : X → ℕ) where
   -- a sum without the item of a number

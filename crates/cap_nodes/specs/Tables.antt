@@ -1,7 +1,11 @@
--- What a node has left.
-use Rattle.std.specs.Prelude.{ℕ, List, [], Option, Some, None}
-use Rattle.cap_vector.specs.Vector.{less}
+-- What a node has left, and what is true of every table of nodes.
+use Rattle.std.specs.Prelude.{◌≡◌, ℕ, List, [], Option, Some, None, IsSome, true, map}
+use Rattle.std.specs.List.{All}
+use Rattle.cap_vector.specs.Vector.{less, IsWithin, amount_max}
+use Rattle.cap_model.specs.Amounts.{fits}
+use Rattle.cap_model.specs.Bounds.{IsRising}
 use Rattle.cap_model.specs.Flat.{ClusterNode, NodeTable, node_in}
+use Rattle.cap_model.specs.RegisterNode.{sum_of_totals}
 use Rattle.cap_model.specs.Uses.{held_on}
 
 -- what a node has left
@@ -11,3 +15,11 @@ left_of None held = []
 
 abbrev pub free_on : ℕ → NodeTable → ℕ → List ℕ
 free_on K table n = left_of (node_in table n) (held_on K table n)
+
+-- nodes have numbers from 1 that rise and are below the next, what the live containers on each hold fits its total, each live container is
+-- on one of them, and they have no more together than the greatest amount of each resource
+pub record IsSound (K : ℕ) (table : NodeTable) : Type 0 where
+  pub rising : IsRising 1 (map (λ node. node.number) table.present) table.next_node
+  pub held : All (λ node. fits (held_on K table node.number) node.total ≡ true) table.present
+  pub homes : All (λ c. IsSome (node_in table c.node)) table.live
+  pub totals : IsWithin amount_max (sum_of_totals K table.present)

@@ -143,7 +143,8 @@ impl<const K: usize> Containers<K> {
 
     /// The container of an application with the least number above `after`, none where there is none.
     pub(crate) fn next_of_app(&self, app: u64, after: u64) -> Option<Container<K>>
-        ensures found { result ≡ find (λ c. c.app == app && nat_lt after c.number) self.now.containers }
+        ensures found { result ≡
+            find (λ c. c.app == app && nat_lt after c.number) self.now.containers }
         ensures rising { IsRising 1 (map (λ c. c.number) self.now.containers) self.now.next }
     {
         let Some(number) = self.of_apps.next(app, after) else {
@@ -154,7 +155,8 @@ impl<const K: usize> Containers<K> {
 
     /// The container on a node with the least number above `after`, none where there is none.
     pub(crate) fn next_on_node(&self, node: u64, after: u64) -> Option<Container<K>>
-        ensures found { result ≡ find (λ c. c.node == node && nat_lt after c.number) self.now.containers }
+        ensures found { result ≡
+            find (λ c. c.node == node && nat_lt after c.number) self.now.containers }
         ensures rising { IsRising 1 (map (λ c. c.number) self.now.containers) self.now.next }
     {
         let Some(number) = self.on_nodes.next(node, after) else {

@@ -27,7 +27,14 @@ impl<const K: usize> Model for Node<K> {
 
     ghost Value = { ClusterNode };
 
-    ghost view = { λ n. record { number = n.number; host = n.host; rack = n.rack; total = n.total; response = n.response; kept = n.kept } };
+    ghost view = { λ n. record {
+      number = n.number;
+      host = n.host;
+      rack = n.rack;
+      total = n.total;
+      response = n.response;
+      kept = n.kept;
+    } };
 
     ghost invariant = { λ n. n.response < response_end };
 }
@@ -90,8 +97,7 @@ impl<const K: usize> Node<K> {
         ensures value { result ≡ self.now.total }
         ensures vector { IsResource K self.now.total }
     {
-        let _amounts = self.total.amounts();
-        self.total
+        self.total.copied()
     }
 
     /// The response id that answered the last heartbeat, and 0 before the first.
@@ -103,7 +109,8 @@ impl<const K: usize> Node<K> {
 
     /// The reply that is kept, where a heartbeat of this response id repeats the last processed one; else none.
     pub fn repeated(&self, id: u32) -> Option<HeartbeatReply>
-        ensures { result ≡ (if is_repeated self.now.response self.now.kept id then self.now.kept else None) }
+        ensures { result ≡
+            (if is_repeated self.now.response self.now.kept id then self.now.kept else None) }
     {
         if repeats(self.response, self.kept.is_some(), id) {
             self.kept

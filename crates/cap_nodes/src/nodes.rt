@@ -11,7 +11,7 @@ ghost use Rattle.cap_model.specs.Events.{add_reservation};
 ghost use Rattle.cap_model.specs.Ending.{complete};
 ghost use Rattle.cap_model.specs.NodeGone.{remove_node};
 ghost use Rattle.cap_model.specs.Uses.{held_on};
-ghost use Rattle.cap_nodes.specs.Tables.{free_on};
+ghost use Rattle.cap_nodes.specs.Tables.{free_on, IsSound};
 ghost use Rattle.cap_nodes.specs.Loads.{add_container, new_reservation, reservation_of, after_beat_of};
 
 use crate::containers::Containers;
@@ -40,15 +40,23 @@ impl<const K: usize> Model for Nodes<K> {
     ghost use Rattle.cap_model.specs.Flat.{NodeTable};
     ghost use Rattle.cap_model.specs.RegisterNode.{sum_of_totals};
     ghost use Rattle.cap_model.specs.Bounds.{IsRising};
+    ghost use Rattle.cap_vector.specs.Vector.{IsWithin, amount_max};
     ghost use Rattle.cap_nodes.specs.Loads.{AreTied, reservation_of};
 
     ghost Value = { NodeTable };
 
-    ghost view = { λ n. record { present = map (λ p. p.node) n.present.loads; live = n.live.containers; reserved = map reservation_of n.reserved.containers; next_node = n.present.next; next_container = n.live.next } };
+    ghost view = { λ n. record {
+      present = map (λ p. p.node) n.present.loads;
+      live = n.live.containers;
+      reserved = map reservation_of n.reserved.containers;
+      next_node = n.present.next;
+      next_container = n.live.next;
+    } };
 
     ghost invariant = { λ n. AreTied K n.present.loads n.live.containers
         × (n.total ≡ sum_of_totals K (map (λ p. p.node) n.present.loads))
-        × IsRising 1 (map (λ p. p.node.number) n.present.loads) n.present.next };
+        × IsRising 1 (map (λ p. p.node.number) n.present.loads) n.present.next
+        × IsWithin amount_max n.total };
 }
 
 impl<const K: usize> Nodes<K> {
@@ -69,12 +77,13 @@ impl<const K: usize> Nodes<K> {
     /// each resource.
     pub fn node(&self, number: u64) -> Option<&Node<K>>
         ensures found { option_copied result ≡ node_in self.now number }
-        ensures rising { IsRising 1 (map (λ node. node.number) self.now.present) self.now.next_node }
-        ensures held { All (λ node. fits (held_on K self.now node.number) node.total ≡ true) self.now.present }
+        ensures rising { IsRising 1 (map (λ node. node.number) self.now.present)
+            self.now.next_node }
+        ensures held { All (λ node. fits (held_on K self.now node.number) node.total ≡ true)
+            self.now.present }
         ensures homes { All (λ c. IsSome (node_in self.now c.node)) self.now.live }
         ensures totals { IsWithin amount_max (sum_of_totals K self.now.present) }
     {
-        let _amounts = self.total.amounts();
         match self.present.get(number) {
             Some(load) => Some(load.node()),
             None => None,
@@ -86,7 +95,8 @@ impl<const K: usize> Nodes<K> {
         requires { index < length self.now.present }
         ensures at { slice_get self.now.present index ≡ Some result.now }
         ensures found { node_in self.now result.now.number ≡ Some result.now }
-        ensures rising { IsRising 1 (map (λ node. node.number) self.now.present) self.now.next_node }
+        ensures rising { IsRising 1 (map (λ node. node.number) self.now.present)
+            self.now.next_node }
     {
         self.present.nth(index).node()
     }
@@ -95,7 +105,8 @@ impl<const K: usize> Nodes<K> {
     pub fn count(&self) -> usize
         ensures value { result ≡ length self.now.present }
         ensures few { result ≤ nodes_max }
-        ensures rising { IsRising 1 (map (λ node. node.number) self.now.present) self.now.next_node }
+        ensures rising { IsRising 1 (map (λ node. node.number) self.now.present)
+            self.now.next_node }
     {
         self.present.count()
     }
@@ -105,7 +116,6 @@ impl<const K: usize> Nodes<K> {
         ensures value { result ≡ sum_of_totals K self.now.present }
         ensures within { IsWithin amount_max (sum_of_totals K self.now.present) }
     {
-        let _amounts = self.total.amounts();
         self.total
     }
 
@@ -183,7 +193,8 @@ impl<const K: usize> Nodes<K> {
     /// nodes have numbers from 1 that rise and are below the next.
     pub fn reserved_for(&self, app: u64, key: &Key) -> usize
         ensures count { result ≡ length (filter (is_for app key.now) self.now.reserved) }
-        ensures rising { IsRising 1 (map (λ node. node.number) self.now.present) self.now.next_node }
+        ensures rising { IsRising 1 (map (λ node. node.number) self.now.present)
+            self.now.next_node }
     {
         self.reserved.count_for(app, key)
     }
@@ -220,7 +231,8 @@ impl<const K: usize> Nodes<K> {
     /// What the node at an index, in order of number, has left, in MiB and vcores.
     pub fn free_at(&self, index: usize) -> Resource<K>
         requires { index < length self.now.present }
-        ensures { IfSome (slice_get self.now.present index) (λ node. result ≡ free_on K self.now node.number) }
+        ensures { IfSome (slice_get self.now.present index)
+            (λ node. result ≡ free_on K self.now node.number) }
     {
         self.present.nth(index).free()
     }
@@ -286,7 +298,8 @@ impl<const K: usize> Nodes<K> {
     }
 
     /// A node keeps these MiB and vcores for the ask of a key of an application, after all other reservations. `NoMemory` changes
-    /// nothing; it is also answered where there are 65,536 reservations, or 2^62 were made.
+    /// nothing; it is also answered where there are 65,536 reservations, or 2^62 were made. The nodes and their containers stay, so
+    /// that what is true of every table is known.
     pub fn reserve(
         &mut self,
         app: u64,
@@ -297,6 +310,7 @@ impl<const K: usize> Nodes<K> {
         ensures ok { OnOk result (self.new ≡
             add_reservation (new_reservation app key.now node resource.now) self.old) }
         ensures err { OnErr result (self.new ≡ self.old) }
+        ensures sound { IsSound K self.new }
     {
         if self.reserved.count() >= LIVE_MAX || self.reserved.next() >= NUMBER_END {
             return Err(NoMemory);
@@ -310,7 +324,8 @@ impl<const K: usize> Nodes<K> {
     /// Drops the reservation that a node holds. Where it holds none, nothing changes.
     pub fn unreserve_on(&mut self, node: u64)
         requires { AreApart self.old.reserved }
-        ensures { self.new ≡ record self.old { reserved = filter (λ r. not (r.node == node)) self.old.reserved } }
+        ensures { self.new ≡ record self.old
+            { reserved = filter (λ r. not (r.node == node)) self.old.reserved } }
     {
         if let Some(container) = self.reserved.next_on_node(node, 0) {
             self.reserved.remove(container.number());

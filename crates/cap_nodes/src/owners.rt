@@ -54,7 +54,8 @@ impl Owners {
     pub(crate) fn next(&self, owner: u64, after: u64) -> Option<u64>
         ensures has { IfSome result (λ n. has_pair self.now owner n ≡ true) }
         ensures above { IfSome result (λ n. after < n) }
-        ensures least { IfSome result (λ n. (m : ℕ) → after < m → has_pair self.now owner m ≡ true → n ≤ m) }
+        ensures least { IfSome result
+            (λ n. (m : ℕ) → after < m → has_pair self.now owner m ≡ true → n ≤ m) }
         ensures none { IfNone result ((m : ℕ) → after < m → has_pair self.now owner m ≡ false) }
     {
         let mut later = self

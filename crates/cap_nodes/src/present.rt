@@ -34,7 +34,9 @@ impl<const K: usize> Model for Present<K> {
 
     ghost view = { λ t. record { loads = values t.loads; next = t.next } };
 
-    ghost invariant = { λ t. (t.loads.entries ≡ tagged_items (λ p. p.node.number) (values t.loads)) × (IsRising 1 (map (λ p. p.node.number) (values t.loads)) t.next) × (length (values t.loads) ≤ nodes_max) };
+    ghost invariant = { λ t. (t.loads.entries ≡ tagged_items (λ p. p.node.number) (values t.loads))
+        × (IsRising 1 (map (λ p. p.node.number) (values t.loads)) t.next)
+        × (length (values t.loads) ≤ nodes_max) };
 }
 
 impl<const K: usize> Present<K> {
@@ -127,7 +129,8 @@ impl<const K: usize> Present<K> {
         requires present { IsSome (load_at self.old.loads number) }
         requires room { IfSome (load_at self.old.loads number) (CanHold resource.now) }
         ensures more { self.new ≡ with_load number (held_more resource.now) self.old }
-        ensures count { IfSome (load_at self.old.loads number) (λ p. length (plus p.held resource.now) ≡ K) }
+        ensures count { IfSome (load_at self.old.loads number)
+            (λ p. length (plus p.held resource.now) ≡ K) }
         ensures rising { IsRising 1 (map (λ p. p.node.number) self.old.loads) self.old.next }
     {
         match self.loads.get_mut(&number) {
@@ -154,7 +157,8 @@ impl<const K: usize> Present<K> {
     pub(crate) fn beat(&mut self, number: u64, ignored: u16) -> HeartbeatReply
         requires { IsSome (load_at self.old.loads number) }
         ensures loads { self.new ≡ with_load number (beaten_load ignored) self.old }
-        ensures kept { option_and_then (λ p. p.node.kept) (load_at self.new.loads number) ≡ Some result }
+        ensures kept { option_and_then (λ p. p.node.kept) (load_at self.new.loads number)
+            ≡ Some result }
     {
         match self.loads.get_mut(&number) {
             Some(load) => load.beat(ignored),
@@ -164,7 +168,8 @@ impl<const K: usize> Present<K> {
 
     /// A node goes. Where none of this number is present, nothing changes.
     pub(crate) fn remove(&mut self, number: u64)
-        ensures { self.new ≡ record self.old { loads = filter (λ p. not (p.node.number == number)) self.old.loads } }
+        ensures { self.new ≡ record self.old
+            { loads = filter (λ p. not (p.node.number == number)) self.old.loads } }
     {
         self.loads.shift_remove(&number);
     }

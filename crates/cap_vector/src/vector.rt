@@ -66,6 +66,16 @@ impl<const K: usize, const MAX: u64> Amounts<K, MAX> {
         self.amounts.iter().all(|amount| *amount == 0)
     }
 
+    /// A copy of it.
+    pub fn copied(&self) -> Amounts<K, MAX>
+        ensures value { result ≡ self.now }
+        ensures vector { IsVector K MAX self.now }
+    {
+        Amounts {
+            amounts: self.amounts,
+        }
+    }
+
     /// The amounts, in the order of the resources.
     pub fn amounts(&self) -> [u64; K]
         ensures value { result ≡ self.now }

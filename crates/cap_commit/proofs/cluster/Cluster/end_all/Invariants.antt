@@ -1,10 +1,10 @@
 use Rattle.std.proofs.Common.{length}
 use Rattle.cap_commit.specs.Owners.{owns, containers_owned}
-use Rattle.cap_model.proofs.ending.Drains.{IsDraining}
+use Rattle.cap_commit.proofs.EndsLeft.{AreEnding}
 use Rattle.cap_commit.proofs.cluster.Cluster.end_all.Given as goal
 
 abbrev pub invariant-loop-container : goal.invariant-loop-container
-invariant-loop-container g l = IsDraining l.cause (owns l.owner) l.fn.self.flat l.self.flat l.ended l.after
+invariant-loop-container g l = AreEnding l.cause (owns l.owner) l.fn.self.flat l.self.flat l.ended
 
 abbrev pub decreases-loop-container : goal.decreases-loop-container
 decreases-loop-container g l = length (containers_owned l.owner l.self.flat)

@@ -1,6 +1,6 @@
 use Rattle.cap_commit.specs.Owners.{owns}
-use Rattle.cap_commit.proofs.Naming.{AreEnded}
+use Rattle.cap_commit.proofs.EndsLeft.{AreNamed}
 use Rattle.cap_commit.proofs.cluster.Cluster.end_named.Given as goal
 
 abbrev pub invariant-loop-number : goal.invariant-loop-number
-invariant-loop-number g l = AreEnded l.cause (owns l.owner) l.fn.self.flat l.self.flat l.ignored l.numbers l.number-index
+invariant-loop-number g l = AreNamed l.cause (owns l.owner) l.fn.self.flat l.numbers l.self.flat l.ignored l.number-index

@@ -12,7 +12,8 @@ use Rattle.cap_asks.specs.Apps.{UsesRoom}
 use Rattle.cap_commit.specs.Held.{Held}
 use Rattle.cap_commit.specs.Admission.{taken_back}
 use Rattle.cap_commit.proofs.Granting.{its_app, its_node, its_room, few_live_yet, numbers_are_left}
-use Rattle.cap_commit.proofs.Granted.{IsSound, found_again, granted_is, held_granted, kind_is, may_take_back, nodes_with, room_stays, root_stays}
+use Rattle.cap_nodes.specs.Tables.{IsSound}
+use Rattle.cap_commit.proofs.Granted.{found_again, granted_is, held_granted, kind_is, may_take_back, nodes_with, room_stays, root_stays}
 use Rattle.cap_commit.proofs.Holding.{placed_at, position_is}
 use Rattle.cap_commit.proofs.Moving.{moved_settings}
 use Rattle.cap_commit.proofs.Sizes.{cluster_fits, nodes_fit, tree_fits}

@@ -1,14 +1,15 @@
 use Rattle.std.proofs.Common.{sym, ap, subst, ◌∙◌, arith, map}
 use Rattle.std.specs.Prelude.{◌==◌, find}
-use Rattle.cap_model.specs.Flat.{App, NodeTable}
+use Rattle.cap_model.specs.Flat.{App}
 use Rattle.cap_model.specs.Events.{add_reservation}
 use Rattle.cap_tree.specs.Count.{use_alone}
 use Rattle.cap_tree.specs.Rows.{applied_row, queues_of}
 use Rattle.cap_tree.specs.Spot.{path_at}
 use Rattle.cap_commit.specs.Held.{flat_of}
-use Rattle.cap_commit.proofs.Granted.{IsSound, app_again, found_again}
+use Rattle.cap_nodes.specs.Tables.{IsSound}
+use Rattle.cap_commit.proofs.Granted.{app_again}
 use Rattle.cap_commit.proofs.Granting.{its_app}
-use Rattle.cap_commit.proofs.Keeping.{held_reserved, may_take_none, node_of_it, reserve_kind, reserved_is, root_keeps}
+use Rattle.cap_commit.proofs.Keeping.{held_reserved, may_take_none, reserve_kind, reserved_is, root_keeps}
 use Rattle.cap_commit.proofs.Holding.{placed_at, position_is}
 use Rattle.cap_commit.proofs.Moving.{moved_settings}
 use Rattle.cap_commit.proofs.Sizes.{tree_fits}
@@ -17,26 +18,17 @@ use Rattle.cap_commit.proofs.cluster.Cluster.reserve.Goals as goal
 pub returns-clause-proposed : goal.returns-clause-proposed
 returns-clause-proposed g c = λ i. record { kind = reserve_kind c.args.proposal.now.kind c.requires.kind i; app = c.app-app.ensures i; key = c.key-key.ensures i; node = c.node-node.ensures i; resource = c.resource-resource.ensures.value i }
 
-pub unreachable-requires : goal.unreachable-requires
-unreachable-requires g c =
-    let q = c.args.proposal.now in
-    let x = c.self.inside in
-    let passes = rw (← c.self.view_is) at c.requires.passes in
-    let present = ap (λ (t : NodeTable). t.present) c.in-Ok.ensures.ok in
-    found_again c.reserve.new.self.present x.nodes.present c.node-node.result q.node present c.node-node.ensures c.in_default.ensures.found (node_of_it _ c.self.invariant q passes)
-
 pub apply-requires : goal.apply-requires
 apply-requires g c =
     let q = c.args.proposal.now in
     let x = c.self.inside in
     let passes = rw (← c.self.view_is) at c.requires.passes in
     let count = c.resource-resource.ensures.vector.count in
-    let found = c.in-Some-app.ensures.found in
-    let a = c.in-Some-app.owner.now.app in
+    let found = c.in-Some.ensures.found in
+    let a = c.in-Some.owner.now.app in
     let owner = ap (λ n. find (λ (y : App). y.number == n) x.apps.table.active) (sym c.app-app.ensures) ∙ sym found in
-    let position = c.position.ensures ∙ position_is _ c.self.invariant c.app-app.result c.in-Some-app.owner.now found c.in-Some-app.ensures.account in
+    let position = c.position.ensures ∙ position_is _ c.self.invariant c.app-app.result c.in-Some.owner.now found c.in-Some.ensures.account in
     let nodes = c.in-Ok.ensures.ok ∙ (λ i. add_reservation (record { app = c.app-app.ensures i; key = c.key-key.ensures i; node = c.node-node.ensures i; resource = c.resource-resource.ensures.value i }) x.nodes) in
-    let sound : IsSound g.row.K c.reserve.new.self = record { rising = c.in-Some.ensures.rising; held = c.in-Some.ensures.held; homes = c.in-Some.ensures.homes; totals = c.in-Some.ensures.totals } in
     let kinds = c.self.invariant.resources in (
       tree_fits _ c.self.invariant.resources,
       (
@@ -45,7 +37,7 @@ apply-requires g c =
           omega (arith, kinds),
           (
             rw (c.deref_mut-tree.ensures.value, c.user.ensures, position, c.zero-old.ensures) (may_take_none _ c.self.invariant q passes c.requires.kind a owner count),
-            rw (c.deref_mut-tree.ensures.value, c.zero-old.ensures, c.resource-resource.ensures.value) (root_keeps _ c.self.invariant q passes c.requires.kind a owner count (subst (IsSound g.row.K) nodes sound)),
+            rw (c.deref_mut-tree.ensures.value, c.zero-old.ensures, c.resource-resource.ensures.value) (root_keeps _ c.self.invariant q passes c.requires.kind a owner count (subst (IsSound g.row.K) nodes c.reserve.ensures.sound)),
           ),
         ),
       ),
@@ -57,10 +49,10 @@ invariant_of-self-2 g c =
     let x = c.self.inside in
     let passes = rw (← c.self.view_is) at c.requires.passes in
     let count = c.resource-resource.ensures.vector.count in
-    let found = c.in-Some-app.ensures.found in
-    let a = c.in-Some-app.owner.now.app in
+    let found = c.in-Some.ensures.found in
+    let a = c.in-Some.owner.now.app in
     let owner = ap (λ n. find (λ (y : App). y.number == n) x.apps.table.active) (sym c.app-app.ensures) ∙ sym found in
-    let position = c.position.ensures ∙ position_is _ c.self.invariant c.app-app.result c.in-Some-app.owner.now found c.in-Some-app.ensures.account in
+    let position = c.position.ensures ∙ position_is _ c.self.invariant c.app-app.result c.in-Some.owner.now found c.in-Some.ensures.account in
     let nodes = c.in-Ok.ensures.ok ∙ (λ i. add_reservation (record { app = c.app-app.ensures i; key = c.key-key.ensures i; node = c.node-node.ensures i; resource = c.resource-resource.ensures.value i }) x.nodes) in
     let path = ap (λ n. path_at n x.tree.value) position ∙ (placed_at _ c.self.invariant q.app a owner).position.path_is in
     let rows = (rw c.deref_mut-tree.ensures.value at c.apply.ensures) ∙ (λ i. map (applied_row g.row.K (path i) (c.user.ensures i) (c.zero-old.ensures i) (c.resource-resource.ensures.value i)) x.tree.value) in
@@ -73,10 +65,10 @@ returns-clause-ok g c =
     let settings = ap queues_of rows ∙ moved_settings g.row.K _ c.user.result.now (use_alone c.zero-old.result) (use_alone c.resource-resource.result) x.tree.value in
     rw (← c.self.view_is) (reserved_is (record { rows = x.tree.value; limits = x.limits; apps = x.apps; nodes = x.nodes }) c.apply.new.self _ c.reserve.new.self settings c.in-Ok.ensures.ok)
 
-pub unreachable-requires-in_default-app : goal.unreachable-requires-in_default-app
-unreachable-requires-in_default-app g c =
+pub unreachable-requires : goal.unreachable-requires
+unreachable-requires g c =
     let q = c.args.proposal.now in
     let x = c.self.inside in
     let passes = rw (← c.self.view_is) at c.requires.passes in
     let there = its_app (flat_of (record { rows = x.tree.value; limits = x.limits; apps = x.apps; nodes = x.nodes })) q passes in
-    app_again x.apps.table.active c.app-app.result q.app c.app-app.ensures c.in_default-app.ensures.found there
+    app_again x.apps.table.active c.app-app.result q.app c.app-app.ensures c.in_default.ensures.found there

@@ -15,6 +15,7 @@ invariant_of-self g c =
       with_beat g.row.K c.self.inside.present.loads c.self.inside.live.containers c.self.invariant.0 c.args.number c.args.ignored,
       c.self.invariant.1 ∙ sym (totals_beaten g.row.K c.args.number c.args.ignored c.self.inside.present.loads),
       rising_changed c.args.number (beaten_load c.args.ignored) (λ p. refl) c.self.inside.present.loads c.self.inside.present.next c.self.invariant.2,
+      c.self.invariant.3,
     )
 
 pub returns-clause-table : goal.returns-clause-table

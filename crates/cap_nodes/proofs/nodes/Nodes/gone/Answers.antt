@@ -1,11 +1,12 @@
 use Rattle.std.proofs.Common.{map, ◌≡◌, ◌∙◌, [], ap, sym, List, length, not, arith}
 use Rattle.std.specs.Prelude.{filter, ◌==◌}
-use Rattle.cap_vector.specs.Vector.{less}
+use Rattle.cap_vector.specs.Vector.{less, amount_max}
 use Rattle.cap_model.proofs.lists.Numbered.{rising_kept}
 use Rattle.cap_nodes.specs.Loads.{Load, reservation_of}
 use Rattle.cap_model.specs.Flat.{ClusterNode, Container, NodeTable}
 use Rattle.cap_model.specs.RegisterNode.{sum_of_totals}
 use Rattle.cap_nodes.proofs.Changes.{nodes_of, no_load, without_empty, nodes_kept, total_fits, total_without}
+use Rattle.cap_nodes.proofs.Sums.{less_within}
 use Rattle.cap_nodes.proofs.nodes.Nodes.gone.Goals as goal
 
 pub unreachable-requires : goal.unreachable-requires
@@ -23,8 +24,12 @@ invariant_of-self g c =
     let e : c.minus-self-inside.result ≡ less sum c.in-Some.load.now.node.total =
     c.minus-self-inside.ensures ∙ ap (λ v. less v c.total.result) c.self.invariant.1 ∙ ap (less sum) (c.total.ensures.value ∙ ap (λ (n : ClusterNode). n.total) c.node.ensures) in
     let empty : filter (λ (x : Container). x.node == c.args.number) c.self.inside.live.containers ≡ [] = rw (← c.self.view_is) at c.requires.empty in
-    rw c.remove.ensures
-    (without_empty g.row.K c.self.inside.present.loads c.self.inside.live.containers c.self.invariant.0 c.args.number empty, e ∙ total_without g.row.K c.self.inside.present.next c.args.number c.self.inside.present.loads c.in-Some.load.now c.in-Some.ensures.rising (sym c.in-Some.ensures.found), rising_kept (λ (p : Load). p.node.number) (λ (p : Load). not (p.node.number == c.args.number)) 1 c.self.inside.present.loads c.self.inside.present.next c.self.invariant.2)
+    rw c.remove.ensures (
+      without_empty g.row.K c.self.inside.present.loads c.self.inside.live.containers c.self.invariant.0 c.args.number empty,
+      e ∙ total_without g.row.K c.self.inside.present.next c.args.number c.self.inside.present.loads c.in-Some.load.now c.in-Some.ensures.rising (sym c.in-Some.ensures.found),
+      rising_kept (λ (p : Load). p.node.number) (λ (p : Load). not (p.node.number == c.args.number)) 1 c.self.inside.present.loads c.self.inside.present.next c.self.invariant.2,
+      less_within amount_max c.self.inside.total c.total.result c.minus-self-inside.result c.minus-self-inside.ensures c.self.invariant.3,
+    )
 
 pub returns : goal.returns
 returns g c =

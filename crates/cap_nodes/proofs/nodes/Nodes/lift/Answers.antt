@@ -30,6 +30,7 @@ invariant_of-self g c =
       without_one g.row.K c.self.inside.present.loads c.self.inside.live.containers c.self.invariant.0 c.self.inside.present.next c.self.inside.live.next c.args.container.now.number c.args.container.now at.load c.lift.ensures.rising c.remove.ensures.rising there at.at,
       c.self.invariant.1 ∙ ap (sum_of_totals g.row.K) (sym (same_nodes c.args.container.now.node (held_less c.args.container.now.resource) c.self.inside.present.loads (λ p. refl))),
       rising_changed c.args.container.now.node (held_less c.args.container.now.resource) (λ p. refl) c.self.inside.present.loads c.self.inside.present.next c.self.invariant.2,
+      c.self.invariant.3,
     )
 
 pub returns : goal.returns

@@ -1,9 +1,11 @@
 use Rattle.std.proofs.Common.{[], sym, arith}
+use Rattle.cap_vector.specs.Vector.{amount_max}
 use Rattle.cap_model.proofs.uses.NodeTotals.{totals-none}
 use Rattle.cap_nodes.specs.Loads.{AreTied}
+use Rattle.cap_nodes.proofs.Sums.{zeros_within}
 use Rattle.cap_nodes.proofs.nodes.Nodes.new.Goals as goal
 
 pub invariant_of-result : goal.invariant_of-result
 invariant_of-result g c =
     let tied : AreTied g.row.K [] [] = record { ties = tt; homes = tt } in
-    rw (c.new.ensures, c.new-2.ensures, c.zero.ensures) (tied, sym (totals-none g.row.K), omega arith)
+    rw (c.new.ensures, c.new-2.ensures, c.zero.ensures) (tied, sym (totals-none g.row.K), omega arith, zeros_within amount_max g.row.K)

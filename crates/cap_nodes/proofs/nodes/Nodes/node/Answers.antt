@@ -24,10 +24,10 @@ pub returns-in-Some-clause-homes : goal.returns-in-Some-clause-homes
 returns-in-Some-clause-homes g c = rw (← c.self.view_is) (homes_all g.row.K c.self.inside.present.loads c.self.inside.live.containers c.self.invariant.0)
 
 pub returns-in-Some-clause-totals : goal.returns-in-Some-clause-totals
-returns-in-Some-clause-totals g c = rw (← c.self.view_is, ← c.self.invariant.1) c.amounts-amounts.ensures.vector.within
+returns-in-Some-clause-totals g c = rw (← c.self.view_is, ← c.self.invariant.1) c.self.invariant.3
 
 pub returns-in-None-clause-homes : goal.returns-in-None-clause-homes
 returns-in-None-clause-homes g c = rw (← c.self.view_is) (homes_all g.row.K c.self.inside.present.loads c.self.inside.live.containers c.self.invariant.0)
 
 pub returns-in-None-clause-totals : goal.returns-in-None-clause-totals
-returns-in-None-clause-totals g c = rw (← c.self.view_is, ← c.self.invariant.1) c.amounts-amounts.ensures.vector.within
+returns-in-None-clause-totals g c = rw (← c.self.view_is, ← c.self.invariant.1) c.self.invariant.3

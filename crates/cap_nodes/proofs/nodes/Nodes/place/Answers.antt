@@ -33,6 +33,7 @@ invariant_of-self-2 g c =
       with_one g.row.K c.self.inside.present.loads c.self.inside.live.containers c.self.invariant.0 c.self.inside.present.next c.args.node at.load container c.hold.ensures.rising at.at refl room count,
       c.self.invariant.1 ∙ ap (sum_of_totals g.row.K) (sym (same_nodes c.args.node (held_more c.args.resource.now) c.self.inside.present.loads (λ p. refl))),
       rising_changed c.args.node (held_more c.args.resource.now) (λ p. refl) c.self.inside.present.loads c.self.inside.present.next c.self.invariant.2,
+      c.self.invariant.3,
     )
 
 pub returns-clause-ok : goal.returns-clause-ok
