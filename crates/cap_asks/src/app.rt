@@ -23,8 +23,8 @@ use std::marker::Model;
 /// Where a queue is in the tree: the child indexes that lead to it from the root. It takes no memory.
 pub type Position = SmallVec<u32, 16, Global>;
 
-/// An active application: its number, leaf queue and user, its standing with its master, its asks and the news not yet told.
-/// The reply that was told last is kept. Contracts see its row in the flat cluster, and its account.
+/// An active application: its number, leaf queue and user, its standing with its master, its asks and the news not yet reported.
+/// The last reply is kept. Contracts see its row in the flat cluster, and its account.
 #[derive(Drop)]
 pub struct App<const K: usize> {
     number: u64,
@@ -197,7 +197,7 @@ impl<const K: usize> App<K> {
         Some(self.reported(ignored))
     }
 
-    /// The reply of these numbers, with the grants and ends that were told last.
+    /// The reply of these numbers, with the grants and ends that were reported last.
     pub(crate) fn reply(&self, reported: &Reported) -> AllocateView<'_, K>
         ensures { IfSome self.now.app.kept (λ kept. result ≡ with_numbers reported.now kept) }
     {
@@ -209,7 +209,7 @@ impl<const K: usize> App<K> {
         }
     }
 
-    /// Room for the grants and ends that its master is told at most by an allocate of this response id with so many releases. If an
+    /// Room for the grants and ends that are reported to its master at most by an allocate of this response id with so many releases. If an
     /// allocation fails there is none.
     pub fn reply_room(
         &self,
@@ -251,7 +251,7 @@ impl<const K: usize> App<K> {
         is_bad(self.response, self.is_kept(), id)
     }
 
-    /// Whether more than 256 keys would stand after these asks were put, one after the other.
+    /// Whether there would be more than 256 keys after these asks were put, one after the other.
     pub fn has_too_many_keys(&self, asks: &[Ask<K>]) -> bool
         ensures { result ≡ has_too_many_keys self.now.app asks.now }
     {
@@ -294,7 +294,7 @@ impl<const K: usize> App<K> {
         self.asks.put(ask);
     }
 
-    /// One container less is wanted for this key; an ask that comes to 0 goes.
+    /// One container less is wanted for this key; an ask that comes to 0 is taken out.
     pub(crate) fn take_one(&mut self, key: &Key)
         ensures app { self.new.app ≡
             record self.old.app { asks = take_one key.now self.old.app.asks } }

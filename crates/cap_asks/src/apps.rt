@@ -192,7 +192,7 @@ impl<const K: usize> Apps<K> {
         app.put_ask(ask);
     }
 
-    /// One container less is wanted for this key of an application; an ask that comes to 0 goes. Where there is no such application
+    /// One container less is wanted for this key of an application; an ask that comes to 0 is taken out. Where there is no such application
     /// or no ask of the key, nothing changes.
     pub fn take_one(&mut self, n: u64, key: &Key)
         ensures table { self.new.table ≡ change_app n (with_one_less key.now) self.old.table }
@@ -204,7 +204,7 @@ impl<const K: usize> Apps<K> {
         app.take_one(key);
     }
 
-    /// One more container of an application is live, whose grant waits to be told to its master, last. It needs room that `room`
+    /// One more container of an application is live, whose grant waits to be reported to its master, last. It needs room that `room`
     /// made: for the grant, and for the ends of all its live containers and of this one.
     pub fn add_grant(&mut self, n: u64, grant: &Grant<K>)
         requires room { HasRooms n 0 1 (live_of n self.old.accounts + 1) self.old.accounts }
@@ -219,7 +219,7 @@ impl<const K: usize> Apps<K> {
         app.add_grant(grant);
     }
 
-    /// One container of an application is live no more, and its end waits to be told to its master, last.
+    /// One container of an application is live no more, and its end waits to be reported to its master, last.
     pub fn add_end(&mut self, n: u64, end: &End)
         requires { 1 ≤ live_of n self.old.accounts }
         ensures table { self.new.table ≡ change_app n (with_waiting_end end.now) self.old.table }
@@ -252,7 +252,7 @@ impl<const K: usize> Apps<K> {
         app.tell(ignored)
     }
 
-    /// The reply of these numbers to the master of an application, with the grants and ends that it was told last. Where none of
+    /// The reply of these numbers to the master of an application, with the grants and ends that were reported to it last. Where none of
     /// this number is active, there are none.
     pub fn reply(&self, n: u64, reported: &Reported) -> AllocateView<'_, K>
         ensures { KeepsNumbers n self.now.table reported.now
@@ -269,7 +269,7 @@ impl<const K: usize> Apps<K> {
         }
     }
 
-    /// An application ends and is active no more; its asks and what its master was not told go with it. Where none of this number
+    /// An application ends and is active no more; its asks and what was not reported to its master are dropped. Where none of this number
     /// is active, nothing changes.
     pub fn finish(&mut self, n: u64)
         ensures table { self.new.table ≡ remove_app n self.old.table }

@@ -75,7 +75,7 @@ impl<const K: usize> Asks<K> {
         }
     }
 
-    /// Where the ask of this key stands in the order of keys; an error where none has the key, which says where it would stand. It
+    /// The index of the ask of this key in the order of keys; an error where none has the key, with the index that it would have. It
     /// costs one binary search.
     fn index_of(&self, key: &Key) -> Result<usize, usize>
         ensures ok { IfOk result (λ index. IsKeyIndex key.now self.now.asks index true) }
@@ -120,7 +120,7 @@ impl<const K: usize> Asks<K> {
         }
     }
 
-    /// One container less is wanted for this key; an ask that comes to 0 goes.
+    /// One container less is wanted for this key; an ask that comes to 0 is taken out.
     pub(crate) fn take_one(&mut self, key: &Key)
         ensures asks { self.new.asks ≡ take_one key.now self.old.asks }
         ensures room { self.old.room ≤ self.new.room }
@@ -136,7 +136,7 @@ impl<const K: usize> Asks<K> {
         }
     }
 
-    /// Whether an ask of this key stands after these asks were put, one after the other.
+    /// Whether there is an ask of this key after these asks were put, one after the other.
     fn stands_after(&self, asks: &[Ask<K>], key: &Key) -> bool
         ensures { result ≡ is_some
             (ask_at key.now (fold (λ kept ask. put_ask ask kept) self.now.asks asks.now)) }
@@ -150,7 +150,7 @@ impl<const K: usize> Asks<K> {
         stands
     }
 
-    /// Whether more keys than allowed would stand after these asks were put, one after the other. It looks at them only where the
+    /// Whether there would be more keys than allowed after these asks were put, one after the other. It looks at them only where the
     /// asks, old and new, are more than that many.
     pub(crate) fn has_too_many_keys(&self, asks: &[Ask<K>]) -> bool
         ensures { result ≡ nat_lt keys_max
@@ -169,7 +169,7 @@ impl<const K: usize> Asks<K> {
     }
 }
 
-/// Whether one key stands before another: the smaller priority first, then the smaller allocation request id.
+/// Whether one key is before another: the smaller priority first, then the smaller allocation request id.
 fn is_before(a: &Key, b: &Key) -> bool
     ensures { result ≡ is_before a.now b.now }
 {

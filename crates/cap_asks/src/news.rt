@@ -5,7 +5,7 @@ use cap_model::{NEWS_MAX, NoMemory};
 use std::alloc::Global;
 use std::marker::Model;
 
-/// News of one kind for one application, oldest first: those that its last reply told, and after them those that wait. Contracts
+/// News of one kind for one application, oldest first: those that its last reply reported, and after them those that wait. Contracts
 /// see the two lists, and how many more fit with no memory.
 #[derive(Drop)]
 pub(crate) struct News<T> {
@@ -66,7 +66,7 @@ impl<T: Copy> News<T> {
         };
     }
 
-    /// Forgets what was told, and tells the oldest of those that wait, at most `NEWS_MAX`.
+    /// Forgets what was reported, and reports the oldest of those that wait, at most `NEWS_MAX`.
     pub(crate) fn tell(&mut self)
         ensures told { self.new.told ≡ take news_max self.old.waiting }
         ensures waiting { self.new.waiting ≡ drop news_max self.old.waiting }
@@ -78,7 +78,7 @@ impl<T: Copy> News<T> {
         self.told = waiting.min(NEWS_MAX);
     }
 
-    /// Those that were told last.
+    /// Those that were reported last.
     pub(crate) fn told(&self) -> &[T]
         ensures value { result.now ≡ self.now.told }
         ensures few { length result.now ≤ news_max }

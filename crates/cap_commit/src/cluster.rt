@@ -288,7 +288,7 @@ impl<const K: usize> Cluster<K> {
         self.apps.tell(number, ignored)
     }
 
-    /// An active application ends with all that it has: its containers, its reservations, its asks and what it was not told. The
+    /// An active application ends with all that it has: its containers, its reservations, its asks and what was not reported to it. The
     /// result is how many containers ended.
     pub fn finish(&mut self, number: u64) -> u32
         requires { IsSome (app_at self.old.flat number) }
@@ -306,7 +306,7 @@ impl<const K: usize> Cluster<K> {
         ended
     }
 
-    /// Ends all live containers of an owner, in order of number, for this cause, of which their applications are to be told. The
+    /// Ends all live containers of an owner, in order of number, for this cause, which is to be reported to their applications. The
     /// result is how many ended.
     pub fn end_all(&mut self, owner: Owner, cause: Cause) -> u32
         ensures count { result ≡ length (containers_owned owner self.old.flat) }
@@ -322,8 +322,8 @@ impl<const K: usize> Cluster<K> {
         ended
     }
 
-    /// Ends the live containers of an owner that the numbers name, one after the other, for this cause, of which their applications
-    /// are to be told. The result is how many of the numbers name none: one that is not live, another owner's, or one that an earlier
+    /// Ends the live containers of an owner that the numbers name, one after the other, for this cause, which is to be reported
+    /// to their applications. The result is how many of the numbers name none: one that is not live, another owner's, or one that an earlier
     /// number named.
     pub fn end_named(&mut self, owner: Owner, numbers: &[u64], cause: Cause) -> u16
         requires { length numbers.now ≤ 1024 }
@@ -356,7 +356,7 @@ impl<const K: usize> Cluster<K> {
         }
     }
 
-    /// A live container ends: what it had is given back at every level of its queue, and its application is to be told of the cause.
+    /// A live container ends: what it had is given back at every level of its queue, and the cause is to be reported to its application.
     pub fn end(&mut self, container: &Container<K>, cause: Cause)
         requires { find (λ c. c.number == container.now.number) self.old.flat.nodes.live
             ≡ Some container.now }
@@ -407,7 +407,7 @@ impl<const K: usize> Cluster<K> {
         self.nodes.beat(number, ignored)
     }
 
-    /// A present node on which no container is live goes, and its reservation is dropped.
+    /// A present node on which no container is live is taken out, and its reservation is dropped.
     pub fn drop_node(&mut self, number: u64)
         requires present { IsSome (node_at self.old.flat number) }
         requires empty { containers_on self.old.flat.nodes number ≡ [] }

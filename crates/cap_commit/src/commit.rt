@@ -29,7 +29,7 @@ impl<const K: usize> Cluster<K> {
     }
 
     /// Makes a grant that may be made: the container takes the next number and becomes live, the reservation of its node is
-    /// converted, its ask falls by one, and its application is to be told of it. `NoMemory` changes nothing that calls see.
+    /// converted, its ask falls by one, and it is to be reported to its application. `NoMemory` changes nothing that calls see.
     fn grant(&mut self, proposal: &Proposal<K>) -> Result<Container<K>, NoMemory>
         requires kind { is_grant proposal.now.kind ≡ true }
         requires passes { reason_of (sight_of self.old.flat) proposal.now ≡ None }

@@ -153,7 +153,7 @@ impl<const K: usize> Config<K> {
     }
 }
 
-/// The settings that lines without a fault make. Only want of memory is an error.
+/// The settings that lines without a fault make. An error means that an allocation failed.
 #[tactic(auto, unfolding(crate::specs::Rows::settings_of, crate::specs::Keys::root))]
 pub fn config_of(alloc: Global, index: &Index) -> Result<Config<2>, AllocError>
     requires index { IsIndex index.now }
@@ -181,7 +181,7 @@ pub fn config_of(alloc: Global, index: &Index) -> Result<Config<2>, AllocError>
     })
 }
 
-/// The number that a property of the cluster sets, or the one that stands where no line sets it.
+/// The number that a property of the cluster sets, or its default where no line sets it.
 fn cluster_number(entries: &[Entry], setting: Setting, default: u64) -> u64
     requires bounded { are_bounded entries.now ≡ true }
     requires default { default ≤ most_of setting }

@@ -96,7 +96,7 @@ fn path_of(bytes: &[u8]) -> Option<PathText>
     }
 }
 
-/// What stands before the last dot and what after it. None where there is no dot.
+/// What is before the last dot and what is after it. `None` where there is no dot.
 #[tactic(auto, unfolding(crate::specs::Keys::parts_at_last_dot))]
 pub fn split_last_dot(bytes: &[u8]) -> Option<(&[u8], &[u8])>
     ensures { option_map (λ parts. (parts.0.now, parts.1.now)) result ≡

@@ -51,7 +51,7 @@ impl<'t> Names<'t> {
 }
 
 /// The names that a list for the queue at `path` has. None where a part is no name, a path would pass 255 bytes, or a
-/// name stands twice. An empty list has none.
+/// name is there twice. An empty list has none.
 #[tactic(auto, unfolding(crate::specs::Values::names_for, crate::specs::Values::names_of))]
 pub fn names_for<'t>(
     alloc: Global,

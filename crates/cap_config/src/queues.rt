@@ -142,7 +142,7 @@ pub fn factor(index: &Index, path: &[u8]) -> u64
     number_or(entry_at(&index.user_limit_factor, path), 1)
 }
 
-/// The number that a line sets, or the one that stands where there is no line.
+/// The number that a line sets, or the default where there is no line.
 pub fn number_or(entry: Option<&Entry>, default: u64) -> u64
     ensures { result ≡ number_or (option_copied entry.entry) default }
 {

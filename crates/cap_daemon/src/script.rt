@@ -90,7 +90,7 @@ impl Script {
         self.simulation.settings_text()
     }
 
-    /// One more property line, which may stand before the first step alone.
+    /// One more property line, which is allowed before the first step alone.
     fn add(&mut self, property: &[u8]) -> Result<(), Stop>
         ensures good { OnOk result (self.old.simulation.world ≡ None) }
         ensures world { self.new.simulation.world ≡ self.old.simulation.world }

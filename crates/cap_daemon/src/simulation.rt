@@ -123,7 +123,7 @@ impl Simulation {
         }
     }
 
-    /// The proposal of a worker that stands, if any.
+    /// The proposal of a worker that is not committed yet, if any.
     pub(crate) fn choice(&self, worker: u32) -> Option<Proposal<2>> {
         match &self.world {
             Some(world) => world.choice(worker),

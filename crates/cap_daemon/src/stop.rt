@@ -7,11 +7,11 @@ use std::alloc::{AllocError, AllocFailed};
 /// Why a script is played no further.
 #[derive(Clone, Copy, Debug, PartialEq, Eq)]
 pub(crate) enum Stop {
-    /// The line of this number, counted from 1, may not stand there.
+    /// The line of this number, counted from 1, is none that may be there.
     BadLine(u64),
     /// The settings have this fault.
     Config(ConfigFault),
-    /// Memory was refused.
+    /// An allocation failed.
     NoMemory,
     /// A read failed, or the input did not end in time.
     Input,

@@ -1,4 +1,4 @@
-//! Replies read from their bytes, for whoever shows them.
+//! Replies read from their bytes, to be shown.
 ghost use Rattle.std.specs.Prelude.{◌≡◌, IfOk, true};
 ghost use Rattle.cap_messages.specs.Answers.{IsKindly, Says};
 ghost use Rattle.cap_messages.specs.Spelling.{IsOfKind};

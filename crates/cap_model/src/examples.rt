@@ -72,7 +72,7 @@ pub fn masters_come_and_go_as_in_the_examples()
     ensures { MasterComesAndGoes }
 {}
 
-/// A granted container is told with its host, once.
+/// A granted container is reported with its host, once.
 pub fn grants_are_told_as_in_the_example()
     ensures { GrantIsTold }
 {}
@@ -93,7 +93,7 @@ pub fn response_ids_are_checked_as_in_the_examples()
     ensures wrap { ResponseIdsWrap }
 {}
 
-/// Of 70 grants an allocate tells the oldest 64, and the next one the other 6.
+/// Of 70 grants an allocate reports the oldest 64, and the next one the other 6.
 pub fn news_is_told_as_in_the_example()
     ensures { NewsInTwoReplies }
 {}

@@ -45,7 +45,7 @@ pub fn parents_use_what_their_children_use()
     ensures { ParentUsesChildren }
 {}
 
-/// An application is told of its grants and of its ends in the order in which they came, of each once.
+/// Its grants and its ends are reported to an application in the order in which they came, each once.
 pub fn news_is_told_in_order()
     ensures grants { GrantsAreToldInOrder }
     ensures ends { EndsAreToldInOrder }
@@ -57,13 +57,13 @@ pub fn application_and_node_numbers_are_used_once()
     ensures again { NumbersAreNotUsedAgain }
 {}
 
-/// Over a whole run an application is told its grants in the order in which they came, of each once.
+/// Over a whole run its grants are reported to an application in the order in which they came, each once.
 pub fn grants_are_told_over_runs()
     ensures told { GrantsAreToldOverRuns }
     ensures added { NewGrantsAreOfTheGranted }
 {}
 
-/// Over a whole run an application is told of the ends of its containers in the order in which they came, of each once.
+/// Over a whole run the ends of its containers are reported to an application in the order in which they came, each once.
 pub fn ends_are_told_over_runs()
     ensures told { EndsAreToldOverRuns }
     ensures added { NewEndsAreOfTheEnded }
@@ -91,8 +91,8 @@ pub fn steps_keep_reservations_within_asks()
     ensures bounded { ReservationsStayBounded }
 {}
 
-/// What is under a queue is known by dotted paths. In queues that are listed from the root each stands before those under it, so
-/// that those above a queue stand in order of level. In a tree a parent uses what its children use together.
+/// What is under a queue is known by dotted paths. In queues that are listed from the root each is before those under it, so
+/// that those above a queue are in order of level. In a tree a parent uses what its children use together.
 pub fn trees_add_up()
     ensures under { UnderByPath }
     ensures tested { TreesAreTested }

@@ -137,7 +137,7 @@ impl<const K: usize> Proposal<K> {
     }
 }
 
-/// The reason of the first test that holds, none where none does. The tests stand in the order of the reasons.
+/// The reason of the first test that holds, none where none does. The tests are in the order of the reasons.
 pub fn first_reason(tests: &[(bool, Reason)]) -> Option<Reason>
     ensures { result ≡ earliest tests.now }
 {

@@ -23,7 +23,7 @@ pub enum Refusal {
     BadResponseId,
     /// An ask passes the maximum allocation.
     AskTooLarge,
-    /// More than 256 keys of the application would stand.
+    /// The application would have more than 256 keys.
     TooManyAsks,
     /// No node of this number is present.
     UnknownNode,
@@ -72,7 +72,7 @@ impl Refusal {
     }
 }
 
-/// The refusal of the first test that holds, none where none does. The tests stand in the order of the numbers.
+/// The refusal of the first test that holds, none where none does. The tests are in the order of the numbers.
 pub fn first_refusal(tests: &[(bool, Refusal)]) -> Option<Refusal>
     ensures { result ≡ earliest tests.now }
 {

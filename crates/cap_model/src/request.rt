@@ -14,7 +14,7 @@ pub enum Request<const K: usize> {
     RegisterMaster {
         app: u64,
     },
-    /// A master asks for containers, releases some, and is told what was granted and what has ended.
+    /// A master asks for containers, releases some, and reads what was granted and what has ended.
     Allocate {
         app: u64,
         response: u32,

@@ -25,7 +25,7 @@ use std::alloc::Global;
 use std::marker::Model;
 
 /// The nodes that are present and the containers that are live on them, each in order of number, and the reservations in order of
-/// making. Contracts see them as the table of the flat cluster. A reservation stands in a table of its own as a container that
+/// making. Contracts see them as the table of the flat cluster. A reservation is kept in a table of its own as a container that
 /// is not live, whose number is its place in the order of making.
 #[derive(Drop)]
 pub struct Nodes<const K: usize> {
@@ -333,7 +333,7 @@ impl<const K: usize> Nodes<K> {
     }
 
     /// One more heartbeat of a present node is answered, of which so many ends named no container that was live there: the response
-    /// id moves on, and the reply, which is the result, is kept. It tells how many are live there now.
+    /// id moves on, and the reply, which is the result, is kept. It has how many are live there now.
     pub fn beat(&mut self, number: u64, ignored: u16) -> HeartbeatReply
         requires { IsSome (node_in self.old number) }
         ensures table { self.new ≡ after_beat_of number ignored self.old }
@@ -342,7 +342,7 @@ impl<const K: usize> Nodes<K> {
         self.present.beat(number, ignored)
     }
 
-    /// A present node goes, on which no container is live, and its total with it.
+    /// A present node on which no container is live is taken out, and its total with it.
     pub fn gone(&mut self, number: u64)
         requires present { IsSome (node_in self.old number) }
         requires empty { containers_on self.old number ≡ [] }
@@ -370,7 +370,7 @@ impl<const K: usize> Nodes<K> {
     }
 }
 
-/// The reservation that a container of the table of reservations stands for.
+/// The reservation that a container of the table of reservations is.
 fn reservation_of<const K: usize>(container: &Container<K>) -> Reservation<K>
     ensures { result ≡ reservation_of container.now }
 {

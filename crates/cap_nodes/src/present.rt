@@ -166,7 +166,7 @@ impl<const K: usize> Present<K> {
         }
     }
 
-    /// A node goes. Where none of this number is present, nothing changes.
+    /// A node is taken out. Where none of this number is present, nothing changes.
     pub(crate) fn remove(&mut self, number: u64)
         ensures { self.new ≡ record self.old
             { loads = filter (λ p. not (p.node.number == number)) self.old.loads } }

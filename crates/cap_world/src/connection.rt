@@ -9,7 +9,7 @@ use cap_session::{Fed, Session};
 use std::alloc::Global;
 use std::marker::Model;
 
-/// How a connection stands.
+/// The state of a connection.
 #[derive(Clone, Copy, Debug, PartialEq, Eq)]
 pub enum Standing {
     Open,
@@ -21,7 +21,7 @@ pub enum Standing {
     Starved,
 }
 
-/// One connection. Contracts see how it stands, and its session, of which nothing is ever written out.
+/// One connection. Contracts see its state, and its session, of which nothing is ever written out.
 #[derive(Drop)]
 pub(crate) struct Connection {
     standing: Standing,
@@ -69,8 +69,8 @@ impl Connection {
         self.standing = Standing::Ended;
     }
 
-    /// Takes a piece, answers each request that it completes, and says how it stands then. Where memory is refused it has ended,
-    /// and what was answered before stands.
+    /// Takes a piece, answers each request that it completes, and gives its state then. If an allocation failed it has ended,
+    /// and what was answered before stays.
     pub(crate) fn feed(
         &mut self,
         alloc: Global,

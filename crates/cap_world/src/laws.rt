@@ -33,7 +33,7 @@ pub fn commits_are_exact()
 {}
 
 /// What a worker proposes is the choice of the cluster as it was at the worker's last `Copy`, whatever steps came between. Where
-/// it copies, proposes and commits with no other step between and no want of memory, the choice of the state before is made, and
+/// it copies, proposes and commits with no other step between and no failed allocation, the choice of the state before is made, and
 /// nothing where there is none.
 pub fn proposals_are_of_copies()
     ensures proposed { ProposalsAreOfCopies }

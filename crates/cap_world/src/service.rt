@@ -13,7 +13,7 @@ use cap_model::{Event, ReplyRoom, Request};
 use cap_session::{Cause, Next, Session};
 use std::alloc::Global;
 
-/// Answers each request that is complete, and says how the connection stands then.
+/// Answers each request that is complete, and gives the state of the connection then.
 pub(crate) fn answer_all(
     alloc: Global,
     by: u32,
@@ -43,7 +43,7 @@ pub(crate) fn answer_all(
     }
 }
 
-/// How a connection stands whose session has ended.
+/// The state of a connection whose session has ended.
 fn standing_after(cause: Cause) -> Standing
     ensures { result ≡ standing_of cause }
 {

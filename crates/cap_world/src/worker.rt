@@ -9,7 +9,7 @@ use cap_propose::propose;
 use std::alloc::Global;
 use std::marker::Model;
 
-/// One worker: its snapshot, the proposal that stands, if any, and the verdict of its last commit, if any.
+/// One worker: its snapshot, its proposal that is not committed yet, if any, and the verdict of its last commit, if any.
 pub(crate) struct Worker {
     snapshot: Snapshot<2, Global>,
     choice: Option<Proposal<2>>,
@@ -50,7 +50,7 @@ impl Worker {
         }
     }
 
-    /// Takes another snapshot. No proposal stands then, and the verdict stays.
+    /// Takes another snapshot. The proposal is dropped, and the verdict stays.
     pub(crate) fn renew(&mut self, snapshot: Snapshot<2, Global>)
         ensures { self.new ≡ with_copy snapshot (Some self.old) }
     {
@@ -58,7 +58,7 @@ impl Worker {
         self.choice = None;
     }
 
-    /// The proposal that stands.
+    /// The proposal that is not committed yet.
     pub(crate) fn choice(&self) -> Option<Proposal<2>>
         ensures { result ≡ self.now.choice }
     {
@@ -72,7 +72,7 @@ impl Worker {
         self.verdict.as_ref()
     }
 
-    /// Proposes on its snapshot, with the nodes as a ring from the node at `start` on. The choice stands in place of the proposal
+    /// Proposes on its snapshot, with the nodes as a ring from the node at `start` on. The choice takes the place of the proposal
     /// before, and none where there is none.
     pub(crate) fn propose(&mut self, start: u32)
         ensures { self.new ≡
@@ -81,7 +81,7 @@ impl Worker {
         self.choice = propose(&self.snapshot, start);
     }
 
-    /// Keeps the verdict of its proposal, which stands no longer.
+    /// Keeps the verdict of its proposal, which is dropped.
     pub(crate) fn conclude(&mut self, verdict: Verdict<2>)
         ensures { self.new ≡ with_verdict verdict self.old }
     {

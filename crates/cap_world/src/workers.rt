@@ -24,7 +24,7 @@ pub(crate) type Workers = IndexMap<u32, Worker>;
 /// The numbers of workers are below it.
 const WORKERS_MAX: u32 = 64;
 
-/// The proposal of the worker that stands, if any.
+/// The proposal of the worker that is not committed yet, if any.
 pub(crate) fn choice(workers: &Workers, number: u32) -> Option<Proposal<2>>
     ensures { result ≡ choice_in (worker_at number workers.now.entries) }
 {
@@ -107,7 +107,7 @@ pub(crate) fn propose(workers: &mut Workers, number: u32, start: u32) -> Did
     Did::Done
 }
 
-/// A worker's proposal is tried on the cluster, if one stands.
+/// A worker's proposal is tried on the cluster, if it has one.
 pub(crate) fn commit(
     workers: &mut Workers,
     number: u32,

@@ -63,7 +63,7 @@ impl World {
     }
 
     /// Whether the connection of this number is open: it was opened, and neither its end, nor a length that no frame has, nor
-    /// want of memory has come on it.
+    /// an allocation has failed on it.
     pub fn is_open(&self, number: u32) -> bool
         ensures { result ≡ is_open number self.now.sight }
     {
@@ -77,7 +77,7 @@ impl World {
         connections::output(&self.connections, number)
     }
 
-    /// The proposal that stands of the worker of this number: what it chose last, if it neither copied the cluster nor committed
+    /// The proposal of the worker of this number: what it chose last, if it neither copied the cluster nor committed
     /// since.
     pub fn choice(&self, worker: u32) -> Option<Proposal<2>>
         ensures { result ≡ choice_of worker self.now.sight }

@@ -1,1 +1,20 @@
-../../capsched/src/main.rt
+//! The program of `capsched`, as it is run on property lines: its stored run shows the table of their queues.
+#![tactic(auto)]
+
+use cap_command::{Counted, run};
+use std::process::ExitCode;
+use std::{env, io};
+
+fn main(rt: HostRuntime) -> anyhow::Result<ExitCode> {
+    let words: Vec<String> = env::args(&rt)?.collect(rt.alloc())?;
+    let mut complaint = String::new(rt.alloc());
+    let status = run(
+        rt.alloc(),
+        words.as_slice(),
+        &mut Counted::new(rt.reader()),
+        &mut Counted::new(io::writer(&rt)),
+        &mut complaint,
+    );
+    rt.eprint(complaint.as_str())?;
+    Ok(ExitCode::from(status))
+}

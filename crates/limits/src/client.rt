@@ -3,7 +3,7 @@ use cap_testing::{Call, cluster, frame};
 use cap_world::{Step, World};
 use std::alloc::Global;
 
-/// Where the status stands in the frame of a reply: after its length, version, kind and call id.
+/// The index of the status in the frame of a reply: after its length, version, kind and call id.
 const STATUS: usize = 10;
 
 /// Connection 1 of a world, over which requests are answered one by one.

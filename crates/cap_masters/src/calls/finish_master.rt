@@ -7,7 +7,7 @@ ghost use Rattle.cap_model.specs.FinishMaster.{finish_master_refusal};
 use cap_commit::Cluster;
 use cap_model::{Refusal, Reply};
 
-/// A registered application ends: its containers end, its asks are dropped, and what it was not told is forgotten. Its number is
+/// A registered application ends: its containers end, its asks are dropped, and what was not reported to it is forgotten. Its number is
 /// unknown from then on. The reply gives how many containers ended. Refused with `UnknownApplication` or `NotRegistered`, which
 /// changes nothing. It takes no memory.
 pub fn finish_master<const K: usize>(cluster: &mut Cluster<K>, app: u64) -> Reply<K>

@@ -9,7 +9,7 @@ use cap_model::{NUMBER_END, NoMemory, PathText, Refusal, Reply, ShortText};
 
 /// An application enters the leaf queue of this path for a user. It is active from then on, its master is yet to report, and the
 /// reply gives its number, which no other application has or had. Refused with `UnknownQueue`, `NotLeaf`, `QueueStopped`,
-/// `TooManyApplications` or `NumbersSpent`, or for want of memory with `NoMemory`; a refusal changes nothing.
+/// `TooManyApplications` or `NumbersSpent`, or with `NoMemory` if an allocation fails; a refusal changes nothing.
 pub fn submit<const K: usize>(
     cluster: &mut Cluster<K>,
     path: &PathText,

@@ -4,9 +4,9 @@ ghost use Rattle.cap_model.specs.Reporting.{HasNumbers, RepliesInFullAlways};
 use cap_commit::{Cluster, Owner};
 use cap_model::{Cause, Numbers, Refusal, Reply};
 
-/// A node manager reports which containers have ended on it. Those that are live there end, and their applications are to be told
-/// so; the others, and those named before, are counted as ignored. The reply gives the new response id, how many were ignored,
-/// and how many are live there now. `response` is the response id that the node was told last, 0 at first. A report that comes
+/// A node manager reports which containers have ended on it. Those that are live there end, which is to be reported to their
+/// applications; the others, and those named before, are counted as ignored. The reply gives the new response id, how many were ignored,
+/// and how many are live there now. `response` is the response id of the last reply to the node, 0 at first. A report that comes
 /// again with the id of the last processed one is answered with the kept reply and changes nothing. Refused with
 /// `BadResponseId` or `UnknownNode`, which changes nothing. It takes no memory.
 pub fn heartbeat<const K: usize>(

@@ -4,7 +4,7 @@ ghost use Rattle.cap_model.specs.Reporting.{HasNumbers, RepliesInFullAlways};
 use cap_commit::{Cluster, Owner};
 use cap_model::{Cause, Refusal, Reply};
 
-/// A node is declared lost: its containers end, in order of number, their applications are to be told so, and the node goes. Its
+/// A node is declared lost: its containers end, in order of number, which is to be reported to their applications. Its
 /// number is unknown from then on, and its host is free again. The reply gives how many containers ended. Refused with
 /// `UnknownNode`, which changes nothing. It takes no memory.
 pub fn node_gone<const K: usize>(cluster: &mut Cluster<K>, node: u64) -> Reply<K>

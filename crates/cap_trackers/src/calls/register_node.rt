@@ -9,7 +9,7 @@ use cap_vector::{Resource, checked_add};
 
 /// A node manager joins with a host, a rack and a total in MiB and vcores, and with no container; the reply gives the node's
 /// number, which no other node has or had. Refused with `HostTaken`, `TotalTooLarge`, `TooManyNodes`, `ZeroResource` or
-/// `NumbersSpent`, or for want of memory with `NoMemory`; a refusal changes nothing.
+/// `NumbersSpent`, or with `NoMemory` if an allocation fails; a refusal changes nothing.
 pub fn register_node<const K: usize>(
     cluster: &mut Cluster<K>,
     host: &ShortText,
