@@ -46,6 +46,7 @@ pub(crate) fn verdict(workers: &Workers, number: u32) -> Option<&Verdict<2>>
 }
 
 /// A worker copies the cluster, if there is such a worker.
+#[inline(never)]
 pub(crate) fn copy(
     alloc: Global,
     workers: &mut Workers,
@@ -90,6 +91,7 @@ fn snapshot_of(alloc: Global, cluster: &Cluster<2>) -> Result<Snapshot<2, Global
 }
 
 /// A worker proposes on its snapshot, if it has one.
+#[inline(never)]
 pub(crate) fn propose(workers: &mut Workers, number: u32, start: u32) -> Did
     ensures { (cluster : Flat 2) (connections : List (ℕ × Connection)) (events : List (Event 2)) →
         Outcome (Step.Propose number start) (Ok result)
@@ -108,6 +110,7 @@ pub(crate) fn propose(workers: &mut Workers, number: u32, start: u32) -> Did
 }
 
 /// A worker's proposal is tried on the cluster, if it has one.
+#[inline(never)]
 pub(crate) fn commit(
     workers: &mut Workers,
     number: u32,
