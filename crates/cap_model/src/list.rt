@@ -1,6 +1,8 @@
-ghost use Rattle.std.specs.Prelude.{◌≡◌, ◌≤◌, length};
+ghost use Rattle.std.specs.Prelude.{◌≡◌, ◌≤◌, length, IfOk};
 
 use crate::ask::Ask;
+use crate::no_memory::NoMemory;
+use std::alloc::Global;
 use std::marker::Model;
 
 /// The items that a request brings, in their order: at most `MAX`. Contracts see it as their list.
@@ -40,5 +42,18 @@ impl<T, const MAX: usize> List<T, MAX> {
         ensures few { length result.now ≤ MAX }
     {
         &self.items
+    }
+}
+
+impl<T: Copy, const MAX: usize> List<T, MAX> {
+    /// The same items, in memory of their own. If an allocation fails there is none.
+    pub fn copy(&self, alloc: Global) -> Result<List<T, MAX>, NoMemory>
+        ensures { IfOk result (λ copy. copy ≡ self.now) }
+    {
+        let mut items = Vec::new(alloc);
+        match items.extend_from_slice(self.as_slice()) {
+            Ok(()) => Ok(List { items }),
+            Err(_) => Err(NoMemory),
+        }
     }
 }

@@ -1,6 +1,10 @@
+ghost use Rattle.std.specs.Prelude.{◌≡◌, IfOk};
+
 use crate::list::{Asks, Numbers};
+use crate::no_memory::NoMemory;
 use crate::text::{PathText, ShortText};
 use cap_vector::Resource;
+use std::alloc::Global;
 
 /// A call of an application master, a node manager or an operator.
 #[derive(Debug, Drop)]
@@ -52,4 +56,52 @@ pub enum Request<const K: usize> {
     },
     /// What the cluster holds.
     ClusterInfo,
+}
+
+impl<const K: usize> Request<K> {
+    /// The same request, with lists of its own. If an allocation fails there is none.
+    pub fn copy(&self, alloc: Global) -> Result<Request<K>, NoMemory>
+        ensures { IfOk result (λ copy. copy ≡ self.now) }
+    {
+        Ok(match self {
+            Request::Submit { path, user } => Request::Submit {
+                path: *path,
+                user: *user,
+            },
+            Request::RegisterMaster { app } => Request::RegisterMaster { app: *app },
+            Request::Allocate {
+                app,
+                response,
+                asks,
+                releases,
+            } => Request::Allocate {
+                app: *app,
+                response: *response,
+                asks: asks.copy(alloc)?,
+                releases: releases.copy(alloc)?,
+            },
+            Request::FinishMaster { app } => Request::FinishMaster { app: *app },
+            Request::RegisterNode { host, rack, total } => Request::RegisterNode {
+                host: *host,
+                rack: *rack,
+                total: *total,
+            },
+            Request::Heartbeat {
+                node,
+                response,
+                ended,
+            } => Request::Heartbeat {
+                node: *node,
+                response: *response,
+                ended: ended.copy(alloc)?,
+            },
+            Request::NodeGone { node } => Request::NodeGone { node: *node },
+            Request::QueueInfo { path } => Request::QueueInfo { path: *path },
+            Request::SetQueueState { path, running } => Request::SetQueueState {
+                path: *path,
+                running: *running,
+            },
+            Request::ClusterInfo => Request::ClusterInfo,
+        })
+    }
 }
