@@ -193,6 +193,7 @@ module _ (K : ℕ) (rows : List Row) (apps : AppTable) (accounts : List (ℕ × 
         live = length nodes.live;
         next_container = nodes.next_container;
       };
+      numbers = parts.numbers;
     }
 
 -- what is kept beside the tree makes a snapshot with it

@@ -1,5 +1,6 @@
 -- The sight of the parts of a cluster, which a snapshot of them is.
 use Rattle.std.specs.Prelude.{◌≡◌, ℕ, List, map, filter, find, length, ◌==◌}
+use Rattle.cap_model.specs.Bounds.{IsRising}
 use Rattle.cap_model.specs.Flat.{AppTable, ClusterNode, NodeTable}
 use Rattle.cap_model.specs.Sight.{Sight, NodeSight, app_sight}
 use Rattle.cap_tree.specs.Rows.{Row}
@@ -27,10 +28,11 @@ sight_of_parts K rows apps nodes = record {
   next_container = nodes.next_container;
 }
 
--- a snapshot of the parts: the same rows, and the same sight
+-- a snapshot of the parts: the same rows, and the same sight; and the numbers of the nodes rise
 pub record IsSnapshotOf (K : ℕ) (tree : List Row) (apps : AppTable) (nodes : NodeTable) (seen : Seen) : Type 0 where
   pub rows : seen.rows ≡ tree
   pub sight : sight_in K seen ≡ sight_of_parts K tree apps nodes
+  pub numbers : IsRising 1 (map (λ node. node.number) nodes.present) nodes.next_node
 
 -- what is seen of a tree's rows and of nodes, with the applications, asks and nodes that a snapshot keeps
 abbrev pub seen_with : List Row → NodeTable → List AppEntry → List AskEntry → List NodeSight → Seen

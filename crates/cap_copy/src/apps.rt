@@ -52,7 +52,6 @@ fn seen_app<const K: usize, B: Allocator + Copy>(
       position = app.now.account.position;
     }) }
 {
-    let _tree = tree;
     let Ok(position) = SmallVec::from_slice(alloc, app.position().as_slice()) else {
         return Err(NoMemory);
     };

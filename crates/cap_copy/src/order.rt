@@ -65,7 +65,6 @@ fn places<'a, const K: usize, B: Allocator + Copy>(
 ) -> Result<Vec<Place<'a>, B>, NoMemory>
     ensures { IfOk result (λ places. places.items ≡ map (λ a. a.position) apps.now) }
 {
-    let _tree = tree;
     let Ok(mut places) = Vec::with_capacity(alloc, apps.len()) else {
         return Err(NoMemory);
     };

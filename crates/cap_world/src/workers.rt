@@ -85,9 +85,7 @@ fn snapshot_of(alloc: Global, cluster: &Cluster<2>) -> Result<Snapshot<2, Global
     ensures { IfOk result (λ snapshot.
         ShowTheSame (sight_in 2 snapshot) (sight_of cluster.now.flat)) }
 {
-    let nodes = cluster.nodes();
-    let _count = nodes.count();
-    Snapshot::take(alloc, cluster.tree(), cluster.apps(), nodes)
+    Snapshot::take(alloc, cluster.tree(), cluster.apps(), cluster.nodes())
 }
 
 /// A worker proposes on its snapshot, if it has one.
