@@ -267,7 +267,7 @@ impl<const K: usize> App<K> {
     }
 
     /// Makes room for so many more asks, grants and ends. `NoMemory` takes no room away and changes nothing else; where there is
-    /// room for all there is no want of it.
+    /// room for all it does not come.
     pub(crate) fn reserve(
         &mut self,
         asks: usize,
@@ -326,7 +326,7 @@ impl<const K: usize> App<K> {
         self.live -= 1;
     }
 
-    /// Tells the oldest grants and ends that wait, at most 64 of each: the response id moves on, and the reply is kept. The result is
+    /// Reports the oldest grants and ends that wait, at most 64 of each: the response id moves on, and the reply is kept. The result is
     /// its numbers.
     pub(crate) fn tell(&mut self, ignored: u16) -> Reported
         ensures app { self.new.app ≡ after_telling self.old.app.response ignored self.old.app }

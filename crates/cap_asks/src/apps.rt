@@ -56,7 +56,7 @@ impl<const K: usize> Apps<K> {
     }
 
     /// Makes room for one more application, so that it enters with no memory. `NoMemory` changes no application and takes no room
-    /// away, and where there is room there is no want of it.
+    /// away, and does not come where there is room.
     pub fn reserve(&mut self) -> Result<(), NoMemory>
         ensures table { self.new.table ≡ self.old.table }
         ensures accounts { self.new.accounts ≡ self.old.accounts }
@@ -72,7 +72,7 @@ impl<const K: usize> Apps<K> {
     }
 
     /// An application enters the leaf queue, which is at this position of the tree, for a user, under the next number, which is the
-    /// result. `NoMemory` changes no application, and where there is room there is no want of it.
+    /// result. `NoMemory` changes no application, and does not come where there is room.
     pub fn submit(
         &mut self,
         leaf: &PathText,
@@ -153,7 +153,7 @@ impl<const K: usize> Apps<K> {
     }
 
     /// Makes room for so many more asks, grants and ends of an application, so that it takes them with no memory. `NoMemory`
-    /// changes no application and takes no room away, and where there is room for all there is no want of it.
+    /// changes no application and takes no room away, and does not come where there is room for all.
     pub fn room(&mut self, n: u64, asks: usize, grants: usize, ends: usize) -> Result<(), NoMemory>
         requires { IsSome (app_in self.old.table n) }
         ensures table { self.new.table ≡ self.old.table }
@@ -231,7 +231,7 @@ impl<const K: usize> Apps<K> {
         app.add_end(end);
     }
 
-    /// Tells the master of an application the oldest grants and ends that wait, at most 64 of each: the response id moves on, and
+    /// Reports to the master of an application the oldest grants and ends that wait, at most 64 of each: the response id moves on, and
     /// the reply, whose numbers are the result, is kept. `ignored` is how many releases of the request named nothing. Where none of
     /// this number is active, nothing changes, and the numbers are 0.
     pub fn tell(&mut self, n: u64, ignored: u16) -> Reported

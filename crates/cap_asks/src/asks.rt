@@ -62,7 +62,7 @@ impl<const K: usize> Asks<K> {
         }
     }
 
-    /// Makes room for so many more keys. `NoMemory` changes nothing, and where there is room there is no want of it.
+    /// Makes room for so many more keys. `NoMemory` changes nothing, and does not come where there is room.
     pub(crate) fn reserve(&mut self, additional: usize) -> Result<(), NoMemory>
         ensures asks { self.new.asks ≡ self.old.asks }
         ensures stays { self.old.room ≤ self.new.room }

@@ -40,7 +40,7 @@ impl<T: Copy> News<T> {
         }
     }
 
-    /// Makes room for so many more. `NoMemory` changes nothing, and where there is room there is no want of it.
+    /// Makes room for so many more. `NoMemory` changes nothing, and does not come where there is room.
     pub(crate) fn reserve(&mut self, additional: usize) -> Result<(), NoMemory>
         ensures told { self.new.told ≡ self.old.told }
         ensures waiting { self.new.waiting ≡ self.old.waiting }

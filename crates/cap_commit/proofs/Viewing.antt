@@ -1,6 +1,7 @@
 -- The reply in full, and room for it.
 use Rattle.std.proofs.Common.{◌≡◌, ℕ, List, refl, sym, ap, subst, ◌∙◌}
-use Rattle.std.specs.Prelude.{Some, length, unwrap_or, option_map}
+use Rattle.std.specs.Prelude.{Option, Some, length, unwrap_or, option_map}
+use Rattle.std.specs.Option.{option_map_or}
 use Rattle.cap_model.specs.Asks.{Ask}
 use Rattle.cap_model.specs.News.{AllocateReply}
 use Rattle.cap_model.specs.declared.replies.AllocateNumbers.{AllocateNumbers}
@@ -9,7 +10,7 @@ use Rattle.cap_model.specs.declared.reply.ReplyWith.{ReplyWith}
 use Rattle.cap_model.specs.declared.reply.ReplyWith.TheVariants as Reply
 use Rattle.cap_model.specs.Flat.{Flat, App, AppTable, app_in}
 use Rattle.cap_model.specs.Allocate.{nothing_told}
-use Rattle.cap_model.specs.Reporting.{IfAllocate, NewsRoom, reported_of, full_reply, HasNumbers, HasRoomForReplies, news_most, IsNoAllocate}
+use Rattle.cap_model.specs.Reporting.{IfAllocate, NewsRoom, reported_of, full_reply, HasNumbers, HasRoomForReplies, no_news, news_most, reports_most, IsNoAllocate}
 use Rattle.cap_model.proofs.telling.Replying.{some_room, other_room}
 use Rattle.cap_asks.specs.Apps.{kept_of}
 
@@ -41,6 +42,28 @@ module _ {K : ℕ} (flat : Flat K) where
 
   pub has_other : (request : Request K) (room : NewsRoom) → ((n id : ℕ) (asks : List Ask) (releases : List ℕ) → request ≡ Request.Allocate n id asks releases → ⊥) → HasRoomForReplies flat request room
   has_other request room none = other_room flat request room (no_allocate request none)
+
+  pub most_other : (request : Request K) (room : NewsRoom) → ((n id : ℕ) (asks : List Ask) (releases : List ℕ) → request ≡ Request.Allocate n id asks releases → ⊥) → room ≡ no_news → room ≡ reports_most flat request
+  most_other request room none is = is ∙ nothing request (no_allocate request none)
+    where
+      nothing : (q : Request K) → IsNoAllocate q → no_news ≡ reports_most flat q
+      nothing (Request.Submit path user) h = refl
+      nothing (Request.RegisterMaster app) h = refl
+      nothing (Request.Allocate app id asks releases) h = absurd h
+      nothing (Request.FinishMaster app) h = refl
+      nothing (Request.RegisterNode host rack total) h = refl
+      nothing (Request.Heartbeat node id ended) h = refl
+      nothing (Request.NodeGone node) h = refl
+      nothing (Request.QueueInfo path) h = refl
+      nothing (Request.SetQueueState path running) h = refl
+      nothing Request.ClusterInfo h = refl
+
+  pub most_of : (n id : ℕ) (asks : List Ask) (releases : List ℕ) (table : AppTable) (app : Option App) (room : NewsRoom) (request : Request K) → request ≡ Request.Allocate n id asks releases → table ≡ flat.apps
+      → app_in table n ≡ app → room ≡ option_map_or (λ a. news_most a id (length releases)) app no_news → room ≡ reports_most flat request
+  most_of n id asks releases table app room request is same there most =
+      most
+      ∙ ap (λ o. option_map_or (λ a. news_most a id (length releases)) o no_news) (sym there ∙ ap (λ (t : AppTable). app_in t n) same)
+      ∙ ap (reports_most flat) (sym is)
 
 -- a reply that isn't an allocate's is none
 pub not_numbers : {K : ℕ} (reply : ReplyWith K AllocateNumbers) → ((n : AllocateNumbers) → reply ≡ Reply.Allocate n → ⊥) → IfAllocate (λ _. ⊥) reply

@@ -223,7 +223,7 @@ impl<const K: usize> Cluster<K> {
     }
 
     /// Makes room for so many more asks, grants and ends of an active application, so that it takes them with no memory. `NoMemory`
-    /// takes no room away, and where there is room for all there is no want of it.
+    /// takes no room away, and does not come where there is room for all.
     pub fn room(
         &mut self,
         number: u64,
@@ -273,7 +273,7 @@ impl<const K: usize> Cluster<K> {
         self.keep_first(number, &ask.key(), left);
     }
 
-    /// Tells an active application the oldest grants and ends that wait, at most 64 of each: its response id moves on, and the
+    /// Reports to an active application the oldest grants and ends that wait, at most 64 of each: its response id moves on, and the
     /// reply, whose numbers are the result, is kept. Where no application has the number, nothing changes.
     pub fn tell(&mut self, number: u64, ignored: u16) -> Reported
         ensures told { IfSome (app_at self.old.flat number)

@@ -1,5 +1,5 @@
 ghost use Rattle.std.specs.Prelude.{◌≡◌, IfOk};
-ghost use Rattle.cap_model.specs.Reporting.{HasNumbers, HasRoomForReplies, full_reply};
+ghost use Rattle.cap_model.specs.Reporting.{HasNumbers, HasRoomForReplies, full_reply, reports_most};
 
 use crate::cluster::Cluster;
 use cap_model::{NoMemory, Reply, ReplyRoom, ReplyView, ReplyWith, Request};
@@ -21,9 +21,11 @@ impl<const K: usize> Cluster<K> {
         }
     }
 
-    /// Room for the grants and ends of the reply to a request, whatever it is answered now. If an allocation fails there is none.
+    /// Room for the grants and ends of the reply to a request, whatever it is answered now, and for no more. If an allocation fails
+    /// there is none.
     pub fn reply_room(&self, alloc: Global, request: &Request<K>) -> Result<ReplyRoom<K>, NoMemory>
-        ensures { IfOk result (λ room. HasRoomForReplies self.now.flat request.now room) }
+        ensures room { IfOk result (λ room. HasRoomForReplies self.now.flat request.now room) }
+        ensures most { IfOk result (λ room. room ≡ reports_most self.now.flat request.now) }
     {
         let Request::Allocate {
             app,

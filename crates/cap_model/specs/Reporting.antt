@@ -22,11 +22,14 @@ pub record NewsRoom : Type 0 where
   pub grants : ℕ
   pub ends : ℕ
 
+abbrev pub no_news : NewsRoom
+no_news = record { grants = 0; ends = 0 }
+
 -- how many grants and ends an application is told at most by an allocate of this response id with so many releases
 abbrev pub news_most : App → ℕ → ℕ → NewsRoom
 news_most app id releases =
     if is_repeated app.response app.kept id
-    then option_map_or (λ kept. record { grants = length kept.grants; ends = length kept.ends }) app.kept (record { grants = 0; ends = 0 })
+    then option_map_or (λ kept. record { grants = length kept.grants; ends = length kept.ends }) app.kept no_news
     else record { grants = min news_max (length app.grants); ends = min news_max (length app.ends + releases) }
 
 module _ {K : ℕ} where
@@ -93,3 +96,8 @@ module _ {K : ℕ} where
   -- whatever the call is answered, its grants and ends have room
   abbrev pub HasRoomForReplies : Flat K → Request K → NewsRoom → Type 0
   HasRoomForReplies old request room = (reply : Reply K) (new : Flat K) → Replies old request reply new → HasRoomFor reply room
+
+  -- how many grants and ends the reply to a request reports at most, whatever it is answered
+  abbrev pub reports_most : Flat K → Request K → NewsRoom
+  reports_most cluster (Request.Allocate app id asks releases) = option_map_or (λ a. news_most a id (length releases)) (app_at cluster app) no_news
+  reports_most cluster request = no_news

@@ -37,7 +37,7 @@ pub enum Refusal {
     ZeroResource,
     /// The next application or node number would be 2^62.
     NumbersSpent,
-    /// No memory was found for the call.
+    /// An allocation failed.
     NoMemory,
 }
 

@@ -18,8 +18,8 @@ use cap_vector::fits;
 /// allocation; a count of 0 takes the key away. A release that names no live container of the application, or one that was named
 /// before, is counted as ignored. `response` is the response id of the last reply to the master, 0 at first. A request that comes
 /// again with the id of the last processed one is answered with the kept reply and changes nothing. Refused with
-/// `UnknownApplication`, `NotRegistered`, `BadResponseId`, `AskTooLarge` (before it is rounded) or `TooManyAsks`, or for want of
-/// memory with `NoMemory`; a refusal changes nothing.
+/// `UnknownApplication`, `NotRegistered`, `BadResponseId`, `AskTooLarge` (before it is rounded) or `TooManyAsks`, or with
+/// `NoMemory` if an allocation fails; a refusal changes nothing.
 pub fn allocate<const K: usize>(
     cluster: &mut Cluster<K>,
     app: u64,
