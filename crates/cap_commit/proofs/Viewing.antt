@@ -29,16 +29,8 @@ module _ {K : ℕ} (flat : Flat K) where
       (subst (λ m. HasRoomForReplies flat (Request.Allocate n id asks releases) m) (sym most) (some_room flat n id asks releases app (ap (λ (t : AppTable). app_in t n) (sym same) ∙ there)))
 
   no_allocate : (request : Request K) → ((n id : ℕ) (asks : List Ask) (releases : List ℕ) → request ≡ Request.Allocate n id asks releases → ⊥) → IsNoAllocate request
-  no_allocate (Request.Submit path user) none = tt
-  no_allocate (Request.RegisterMaster app) none = tt
   no_allocate (Request.Allocate app id asks releases) none = none app id asks releases refl
-  no_allocate (Request.FinishMaster app) none = tt
-  no_allocate (Request.RegisterNode host rack total) none = tt
-  no_allocate (Request.Heartbeat node id ended) none = tt
-  no_allocate (Request.NodeGone node) none = tt
-  no_allocate (Request.QueueInfo path) none = tt
-  no_allocate (Request.SetQueueState path running) none = tt
-  no_allocate Request.ClusterInfo none = tt
+  no_allocate other none = tt
 
   pub has_other : (request : Request K) (room : NewsRoom) → ((n id : ℕ) (asks : List Ask) (releases : List ℕ) → request ≡ Request.Allocate n id asks releases → ⊥) → HasRoomForReplies flat request room
   has_other request room none = other_room flat request room (no_allocate request none)
@@ -47,16 +39,8 @@ module _ {K : ℕ} (flat : Flat K) where
   most_other request room none is = is ∙ nothing request (no_allocate request none)
     where
       nothing : (q : Request K) → IsNoAllocate q → no_news ≡ reports_most flat q
-      nothing (Request.Submit path user) h = refl
-      nothing (Request.RegisterMaster app) h = refl
       nothing (Request.Allocate app id asks releases) h = absurd h
-      nothing (Request.FinishMaster app) h = refl
-      nothing (Request.RegisterNode host rack total) h = refl
-      nothing (Request.Heartbeat node id ended) h = refl
-      nothing (Request.NodeGone node) h = refl
-      nothing (Request.QueueInfo path) h = refl
-      nothing (Request.SetQueueState path running) h = refl
-      nothing Request.ClusterInfo h = refl
+      nothing other h = refl
 
   pub most_of : (n id : ℕ) (asks : List Ask) (releases : List ℕ) (table : AppTable) (app : Option App) (room : NewsRoom) (request : Request K) → request ≡ Request.Allocate n id asks releases → table ≡ flat.apps
       → app_in table n ≡ app → room ≡ option_map_or (λ a. news_most a id (length releases)) app no_news → room ≡ reports_most flat request
@@ -67,14 +51,5 @@ module _ {K : ℕ} (flat : Flat K) where
 
 -- a reply that isn't an allocate's is none
 pub not_numbers : {K : ℕ} (reply : ReplyWith K AllocateNumbers) → ((n : AllocateNumbers) → reply ≡ Reply.Allocate n → ⊥) → IfAllocate (λ _. ⊥) reply
-not_numbers (Reply.Refused refusal) none = tt
-not_numbers (Reply.Submit app) none = tt
-not_numbers (Reply.RegisterMaster minimum maximum) none = tt
 not_numbers (Reply.Allocate reply) none = none reply refl
-not_numbers (Reply.FinishMaster ended) none = tt
-not_numbers (Reply.RegisterNode node) none = tt
-not_numbers (Reply.Heartbeat reply) none = tt
-not_numbers (Reply.NodeGone ended) none = tt
-not_numbers (Reply.QueueInfo report) none = tt
-not_numbers Reply.SetQueueState none = tt
-not_numbers (Reply.ClusterInfo report) none = tt
+not_numbers other none = tt

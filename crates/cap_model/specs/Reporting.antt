@@ -49,17 +49,8 @@ module _ {K : ℕ} where
 
   -- what holds of the answer to an allocate, where the reply is one
   abbrev pub IfAllocate : {A : Type 0} → (A → Type 0) → ReplyWith K A → Type 0
-  IfAllocate P (Reply.Refused refusal) = Unit {0}
-  IfAllocate P (Reply.Submit app) = Unit {0}
-  IfAllocate P (Reply.RegisterMaster minimum maximum) = Unit {0}
   IfAllocate P (Reply.Allocate reply) = P reply
-  IfAllocate P (Reply.FinishMaster ended) = Unit {0}
-  IfAllocate P (Reply.RegisterNode node) = Unit {0}
-  IfAllocate P (Reply.Heartbeat reply) = Unit {0}
-  IfAllocate P (Reply.NodeGone ended) = Unit {0}
-  IfAllocate P (Reply.QueueInfo report) = Unit {0}
-  IfAllocate P Reply.SetQueueState = Unit {0}
-  IfAllocate P (Reply.ClusterInfo report) = Unit {0}
+  IfAllocate P other = Unit {0}
 
   -- the reply in full
   abbrev pub full_reply : Flat K → ReplyWith K AllocateNumbers → Reply K
@@ -82,16 +73,8 @@ module _ {K : ℕ} where
 
   -- a call that isn't an allocate
   abbrev pub IsNoAllocate : Request K → Type 0
-  IsNoAllocate (Request.Submit path user) = Unit {0}
-  IsNoAllocate (Request.RegisterMaster app) = Unit {0}
   IsNoAllocate (Request.Allocate app id asks releases) = ⊥
-  IsNoAllocate (Request.FinishMaster app) = Unit {0}
-  IsNoAllocate (Request.RegisterNode host rack total) = Unit {0}
-  IsNoAllocate (Request.Heartbeat node id ended) = Unit {0}
-  IsNoAllocate (Request.NodeGone node) = Unit {0}
-  IsNoAllocate (Request.QueueInfo path) = Unit {0}
-  IsNoAllocate (Request.SetQueueState path running) = Unit {0}
-  IsNoAllocate Request.ClusterInfo = Unit {0}
+  IsNoAllocate other = Unit {0}
 
   -- whatever the call is answered, its grants and ends have room
   abbrev pub HasRoomForReplies : Flat K → Request K → NewsRoom → Type 0
@@ -100,4 +83,4 @@ module _ {K : ℕ} where
   -- how many grants and ends the reply to a request reports at most, whatever it is answered
   abbrev pub reports_most : Flat K → Request K → NewsRoom
   reports_most cluster (Request.Allocate app id asks releases) = option_map_or (λ a. news_most a id (length releases)) (app_at cluster app) no_news
-  reports_most cluster request = no_news
+  reports_most cluster other = no_news

@@ -170,13 +170,5 @@ other_room {K} old request room other reply new (inl r) = subst (λ x. HasRoomFo
   where
     by : (request : Request K) → IsNoAllocate request → (o : Option Refusal) → HasRoomFor (refused_or o (λ refusal. Reply.Refused refusal) (granted_reply old request)) room
     by request other (Some refusal) = tt
-    by (Request.Submit path user) other None = tt
-    by (Request.RegisterMaster app) other None = tt
     by (Request.Allocate app id asks releases) other None = absurd other
-    by (Request.FinishMaster app) other None = tt
-    by (Request.RegisterNode host rack total) other None = tt
-    by (Request.Heartbeat node id ended) other None = tt
-    by (Request.NodeGone node) other None = tt
-    by (Request.QueueInfo path) other None = tt
-    by (Request.SetQueueState path running) other None = tt
-    by Request.ClusterInfo other None = tt
+    by request other None = tt
