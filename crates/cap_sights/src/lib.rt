@@ -1,0 +1,36 @@
+//! Snapshots of a whole cluster of two resources.
+#![tactic(auto)]
+
+ghost use Rattle.std.specs.Prelude.{IfOk};
+ghost use Rattle.cap_model.specs.Sight.{sight_of};
+ghost use Rattle.cap_copy.specs.Snapshot.{sight_in};
+ghost use Rattle.cap_sights.specs.Sights.{ShowTheSame};
+
+use bumpalo::Bump;
+use cap_commit::Cluster;
+use cap_copy::Snapshot;
+use cap_model::NoMemory;
+use std::alloc::Global;
+
+/// A snapshot of the cluster, which shows the same as the cluster. If an allocation fails there is none.
+pub fn snapshot_of(alloc: Global, cluster: &Cluster<2>) -> Result<Snapshot<2, Global>, NoMemory>
+    ensures { IfOk result (λ snapshot.
+        ShowTheSame (sight_in 2 snapshot) (sight_of cluster.now.flat)) }
+{
+    let nodes = cluster.nodes();
+    let _count = nodes.count();
+    Snapshot::take(alloc, cluster.tree(), cluster.apps(), nodes)
+}
+
+/// The same in an arena.
+pub fn snapshot_in<'a>(
+    arena: &'a Bump,
+    cluster: &Cluster<2>,
+) -> Result<Snapshot<2, &'a Bump>, NoMemory>
+    ensures { IfOk result (λ snapshot.
+        ShowTheSame (sight_in 2 snapshot) (sight_of cluster.now.flat)) }
+{
+    let nodes = cluster.nodes();
+    let _count = nodes.count();
+    Snapshot::take(arena, cluster.tree(), cluster.apps(), nodes)
+}
