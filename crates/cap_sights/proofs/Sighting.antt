@@ -63,9 +63,9 @@ module _ {K : ℕ} (flat : Flat K) where
 
 -- a snapshot of the parts of a cluster, if there was memory for it
 pub snapshot_shows : (flat : Flat 2) (held tree : List Row) (apps : AppTable) (nodes : NodeTable) → tree ≡ held → apps ≡ flat.apps → nodes ≡ flat.nodes → queues_of held ≡ flat.settings.queues → All (IsRowOf flat) held
-    → IsRising 1 (map (λ node. node.number) nodes.present) nodes.next_node → (r : Result Seen NoMemory) → IfOk r (λ seen. IsSnapshotOf 2 tree apps nodes seen) → IfOk r (λ seen. ShowTheSame {K = 2} (sight_in 2 seen) (sight_of flat))
-snapshot_shows flat held tree apps nodes t a n queues tied rising (Err e) is = tt
-snapshot_shows flat held tree apps nodes t a n queues tied rising (Ok seen) is =
+    → (r : Result Seen NoMemory) → IfOk r (λ seen. IsSnapshotOf 2 tree apps nodes seen) → IfOk r (λ seen. ShowTheSame {K = 2} (sight_in 2 seen) (sight_of flat))
+snapshot_shows flat held tree apps nodes t a n queues tied (Err e) is = tt
+snapshot_shows flat held tree apps nodes t a n queues tied (Ok seen) is =
     let same : sight_in 2 seen ≡ sight_of_parts 2 held flat.apps flat.nodes = is.sight ∙ (λ i. sight_of_parts 2 (t i) (a i) (n i)) in
-    let numbers = subst (λ (x : NodeTable). IsRising 1 (map (λ node. node.number) x.present) x.next_node) n rising in
+    let numbers = subst (λ (x : NodeTable). IsRising 1 (map (λ node. node.number) x.present) x.next_node) n is.numbers in
     subst (λ (s : Sight 2). ShowTheSame s (sight_of flat)) (sym same) (parts_same flat held queues (λ r m. each_of (IsRowOf flat) held tied r m) numbers)

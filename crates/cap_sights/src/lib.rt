@@ -17,9 +17,7 @@ pub fn snapshot_of(alloc: Global, cluster: &Cluster<2>) -> Result<Snapshot<2, Gl
     ensures { IfOk result (λ snapshot.
         ShowTheSame (sight_in 2 snapshot) (sight_of cluster.now.flat)) }
 {
-    let nodes = cluster.nodes();
-    let _count = nodes.count();
-    Snapshot::take(alloc, cluster.tree(), cluster.apps(), nodes)
+    Snapshot::take(alloc, cluster.tree(), cluster.apps(), cluster.nodes())
 }
 
 /// The same in an arena.
@@ -30,7 +28,5 @@ pub fn snapshot_in<'a>(
     ensures { IfOk result (λ snapshot.
         ShowTheSame (sight_in 2 snapshot) (sight_of cluster.now.flat)) }
 {
-    let nodes = cluster.nodes();
-    let _count = nodes.count();
-    Snapshot::take(arena, cluster.tree(), cluster.apps(), nodes)
+    Snapshot::take(arena, cluster.tree(), cluster.apps(), cluster.nodes())
 }

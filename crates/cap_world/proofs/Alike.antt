@@ -19,7 +19,7 @@ use Rattle.cap_model.proofs.lists.Filters.{filter_same, find_mapped_at, map_twic
 use Rattle.cap_model.proofs.lists.Tests.{same_test}
 use Rattle.cap_model.proofs.uses.Measures.{amounts_fit, fits_amounts}
 use Rattle.cap_model.proofs.choice.Reasons.{rejected_exactly}
-use Rattle.cap_world.specs.Sights.{QueueUse, queue_use, ShowTheSame}
+use Rattle.cap_sights.specs.Sights.{QueueUse, queue_use, ShowTheSame}
 
 -- ---- what depends on the settings and the use of queues alone
 

@@ -1,6 +1,5 @@
 mod Alike
 mod Serving
-mod Sighting
 mod Starving
 mod Tables
 mod Working

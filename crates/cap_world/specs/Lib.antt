@@ -1,7 +1,6 @@
 pub mod Answers
 pub mod Connection
 pub mod Serving
-pub mod Sights
 pub mod Worker
 pub mod World
 pub mod Working

@@ -9,7 +9,7 @@ use Rattle.cap_model.specs.Admission.{NodeProposal, IsAdmissible}
 use Rattle.cap_model.specs.Candidates.{choice_from}
 use Rattle.cap_model.specs.Verdicts.{IsOf, IsVerdict}
 use Rattle.cap_copy.specs.Snapshot.{Seen, sight_in}
-use Rattle.cap_world.specs.Sights.{ShowTheSame}
+use Rattle.cap_sights.specs.Sights.{ShowTheSame}
 use Rattle.cap_world.specs.Worker.{WorkerState, workers_max, with_copy, with_choice, with_verdict}
 use Rattle.cap_world.specs.World.{WorldState, worker_at, choice_of, Changes}
 

@@ -7,15 +7,14 @@ ghost use Rattle.cap_model.specs.Admission.{IsAdmissible};
 ghost use Rattle.cap_copy.specs.Snapshot.{sight_in};
 ghost use Rattle.cap_world.specs.Connection.{Connection};
 ghost use Rattle.cap_world.specs.World.{choice_in, verdict_in, worker_at};
-ghost use Rattle.cap_world.specs.Sights.{ShowTheSame};
 ghost use Rattle.cap_world.specs.Working.{IsOfProposal, IsTried, made_by};
 ghost use Rattle.cap_world.specs.Steps.{Outcome};
 
 use crate::step::{Did, Step};
 use crate::worker::Worker;
 use cap_commit::Cluster;
-use cap_copy::Snapshot;
 use cap_model::{Event, NoMemory, Proposal, Verdict};
+use cap_sights::snapshot_of;
 use indexmap::IndexMap;
 use std::alloc::Global;
 
@@ -78,14 +77,6 @@ pub(crate) fn copy(
         Ok(_) => Ok(Did::Done),
         Err(_) => Err(NoMemory),
     }
-}
-
-/// A snapshot of the cluster.
-fn snapshot_of(alloc: Global, cluster: &Cluster<2>) -> Result<Snapshot<2, Global>, NoMemory>
-    ensures { IfOk result (λ snapshot.
-        ShowTheSame (sight_in 2 snapshot) (sight_of cluster.now.flat)) }
-{
-    Snapshot::take(alloc, cluster.tree(), cluster.apps(), cluster.nodes())
 }
 
 /// A worker proposes on its snapshot, if it has one.
