@@ -32,6 +32,13 @@ pub(crate) fn command_of(line: &[u8]) -> Option<Command<'_>>
     if line.is_empty() || line[0] == b'#' {
         return Some(Command::Nothing);
     }
+    if let Some(rest) = line.strip_prefix(b"bytes ") {
+        let (number, piece) = split_once(rest, b' ')?;
+        return match number_of(number) {
+            Some(number) => Some(Command::Bytes(number, piece)),
+            None => None,
+        };
+    }
     if let Some(property) = line.strip_prefix(b"conf ") {
         return Some(Command::Conf(property));
     }
@@ -48,14 +55,8 @@ pub(crate) fn command_of(line: &[u8]) -> Option<Command<'_>>
         let (worker, start) = split_once(numbers, b' ')?;
         return Some(Command::Propose(number_of(worker)?, number_of(start)?));
     }
-    if let Some(number) = line.strip_prefix(b"commit ") {
-        return Some(Command::Commit(number_of(number)?));
-    }
-    let (number, piece) = split_once(line.strip_prefix(b"bytes ")?, b' ')?;
-    match number_of(number) {
-        Some(number) => Some(Command::Bytes(number, piece)),
-        None => None,
-    }
+    let number = line.strip_prefix(b"commit ")?;
+    Some(Command::Commit(number_of(number)?))
 }
 
 /// The number that 1 to 10 decimal digits spell, where it fits a u32.

@@ -140,13 +140,13 @@ impl Script {
         };
         let piece = &self.room[..count];
         let before = self.simulation.output(number).len();
-        let step = Step::Bytes(number, piece);
-        let did = self.simulation.step(step);
-        let output = self.simulation.output(number);
+        let did = self.simulation.step(Step::Bytes(number, piece));
+        let (output, is_open) = self.simulation.answers(number);
         let more = output.get(before..).unwrap_or(&[]);
         print_frames(&mut self.printed, number, more)?;
         match did {
-            Ok(Did::Done) => print_done(&mut self.printed, &self.simulation, step)?,
+            Ok(Did::Done) if is_open => {}
+            Ok(Did::Done) => print_number(&mut self.printed, b"ended ", number)?,
             Ok(Did::Idle) => self.printed.extend_from_slice(b"idle\n")?,
             Err(stop) => return Err(stop),
         }
@@ -217,7 +217,7 @@ impl Script {
     }
 }
 
-/// Prints what a step did. A piece prints nothing more than its frames, unless its connection has ended.
+/// Prints what a step did, other than a piece.
 fn print_done(
     printed: &mut Vec<u8>,
     simulation: &Simulation,
@@ -225,8 +225,7 @@ fn print_done(
 ) -> Result<(), AllocError> {
     match step {
         Step::Open(number) => print_number(printed, b"opened ", number),
-        Step::Bytes(number, _) if simulation.is_open(number) => Ok(()),
-        Step::Bytes(number, _) => print_number(printed, b"ended ", number),
+        Step::Bytes(_, _) => Ok(()),
         Step::End(number) => print_number(printed, b"closed ", number),
         Step::Copy(worker) => print_number(printed, b"copied ", worker),
         Step::Propose(worker, _) => print_choice(printed, worker, simulation.choice(worker)),

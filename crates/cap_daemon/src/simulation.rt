@@ -115,11 +115,11 @@ impl Simulation {
         }
     }
 
-    /// Whether a connection is open, which none is before the first step.
-    pub(crate) fn is_open(&self, number: u32) -> bool {
+    /// All bytes that a connection was answered, and whether it is open, which none is before the first step.
+    pub(crate) fn answers(&self, number: u32) -> (&[u8], bool) {
         match &self.world {
-            Some(world) => world.is_open(number),
-            None => false,
+            Some(world) => world.answers(number),
+            None => (&[], false),
         }
     }
 

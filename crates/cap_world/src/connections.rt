@@ -35,6 +35,17 @@ pub(crate) fn output(connections: &Connections, number: u32) -> &[u8]
     }
 }
 
+/// All bytes ever answered on the connection, and whether it is open.
+pub(crate) fn answers(connections: &Connections, number: u32) -> (&[u8], bool)
+    ensures output { result.0.now ≡ output_from (connection_at number connections.now.entries) }
+    ensures open { result.1 ≡ is_open_connection (connection_at number connections.now.entries) }
+{
+    match connections.get(&number) {
+        Some(connection) => (connection.output(), connection.is_open()),
+        None => (&[], false),
+    }
+}
+
 /// Opens a connection, if its number was never opened.
 pub(crate) fn open(
     alloc: Global,

@@ -77,6 +77,14 @@ impl World {
         connections::output(&self.connections, number)
     }
 
+    /// Both of the connection of this number: all bytes ever answered on it, and whether it is open.
+    pub fn answers(&self, number: u32) -> (&[u8], bool)
+        ensures output { result.0.now ≡ output_of number self.now.sight }
+        ensures open { result.1 ≡ is_open number self.now.sight }
+    {
+        connections::answers(&self.connections, number)
+    }
+
     /// The proposal of the worker of this number: what it chose last, if it neither copied the cluster nor committed
     /// since.
     pub fn choice(&self, worker: u32) -> Option<Proposal<2>>
