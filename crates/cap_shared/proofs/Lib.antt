@@ -1,0 +1,4 @@
+pub mod Entering
+pub mod Lists
+pub mod Moves
+pub mod Pasts

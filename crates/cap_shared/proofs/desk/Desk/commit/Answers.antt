@@ -1,0 +1,20 @@
+use Rattle.std.proofs.Common.{◌≡◌, None, refl, sym, ◌∙◌, subst, arith}
+use Rattle.cap_model.specs.Sight.{sight_of}
+use Rattle.cap_model.specs.Admission.{reason_of}
+use Rattle.cap_shared.specs.declared.history.Answer.TheVariants as answer
+use Rattle.cap_shared.specs.Parts.{Content}
+use Rattle.cap_shared.proofs.Pasts.{noted_seat}
+use Rattle.cap_shared.proofs.desk.Desk.commit.Goals as goal
+
+pub invariant_of-seat : goal.invariant_of-seat
+invariant_of-seat g c =
+    let len = c.self.inside.journal.ok.0 in
+    noted_seat _ _ _ _ c.self.inside.journal.items c.self.inside.pass c.note_sealed_commit.new.desk c.seat.inside.pass c.note_sealed_commit.new.seat _ _ _ (answer.SealedCommit c.args.proposal) c.seat.invariant c.note_sealed_commit.ensures refl (omega (arith, c.self.invariant.fits, c.self.invariant.limit_is))
+
+pub invariant_of-seat-in-Some : goal.invariant_of-seat-in-Some
+invariant_of-seat-in-Some g c =
+    noted_seat _ _ _ _ c.self.inside.journal.items c.self.inside.pass c.note_rejected.new.desk c.seat.inside.pass c.note_rejected.new.seat _ _ _ (answer.Rejected c.args.proposal c.in-Some.reason) c.seat.invariant c.note_rejected.ensures refl (c.self.inside.cluster.flat, c.self.invariant.run, sym c.in-Some.ensures)
+
+pub make-requires-clause-admitted : goal.make-requires-clause-admitted
+make-requires-clause-admitted g c =
+    subst (λ (v : Content). reason_of (sight_of v.cluster) c.args.proposal ≡ None) c.self.view_is (sym c.in_default.ensures)

@@ -1,0 +1,12 @@
+use Rattle.std.proofs.Common.{◌≡◌, ◌-◌, ◌≤◌, [], true, vec_capacity}
+use Rattle.cap_shared.specs.Rule.{view_of, fresh}
+use Rattle.cap_shared.proofs.shared.Shared.open.Given as goal
+
+-- the seats so far, and the pass sits for the others
+abbrev pub invariant-loop-number : goal.invariant-loop-number
+invariant-loop-number g l = record {
+  same : l.pass.table_id ≡ g.J.Naming.table;
+  me : l.pass.me ≡ (view_of true [] (fresh l.number (l.count - l.number)), []);
+  seats : l.seats.items ≡ fresh 0 l.number;
+  room : l.count ≤ vec_capacity l.seats;
+}

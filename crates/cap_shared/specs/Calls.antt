@@ -1,0 +1,67 @@
+-- What each call of a seat adds to what it was answered.
+use Rattle.std.specs.Prelude.{◌≡◌, ℕ, List, [], ◌∷◌, ◌++◌, length, false}
+use Rattle.cap_model.specs.Flat.{Flat}
+use Rattle.cap_model.specs.Sight.{sight_of}
+use Rattle.cap_model.specs.News.{Reply}
+use Rattle.cap_model.specs.Admission.{NodeProposal}
+use Rattle.cap_model.specs.Events.{is_no_memory}
+use Rattle.cap_model.specs.Reporting.{HasRoomForReplies}
+use Rattle.cap_model.specs.Replies.{Replies}
+use Rattle.cap_model.specs.Verdicts.{IsOf}
+use Rattle.cap_model.specs.declared.request.Request.{Request}
+use Rattle.cap_model.specs.declared.proposal.Verdict.{Verdict}
+use Rattle.cap_model.specs.declared.proposal.Verdict.TheVariants as verdict
+use Rattle.cap_copy.specs.Snapshot.{Seen, sight_in}
+use Rattle.cap_sights.specs.Sights.{ShowTheSame}
+use Rattle.cap_shared.specs.declared.entry.Entry.{Entry}
+use Rattle.cap_shared.specs.declared.entry.Receipt.TheVariants as receipt
+use Rattle.cap_shared.specs.declared.faults.CallFault.{CallFault}
+use Rattle.cap_shared.specs.declared.faults.CallFault.TheVariants as fault
+use Rattle.cap_shared.specs.declared.faults.CommitFault.{CommitFault}
+use Rattle.cap_shared.specs.declared.faults.CommitFault.TheVariants as refusal
+use Rattle.cap_shared.specs.declared.faults.Fault.{Fault}
+use Rattle.cap_shared.specs.declared.faults.Fault.TheVariants as missed
+use Rattle.cap_shared.specs.declared.history.Answer.TheVariants as answer
+use Rattle.cap_shared.specs.declared.history.Moment.{Moment}
+use Rattle.cap_shared.specs.declared.history.Moment.TheVariants.{Entered, Noted}
+use Rattle.cap_shared.specs.declared.history.Sitting.{Sitting}
+use Rattle.cap_shared.specs.Journal.{Replays, receipt_for}
+use Rattle.cap_shared.specs.Rule.{sitting}
+
+-- the same seat was answered these moments more
+abbrev pub HasMore : Sitting → Sitting → List Moment → Type 0
+HasMore old new moments = new ≡ sitting old.seat (old.past ++ moments)
+
+-- a call that is answered has a receipt of its own; it is never answered that no memory was found
+abbrev pub CallsOk : Request 2 → Sitting → Sitting → Reply 2 → Type 0
+CallsOk request old new reply =
+    (is_no_memory reply ≡ false) × ((n : ℕ) × HasMore old new (Entered (receipt.Call n request reply) ∷ []))
+
+-- that a full journal kept the call from being made is noted
+abbrev pub IsSealedCall : Request 2 → ℕ → Sitting → Sitting → Type 0
+IsSealedCall request limit old new = (es : List Entry) × (length es ≡ limit) × HasMore old new (Noted es (answer.SealedCall request) ∷ [])
+
+abbrev pub CallMisses : Request 2 → ℕ → Sitting → Sitting → Fault → Type 0
+CallMisses request limit old new missed.Sealed = IsSealedCall request limit old new
+CallMisses request limit old new missed.NoMemory = new ≡ old
+
+-- a call that is not made gives its request back; where an allocation failed, nothing changed
+abbrev pub CallsBack : Request 2 → ℕ → Sitting → Sitting → CallFault → Type 0
+CallsBack request limit old new (fault.Sealed back) = (back ≡ request) × IsSealedCall request limit old new
+CallsBack request limit old new (fault.NoMemory back) = (back ≡ request) × (new ≡ old)
+
+-- a proposal that is made has a receipt of an event of its kind, application, key, node and resource; a rejection is noted
+abbrev pub CommitAnswers : NodeProposal → Sitting → Sitting → Verdict 2 → Type 0
+CommitAnswers p old new (verdict.Done event) = IsOf p event × ((n : ℕ) × HasMore old new (Entered (receipt_for n event) ∷ []))
+CommitAnswers p old new (verdict.Rejected reason) = (es : List Entry) × HasMore old new (Noted es (answer.Rejected p reason) ∷ [])
+
+-- a proposal that is not tried or not made comes back, and that is noted
+abbrev pub CommitsBack : NodeProposal → ℕ → Sitting → Sitting → CommitFault → Type 0
+CommitsBack p limit old new (refusal.Sealed back) =
+    (back ≡ p) × ((es : List Entry) × (length es ≡ limit) × HasMore old new (Noted es (answer.SealedCommit p) ∷ []))
+CommitsBack p limit old new (refusal.NoMemory back) = (back ≡ p) × ((es : List Entry) × HasMore old new (Noted es (answer.NoMemory p) ∷ []))
+
+-- a copy shows what the cluster showed after the entries of its note
+abbrev pub CopyIs : Flat 2 → Sitting → Sitting → Seen → Type 0
+CopyIs opening old new snapshot =
+    (es : List Entry) × (mid : Flat 2) × Replays opening es mid × ShowTheSame (sight_in 2 snapshot) (sight_of mid) × HasMore old new (Noted es answer.Copied ∷ [])

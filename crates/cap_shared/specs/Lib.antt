@@ -1,0 +1,9 @@
+pub mod Calls
+pub mod Events
+pub mod Journal
+pub mod Making
+pub mod Parts
+pub mod Passes
+pub mod Requests
+pub mod Rooms
+pub mod Rule

@@ -1,0 +1,198 @@
+//! What lies under the lock.
+ghost use Rattle.std.specs.Prelude.{◌≡◌, ◌<◌, ◌≤◌, MatchResult, length, ◌↔◌, IsTrue, None};
+ghost use Rattle.cap_model.specs.Sight.{sight_of};
+ghost use Rattle.cap_model.specs.Admission.{reason_of};
+ghost use Rattle.cap_shared.specs.Calls.{CallsOk, CallMisses, CommitAnswers, CommitsBack, CopyIs};
+
+use crate::calls::{Answered, answer};
+use crate::entry::{Entry, Receipt};
+use crate::event::{CompactEvent, EventForm};
+use crate::faults::{CommitFault, Fault};
+use crate::making::make_proposed;
+use crate::marks::{
+    enter, note_copied, note_no_memory, note_rejected, note_sealed_call, note_sealed_commit,
+};
+use crate::passes::{Pass, Word};
+use crate::seat::{Naming, Seat};
+use bumpalo::Bump;
+use cap_commit::Cluster;
+use cap_copy::Snapshot;
+use cap_model::{Event, NoMemory, OwnedReply, Proposal, Request, Verdict};
+use cap_sights::snapshot_in;
+use std::alloc::Global;
+use std::marker::{Model, PhantomData};
+
+/// The cluster and its journal, with the pass that knows the journal.
+#[derive(Drop)]
+pub struct Desk<J: Naming> {
+    pub(crate) cluster: Cluster<2>,
+    pub(crate) journal: Vec<Entry>,
+    pub(crate) limit: usize,
+    pub(crate) pass: Pass,
+    pub(crate) of: PhantomData<J>,
+}
+
+impl<J: Naming> Model for Desk<J> {
+    ghost use Rattle.cap_shared.specs.Parts.{Content, IsDesk};
+    ghost use Rattle.std.specs.Prelude.{vec_capacity};
+
+    ghost Value = { Content };
+
+    ghost view = { λ d. record { cluster = d.cluster.flat; log = d.journal.items } };
+
+    ghost invariant = { λ d. IsDesk J.table J.opening J.limit J.seats d.cluster.flat
+        d.journal.items d.pass.table_id d.pass.me d.limit (vec_capacity d.journal) };
+}
+
+impl<J: Naming> Desk<J> {
+    /// Whether the journal is full.
+    pub fn is_full(&self) -> bool
+        ensures { IsTrue result ↔ (J.limit ≤ length self.now.log) }
+    {
+        self.journal.len() >= self.limit
+    }
+
+    /// Makes a call, with an entry and a receipt. A full journal is noted, and if an allocation fails nothing changes.
+    pub fn call(
+        &mut self,
+        alloc: Global,
+        word: &Word,
+        seat: &mut Seat<J>,
+        request: &Request<2>,
+    ) -> Result<OwnedReply<2>, Fault>
+        requires word { (word.now.table_id ≡ J.table) × (0 < word.now.table_id.words) }
+        ensures { MatchResult result (CallsOk request.now seat.old seat.new)
+            (CallMisses request.now J.limit seat.old seat.new) }
+    {
+        if self.journal.len() >= self.limit {
+            note_sealed_call(word, &mut self.pass, &self.journal, &mut seat.pass, request);
+            return Err(Fault::Sealed);
+        }
+        let Ok(answered) = answer(alloc, &mut self.cluster, &mut seat.receipts, request) else {
+            return Err(Fault::NoMemory);
+        };
+        let Answered {
+            entry,
+            receipt,
+            reply,
+        } = answered;
+        let position = self.journal.len() as u64;
+        let by = seat.number;
+        let event = CompactEvent::of(EventForm::Call {
+            by,
+            request: entry.request,
+            reply: entry.reply,
+        });
+        enter(
+            word,
+            &mut self.pass,
+            &mut self.journal,
+            &mut seat.pass,
+            &mut seat.receipts,
+            Entry { seat: by, event },
+            Receipt::Call {
+                position,
+                request: receipt.request,
+                reply: receipt.reply,
+            },
+        );
+        Ok(reply)
+    }
+
+    /// Makes a proposal that is admissible now, with an entry and a receipt. A rejection, a full journal and a failed allocation are
+    /// noted. A rejection takes no memory.
+    pub fn commit(
+        &mut self,
+        word: &Word,
+        seat: &mut Seat<J>,
+        proposal: Proposal<2>,
+    ) -> Result<Verdict<2>, CommitFault>
+        requires word { (word.now.table_id ≡ J.table) × (0 < word.now.table_id.words) }
+        ensures { MatchResult result (CommitAnswers proposal seat.old seat.new)
+            (CommitsBack proposal J.limit seat.old seat.new) }
+    {
+        if self.journal.len() >= self.limit {
+            note_sealed_commit(
+                word,
+                &mut self.pass,
+                &self.journal,
+                &mut seat.pass,
+                &proposal,
+            );
+            return Err(CommitFault::Sealed(proposal));
+        }
+        if let Some(reason) = self.cluster.reason(&proposal) {
+            note_rejected(
+                word,
+                &mut self.pass,
+                &self.journal,
+                &mut seat.pass,
+                &proposal,
+                &reason,
+            );
+            return Ok(Verdict::Rejected(reason));
+        }
+        self.make(word, seat, proposal)
+    }
+
+    /// Makes a proposal that is admissible, with room in the journal.
+    fn make(
+        &mut self,
+        word: &Word,
+        seat: &mut Seat<J>,
+        proposal: Proposal<2>,
+    ) -> Result<Verdict<2>, CommitFault>
+        requires word { (word.now.table_id ≡ J.table) × (0 < word.now.table_id.words) }
+        requires room { length self.old.log < J.limit }
+        requires admitted { reason_of (sight_of self.old.cluster) proposal ≡ None }
+        ensures { MatchResult result (CommitAnswers proposal seat.old seat.new)
+            (CommitsBack proposal J.limit seat.old seat.new) }
+    {
+        let Ok(event) = make_proposed(&mut self.cluster, &mut seat.receipts, &proposal) else {
+            note_no_memory(
+                word,
+                &mut self.pass,
+                &self.journal,
+                &mut seat.pass,
+                &proposal,
+            );
+            return Err(CommitFault::NoMemory(proposal));
+        };
+        let position = self.journal.len() as u64;
+        let by = seat.number;
+        enter(
+            word,
+            &mut self.pass,
+            &mut self.journal,
+            &mut seat.pass,
+            &mut seat.receipts,
+            Entry {
+                seat: by,
+                event: event.compact(),
+            },
+            Receipt::Commit {
+                position,
+                event: event.compact(),
+            },
+        );
+        Ok(Verdict::Done(event.event()))
+    }
+
+    /// A snapshot of the cluster as it is, which is noted. If an allocation fails nothing changes.
+    pub fn copy<'a>(
+        &mut self,
+        arena: &'a Bump,
+        word: &Word,
+        seat: &mut Seat<J>,
+    ) -> Result<Snapshot<2, &'a Bump>, NoMemory>
+        requires word { (word.now.table_id ≡ J.table) × (0 < word.now.table_id.words) }
+        ensures { MatchResult result (CopyIs J.opening seat.old seat.new)
+            (λ _. seat.new ≡ seat.old) }
+    {
+        let Ok(snapshot) = snapshot_in(arena, &self.cluster) else {
+            return Err(NoMemory);
+        };
+        note_copied(word, &mut self.pass, &self.journal, &mut seat.pass);
+        Ok(snapshot)
+    }
+}

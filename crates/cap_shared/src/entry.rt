@@ -1,0 +1,26 @@
+//! What a journal holds, and what a seat keeps of it.
+use crate::event::CompactEvent;
+use crate::request::CompactRequest;
+use cap_model::OwnedReply;
+
+/// One entry of the journal: an event, and the number of the seat that made it.
+#[derive(Drop)]
+pub struct Entry {
+    pub seat: u32,
+    pub event: CompactEvent,
+}
+
+/// What was entered for a seat, with the position of its entry in the journal: a call that was answered, or a proposal that was
+/// made.
+#[derive(Drop)]
+pub enum Receipt {
+    Call {
+        position: u64,
+        request: CompactRequest,
+        reply: OwnedReply<2>,
+    },
+    Commit {
+        position: u64,
+        event: CompactEvent,
+    },
+}

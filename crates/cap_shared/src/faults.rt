@@ -1,0 +1,27 @@
+//! Why a call or a commit was not made.
+use cap_model::{Proposal, Request};
+
+/// A call was not made, and nothing changed. The request comes back.
+#[derive(Drop)]
+pub enum CallFault {
+    /// The journal is full.
+    Sealed(Request<2>),
+    /// An allocation failed.
+    NoMemory(Request<2>),
+}
+
+/// A proposal was not made, and nothing changed. The proposal comes back.
+#[derive(Clone, Copy, Drop)]
+pub enum CommitFault {
+    /// The journal is full.
+    Sealed(Proposal<2>),
+    /// It is admissible, and an allocation failed.
+    NoMemory(Proposal<2>),
+}
+
+/// Why nothing was made under the lock.
+#[derive(Clone, Copy, Drop)]
+pub enum Fault {
+    Sealed,
+    NoMemory,
+}

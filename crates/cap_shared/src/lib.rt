@@ -1,0 +1,28 @@
+//! One cluster that several threads share: under a lock, with a journal of all that was done, and receipts of each thread's own calls.
+#![tactic(auto)]
+
+mod blank;
+mod calls;
+mod closed;
+mod desk;
+mod entry;
+mod event;
+mod faults;
+mod history;
+mod making;
+mod marks;
+mod passes;
+mod request;
+mod rule;
+mod seat;
+mod shared;
+
+pub use blank::Blank;
+pub use closed::{Closed, SeatReport};
+pub use entry::{Entry, Receipt};
+pub use event::{CompactEvent, EventForm};
+pub use faults::{CallFault, CommitFault};
+pub use history::{Answer, Mark, Moment, Sitting, View};
+pub use request::CompactRequest;
+pub use seat::{Naming, Seat};
+pub use shared::Shared;

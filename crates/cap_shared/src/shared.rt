@@ -1,0 +1,194 @@
+//! The cluster that threads share, with its seats.
+ghost use Rattle.std.specs.Prelude.{◌≡◌, ℕ, ◌<◌, ◌≤◌, [], length, map, vec_capacity, IfOk, MatchResult};
+ghost use Rattle.cap_shared.specs.Calls.{CallsOk, CallsBack, CommitAnswers, CommitsBack, CopyIs};
+ghost use Rattle.cap_shared.specs.Journal.{Replays, TagsBelow, AllHonest};
+ghost use Rattle.cap_shared.specs.Parts.{report_of};
+ghost use Rattle.cap_shared.specs.Rule.{fresh, AllFit, times};
+
+use crate::blank::Blank;
+use crate::closed::{Closed, SeatReport};
+use crate::desk::Desk;
+use crate::faults::{CallFault, CommitFault, Fault};
+use crate::history::{Mark, View};
+use crate::rule::{Compares, Handover, JournalRule};
+use crate::seat::{Naming, Seat};
+use atomic_table::Table;
+use bumpalo::Bump;
+use cap_commit::Cluster;
+use cap_copy::Snapshot;
+use cap_model::{NoMemory, OwnedReply, Proposal, Request, Verdict};
+use std::alloc::Global;
+use std::marker::PhantomData;
+use std::sync::{Mutex, Wait};
+
+/// A cluster under a lock, its journal, and the word that ties both to the seats. Threads share it by reference, each with a seat.
+#[derive(Drop)]
+pub struct Shared<J: Naming> {
+    alloc: Global,
+    table: Table<Mark, View, u64, JournalRule, Global>,
+    desk: Mutex<Desk<J>>,
+    room: Vec<SeatReport>,
+    ghost named: { table.shared.table_id ≡ J.table },
+    ghost word: { 0 < table.shared.table_id.words },
+    ghost empty: { room.items ≡ [] },
+    ghost roomy: { J.seats ≤ vec_capacity room },
+}
+
+impl<J: Naming> Shared<J> {
+    /// Makes a call. It is entered in the journal, whatever it is answered, and the seat has a receipt. If the journal is full, or if
+    /// an allocation fails, the request comes back and nothing changes; `Refusal::NoMemory` is never a reply.
+    pub fn call<R: Wait>(
+        &self,
+        rt: &R,
+        seat: &mut Seat<J>,
+        request: Request<2>,
+    ) -> Result<OwnedReply<2>, CallFault>
+        ensures { MatchResult result (CallsOk request seat.old seat.new)
+            (CallsBack request J.limit seat.old seat.new) }
+    {
+        let answer = self
+            .desk
+            .lock(rt)
+            .call(self.alloc, &self.table.shared, seat, &request);
+        match answer {
+            Ok(reply) => Ok(reply),
+            Err(Fault::Sealed) => Err(CallFault::Sealed(request)),
+            Err(Fault::NoMemory) => Err(CallFault::NoMemory(request)),
+        }
+    }
+
+    /// Makes a proposal if it is admissible now: it is entered in the journal, and the seat has a receipt. Else it is rejected for the
+    /// first reason that holds, and nothing changes; that takes no memory. If the journal is full, or if the proposal is admissible
+    /// and an allocation fails, it comes back and nothing changes.
+    pub fn commit<R: Wait>(
+        &self,
+        rt: &R,
+        seat: &mut Seat<J>,
+        proposal: Proposal<2>,
+    ) -> Result<Verdict<2>, CommitFault>
+        ensures { MatchResult result (CommitAnswers proposal seat.old seat.new)
+            (CommitsBack proposal J.limit seat.old seat.new) }
+    {
+        self.desk
+            .lock(rt)
+            .commit(&self.table.shared, seat, proposal)
+    }
+
+    /// A snapshot of the cluster in an arena. If an allocation fails nothing changes.
+    pub fn copy<'a, R: Wait>(
+        &self,
+        rt: &R,
+        arena: &'a Bump,
+        seat: &mut Seat<J>,
+    ) -> Result<Snapshot<2, &'a Bump>, NoMemory>
+        ensures { MatchResult result (CopyIs J.opening seat.old seat.new)
+            (λ _. seat.new ≡ seat.old) }
+    {
+        self.desk.lock(rt).copy(arena, &self.table.shared, seat)
+    }
+
+    /// Whether the journal is full. Once it is, it stays so.
+    pub fn is_full<R: Wait>(&self, rt: &R) -> bool {
+        self.desk.lock(rt).is_full()
+    }
+
+    /// Opens an epoch over a cluster, with a journal of at most so many entries, and seats that were answered nothing. All that `close`
+    /// needs is allocated here. If an allocation fails the cluster is given up.
+    pub fn open(
+        alloc: Global,
+        blank: Blank,
+        cluster: Cluster<2>,
+        limit: usize,
+    ) -> Result<(Shared<J>, Vec<Seat<J>>), NoMemory>
+        requires named { blank.0 ≡ J.table }
+        requires opening { cluster.flat ≡ J.opening }
+        requires limit { limit ≡ J.limit }
+        requires seats { blank.1 ≡ J.seats }
+        requires some { (1 ≤ J.limit) × (J.limit ≤ 1000000) }
+        requires few { (1 ≤ J.seats) × (J.seats ≤ 256) }
+        ensures { IfOk result (λ r. r.1.items ≡ fresh 0 J.seats) }
+    {
+        let Blank {
+            table,
+            mut pass,
+            seats: count,
+        } = blank;
+        let Ok(journal) = Vec::with_capacity(alloc, limit) else {
+            return Err(NoMemory);
+        };
+        let Ok(room) = Vec::with_capacity(alloc, count as usize) else {
+            return Err(NoMemory);
+        };
+        let Ok(mut seats) = Vec::with_capacity(alloc, count as usize) else {
+            return Err(NoMemory);
+        };
+        for number in 0..count {
+            let own = table.shared.split_seat::<Handover>(&mut pass);
+            seats.push_reserved(Seat {
+                number,
+                receipts: Vec::new(alloc),
+                pass: own,
+                of: PhantomData,
+            });
+        }
+        let desk = Desk {
+            cluster,
+            journal,
+            limit,
+            pass,
+            of: PhantomData,
+        };
+        Ok((
+            Shared {
+                alloc,
+                table,
+                desk: Mutex::new(desk),
+                room,
+            },
+            seats,
+        ))
+    }
+
+    /// Closes an epoch; all its seats come back. The journal leads from the opening cluster to the closing one, each of its entries is of a
+    /// seat that `open` gave, and the receipts of each seat are exactly those for its entries. It takes no memory.
+    pub fn close(self, seats: Vec<Seat<J>>) -> Closed
+        requires { length seats.items ≡ J.seats }
+        ensures run { Replays J.opening result.journal.items result.cluster.flat }
+        ensures limit { length result.journal.items ≤ J.limit }
+        ensures tags { TagsBelow J.seats result.journal.items }
+        ensures apart { (x : ℕ) → times x seats.items ≤ 1 }
+        ensures fit { AllFit result.journal.items seats.items }
+        ensures honest { AllHonest J.opening J.limit seats.items }
+        ensures reports { result.seats.items ≡ map report_of seats.items }
+    {
+        let Shared {
+            alloc: _,
+            table,
+            desk,
+            mut room,
+        } = self;
+        let Desk {
+            cluster,
+            journal,
+            limit: _,
+            mut pass,
+            of: _,
+        } = desk.into_inner();
+        for seat in seats {
+            let Seat {
+                number,
+                receipts,
+                pass: own,
+                of: _,
+            } = seat;
+            table.shared.join_seat::<Handover>(&mut pass, own);
+            room.push_reserved(SeatReport::new(number, receipts));
+        }
+        table.shared.load::<Compares>(&mut pass, 0);
+        Closed {
+            cluster,
+            journal,
+            seats: room,
+        }
+    }
+}
