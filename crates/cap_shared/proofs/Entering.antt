@@ -1,5 +1,5 @@
 -- What a call and a proposal come to, as events and receipts.
-use Rattle.std.proofs.Common.{◌≡◌, ℕ, Bool, true, false, cond, List, [], ◌∷◌, ◌++◌, refl, ap, sym, ◌∙◌, subst}
+use Rattle.std.proofs.Common.{◌≡◌, ℕ, true, cond, [], ◌∷◌, ◌++◌, refl, ap, sym, ◌∙◌, subst}
 use Rattle.atomic_table.specs.Table.{Me}
 use Rattle.cap_model.specs.Flat.{Flat}
 use Rattle.cap_model.specs.News.{Reply}
@@ -9,7 +9,6 @@ use Rattle.cap_model.specs.declared.event.Event.{Event}
 use Rattle.cap_model.specs.declared.event.Event.TheVariants as event
 use Rattle.cap_model.specs.declared.request.Request.{Request}
 use Rattle.cap_model.proofs.numbers.Balance.{determined}
-use Rattle.cap_shared.specs.declared.entry.Receipt.{Receipt}
 use Rattle.cap_shared.specs.declared.entry.Receipt.TheVariants as receipt
 use Rattle.cap_shared.specs.declared.history.Mark.{Mark}
 use Rattle.cap_shared.specs.declared.history.Moment.{Moment}

@@ -5,7 +5,7 @@ use mathlib.Core.List.{IsPrefix}
 use Rattle.atomic_table.specs.Table.{Me}
 use Rattle.atomic_table.specs.Seated.{TableId}
 use Rattle.cap_model.specs.Flat.{Flat}
-use Rattle.cap_model.specs.Events.{Step, Run}
+use Rattle.cap_model.specs.Events.{Step}
 use Rattle.cap_model.specs.declared.event.Event.{Event}
 use Rattle.cap_model.specs.declared.event.Event.TheVariants as event
 use Rattle.cap_shared.specs.declared.entry.Entry.{Entry}
@@ -16,7 +16,7 @@ use Rattle.cap_shared.specs.declared.history.Moment.TheVariants.{Entered, Noted}
 use Rattle.cap_shared.specs.declared.history.Mark.{Mark}
 use Rattle.cap_shared.specs.declared.history.Sitting.{Sitting}
 use Rattle.cap_shared.specs.declared.history.View.{View}
-use Rattle.cap_shared.specs.Journal.{Replays, events_in, receipt_for, seat_entries, receipts_in, position_of, start_of, end_of, Rises, NoteHolds, NotesHold, IsBy, TagsBelow, AllHonest}
+use Rattle.cap_shared.specs.Journal.{Replays, receipt_for, seat_entries, receipts_in, position_of, start_of, end_of, Rises, NoteHolds, NotesHold, IsBy, TagsBelow, AllHonest}
 use Rattle.cap_shared.specs.Rule.{keeper, sitter, sitting, sitting_of, NotesBegin, Fits}
 use Rattle.cap_shared.specs.Parts.{IsSeat, IsDesk}
 use Rattle.cap_shared.specs.Passes.{Pass, IsNoted, IsEntered}

@@ -5,8 +5,6 @@ use Rattle.cap_model.specs.Sight.{sight_of}
 use Rattle.cap_model.specs.News.{Reply}
 use Rattle.cap_model.specs.Admission.{NodeProposal}
 use Rattle.cap_model.specs.Events.{is_no_memory}
-use Rattle.cap_model.specs.Reporting.{HasRoomForReplies}
-use Rattle.cap_model.specs.Replies.{Replies}
 use Rattle.cap_model.specs.Verdicts.{IsOf}
 use Rattle.cap_model.specs.declared.request.Request.{Request}
 use Rattle.cap_model.specs.declared.proposal.Verdict.{Verdict}

@@ -7,9 +7,6 @@ use Rattle.atomic_table.specs.Table.{State, Me, Step}
 use Rattle.atomic_table.specs.Seated.{TableId}
 use Rattle.cap_model.specs.Settings.{Settings}
 use Rattle.cap_model.specs.Flat.{Flat, opened_cluster}
-use Rattle.cap_model.specs.declared.request.Request.{Request}
-use Rattle.cap_model.specs.declared.proposal.Reason.{Reason}
-use Rattle.cap_model.specs.Admission.{NodeProposal}
 use Rattle.cap_shared.specs.declared.entry.Entry.{Entry}
 use Rattle.cap_shared.specs.declared.history.Answer.{Answer}
 use Rattle.cap_shared.specs.declared.history.Answer.TheVariants as answer

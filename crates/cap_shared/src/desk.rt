@@ -148,7 +148,7 @@ impl<J: Naming> Desk<J> {
         ensures { MatchResult result (CommitAnswers proposal seat.old seat.new)
             (CommitsBack proposal J.limit seat.old seat.new) }
     {
-        let Ok(event) = make_proposed(&mut self.cluster, &mut seat.receipts, &proposal) else {
+        let Ok(made) = make_proposed(&mut self.cluster, &mut seat.receipts, &proposal) else {
             note_no_memory(
                 word,
                 &mut self.pass,
@@ -158,8 +158,8 @@ impl<J: Naming> Desk<J> {
             );
             return Err(CommitFault::NoMemory(proposal));
         };
-        let position = self.journal.len() as u64;
-        let by = seat.number;
+        let at = self.journal.len() as u64;
+        let number = seat.number;
         enter(
             word,
             &mut self.pass,
@@ -167,15 +167,15 @@ impl<J: Naming> Desk<J> {
             &mut seat.pass,
             &mut seat.receipts,
             Entry {
-                seat: by,
-                event: event.compact(),
+                seat: number,
+                event: made.compact(),
             },
             Receipt::Commit {
-                position,
-                event: event.compact(),
+                position: at,
+                event: made.compact(),
             },
         );
-        Ok(Verdict::Done(event.event()))
+        Ok(Verdict::Done(made.event()))
     }
 
     /// A snapshot of the cluster as it is, which is noted. If an allocation fails nothing changes.

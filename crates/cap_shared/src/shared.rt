@@ -106,7 +106,8 @@ impl<J: Naming> Shared<J> {
         requires seats { blank.1 ≡ J.seats }
         requires some { (1 ≤ J.limit) × (J.limit ≤ 1000000) }
         requires few { (1 ≤ J.seats) × (J.seats ≤ 256) }
-        ensures { IfOk result (λ r. r.1.items ≡ fresh 0 J.seats) }
+        ensures seats { IfOk result (λ r. r.1.items ≡ fresh 0 J.seats) }
+        ensures count { IfOk result (λ r. length r.1.items ≡ J.seats) }
     {
         let Blank {
             table,

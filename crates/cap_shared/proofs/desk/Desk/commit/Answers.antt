@@ -1,4 +1,4 @@
-use Rattle.std.proofs.Common.{◌≡◌, None, refl, sym, ◌∙◌, subst, arith}
+use Rattle.std.proofs.Common.{◌≡◌, None, refl, sym, subst, arith}
 use Rattle.cap_model.specs.Sight.{sight_of}
 use Rattle.cap_model.specs.Admission.{reason_of}
 use Rattle.cap_shared.specs.declared.history.Answer.TheVariants as answer

@@ -44,3 +44,9 @@ loop-number-preserved g c =
       seats = rw add-one (c.push_reserved.ensures.items ∙ ap (λ ss. ss ++ sitting_of c.split_seat-own.result.me.0 ∷ []) i.seats ∙ ap (λ (t : Me Mark View). fresh 0 n ++ sitting_of t.0 ∷ []) me ∙ sym push);
       room = omega (arith, c.push_reserved.ensures.capacity);
     }
+
+pub returns-clause-count : goal.returns-clause-count
+returns-clause-count g c =
+    let made : length c.loop-number.seats.items ≡ c.loop-number.number = ap length c.loop-number.invariant.seats ∙ length-fresh 0 c.loop-number.number in
+    let seats = ap (λ (b : TableId × ℕ). b.1) c.blank.view_is ∙ c.requires.seats in
+    omega (arith, made, seats, c.loop-number-test.false, c.loop-number.auto.number-end)

@@ -1,0 +1,9 @@
+//! Laws of journals, for callers to cite. The function does nothing.
+ghost use Rattle.cap_shared.specs.Laws.{JournalsStayBounded};
+
+/// Whatever threads do, every state of the cluster is bounded, where the opening is: each queue's use is within its maximum, each
+/// user's within the user limit, no node is over its total, reservations are on different nodes, and no container number is there
+/// twice. So the closing cluster opens the next epoch.
+pub fn journals_stay_bounded()
+    ensures { JournalsStayBounded }
+{}
