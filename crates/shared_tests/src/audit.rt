@@ -1,0 +1,128 @@
+//! The journal of a closed epoch, played again.
+use cap_commit::Cluster;
+use cap_messages::dispatch;
+use cap_model::{
+    Event, OwnedReply, Proposal, ProposalKind, ReplyView, ReplyWith, Request, Verdict,
+};
+use cap_shared::{Closed, Entry, EventForm, Receipt, SeatReport};
+use std::alloc::Global;
+
+/// Whether each entry of the journal comes to the same on this cluster, one after the other.
+pub fn is_played(alloc: Global, cluster: &mut Cluster<2>, journal: &[Entry]) -> bool {
+    for entry in journal {
+        let same = match entry.event.form() {
+            EventForm::Call { by, request, reply } => {
+                let Ok(request) = request.request(alloc) else {
+                    return false;
+                };
+                *by == entry.seat && is_answered(alloc, cluster, &request, reply)
+            }
+            EventForm::Grant { container } => {
+                let proposal = Proposal {
+                    kind: ProposalKind::Grant,
+                    app: container.app,
+                    key: container.key,
+                    node: container.node,
+                    resource: container.resource,
+                };
+                is_granted(cluster, proposal, container.number)
+            }
+            EventForm::Reserve { reservation } => {
+                let proposal = Proposal {
+                    kind: ProposalKind::Reserve,
+                    app: reservation.app,
+                    key: reservation.key,
+                    node: reservation.node,
+                    resource: reservation.resource,
+                };
+                is_reserved(cluster, proposal)
+            }
+        };
+        if !same {
+            return false;
+        }
+    }
+    true
+}
+
+fn is_answered(
+    alloc: Global,
+    cluster: &mut Cluster<2>,
+    request: &Request<2>,
+    reply: &OwnedReply<2>,
+) -> bool {
+    let given = dispatch(alloc, cluster, request);
+    is_same(&cluster.view(&given), &reply.view())
+}
+
+fn is_granted(cluster: &mut Cluster<2>, proposal: Proposal<2>, number: u64) -> bool {
+    match cluster.try_commit(proposal) {
+        Ok(Verdict::Done(Event::Grant { container })) => container.number == number,
+        _ => false,
+    }
+}
+
+fn is_reserved(cluster: &mut Cluster<2>, proposal: Proposal<2>) -> bool {
+    matches!(
+        cluster.try_commit(proposal),
+        Ok(Verdict::Done(Event::Reserve { .. }))
+    )
+}
+
+/// Whether two replies are the same.
+pub fn is_same(a: &ReplyView<'_, 2>, b: &ReplyView<'_, 2>) -> bool {
+    if let (ReplyWith::Allocate { reply: a }, ReplyWith::Allocate { reply: b }) = (a, b) {
+        return a.response == b.response
+            && a.ignored == b.ignored
+            && a.grants() == b.grants()
+            && a.ends() == b.ends();
+    }
+    plain(a) == plain(b)
+}
+
+/// The reply, if it isn't the answer to an allocate.
+fn plain(reply: &ReplyView<'_, 2>) -> Option<ReplyWith<2, ()>> {
+    let ReplyWith::Allocate { .. } = reply else {
+        return Some(reply.other());
+    };
+    None
+}
+
+/// Whether the receipts of each seat are those for its entries, in order.
+pub fn has_receipts(closed: &Closed) -> bool {
+    closed
+        .seats
+        .iter()
+        .all(|seat| is_report(seat, &closed.journal))
+}
+
+fn is_report(seat: &SeatReport, journal: &[Entry]) -> bool {
+    let mut receipts = seat.receipts().iter();
+    for (position, entry) in journal.iter().enumerate() {
+        if entry.seat != seat.number() {
+            continue;
+        }
+        match receipts.next() {
+            Some(receipt) if is_for(receipt, position as u64, entry) => {}
+            _ => return false,
+        }
+    }
+    receipts.next().is_none()
+}
+
+/// Whether it is the receipt for the entry at a position.
+fn is_for(receipt: &Receipt, at: u64, entry: &Entry) -> bool {
+    match (receipt, entry.event.form()) {
+        (
+            Receipt::Call {
+                position,
+                reply,
+                ..
+            },
+            EventForm::Call { reply: entered, .. },
+        ) => { *position == at && is_same(&reply.view(), &entered.view()) }
+        (Receipt::Commit { .. }, EventForm::Call { .. }) => false,
+        (Receipt::Commit { position, .. }, _) => *position == at,
+        _ => false,
+    }
+}

@@ -1,0 +1,179 @@
+//! What threads do with their seats.
+use bumpalo::Bump;
+use cap_model::{Ask, Asks, Key, List, Numbers, PathText, Request, ShortText};
+use cap_propose::propose;
+use cap_shared::{CallFault, CommitFault, Naming, Seat, Shared};
+use cap_vector::Resource;
+use std::alloc::Global;
+use std::sync::Wait;
+use std::sync::atomic::{AtomicU64, Ordering};
+
+/// A step of a seat.
+#[derive(Clone, Copy)]
+pub enum Step<'a> {
+    ClusterInfo,
+    Submit(&'a [u8]),
+    QueueInfo(&'a [u8]),
+    RegisterMaster(u64),
+    /// An application asks for two containers, in its first allocate.
+    Allocate(u64),
+    RegisterNode(&'a [u8]),
+    /// What is proposed on a copy, from a starting node.
+    Commit(u32),
+}
+
+/// What a seat does.
+#[derive(Clone, Copy)]
+pub enum Work<'a> {
+    Steps(&'a [Step<'a>]),
+    /// So many steps of all kinds.
+    Mixed(u64),
+}
+
+/// How many calls and proposals came back because the journal was full, and how many could not be made at all.
+#[derive(Drop)]
+pub struct Counts {
+    pub sealed: AtomicU64,
+    pub failed: AtomicU64,
+}
+
+/// Does the work with the seat.
+pub fn worked<J: Naming, H: Wait>(
+    rt: &H,
+    alloc: Global,
+    shared: &Shared<J>,
+    mut seat: Seat<J>,
+    work: Work<'_>,
+    counts: &Counts,
+) -> Seat<J> {
+    match work {
+        Work::Steps(steps) => {
+            for step in steps {
+                made(rt, alloc, shared, &mut seat, *step, counts);
+            }
+        }
+        Work::Mixed(count) => {
+            for i in 0..count {
+                let step = mixed(i, seat.number());
+                made(rt, alloc, shared, &mut seat, step, counts);
+            }
+        }
+    }
+    seat
+}
+
+/// The hosts that seats register first.
+const HOSTS: [&[u8]; 8] = [b"h0", b"h1", b"h2", b"h3", b"h4", b"h5", b"h6", b"h7"];
+
+/// The step of an index for a seat: a node, and then calls for applications of about this number, and commits.
+fn mixed(i: u64, seat: u32) -> Step<'static> {
+    if i == 0 {
+        return match HOSTS.get(seat as usize) {
+            Some(host) => Step::RegisterNode(host),
+            None => Step::ClusterInfo,
+        };
+    }
+    let app = i / 5 % 64 + 1;
+    match i % 5 {
+        0 => Step::Submit(b"root.a"),
+        1 => Step::RegisterMaster(app),
+        2 => Step::Allocate(app),
+        3 => Step::Commit(seat),
+        _ => Step::QueueInfo(b"root"),
+    }
+}
+
+/// Makes a step, and counts it if it came back.
+fn made<J: Naming, H: Wait>(
+    rt: &H,
+    alloc: Global,
+    shared: &Shared<J>,
+    seat: &mut Seat<J>,
+    step: Step<'_>,
+    counts: &Counts,
+) {
+    if let Step::Commit(start) = step {
+        return committed(rt, alloc, shared, seat, start, counts);
+    }
+    let Some(request) = request_of(alloc, step) else {
+        counts.failed.fetch_add(1, Ordering::SeqCst);
+        return;
+    };
+    match shared.call(rt, seat, request) {
+        Ok(_) => {}
+        Err(CallFault::Sealed(_)) => {
+            counts.sealed.fetch_add(1, Ordering::SeqCst);
+        }
+        Err(CallFault::NoMemory(_)) => {
+            counts.failed.fetch_add(1, Ordering::SeqCst);
+        }
+    }
+}
+
+/// Proposes on a copy from a starting node, and commits what is proposed.
+fn committed<J: Naming, H: Wait>(
+    rt: &H,
+    alloc: Global,
+    shared: &Shared<J>,
+    seat: &mut Seat<J>,
+    start: u32,
+    counts: &Counts,
+) {
+    let arena = Bump::new(alloc);
+    let Ok(snapshot) = shared.copy(rt, &arena, seat) else {
+        counts.failed.fetch_add(1, Ordering::SeqCst);
+        return;
+    };
+    let Some(proposal) = propose(&snapshot, start) else {
+        return;
+    };
+    match shared.commit(rt, seat, proposal) {
+        Ok(_) => {}
+        Err(CommitFault::Sealed(_)) => {
+            counts.sealed.fetch_add(1, Ordering::SeqCst);
+        }
+        Err(CommitFault::NoMemory(_)) => {
+            counts.failed.fetch_add(1, Ordering::SeqCst);
+        }
+    }
+}
+
+/// The request of a step that is a call.
+fn request_of(alloc: Global, step: Step<'_>) -> Option<Request<2>> {
+    Some(match step {
+        Step::ClusterInfo => Request::ClusterInfo,
+        Step::Submit(path) => Request::Submit {
+            path: PathText::new(path)?,
+            user: ShortText::new(b"u")?,
+        },
+        Step::QueueInfo(path) => Request::QueueInfo {
+            path: PathText::new(path)?,
+        },
+        Step::RegisterMaster(app) => Request::RegisterMaster { app },
+        Step::Allocate(app) => Request::Allocate {
+            app,
+            response: 0,
+            asks: asks(alloc)?,
+            releases: Numbers::of(Vec::new(alloc)),
+        },
+        Step::RegisterNode(host) => Request::RegisterNode {
+            host: ShortText::new(host)?,
+            rack: ShortText::new(b"rack")?,
+            total: Resource::new([16_384, 16])?,
+        },
+        Step::Commit(_) => return None,
+    })
+}
+
+/// One ask for two containers of (512, 1), anywhere.
+fn asks(alloc: Global) -> Option<Asks<2>> {
+    let key = Key {
+        priority: 1,
+        request: 1,
+    };
+    let resource = Resource::new([512, 1])?;
+    let mut asks = Vec::new(alloc);
+    asks.push(Ask::new(&key, 2, &resource, &ShortText::any()))
+        .ok()?;
+    Some(List::of(asks))
+}
