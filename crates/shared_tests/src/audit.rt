@@ -56,17 +56,20 @@ fn is_answered(
 }
 
 fn is_granted(cluster: &mut Cluster<2>, proposal: Proposal<2>, number: u64) -> bool {
-    match cluster.try_commit(proposal) {
-        Ok(Verdict::Done(Event::Grant { container })) => container.number == number,
+    let Ok(verdict) = cluster.try_commit(proposal) else {
+        return false;
+    };
+    match &verdict {
+        Verdict::Done(Event::Grant { container }) => container.number == number,
         _ => false,
     }
 }
 
 fn is_reserved(cluster: &mut Cluster<2>, proposal: Proposal<2>) -> bool {
-    matches!(
-        cluster.try_commit(proposal),
-        Ok(Verdict::Done(Event::Reserve { .. }))
-    )
+    let Ok(verdict) = cluster.try_commit(proposal) else {
+        return false;
+    };
+    matches!(&verdict, Verdict::Done(Event::Reserve { .. }))
 }
 
 /// Whether two replies are the same.
