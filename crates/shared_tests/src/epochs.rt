@@ -6,10 +6,9 @@ use cap_commit::Cluster;
 use cap_shared::{Blank, Closed, Naming, Shared};
 use std::alloc::Global;
 use std::sync::Wait;
-use std::thread::{Threads, map_vec};
 
-/// An epoch in which each seat does the work in a thread of its own.
-pub fn epoch<J: Naming + Send + Sync, H: Threads + Wait + Sync>(
+/// An epoch in which each seat does the work, one after the other.
+pub fn epoch<J: Naming, H: Wait>(
     rt: &H,
     alloc: Global,
     blank: Blank,
@@ -25,16 +24,11 @@ pub fn epoch<J: Naming + Send + Sync, H: Threads + Wait + Sync>(
     requires some { (1 ≤ J.limit) × (J.limit ≤ 1000000) }
     requires few { (1 ≤ J.seats) × (J.seats ≤ 256) }
 {
-    let Ok((shared, seats)) = Shared::<J>::open(alloc, blank, cluster, limit) else {
+    let Ok((shared, mut seats)) = Shared::<J>::open(alloc, blank, cluster, limit) else {
         return None;
     };
-    let lent = &shared;
-    let Ok(back) = map_vec(
-        rt,
-        seats,
-        &|seat| { worked(rt, alloc, lent, seat, work, counts) },
-    ) else {
-        return None;
-    };
-    Some(shared.close(back))
+    for seat in seats.as_mut_slice() {
+        worked(rt, alloc, &shared, seat, work, counts);
+    }
+    Some(shared.close(seats))
 }

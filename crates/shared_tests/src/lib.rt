@@ -1,4 +1,4 @@
-//! Tests of a cluster that threads share: what their calls are answered, and what its journal and its receipts say.
+//! Tests of a shared cluster: what the calls of its seats are answered, and what its journal and its receipts say.
 #![tactic(auto)]
 
 #[cfg(test)]

@@ -1,4 +1,4 @@
-//! What threads do with their seats.
+//! What is done with seats.
 use bumpalo::Bump;
 use cap_model::{Ask, Asks, Key, List, Numbers, PathText, Request, ShortText};
 use cap_propose::propose;
@@ -42,24 +42,23 @@ pub fn worked<J: Naming, H: Wait>(
     rt: &H,
     alloc: Global,
     shared: &Shared<J>,
-    mut seat: Seat<J>,
+    seat: &mut Seat<J>,
     work: Work<'_>,
     counts: &Counts,
-) -> Seat<J> {
+) {
     match work {
         Work::Steps(steps) => {
             for step in steps {
-                made(rt, alloc, shared, &mut seat, *step, counts);
+                made(rt, alloc, shared, seat, *step, counts);
             }
         }
         Work::Mixed(count) => {
             for i in 0..count {
                 let step = mixed(i, seat.number());
-                made(rt, alloc, shared, &mut seat, step, counts);
+                made(rt, alloc, shared, seat, step, counts);
             }
         }
     }
-    seat
 }
 
 /// The hosts that seats register first.

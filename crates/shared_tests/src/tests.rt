@@ -12,10 +12,9 @@ use std::mem::size_of;
 use std::sync::Wait;
 use std::sync::atomic::{AtomicU64, Ordering};
 use std::test::*;
-use std::thread::Threads;
 
 /// One epoch over a cluster: what is left, and how many calls and proposals came back.
-fn one_epoch<H: Threads + Wait + Sync>(
+fn one_epoch<H: Wait>(
     rt: &H,
     alloc: Global,
     cluster: Cluster<2>,
@@ -83,7 +82,7 @@ type OneSeat = (
 
 /// What a seat is answered in an epoch of two entries: its receipts, how many entries there are, how many calls came back, and what is
 /// left of the cluster.
-fn of_one_seat<H: Threads + Wait + Sync>(rt: &H, alloc: Global) -> Option<OneSeat> {
+fn of_one_seat<H: Wait>(rt: &H, alloc: Global) -> Option<OneSeat> {
     let steps = [
         Step::ClusterInfo,
         Step::Submit(b"root.missing"),
@@ -115,11 +114,7 @@ fn shows_its_own(seat: &SeatReport) -> bool {
 }
 
 /// What a seat's first call is answered in an epoch over this cluster.
-fn first_answer<H: Threads + Wait + Sync>(
-    rt: &H,
-    alloc: Global,
-    cluster: Cluster<2>,
-) -> Option<(u64, u8, u32)> {
+fn first_answer<H: Wait>(rt: &H, alloc: Global, cluster: Cluster<2>) -> Option<(u64, u8, u32)> {
     let steps = [Step::ClusterInfo];
     let (closed, _sealed, _failed) = one_epoch(rt, alloc, cluster, 1, 4, Work::Steps(&steps))?;
     first_row(&closed.seats)
@@ -129,9 +124,9 @@ fn first_row(seats: &[SeatReport]) -> Option<(u64, u8, u32)> {
     Some(row_of(seats.first()?.receipts().first()?))
 }
 
-/// Two seats submit to `root.a` in threads and read its report, in an epoch of four entries. Whether each report shows the seat's own,
+/// Two seats submit to `root.a` and read its report, in an epoch of four entries. Whether each report shows the seat's own,
 /// how many entries there are, how many calls came back, and what a ClusterInfo is answered in the next epoch.
-fn of_two_seats<H: Threads + Wait + Sync>(
+fn of_two_seats<H: Wait>(
     rt: &H,
     alloc: Global,
 ) -> Option<(bool, usize, u64, Option<(u64, u8, u32)>)> {
@@ -145,7 +140,7 @@ fn of_two_seats<H: Threads + Wait + Sync>(
 }
 
 #[test]
-fn two_threads_share_a_cluster_and_the_next_epoch_goes_on_from_it(rt: HostRuntime) {
+fn two_seats_share_a_cluster_and_the_next_epoch_goes_on_from_it(rt: HostRuntime) {
     let answer = of_two_seats(&rt, rt.alloc());
     assert!(rt; answer == Some((true, 4, 0, Some((0, 0, 2)))));
 }
@@ -159,7 +154,7 @@ fn is_audited(alloc: Global, closed: &mut Closed) -> Option<bool> {
 }
 
 /// An epoch, audited; how many entries it has, how many calls and proposals came back because it was full, and how many could not be made.
-fn audited<H: Threads + Wait + Sync>(
+fn audited<H: Wait>(
     rt: &H,
     alloc: Global,
     seats: u32,
@@ -173,7 +168,7 @@ fn audited<H: Threads + Wait + Sync>(
 }
 
 #[test]
-fn calls_of_two_threads_come_back_from_a_full_journal(rt: HostRuntime) {
+fn calls_of_two_seats_come_back_from_a_full_journal(rt: HostRuntime) {
     let steps = [
         Step::Submit(b"root.a"),
         Step::QueueInfo(b"root.a"),
@@ -184,7 +179,7 @@ fn calls_of_two_threads_come_back_from_a_full_journal(rt: HostRuntime) {
 }
 
 #[test]
-fn eight_threads_leave_a_journal_that_can_be_played(rt: HostRuntime) {
+fn eight_seats_leave_a_journal_that_can_be_played(rt: HostRuntime) {
     let answer = audited(&rt, rt.alloc(), 8, 10_000, Work::Mixed(500));
     assert!(rt; matches!(answer, Some((Some(true), entries, 0, 0)) if entries > 3_200));
 }
