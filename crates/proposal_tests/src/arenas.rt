@@ -43,17 +43,23 @@ fn enter(alloc: Global, cluster: &mut Cluster<2>) -> Option<()> {
     Some(())
 }
 
-/// The application's grants are made so often, each by a snapshot outside an arena, on the first of two nodes.
+/// A cluster of two nodes in which the application's grants are made so often.
 fn after_turns(alloc: Global, turns: usize) -> Option<Cluster<2>> {
     let mut cluster = cluster(alloc, GROUP)?;
-    join(&mut cluster, "n1")?;
-    join(&mut cluster, "n2")?;
-    enter(alloc, &mut cluster)?;
+    make_turns(alloc, &mut cluster, turns)?;
+    Some(cluster)
+}
+
+/// The application's grants are made so often, each by a snapshot outside an arena, on the first of two nodes.
+fn make_turns(alloc: Global, cluster: &mut Cluster<2>, turns: usize) -> Option<()> {
+    join(cluster, "n1")?;
+    join(cluster, "n2")?;
+    enter(alloc, cluster)?;
     for _ in 0..turns {
-        let proposal = proposed(alloc, &cluster)?;
+        let proposal = proposed(alloc, cluster)?;
         let _verdict = cluster.try_commit(proposal).ok()?;
     }
-    Some(cluster)
+    Some(())
 }
 
 fn proposed(alloc: Global, cluster: &Cluster<2>) -> Option<Proposal<2>> {
@@ -75,13 +81,34 @@ fn uses(tree: &QueueTree<2, Global>) -> Option<[[u64; 2]; 2]> {
     Some([use_of(tree, "root.g.q")?, use_of(tree, "root.g.p")?])
 }
 
-/// After so many turns, what the cluster's tree shows, and what a copy shows of its copy in an arena.
+/// What a tree shows, and what a copy shows of this copy of it in an arena.
+fn uses_of_both(
+    alloc: Global,
+    tree: &QueueTree<2, Global>,
+    inside: &QueueTree<2, &Bump>,
+) -> Option<[[[u64; 2]; 2]; 2]> {
+    let outside = copy_tree(alloc, inside).ok()?;
+    match (uses(tree), uses(&outside)) {
+        (Some(shown), Some(copied)) => Some([shown, copied]),
+        _ => None,
+    }
+}
+
+/// What a tree shows, and what a copy shows of its copy in an arena.
+fn copied_in(
+    alloc: Global,
+    arena: &Bump,
+    tree: &QueueTree<2, Global>,
+) -> Option<[[[u64; 2]; 2]; 2]> {
+    let inside = copy_tree(arena, tree).ok()?;
+    uses_of_both(alloc, tree, &inside)
+}
+
+/// The same of the tree of the cluster after so many turns.
 fn copied(alloc: Global, turns: usize) -> Option<[[[u64; 2]; 2]; 2]> {
     let cluster = after_turns(alloc, turns)?;
     let arena = Bump::new(alloc);
-    let inside = copy_tree(&arena, cluster.tree()).ok()?;
-    let outside = copy_tree(alloc, &inside).ok()?;
-    Some([uses(cluster.tree())?, uses(&outside)?])
+    copied_in(alloc, &arena, cluster.tree())
 }
 
 #[test]
@@ -109,13 +136,21 @@ fn proposed_in(
 }
 
 /// The same for two starting nodes, in one arena that is reset in between.
+fn proposed_twice_in(
+    arena: &mut Bump,
+    cluster: &Cluster<2>,
+) -> Option<[Option<(bool, u64, u64, [u64; 2])>; 2]> {
+    let first = proposed_in(arena, cluster, 0);
+    arena.reset().ok()?;
+    let second = proposed_in(arena, cluster, 5);
+    Some([first, second])
+}
+
+/// The same in the cluster after so many turns.
 fn proposed_twice(alloc: Global, turns: usize) -> Option<[Option<(bool, u64, u64, [u64; 2])>; 2]> {
     let cluster = after_turns(alloc, turns)?;
     let mut arena = Bump::new(alloc);
-    let first = proposed_in(&arena, &cluster, 0);
-    arena.reset().ok()?;
-    let second = proposed_in(&arena, &cluster, 5);
-    Some([first, second])
+    proposed_twice_in(&mut arena, &cluster)
 }
 
 #[test]
