@@ -49,7 +49,10 @@ fn counts(alloc: Global) -> Option<(usize, usize, usize, bool)> {
 
 /// What `root` and `root.b` of a new cluster use, the least and the most that a container may have, and the application limit.
 fn amounts(alloc: Global) -> Option<([[u64; 2]; 4], u64)> {
-    let cluster = cluster(alloc, NESTED_QUEUES)?;
+    amounts_of(&cluster(alloc, NESTED_QUEUES)?)
+}
+
+fn amounts_of(cluster: &Cluster<2>) -> Option<([[u64; 2]; 4], u64)> {
     let limits = cluster.settings();
     let used = cluster.report(b"root.b")?.used.amounts();
     let used = [cluster.root_use().amounts(), used];
@@ -83,8 +86,16 @@ fn set_state(cluster: &mut Cluster<2>, path: &str, running: bool) -> Option<()> 
 /// Whether a queue runs, once another was stopped or started.
 fn runs_after(alloc: Global, changes: &[(&str, bool)], path: &str) -> Option<bool> {
     let mut cluster = cluster(alloc, NESTED_QUEUES)?;
+    runs_after_in(&mut cluster, changes, path)
+}
+
+fn runs_after_in(
+    cluster: &mut Cluster<2>,
+    changes: &[(&str, bool)],
+    path: &str,
+) -> Option<bool> {
     for (changed, running) in changes {
-        set_state(&mut cluster, changed, *running)?;
+        set_state(cluster, changed, *running)?;
     }
     let queue = cluster.report(path.as_bytes())?;
     Some(queue.running)

@@ -80,16 +80,14 @@ fn ask(alloc: Global, cluster: &mut Cluster<2>, app: u64) -> Option<()> {
 
 /// Application 1 in `root.a` and application 2 in `root.b` with their asks, application 3 without a master, and two nodes, of
 /// (8192, 8) on the rack `/r1` and of (1024, 1) on `/r2`.
-fn with_asks(alloc: Global) -> Option<Cluster<2>> {
-    let mut cluster = cluster(alloc, QUEUES)?;
-    enter(&mut cluster, "root.a", "u1")?;
-    enter(&mut cluster, "root.b", "u2")?;
-    enter(&mut cluster, "root.a", "u3")?;
-    ask(alloc, &mut cluster, 1)?;
-    ask(alloc, &mut cluster, 2)?;
-    join(&mut cluster, "n1", "/r1", [8192, 8])?;
-    join(&mut cluster, "n2", "/r2", [1024, 1])?;
-    Some(cluster)
+fn add_asks(alloc: Global, cluster: &mut Cluster<2>) -> Option<()> {
+    enter(cluster, "root.a", "u1")?;
+    enter(cluster, "root.b", "u2")?;
+    enter(cluster, "root.a", "u3")?;
+    ask(alloc, cluster, 1)?;
+    ask(alloc, cluster, 2)?;
+    join(cluster, "n1", "/r1", [8192, 8])?;
+    join(cluster, "n2", "/r2", [1024, 1])
 }
 
 /// Why a proposal for an ask of this priority on this node is rejected, if it is.
@@ -107,7 +105,17 @@ fn reason(
         node,
         resource: Resource::new(resource)?,
     };
-    Some(with_asks(alloc)?.reason(&proposal))
+    let mut cluster = cluster(alloc, QUEUES)?;
+    reason_in(alloc, &mut cluster, &proposal)
+}
+
+fn reason_in(
+    alloc: Global,
+    cluster: &mut Cluster<2>,
+    proposal: &Proposal<2>,
+) -> Option<Option<Reason>> {
+    add_asks(alloc, cluster)?;
+    Some(cluster.reason(proposal))
 }
 
 #[test]
@@ -216,10 +224,20 @@ fn make(alloc: Global, cluster: &mut Cluster<2>, change: Change) -> Option<Optio
 /// After these changes: why the last one was rejected, if it was; how many containers are live and how many reservations there are;
 /// and what `root.a` uses.
 fn after(alloc: Global, changes: &[Change]) -> Option<(Option<Reason>, usize, usize, [u64; 2])> {
-    let mut cluster = with_asks(alloc)?;
+    let mut cluster = cluster(alloc, QUEUES)?;
+    after_in(alloc, &mut cluster, changes)
+}
+
+/// The same of a cluster without applications.
+fn after_in(
+    alloc: Global,
+    cluster: &mut Cluster<2>,
+    changes: &[Change],
+) -> Option<(Option<Reason>, usize, usize, [u64; 2])> {
+    add_asks(alloc, cluster)?;
     let mut last = None;
     for change in changes {
-        last = make(alloc, &mut cluster, *change)?;
+        last = make(alloc, cluster, *change)?;
     }
     let used = cluster.report(b"root.a")?.used.amounts();
     let nodes = cluster.nodes();
@@ -260,26 +278,41 @@ fn a_proposal_is_made_or_changes_nothing(rt: HostRuntime) {
 
 /// Application 1 in `root.a` and application 2 in `root.b`, and a node of (8192, 8). The application asks for four containers of
 /// this resource.
-fn with_four(alloc: Global, app: u64, resource: [u64; 2]) -> Option<Cluster<2>> {
-    let mut cluster = cluster(alloc, TWO_QUEUES)?;
-    enter(&mut cluster, "root.a", "u1")?;
-    enter(&mut cluster, "root.b", "u2")?;
-    join(&mut cluster, "n1", "/r1", [8192, 8])?;
+fn add_four(
+    alloc: Global,
+    cluster: &mut Cluster<2>,
+    app: u64,
+    resource: [u64; 2],
+) -> Option<()> {
+    enter(cluster, "root.a", "u1")?;
+    enter(cluster, "root.b", "u2")?;
+    join(cluster, "n1", "/r1", [8192, 8])?;
     let mut asks = Vec::new(alloc);
     let wanted = Ask::new(&key(1), 4, &Resource::new(resource)?, &ShortText::any());
     asks.push(wanted).ok()?;
     let releases: Numbers = List::of(Vec::new(alloc));
-    let _reply = register_master(&mut cluster, app);
-    let _reply = allocate(&mut cluster, app, 0, &List::of(asks), &releases);
-    Some(cluster)
+    let _reply = register_master(cluster, app);
+    let _reply = allocate(cluster, app, 0, &List::of(asks), &releases);
+    Some(())
 }
 
 /// Why each of four grants in turn is rejected, if it is.
 fn four_grants(alloc: Global, app: u64, resource: [u64; 2]) -> Option<[Option<Reason>; 4]> {
-    let mut cluster = with_four(alloc, app, resource)?;
+    let mut cluster = cluster(alloc, TWO_QUEUES)?;
+    four_grants_in(alloc, &mut cluster, app, resource)
+}
+
+/// The same of a cluster without applications.
+fn four_grants_in(
+    alloc: Global,
+    cluster: &mut Cluster<2>,
+    app: u64,
+    resource: [u64; 2],
+) -> Option<[Option<Reason>; 4]> {
+    add_four(alloc, cluster, app, resource)?;
     let mut reasons = [None; 4];
     for reason in &mut reasons {
-        *reason = propose(&mut cluster, ProposalKind::Grant, (app, 1, 1), resource)?;
+        *reason = propose(cluster, ProposalKind::Grant, (app, 1, 1), resource)?;
     }
     Some(reasons)
 }
@@ -301,15 +334,24 @@ fn grants_go_on_up_to_a_limit(rt: HostRuntime) {
 /// What all use after two grants of (4096, 4) to application 1, in a queue that is STOPPED, and how many containers end with their
 /// node; and what all use then.
 fn lost_after_two(alloc: Global) -> Option<([u64; 2], u32, [u64; 2])> {
-    let mut cluster = with_four(alloc, 1, [4096, 4])?;
+    let mut cluster = cluster(alloc, TWO_QUEUES)?;
+    lost_after_two_in(alloc, &mut cluster)
+}
+
+/// The same of a cluster without applications.
+fn lost_after_two_in(
+    alloc: Global,
+    cluster: &mut Cluster<2>,
+) -> Option<([u64; 2], u32, [u64; 2])> {
+    add_four(alloc, cluster, 1, [4096, 4])?;
     if let Found::Leaf(position) = cluster.tree().find(b"root.a") {
         cluster.set_state(&position, false);
     }
     for _ in 0..2 {
-        let _made = propose(&mut cluster, ProposalKind::Grant, (1, 1, 1), [4096, 4])?;
+        let _made = propose(cluster, ProposalKind::Grant, (1, 1, 1), [4096, 4])?;
     }
     let used = cluster.root_use().amounts();
-    let Reply::NodeGone { ended } = node_gone(&mut cluster, 1) else {
+    let Reply::NodeGone { ended } = node_gone(cluster, 1) else {
         return None;
     };
     Some((used, ended, cluster.root_use().amounts()))

@@ -5,14 +5,13 @@ use cap_testing::{TWO_QUEUES, cluster};
 use cap_vector::Resource;
 use std::alloc::Global;
 
-/// A cluster with application 1 in `root.b`, whose master has registered.
-fn with_master(alloc: Global) -> Option<Cluster<2>> {
+/// Application 1 in `root.b`, whose master registers.
+fn enter(cluster: &mut Cluster<2>) -> Option<()> {
     let path = PathText::new(b"root.b")?;
     let user = ShortText::new(b"u1")?;
-    let mut cluster = cluster(alloc, TWO_QUEUES)?;
-    let _reply = submit(&mut cluster, &path, &user);
-    let _reply = register_master(&mut cluster, 1);
-    Some(cluster)
+    let _reply = submit(cluster, &path, &user);
+    let _reply = register_master(cluster, 1);
+    Some(())
 }
 
 /// An ask under the key (1, 0) for two containers of so much memory and one vcore.
@@ -54,10 +53,21 @@ fn kept(cluster: &Cluster<2>) -> Option<u64> {
 
 /// The memory kept after an allocate and another one with the same response id.
 fn kept_after(alloc: Global, first: u64, again: u64) -> Option<(u64, u32)> {
-    let mut cluster = with_master(alloc)?;
-    let _response = allocated(alloc, &mut cluster, first)?;
-    let response = allocated(alloc, &mut cluster, again)?;
-    Some((kept(&cluster)?, response))
+    let mut cluster = cluster(alloc, TWO_QUEUES)?;
+    kept_after_in(alloc, &mut cluster, first, again)
+}
+
+/// The same of a cluster without applications.
+fn kept_after_in(
+    alloc: Global,
+    cluster: &mut Cluster<2>,
+    first: u64,
+    again: u64,
+) -> Option<(u64, u32)> {
+    enter(cluster)?;
+    let _response = allocated(alloc, cluster, first)?;
+    let response = allocated(alloc, cluster, again)?;
+    Some((kept(cluster)?, response))
 }
 
 #[test]

@@ -178,17 +178,16 @@ fn make(alloc: Global, cluster: &mut Cluster<2>, step: Step) -> Option<Answer> {
 }
 
 /// Application 1 of `u1` and application 2 of `u2`, whose masters are registered, and the nodes.
-fn open(alloc: Global, opening: Opening) -> Option<Cluster<2>> {
-    let (lines, [first, second], totals) = opening;
-    let mut cluster = cluster(alloc, lines)?;
-    enter(&mut cluster, first, "u1")?;
-    enter(&mut cluster, second, "u2")?;
-    let _reply = register_master(&mut cluster, 1);
-    let _reply = register_master(&mut cluster, 2);
+fn begin(cluster: &mut Cluster<2>, opening: Opening) -> Option<()> {
+    let (_, [first, second], totals) = opening;
+    enter(cluster, first, "u1")?;
+    enter(cluster, second, "u2")?;
+    let _reply = register_master(cluster, 1);
+    let _reply = register_master(cluster, 2);
     for (total, host) in totals.iter().zip(["n1", "n2"]) {
-        join(&mut cluster, host, "/r1", *total)?;
+        join(cluster, host, "/r1", *total)?;
     }
-    Some(cluster)
+    Some(())
 }
 
 /// After these steps: what the last one came to, what a queue uses, and how many reservations there are.
@@ -198,10 +197,23 @@ fn after(
     steps: &[Step],
     path: &str,
 ) -> Option<(Answer, [u64; 2], usize)> {
-    let mut cluster = open(alloc, opening)?;
+    let (lines, _, _) = opening;
+    let mut cluster = cluster(alloc, lines)?;
+    after_in(alloc, &mut cluster, opening, steps, path)
+}
+
+/// The same of a cluster without applications.
+fn after_in(
+    alloc: Global,
+    cluster: &mut Cluster<2>,
+    opening: Opening,
+    steps: &[Step],
+    path: &str,
+) -> Option<(Answer, [u64; 2], usize)> {
+    begin(cluster, opening)?;
     let mut last = Answer::Made;
     for step in steps {
-        last = make(alloc, &mut cluster, *step)?;
+        last = make(alloc, cluster, *step)?;
     }
     let used = cluster.report(path.as_bytes())?.used.amounts();
     Some((last, used, cluster.nodes().reservation_count()))
@@ -316,11 +328,21 @@ const MIXED: [Step; 9] = [
 
 /// What one more step after these comes to, what `root.a` and `root.b` use then, and how many reservations there are.
 fn after_mixed(alloc: Global, step: Step) -> Option<(Answer, [u64; 2], [u64; 2], usize)> {
-    let mut cluster = open(alloc, TWO_NODES)?;
+    let mut cluster = cluster(alloc, TWO_QUEUES)?;
+    after_mixed_in(alloc, &mut cluster, step)
+}
+
+/// The same of a cluster without applications.
+fn after_mixed_in(
+    alloc: Global,
+    cluster: &mut Cluster<2>,
+    step: Step,
+) -> Option<(Answer, [u64; 2], [u64; 2], usize)> {
+    begin(cluster, TWO_NODES)?;
     for before in MIXED {
-        let _made = make(alloc, &mut cluster, before)?;
+        let _made = make(alloc, cluster, before)?;
     }
-    let answer = make(alloc, &mut cluster, step)?;
+    let answer = make(alloc, cluster, step)?;
     let first = cluster.report(b"root.a")?.used.amounts();
     let second = cluster.report(b"root.b")?.used.amounts();
     Some((answer, first, second, cluster.nodes().reservation_count()))
