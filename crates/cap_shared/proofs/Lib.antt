@@ -1,3 +1,4 @@
+pub mod Crossing
 pub mod Entering
 pub mod Lists
 pub mod Moves

@@ -116,10 +116,17 @@ fn make(alloc: Global, apps: &mut Apps<2>, change: Change) -> Option<()> {
 /// The applications after these changes. `None` if the condition of one does not hold or an allocation fails.
 fn after(alloc: Global, changes: &[Change]) -> Option<Apps<2>> {
     let mut apps = Apps::new(alloc);
-    for change in changes {
-        make(alloc, &mut apps, *change)?;
+    match after_in(alloc, &mut apps, changes) {
+        Some(()) => Some(apps),
+        None => None,
     }
-    Some(apps)
+}
+
+fn after_in(alloc: Global, apps: &mut Apps<2>, changes: &[Change]) -> Option<()> {
+    for change in changes {
+        make(alloc, apps, *change)?;
+    }
+    Some(())
 }
 
 /// How many applications are active, and the next number.
@@ -151,7 +158,10 @@ fn applications_are_numbered_and_counted(rt: HostRuntime) {
 
 /// Application 1: its number, whether it is `u1`'s in `root.a`, and whether its master has registered.
 fn app(alloc: Global, changes: &[Change]) -> Option<(u64, bool, bool)> {
-    let apps = after(alloc, changes)?;
+    app_of(&after(alloc, changes)?)
+}
+
+fn app_of(apps: &Apps<2>) -> Option<(u64, bool, bool)> {
     let app = apps.app(1)?;
     let owner = app.user().as_bytes() == b"u1".as_slice();
     let leaf = app.leaf().as_bytes() == b"root.a".as_slice();
@@ -192,7 +202,10 @@ const ASKS: [Change; 9] = [
 
 /// The key and the count of the ask that stands at an index.
 fn ask_at(alloc: Global, changes: &[Change], index: usize) -> Option<(u32, u64, u32)> {
-    let apps = after(alloc, changes)?;
+    ask_at_of(&after(alloc, changes)?, index)
+}
+
+fn ask_at_of(apps: &Apps<2>, index: usize) -> Option<(u32, u64, u32)> {
     let app = apps.app(1)?;
     let ask = app.asks().get(index)?;
     let key = ask.key();
@@ -216,7 +229,10 @@ fn asks_stand_in_order_of_key(rt: HostRuntime) {
 
 /// How many containers are wanted for a key after all changes of the asks.
 fn wanted(alloc: Global, priority: u32, request: u64) -> Option<u32> {
-    let apps = after(alloc, &ASKS)?;
+    wanted_of(&after(alloc, &ASKS)?, priority, request)
+}
+
+fn wanted_of(apps: &Apps<2>, priority: u32, request: u64) -> Option<u32> {
     let ask = apps.app(1)?.ask(&Key { priority, request })?;
     Some(ask.count())
 }
@@ -238,7 +254,14 @@ fn asks_of_keys(alloc: Global, count: u64) -> Option<Vec<Ask<2>>> {
 
 /// Whether so many keys are too many for an application that has the first of them.
 fn are_too_many(alloc: Global, count: u64) -> Option<bool> {
-    let apps = after(alloc, &[Change::Submit("root.a"), Change::Ask(0, 0, 1)])?;
+    are_too_many_of(
+        alloc,
+        &after(alloc, &[Change::Submit("root.a"), Change::Ask(0, 0, 1)])?,
+        count,
+    )
+}
+
+fn are_too_many_of(alloc: Global, apps: &Apps<2>, count: u64) -> Option<bool> {
     let asks = asks_of_keys(alloc, count)?;
     Some(apps.app(1)?.has_too_many_keys(&asks))
 }
@@ -266,8 +289,11 @@ fn reported(apps: &Apps<2>) -> Option<Reported> {
 /// The last reply: its response id, how many releases were ignored, and how many grants and ends it has; none where these are not
 /// as many as its numbers say.
 fn reply(alloc: Global, changes: &[Change]) -> Option<(u32, u16, usize, usize)> {
-    let apps = after(alloc, changes)?;
-    let reported = reported(&apps)?;
+    reply_of(&after(alloc, changes)?)
+}
+
+fn reply_of(apps: &Apps<2>) -> Option<(u32, u16, usize, usize)> {
+    let reported = reported(apps)?;
     let reply = apps.reply(1, &reported);
     let (grants, ends) = (reply.grants().len(), reply.ends().len());
     if (reported.grants, reported.ends) != (grants, ends) {
@@ -278,7 +304,10 @@ fn reply(alloc: Global, changes: &[Change]) -> Option<(u32, u16, usize, usize)> 
 
 /// How many containers of application 1 are live.
 fn live(alloc: Global, changes: &[Change]) -> Option<u32> {
-    let apps = after(alloc, changes)?;
+    live_of(&after(alloc, changes)?)
+}
+
+fn live_of(apps: &Apps<2>) -> Option<u32> {
     Some(apps.app(1)?.live())
 }
 
@@ -292,8 +321,11 @@ fn granted_containers_are_live_until_they_end(rt: HostRuntime) {
 
 /// The first and the last container that the last reply grants.
 fn granted(alloc: Global, changes: &[Change]) -> Option<(u64, u64)> {
-    let apps = after(alloc, changes)?;
-    let reply = apps.reply(1, &reported(&apps)?);
+    granted_of(&after(alloc, changes)?)
+}
+
+fn granted_of(apps: &Apps<2>) -> Option<(u64, u64)> {
+    let reply = apps.reply(1, &reported(apps)?);
     let (begin, end) = (reply.grants().first()?, reply.grants().last()?);
     Some((begin.container(), end.container()))
 }
@@ -311,7 +343,10 @@ fn grants_and_ends_are_reported_64_at_a_time(rt: HostRuntime) {
 
 /// The last response id, and whether another is a repeat of it and whether it is bad.
 fn id(alloc: Global, changes: &[Change], id: u32) -> Option<(u32, bool, bool)> {
-    let apps = after(alloc, changes)?;
+    id_of(&after(alloc, changes)?, id)
+}
+
+fn id_of(apps: &Apps<2>, id: u32) -> Option<(u32, bool, bool)> {
     let app = apps.app(1)?;
     Some((
         app.response(),

@@ -89,11 +89,7 @@ fn runs_after(alloc: Global, changes: &[(&str, bool)], path: &str) -> Option<boo
     runs_after_in(&mut cluster, changes, path)
 }
 
-fn runs_after_in(
-    cluster: &mut Cluster<2>,
-    changes: &[(&str, bool)],
-    path: &str,
-) -> Option<bool> {
+fn runs_after_in(cluster: &mut Cluster<2>, changes: &[(&str, bool)], path: &str) -> Option<bool> {
     for (changed, running) in changes {
         set_state(cluster, changed, *running)?;
     }

@@ -278,12 +278,7 @@ fn a_proposal_is_made_or_changes_nothing(rt: HostRuntime) {
 
 /// Application 1 in `root.a` and application 2 in `root.b`, and a node of (8192, 8). The application asks for four containers of
 /// this resource.
-fn add_four(
-    alloc: Global,
-    cluster: &mut Cluster<2>,
-    app: u64,
-    resource: [u64; 2],
-) -> Option<()> {
+fn add_four(alloc: Global, cluster: &mut Cluster<2>, app: u64, resource: [u64; 2]) -> Option<()> {
     enter(cluster, "root.a", "u1")?;
     enter(cluster, "root.b", "u2")?;
     join(cluster, "n1", "/r1", [8192, 8])?;
@@ -339,10 +334,7 @@ fn lost_after_two(alloc: Global) -> Option<([u64; 2], u32, [u64; 2])> {
 }
 
 /// The same of a cluster without applications.
-fn lost_after_two_in(
-    alloc: Global,
-    cluster: &mut Cluster<2>,
-) -> Option<([u64; 2], u32, [u64; 2])> {
+fn lost_after_two_in(alloc: Global, cluster: &mut Cluster<2>) -> Option<([u64; 2], u32, [u64; 2])> {
     add_four(alloc, cluster, 1, [4096, 4])?;
     if let Found::Leaf(position) = cluster.tree().find(b"root.a") {
         cluster.set_state(&position, false);

@@ -86,10 +86,17 @@ fn make(nodes: &mut Nodes<2>, change: Change) -> Option<()> {
 /// The nodes after these changes. `None` if the condition of one does not hold or an allocation fails.
 fn after(alloc: Global, changes: &[Change]) -> Option<Nodes<2>> {
     let mut nodes = Nodes::new(alloc);
-    for change in changes {
-        make(&mut nodes, *change)?;
+    match after_in(&mut nodes, changes) {
+        Some(()) => Some(nodes),
+        None => None,
     }
-    Some(nodes)
+}
+
+fn after_in(nodes: &mut Nodes<2>, changes: &[Change]) -> Option<()> {
+    for change in changes {
+        make(nodes, *change)?;
+    }
+    Some(())
 }
 
 /// Two nodes, the first of 8,192 MiB and 8 vcores and the second of half of both; and two containers of application 7 on the
@@ -132,7 +139,10 @@ fn totals_are_summed(rt: HostRuntime) {
 
 /// How many containers are live on a node, and what it has left.
 fn room(alloc: Global, changes: &[Change], node: u64) -> Option<(u32, [u64; 2])> {
-    let nodes = after(alloc, changes)?;
+    room_of(&after(alloc, changes)?, node)
+}
+
+fn room_of(nodes: &Nodes<2>, node: u64) -> Option<(u32, [u64; 2])> {
     let _node = nodes.node(node)?;
     Some((nodes.live_on(node), nodes.free_of(node).amounts()))
 }
@@ -154,13 +164,18 @@ fn containers_take_room_on_their_nodes(rt: HostRuntime) {
 /// The three containers, and one more change.
 fn then(alloc: Global, change: Change) -> Option<Nodes<2>> {
     let mut nodes = after(alloc, &THREE_CONTAINERS)?;
-    make(&mut nodes, change)?;
-    Some(nodes)
+    match make(&mut nodes, change) {
+        Some(()) => Some(nodes),
+        None => None,
+    }
 }
 
 /// What node 1 has left once container 1 has ended, how many containers are live on it and in all, and the next number.
 fn room_after_an_end(alloc: Global) -> Option<([u64; 2], u32, usize, u64)> {
-    let nodes = then(alloc, Change::Lift(1))?;
+    room_after_an_end_of(&then(alloc, Change::Lift(1))?)
+}
+
+fn room_after_an_end_of(nodes: &Nodes<2>) -> Option<([u64; 2], u32, usize, u64)> {
     let _node = nodes.node(1)?;
     let free = nodes.free_of(1).amounts();
     Some((
@@ -242,7 +257,10 @@ fn containers_of_others_and_ended_ones_are_passed_over(rt: HostRuntime) {
 
 /// A container's number, application and node, the priority of its key, and its resource.
 fn container(alloc: Global, number: u64) -> Option<([u64; 3], u32, [u64; 2])> {
-    let nodes = after(alloc, &THREE_CONTAINERS)?;
+    container_of(&after(alloc, &THREE_CONTAINERS)?, number)
+}
+
+fn container_of(nodes: &Nodes<2>, number: u64) -> Option<([u64; 3], u32, [u64; 2])> {
     let found = nodes.container(number)?;
     let of = [found.number(), found.app(), found.node()];
     Some((of, found.key().priority, found.resource().amounts()))
@@ -257,7 +275,10 @@ fn a_container_shows_what_it_is(rt: HostRuntime) {
 
 /// A node's number, whether its host and rack are `h2` and `r1`, and its total.
 fn node(alloc: Global, number: u64) -> Option<(u64, bool, bool, [u64; 2])> {
-    let nodes = after(alloc, &THREE_CONTAINERS)?;
+    node_of(&after(alloc, &THREE_CONTAINERS)?, number)
+}
+
+fn node_of(nodes: &Nodes<2>, number: u64) -> Option<(u64, bool, bool, [u64; 2])> {
     let node = nodes.node(number)?;
     let host = node.host().as_bytes() == b"h2".as_slice();
     let rack = node.rack().as_bytes() == b"r1".as_slice();
@@ -331,6 +352,13 @@ fn a_lost_node_takes_its_total_along(rt: HostRuntime) {
 /// older ones come before, the first, how many there are, and what the node 1 has left.
 fn reserved_after(alloc: Global, older: u32) -> Option<(Option<u64>, u64, usize, [u64; 2])> {
     let mut nodes = after(alloc, &THREE_CONTAINERS)?;
+    reserved_after_in(&mut nodes, older)
+}
+
+fn reserved_after_in(
+    nodes: &mut Nodes<2>,
+    older: u32,
+) -> Option<(Option<u64>, u64, usize, [u64; 2])> {
     let resource = Resource::new([1024, 1])?;
     let key = Key {
         priority: 1,

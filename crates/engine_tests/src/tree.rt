@@ -204,10 +204,17 @@ fn make(tree: &mut Tree, change: Change) -> Option<()> {
 /// The tree after these changes. `None` if the condition of one does not hold or an allocation fails.
 fn after(alloc: Global, changes: &[Change]) -> Option<Tree> {
     let mut tree = tree(alloc)?;
-    for change in changes {
-        make(&mut tree, *change)?;
+    match after_in(&mut tree, changes) {
+        Some(()) => Some(tree),
+        None => None,
     }
-    Some(tree)
+}
+
+fn after_in(tree: &mut Tree, changes: &[Change]) -> Option<()> {
+    for change in changes {
+        make(tree, *change)?;
+    }
+    Some(())
 }
 
 fn runs(tree: &Tree, path: &str) -> Option<bool> {
@@ -371,10 +378,17 @@ const CONTAINERS: [Change; 8] = [
 /// The tree of the limited queues after the first so many changes of containers.
 fn with_containers(alloc: Global, made: usize) -> Option<Tree> {
     let mut tree = tree_of(alloc, LIMITED_QUEUES)?;
-    for change in first(&CONTAINERS, made) {
-        make(&mut tree, *change)?;
+    match with_containers_in(&mut tree, made) {
+        Some(()) => Some(tree),
+        None => None,
     }
-    Some(tree)
+}
+
+fn with_containers_in(tree: &mut Tree, made: usize) -> Option<()> {
+    for change in first(&CONTAINERS, made) {
+        make(tree, *change)?;
+    }
+    Some(())
 }
 
 fn use_after(alloc: Global, made: usize, path: &str) -> Option<[u64; 2]> {

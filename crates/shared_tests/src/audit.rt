@@ -2,7 +2,7 @@
 use cap_commit::Cluster;
 use cap_messages::dispatch;
 use cap_model::{
-    Event, OwnedReply, Proposal, ProposalKind, ReplyView, ReplyWith, Request, Verdict,
+    Event, OwnedReply, PathText, Proposal, ProposalKind, ReplyView, ReplyWith, Request, Verdict,
 };
 use cap_shared::{Closed, Entry, EventForm, Receipt, SeatReport};
 use std::alloc::Global;
@@ -89,6 +89,30 @@ fn plain(reply: &ReplyView<'_, 2>) -> Option<ReplyWith<2, ()>> {
         return Some(reply.other());
     };
     None
+}
+
+/// Whether two clusters of two queues report the same of themselves and of their queues.
+pub fn looks_alike(alloc: Global, a: &mut Cluster<2>, b: &mut Cluster<2>) -> bool {
+    let paths: [&[u8]; 3] = [b"root", b"root.a", b"root.b"];
+    for path in paths {
+        let Some(path) = PathText::new(path) else {
+            return false;
+        };
+        if !answer_alike(alloc, a, b, &Request::QueueInfo { path }) {
+            return false;
+        }
+    }
+    answer_alike(alloc, a, b, &Request::ClusterInfo)
+}
+
+fn answer_alike(
+    alloc: Global,
+    a: &mut Cluster<2>,
+    b: &mut Cluster<2>,
+    request: &Request<2>,
+) -> bool {
+    let (first, second) = (dispatch(alloc, a, request), dispatch(alloc, b, request));
+    is_same(&a.view(&first), &b.view(&second))
 }
 
 /// Whether the receipts of each seat are those for its entries, in order.

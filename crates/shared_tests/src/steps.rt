@@ -1,4 +1,4 @@
-//! What is done with seats.
+//! What threads do with their seats.
 use bumpalo::Bump;
 use cap_model::{Ask, Asks, Key, List, Numbers, PathText, Request, ShortText};
 use cap_propose::propose;
@@ -30,6 +30,27 @@ pub enum Work<'a> {
     Mixed(u64),
 }
 
+/// The work of each seat, what the first seat does once all threads have ended, and what is counted.
+#[derive(Clone, Copy)]
+pub struct Counted<'a> {
+    pub alloc: Global,
+    pub work: Work<'a>,
+    pub last: Option<Step<'a>>,
+    pub counts: &'a Counts,
+}
+
+impl shared_testing::Work for Counted<'_> {
+    fn work<J: Naming, H: Wait>(&self, rt: &H, shared: &Shared<J>, seat: Seat<J>) -> Seat<J> {
+        worked(rt, self.alloc, shared, seat, self.work, self.counts)
+    }
+
+    fn finish<J: Naming, H: Wait>(&self, rt: &H, shared: &Shared<J>, seat: &mut Seat<J>) {
+        if let Some(step) = self.last {
+            made(rt, self.alloc, shared, seat, step, self.counts);
+        }
+    }
+}
+
 /// How many calls and proposals came back because the journal was full, and how many could not be made at all.
 #[derive(Drop)]
 pub struct Counts {
@@ -42,23 +63,24 @@ pub fn worked<J: Naming, H: Wait>(
     rt: &H,
     alloc: Global,
     shared: &Shared<J>,
-    seat: &mut Seat<J>,
+    mut seat: Seat<J>,
     work: Work<'_>,
     counts: &Counts,
-) {
+) -> Seat<J> {
     match work {
         Work::Steps(steps) => {
             for step in steps {
-                made(rt, alloc, shared, seat, *step, counts);
+                made(rt, alloc, shared, &mut seat, *step, counts);
             }
         }
         Work::Mixed(count) => {
             for i in 0..count {
                 let step = mixed(i, seat.number());
-                made(rt, alloc, shared, seat, step, counts);
+                made(rt, alloc, shared, &mut seat, step, counts);
             }
         }
     }
+    seat
 }
 
 /// The hosts that seats register first.
@@ -100,12 +122,27 @@ fn made<J: Naming, H: Wait>(
     };
     match shared.call(rt, seat, request) {
         Ok(_) => {}
-        Err(CallFault::Sealed(_)) => {
+        Err(CallFault::Sealed(back)) if is_of(&back, step) => {
             counts.sealed.fetch_add(1, Ordering::SeqCst);
         }
-        Err(CallFault::NoMemory(_)) => {
+        Err(_) => {
             counts.failed.fetch_add(1, Ordering::SeqCst);
         }
+    }
+}
+
+/// Whether the request is that of the step.
+fn is_of(request: &Request<2>, step: Step<'_>) -> bool {
+    match (request, step) {
+        (Request::ClusterInfo, Step::ClusterInfo) => true,
+        (Request::Submit { path, .. }, Step::Submit(wanted)) => path.as_bytes() == wanted,
+        (Request::QueueInfo { path }, Step::QueueInfo(wanted)) => path.as_bytes() == wanted,
+        (Request::RegisterMaster { app }, Step::RegisterMaster(wanted)) => *app == wanted,
+        (Request::Allocate { app, .. }, Step::Allocate(wanted)) => *app == wanted,
+        (Request::RegisterNode { host, .. }, Step::RegisterNode(wanted)) => {
+            host.as_bytes() == wanted
+        }
+        _ => false,
     }
 }
 

@@ -1,38 +1,39 @@
-use crate::audit::{has_receipts, is_played};
-use crate::epochs::epoch;
-use crate::steps::{Counts, Step, Work};
+use crate::audit::{has_receipts, is_played, looks_alike};
+use crate::steps::{Counted, Counts, Step, Work};
 use cap_commit::Cluster;
 use cap_messages::dispatch;
 use cap_model::{ReplyWith, Request};
-use cap_shared::{Blank, Closed, Entry, Receipt, SeatReport};
+use cap_shared::{Closed, Entry, Receipt, SeatReport};
 use cap_testing::{TWO_QUEUES, cluster};
+use shared_testing::epoch;
 use std::alloc::Global;
-use std::marker::Brand;
 use std::mem::size_of;
 use std::sync::Wait;
 use std::sync::atomic::{AtomicU64, Ordering};
 use std::test::*;
+use std::thread::Threads;
 
-/// One epoch over a cluster: what is left, and how many calls and proposals came back.
-fn one_epoch<H: Wait>(
+/// One epoch over a cluster, with a last step of the first seat: what is left, how many calls and proposals came back, and how many could
+/// not be made.
+fn one_epoch<H: Threads + Wait + Sync>(
     rt: &H,
     alloc: Global,
     cluster: Cluster<2>,
-    seats: u32,
-    limit: usize,
+    (seats, limit): (u32, usize),
     work: Work<'_>,
+    last: Option<Step<'_>>,
 ) -> Option<(Closed, u64, u64)> {
-    if seats == 0 || seats > 256 || limit == 0 || limit > 1_000_000 {
-        return None;
-    }
-    let Ok(blank) = Blank::new(alloc, seats) else {
-        return None;
-    };
     let counts = Counts {
         sealed: AtomicU64::new(0),
         failed: AtomicU64::new(0),
     };
-    let closed = epoch::<Brand, H>(rt, alloc, blank, cluster, limit, work, &counts)?;
+    let work = Counted {
+        alloc,
+        work,
+        last,
+        counts: &counts,
+    };
+    let closed = epoch(rt, alloc, cluster, seats, limit, &work)?;
     Some((
         closed,
         counts.sealed.load(Ordering::SeqCst),
@@ -82,14 +83,15 @@ type OneSeat = (
 
 /// What a seat is answered in an epoch of two entries: its receipts, how many entries there are, how many calls came back, and what is
 /// left of the cluster.
-fn of_one_seat<H: Wait>(rt: &H, alloc: Global) -> Option<OneSeat> {
+fn of_one_seat<H: Threads + Wait + Sync>(rt: &H, alloc: Global) -> Option<OneSeat> {
     let steps = [
         Step::ClusterInfo,
         Step::Submit(b"root.missing"),
         Step::ClusterInfo,
     ];
     let opening = cluster(alloc, TWO_QUEUES)?;
-    let (mut closed, sealed, _failed) = one_epoch(rt, alloc, opening, 1, 2, Work::Steps(&steps))?;
+    let work = Work::Steps(&steps);
+    let (mut closed, sealed, _failed) = one_epoch(rt, alloc, opening, (1, 2), work, None)?;
     let left = sizes(alloc, &mut closed.cluster);
     Some((two_rows(&closed.seats), closed.journal.len(), sealed, left))
 }
@@ -114,9 +116,14 @@ fn shows_its_own(seat: &SeatReport) -> bool {
 }
 
 /// What a seat's first call is answered in an epoch over this cluster.
-fn first_answer<H: Wait>(rt: &H, alloc: Global, cluster: Cluster<2>) -> Option<(u64, u8, u32)> {
+fn first_answer<H: Threads + Wait + Sync>(
+    rt: &H,
+    alloc: Global,
+    cluster: Cluster<2>,
+) -> Option<(u64, u8, u32)> {
     let steps = [Step::ClusterInfo];
-    let (closed, _sealed, _failed) = one_epoch(rt, alloc, cluster, 1, 4, Work::Steps(&steps))?;
+    let work = Work::Steps(&steps);
+    let (closed, _sealed, _failed) = one_epoch(rt, alloc, cluster, (1, 4), work, None)?;
     first_row(&closed.seats)
 }
 
@@ -124,15 +131,18 @@ fn first_row(seats: &[SeatReport]) -> Option<(u64, u8, u32)> {
     Some(row_of(seats.first()?.receipts().first()?))
 }
 
-/// Two seats submit to `root.a` and read its report, in an epoch of four entries. Whether each report shows the seat's own,
-/// how many entries there are, how many calls came back, and what a ClusterInfo is answered in the next epoch.
-fn of_two_seats<H: Wait>(
+/// Two seats submit to `root.a` in threads and read its report, in an epoch of four entries; then the first asks for a ClusterInfo. Whether
+/// each report shows the seat's own, how many entries there are, how many calls came back, and what a ClusterInfo is answered in the next
+/// epoch.
+fn of_two_seats<H: Threads + Wait + Sync>(
     rt: &H,
     alloc: Global,
 ) -> Option<(bool, usize, u64, Option<(u64, u8, u32)>)> {
     let steps = [Step::Submit(b"root.a"), Step::QueueInfo(b"root.a")];
     let opening = cluster(alloc, TWO_QUEUES)?;
-    let (closed, sealed, _failed) = one_epoch(rt, alloc, opening, 2, 4, Work::Steps(&steps))?;
+    let work = Work::Steps(&steps);
+    let last = Some(Step::ClusterInfo);
+    let (closed, sealed, _failed) = one_epoch(rt, alloc, opening, (2, 4), work, last)?;
     let shown = closed.seats.iter().all(shows_its_own);
     let entries = closed.journal.len();
     let answer = first_answer(rt, alloc, closed.cluster);
@@ -140,21 +150,21 @@ fn of_two_seats<H: Wait>(
 }
 
 #[test]
-fn two_seats_share_a_cluster_and_the_next_epoch_goes_on_from_it(rt: HostRuntime) {
+fn two_threads_share_a_cluster_and_the_next_epoch_goes_on_from_it(rt: HostRuntime) {
     let answer = of_two_seats(&rt, rt.alloc());
-    assert!(rt; answer == Some((true, 4, 0, Some((0, 0, 2)))));
+    assert!(rt; answer == Some((true, 4, 1, Some((0, 0, 2)))));
 }
 
-/// Whether the journal, played on the cluster of two queues, comes to the same, with the receipts of each seat.
+/// Whether the journal, played on the cluster of two queues, comes to the same and leaves the same cluster, with the receipts of each seat.
 fn is_audited(alloc: Global, closed: &mut Closed) -> Option<bool> {
     let mut again = cluster(alloc, TWO_QUEUES)?;
     let played = is_played(alloc, &mut again, &closed.journal);
-    let same = sizes(alloc, &mut closed.cluster) == sizes(alloc, &mut again);
+    let same = looks_alike(alloc, &mut closed.cluster, &mut again);
     Some(played && same && has_receipts(closed))
 }
 
 /// An epoch, audited; how many entries it has, how many calls and proposals came back because it was full, and how many could not be made.
-fn audited<H: Wait>(
+fn audited<H: Threads + Wait + Sync>(
     rt: &H,
     alloc: Global,
     seats: u32,
@@ -162,13 +172,13 @@ fn audited<H: Wait>(
     work: Work<'_>,
 ) -> Option<(Option<bool>, usize, u64, u64)> {
     let opening = cluster(alloc, TWO_QUEUES)?;
-    let (mut closed, sealed, failed) = one_epoch(rt, alloc, opening, seats, limit, work)?;
+    let (mut closed, sealed, failed) = one_epoch(rt, alloc, opening, (seats, limit), work, None)?;
     let same = is_audited(alloc, &mut closed);
     Some((same, closed.journal.len(), sealed, failed))
 }
 
 #[test]
-fn calls_of_two_seats_come_back_from_a_full_journal(rt: HostRuntime) {
+fn calls_of_two_threads_come_back_from_a_full_journal(rt: HostRuntime) {
     let steps = [
         Step::Submit(b"root.a"),
         Step::QueueInfo(b"root.a"),
@@ -179,7 +189,7 @@ fn calls_of_two_seats_come_back_from_a_full_journal(rt: HostRuntime) {
 }
 
 #[test]
-fn eight_seats_leave_a_journal_that_can_be_played(rt: HostRuntime) {
+fn eight_threads_leave_a_journal_that_can_be_played(rt: HostRuntime) {
     let answer = audited(&rt, rt.alloc(), 8, 10_000, Work::Mixed(500));
     assert!(rt; matches!(answer, Some((Some(true), entries, 0, 0)) if entries > 3_200));
 }

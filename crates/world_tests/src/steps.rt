@@ -145,6 +145,10 @@ fn half_a_frame_is_not_answered(rt: HostRuntime) {
 /// Whether each of these steps was made and not idle, as a number of them.
 fn made(alloc: Global, steps: &[Step<'_>]) -> Option<usize> {
     let mut world = World::open(alloc, cluster(alloc, TWO_QUEUES)?);
+    made_in(alloc, &mut world, steps)
+}
+
+fn made_in(alloc: Global, world: &mut World, steps: &[Step<'_>]) -> Option<usize> {
     let mut events = Vec::new(alloc);
     let mut made = 0usize;
     for step in steps {
