@@ -122,13 +122,21 @@ fn made<J: Naming, H: Wait>(
     };
     match shared.call(rt, seat, request) {
         Ok(_) => {}
-        Err(CallFault::Sealed(back)) if is_of(&back, step) => {
-            counts.sealed.fetch_add(1, Ordering::SeqCst);
-        }
-        Err(_) => {
+        Err(CallFault::Sealed(back)) => count_sealed(&back, step, counts),
+        Err(CallFault::NoMemory(_)) => {
             counts.failed.fetch_add(1, Ordering::SeqCst);
         }
     }
+}
+
+/// Counts a request that came back from a full journal, as sealed if it is that of the step.
+fn count_sealed(back: &Request<2>, step: Step<'_>, counts: &Counts) {
+    let count = if is_of(back, step) {
+        &counts.sealed
+    } else {
+        &counts.failed
+    };
+    count.fetch_add(1, Ordering::SeqCst);
 }
 
 /// Whether the request is that of the step.
