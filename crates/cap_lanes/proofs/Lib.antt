@@ -1,0 +1,5 @@
+pub mod Lists
+pub mod Moves
+pub mod Tallies
+pub mod Puts
+pub mod Takes

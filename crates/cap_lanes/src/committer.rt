@@ -1,0 +1,82 @@
+//! The committer's end of the lanes.
+ghost use Rattle.std.specs.Prelude.{◌≡◌, ◌<◌, ℕ, [], ◌++◌, IfSome, IfNone};
+ghost use Rattle.cap_lanes.specs.Items.{tagged};
+ghost use Rattle.cap_lanes.specs.Sides.{AllOf, AllOver, IsTakenNext, StayOver, ends_of, put_by};
+
+use crate::putter::Ended;
+use crate::putting::{Back, LanePass};
+use crate::taking::{Front, gather_all, take_next, take_rest};
+use cap_model::Proposal;
+use std::marker::Model;
+use std::sync::Wait;
+
+/// What the committer takes proposals with. Contracts see which lanes it is of, the proposals that it took, in order and each with
+/// its worker's number, and of which workers it took the end.
+#[derive(Drop)]
+pub struct Committer {
+    pub(crate) back: Back,
+    pub(crate) front: Front,
+    pub(crate) pass: LanePass,
+    pub(crate) over: [bool; 8],
+    pub(crate) left: Vec<(u32, Proposal<2>)>,
+}
+
+impl Model for Committer {
+    ghost use Rattle.cap_lanes.specs.Sides.{CommitterSide};
+
+    ghost Value = { CommitterSide };
+
+    ghost use Rattle.std.specs.Prelude.{vec_capacity};
+    ghost use Rattle.crossbeam_channel.specs.Ends.{sends_on, receives_on};
+    ghost use Rattle.cap_lanes.specs.Ends.{lanes_id, taken_in, IsCommitter};
+
+    ghost view = { λ c. record {
+      lanes = lanes_id (sends_on c.back);
+      taken = taken_in c.pass;
+      over = c.over;
+    } };
+
+    ghost invariant = { λ c. IsCommitter (sends_on c.back) (receives_on c.front) c.pass c.over
+        c.left.items (vec_capacity c.left) };
+}
+
+/// What the committer had not taken when the lanes were closed: the proposals in the order in which they were put, each with its
+/// worker's number.
+#[derive(Drop)]
+pub struct LanesClosed {
+    pub left: Vec<(u32, Proposal<2>)>,
+}
+
+impl Committer {
+    /// Takes the next proposal, with the number of the worker that put it, and waits for it. None once the ends of all eight workers
+    /// were taken. It takes no memory.
+    pub fn take<R: Wait>(&mut self, rt: &R) -> Option<(u32, Proposal<2>)>
+        ensures lanes { self.new.lanes ≡ self.old.lanes }
+        ensures some { IfSome result (IsTakenNext self.old self.new) }
+        ensures none { IfNone result ((self.new.taken ≡ self.old.taken) × AllOver self.new.over) }
+        ensures kept { StayOver self.old.over self.new.over }
+    {
+        take_next(rt, &self.front, &mut self.pass, &mut self.over)
+    }
+
+    /// Closes the lanes, once all eight workers have finished: takes what the channel still holds. What each worker put is what was
+    /// taken of it, and then what is left of it. It takes no memory.
+    pub fn close<R: Wait>(self, rt: &R, ended: [Ended; 8]) -> LanesClosed
+        requires { AllOf self.lanes ended }
+        ensures each { (w : ℕ) →
+            tagged w self.taken ++ tagged w result.left.items ≡ put_by w ended }
+        ensures empty { AllOver self.over → result.left.items ≡ [] }
+        ensures once { (w : ℕ) → w < 8 → ends_of w ended ≡ 1 }
+    {
+        let Committer {
+            back,
+            front,
+            mut pass,
+            over: _,
+            mut left,
+        } = self;
+        gather_all(&back, &mut pass, ended);
+        take_rest(rt, &back, &front, &mut pass, &mut left);
+        LanesClosed { left }
+    }
+}
