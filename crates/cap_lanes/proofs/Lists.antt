@@ -12,7 +12,7 @@ use Rattle.cap_lanes.specs.declared.item.Item.{Item}
 use Rattle.cap_lanes.specs.declared.view.Lane.{Lane}
 use Rattle.cap_lanes.specs.declared.view.View.{View}
 use Rattle.cap_lanes.specs.Items.{messages_of, proposals, is_over, EndsLast, puts_if, puts_in, tagged}
-use Rattle.cap_lanes.specs.Rule.{lane, fresh, rest_of, head_of, Fits, AllFit, times, total, Tagged, more_put}
+use Rattle.cap_lanes.specs.Rule.{lane, fresh, rest_of, head_of, Fits, AllFit, times, total, WorkersBelow}
 
 abbrev pub one : ℕ → ℕ → ℕ
 one a x = if a == x then 1 else 0
@@ -137,9 +137,9 @@ fits_mine got items x l e h = record {
   below = h.below;
 }
 
-pub Tagged-push : (xs : List Item) (x : Item) → Tagged xs → x.worker < 8 → Tagged (xs ++ x ∷ [])
-Tagged-push [] x h l = (l, tt)
-Tagged-push (y ∷ xs) x h l = (h.0, Tagged-push xs x h.1 l)
+pub WorkersBelow-push : (xs : List Item) (x : Item) → WorkersBelow xs → x.worker < 8 → WorkersBelow (xs ++ x ∷ [])
+WorkersBelow-push [] x h l = (l, tt)
+WorkersBelow-push (y ∷ xs) x h l = (h.0, WorkersBelow-push xs x h.1 l)
 
 -- nothing comes after an end
 pub EndsLast-push : (xs : List Message) (y : Message) → EndsLast xs → is_over xs ≡ false → EndsLast (xs ++ y ∷ [])

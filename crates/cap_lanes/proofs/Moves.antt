@@ -11,7 +11,7 @@ use Rattle.cap_lanes.specs.declared.view.Lane.{Lane}
 use Rattle.cap_lanes.specs.declared.view.View.{View}
 use Rattle.cap_lanes.specs.Items.{messages_of, is_over, EndsLast}
 use Rattle.cap_lanes.specs.Rule.{lane, view_of, sender, nobody, first_view, without_first, only_first, with_guest, Fits, Sound, Knows, Holds, Tally, Tells, IsPut, IsTaken, lane_of}
-use Rattle.cap_lanes.proofs.Lists.{one, one_same, same_of, test_same, messages_of-append, times-append, times-parts, total-set, total-push, total_at, total_two, fresh_fits, fresh_once, all_fit-append, all_fit_rest, all_fit_head, all_fit_popped, all_fit_others, fits_mine, of_mine, of_other, of_pushed, of_popped, Tagged-push, EndsLast-push, not_over_before}
+use Rattle.cap_lanes.proofs.Lists.{one, one_same, same_of, test_same, messages_of-append, times-append, times-parts, total-set, total-push, total_at, total_two, fresh_fits, fresh_once, all_fit-append, all_fit_rest, all_fit_head, all_fit_popped, all_fit_others, fits_mine, of_mine, of_other, of_pushed, of_popped, WorkersBelow-push, EndsLast-push, not_over_before}
 
 off : false ≡ true → ⊥
 off e = absurd (cc (e))
@@ -88,7 +88,7 @@ joins id v other w items views h at apart there =
 sound_pushed : (got items : List Item) (x : Item) (l : Lane) → Sound got items → Fits got items l → x.worker ≡ l.worker → is_over l.put ≡ false → length items < 1024 → Sound got (items ++ x ∷ [])
 sound_pushed got items x l s f e o room = record {
   taken = s.taken;
-  held = Tagged-push items x s.held (let b = f.below in omega arith);
+  held = WorkersBelow-push items x s.held (let b = f.below in omega arith);
   lanes = λ n. by_lane n (x.worker == n) refl;
   room = omega (arith, length-append items (x ∷ []));
 }
@@ -128,7 +128,7 @@ pushes cap id l x e o le items views room h at =
 -- the committer takes an item
 sound_popped : (got items : List Item) (x : Item) → Sound got (x ∷ items) → Sound (got ++ x ∷ []) items
 sound_popped got items x s = record {
-  taken = Tagged-push got x s.taken s.held.0;
+  taken = WorkersBelow-push got x s.taken s.held.0;
   held = s.held.1;
   lanes = λ n. subst EndsLast (of_popped n got items x) (s.lanes n);
   room = (let r = s.room in omega arith);

@@ -8,7 +8,7 @@ use Rattle.cap_lanes.specs.declared.item.Item.{Item}
 use Rattle.cap_lanes.specs.declared.view.Lane.{Lane}
 use Rattle.cap_lanes.specs.Items.{messages_of, proposals, is_over, puts_in, tagged}
 use Rattle.cap_lanes.specs.declared.view.View.{View}
-use Rattle.cap_lanes.specs.Rule.{view_of, AllFit, times, Tagged, Tally, puts_by}
+use Rattle.cap_lanes.specs.Rule.{view_of, AllFit, times, WorkersBelow, Tally, puts_by}
 use Rattle.cap_lanes.specs.Sides.{WorkerSide, Alike, put_by, ends_of, AllOver}
 use Rattle.cap_lanes.specs.Ends.{Flags}
 use Rattle.cap_lanes.proofs.Lists.{one, same_of, proposals-append, puts_in-append, tagged-append, tagged_puts}
@@ -78,7 +78,7 @@ times_above : (got items : List Item) (w : ℕ) (ls : List Lane) → 8 ≤ w →
 times_above got items w [] u h = refl
 times_above got items w (l ∷ ls) u h = let b = h.0.below in let i = times_above got items w ls u h.1 in let o : one l.worker w ≡ 0 = grind (arith, nat_tests) in omega arith
 
-of_above : (w : ℕ) (xs : List Item) → 8 ≤ w → Tagged xs → messages_of w xs ≡ []
+of_above : (w : ℕ) (xs : List Item) → 8 ≤ w → WorkersBelow xs → messages_of w xs ≡ []
 of_above w [] u h = refl
 of_above w (x ∷ xs) u h = let t : (x.worker == w) ≡ false = (let b = h.0 in grind (arith, nat_tests)) in rw t (of_above w xs u h.1)
 
@@ -110,7 +110,7 @@ length_of_cons w x xs = step (x.worker == w)
     step true = omega arith
     step false = omega arith
 
-length_by_worker : (xs : List Item) → Tagged xs → sum8 (λ w. length (messages_of w xs)) ≡ length xs
+length_by_worker : (xs : List Item) → WorkersBelow xs → sum8 (λ w. length (messages_of w xs)) ≡ length xs
 length_by_worker [] h = refl
 length_by_worker (x ∷ xs) h =
     let a = add8 (λ w. length (messages_of w (x ∷ xs))) (one x.worker) (λ w. length (messages_of w xs)) (λ w. length_of_cons w x xs) in

@@ -49,7 +49,7 @@ only_first v = view_of false [] (head_of v.lanes)
 abbrev pub with_guest : View → View → View
 with_guest v w = view_of v.takes v.took (v.lanes ++ w.lanes)
 
--- what the worker has put is what was taken of it, and then what the channel holds of it
+-- what the worker put is what was taken of it, and then what the channel holds of it
 pub record Fits (got items : List Item) (l : Lane) : Type 0 where
   pub put : l.put ≡ messages_of l.worker got ++ messages_of l.worker items
   pub below : l.worker < 8
@@ -68,21 +68,23 @@ total n [] = 0
 total n (v ∷ vs) = times n v.lanes + total n vs
 
 -- each item is of one of the eight
-abbrev pub Tagged : List Item → Type 0
-Tagged [] = Unit {0}
-Tagged (x ∷ xs) = (x.worker < 8) × Tagged xs
+abbrev pub WorkersBelow : List Item → Type 0
+WorkersBelow [] = Unit {0}
+WorkersBelow (x ∷ xs) = (x.worker < 8) × WorkersBelow xs
 
--- what is known of all that was put, apart from passes
+-- what holds of all that was taken and all that the channel holds: nothing comes after a worker's end
 pub record Sound (got items : List Item) : Type 0 where
-  pub taken : Tagged got
-  pub held : Tagged items
+  pub taken : WorkersBelow got
+  pub held : WorkersBelow items
   pub lanes : (n : ℕ) → EndsLast (messages_of n got ++ messages_of n items)
   pub room : length items ≤ 1024
 
+-- what a pass knows is so: the committer's is one pass, and knows all that was taken
 pub record Knows (taker_at : ℕ) (got items : List Item) (by : ℕ) (v : View) : Type 0 where
   pub takes : v.takes ≡ true → (by ≡ taker_at) × (v.took ≡ got)
   pub fits : AllFit got items v.lanes
 
+-- the rule: what was taken is known to one pass, and no worker has two lanes
 pub record Holds (items : List Item) (views : List View) : Type 0 where
   pub taker_at : ℕ
   pub got : List Item
@@ -90,11 +92,12 @@ pub record Holds (items : List Item) (views : List View) : Type 0 where
   pub knows : (by : ℕ) (v : View) → get_elem? views by ≡ some v → Knows taker_at got items by v
   pub once : (n : ℕ) → total n views ≤ 1
 
--- an item joins the first lane
+-- a message joins the first lane
 abbrev pub more_put : Message → List Lane → List Lane
 more_put x [] = []
 more_put x (l ∷ ls) = lane l.worker (l.put ++ x ∷ []) ∷ ls
 
+-- a worker's pass after it put an item
 abbrev pub IsPut : View → Item → View → Type 0
 IsPut v x w = w ≡ view_of v.takes v.took (more_put x.message v.lanes)
 
@@ -107,7 +110,7 @@ pub record Tally (got items : List Item) (ls : List Lane) : Type 0 where
 abbrev pub Tells : View → List Item → Type 0
 Tells v items = Tally v.took items v.lanes
 
--- the item is the next that was taken. It is of a worker whose end was not taken
+-- the committer's pass after it took an item, which is of a worker whose end was not taken before; and what the channel holds then
 abbrev pub IsTaken : View → Item → View → Type 0
 IsTaken v x w =
     (w ≡ view_of v.takes (v.took ++ x ∷ []) v.lanes)

@@ -42,9 +42,9 @@ fn next_putter(
     })
 }
 
-/// Lanes for eight workers, numbered from 0, in which nothing was put: the committer's end, and an end for each worker. At most
-/// `capacity` items lie in the channel; one item is a proposal or a worker's end. All that `Committer::close` needs is allocated
-/// here. If an allocation fails there are none.
+/// Lanes for eight workers, numbered from 0, in which nothing was put: the committer's end, and an end for each worker. The channel
+/// holds at most `capacity` items, 1 to 1,024; a proposal is an item, and so is a worker's end. All that `Committer::close` needs is
+/// allocated here. If an allocation fails there are none.
 pub fn lanes(alloc: Global, capacity: usize) -> Result<(Committer, [Putter; 8]), NoMemory>
     requires { (0 < capacity) × (capacity ≤ 1024) }
     ensures committer { IfOk result (λ r. (r.0.taken ≡ []) × NoneOver r.0.over) }

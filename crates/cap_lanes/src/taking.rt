@@ -1,12 +1,10 @@
 //! What the committer does with the parts of its end of the lanes.
-ghost use Rattle.std.specs.Prelude.{◌≡◌, List, ◌<◌, ◌≤◌, ℕ, true, [], ◌∷◌, ◌++◌, IfSome, IfNone, length, vec_capacity};
+ghost use Rattle.std.specs.Prelude.{◌≡◌, ◌<◌, ◌≤◌, ℕ, true, [], IfSome, IfNone, length, vec_capacity};
 ghost use Rattle.crossbeam_channel.specs.Ends.{sends_on, receives_on};
 ghost use Rattle.crossbeam_channel.specs.Claims.{view, IsSeatAt};
-ghost use Rattle.cap_lanes.specs.declared.view.Lane.{Lane};
-ghost use Rattle.cap_lanes.specs.Items.{proposals, puts_in, tagged};
-ghost use Rattle.cap_lanes.specs.Rule.{taker, times, puts_by};
-ghost use Rattle.cap_lanes.specs.Sides.{AllOf, Alike, AllOver, IsNext, StayOver};
-ghost use Rattle.cap_lanes.specs.Ends.{Flags, AllEnded, SameSeat, lanes_id, taken_in};
+ghost use Rattle.cap_lanes.specs.Rule.{taker, times};
+ghost use Rattle.cap_lanes.specs.Sides.{AllOf, AllOver, IsNext, StayOver};
+ghost use Rattle.cap_lanes.specs.Ends.{Flags, AllEnded, AreAllIn, HasLaneOf, HasLanesOf, SameSeat, lanes_id, taken_in};
 
 use crate::item::Item;
 use crate::putter::Ended;
@@ -60,10 +58,7 @@ fn gather(back: &Back, pass: &mut LanePass, ended: Ended)
     requires lanes { ended.lanes ≡ lanes_id (sends_on back.now) }
     requires takes { (view pass.old).takes ≡ true }
     ensures same { SameSeat pass.old pass.new × (pass.new.me.1 ≡ []) }
-    ensures lane { (l : Lane)
-        × (view pass.new ≡ taker (view pass.old).took ((view pass.old).lanes ++ l ∷ []))
-        × (l.worker ≡ ended.worker)
-        × (proposals l.put ≡ ended.put) }
+    ensures lane { HasLaneOf ended pass.old pass.new }
 {
     let Ended {
         worker: _,
@@ -79,9 +74,7 @@ pub(crate) fn gather_all(back: &Back, pass: &mut LanePass, ended: [Ended; 8])
     requires lanes { AllOf (lanes_id (sends_on back.now)) ended }
     requires takes { view pass.old ≡ taker (view pass.old).took [] }
     ensures same { SameSeat pass.old pass.new × (pass.new.me.1 ≡ []) }
-    ensures lanes { (ls : List Lane)
-        × (view pass.new ≡ taker (view pass.old).took ls)
-        × Alike ls ended }
+    ensures lanes { HasLanesOf ended pass.old pass.new }
     ensures eight { length (view pass.new).lanes ≡ 8 }
 {
     for e in ended {
@@ -103,8 +96,7 @@ pub(crate) fn take_rest<R: Wait>(
     requires eight { length (view pass.old).lanes ≡ 8 }
     requires empty { left.old.items ≡ [] }
     requires room { 1024 ≤ vec_capacity left.old }
-    ensures each { (w : ℕ) → tagged w (taken_in pass.old) ++ tagged w left.new.items
-        ≡ proposals (puts_by w (view pass.old).lanes) }
+    ensures each { (w : ℕ) → AreAllIn w pass.old left.new.items }
     ensures none { AllEnded (view pass.old).took → left.new.items ≡ [] }
     ensures once { (w : ℕ) → w < 8 → times w (view pass.old).lanes ≡ 1 }
 {
