@@ -40,8 +40,8 @@ impl Model for Committer {
         c.left.items (vec_capacity c.left) };
 }
 
-/// What the committer had not taken when the lanes were closed: the proposals in the order in which they were put, each with its
-/// worker's number.
+/// The proposals that the committer had not taken when the lanes were closed, each with its worker's number. Those of one worker stand in
+/// the order in which it put them.
 #[derive(Drop)]
 pub struct LanesClosed {
     pub left: Vec<(u32, Proposal<2>)>,
