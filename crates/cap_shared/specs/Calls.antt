@@ -9,6 +9,7 @@ use Rattle.cap_model.specs.Verdicts.{IsOf}
 use Rattle.cap_model.specs.declared.request.Request.{Request}
 use Rattle.cap_model.specs.declared.proposal.Verdict.{Verdict}
 use Rattle.cap_model.specs.declared.proposal.Verdict.TheVariants as verdict
+use Rattle.cap_messages.specs.Spelling.{IsOfKind, kind_of}
 use Rattle.cap_copy.specs.Snapshot.{Seen, sight_in}
 use Rattle.cap_sights.specs.Sights.{ShowTheSame}
 use Rattle.cap_shared.specs.declared.entry.Entry.{Entry}
@@ -30,10 +31,10 @@ use Rattle.cap_shared.specs.Rule.{sitting}
 abbrev pub HasMore : Sitting → Sitting → List Moment → Type 0
 HasMore old new moments = new ≡ sitting old.seat (old.past ++ moments)
 
--- a call that is answered has a receipt of its own; it is never answered that no memory was found
+-- a call that is answered has a receipt of its own; the reply is a refusal, never that no memory was found, or of the request's kind
 abbrev pub CallsOk : Request 2 → Sitting → Sitting → Reply 2 → Type 0
 CallsOk request old new reply =
-    (is_no_memory reply ≡ false) × ((n : ℕ) × HasMore old new (Entered (receipt.Call n request reply) ∷ []))
+    (is_no_memory reply ≡ false) × ((n : ℕ) × HasMore old new (Entered (receipt.Call n request reply) ∷ [])) × IsOfKind (kind_of request) reply
 
 -- that a full journal kept the call from being made is noted
 abbrev pub IsSealedCall : Request 2 → ℕ → Sitting → Sitting → Type 0

@@ -6,6 +6,7 @@ use Rattle.cap_model.specs.Events.{is_no_memory}
 use Rattle.cap_model.specs.Replies.{Replies}
 use Rattle.cap_model.specs.Reporting.{HasRoomFor, HasRoomForReplies}
 use Rattle.cap_model.specs.declared.request.Request.{Request}
+use Rattle.cap_messages.specs.Spelling.{IsOfKind, kind_of}
 use Rattle.cap_shared.specs.declared.calls.Answered.{Answered}
 use Rattle.cap_shared.specs.declared.calls.CallCopy.{CallCopy}
 use Rattle.cap_shared.specs.declared.calls.CallRoom.{CallRoom}
@@ -31,9 +32,10 @@ pub record HasRoomsFor (answer : Reply 2) (rooms : Rooms) : Type 0 where
 abbrev pub IsCopyOf : Request 2 → Reply 2 → CallCopy → Type 0
 IsCopyOf request reply copy = (copy.request ≡ request) × (copy.reply ≡ reply)
 
--- the call is answered as the reply function says, not that no memory was found, and both copies are of it
+-- the call is answered as the reply function says, with a reply of its kind, not that no memory was found, and both copies are of it
 pub record IsAnswered (old : Flat 2) (request : Request 2) (new : Flat 2) (a : Answered) : Type 0 where
   pub replies : Replies old request a.reply new
   pub found : is_no_memory a.reply ≡ false
+  pub kind : IsOfKind (kind_of request) a.reply
   pub entry : IsCopyOf request a.reply a.entry
   pub receipt : IsCopyOf request a.reply a.receipt
