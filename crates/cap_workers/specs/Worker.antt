@@ -1,0 +1,40 @@
+-- What a turn of a worker does.
+use Rattle.std.specs.Prelude.{◌≡◌, ◌⊎◌, ℕ, Option, Some, None}
+use Rattle.cap_model.specs.Admission.{NodeProposal}
+use Rattle.cap_model.specs.Candidates.{choice_from}
+use Rattle.cap_model.specs.Flat.{Flat}
+use Rattle.cap_model.specs.declared.proposal.Verdict.TheVariants as verdict
+use Rattle.cap_copy.specs.Snapshot.{Seen, sight_in}
+use Rattle.cap_shared.specs.declared.faults.CommitFault.TheVariants as fault
+use Rattle.cap_shared.specs.declared.history.Sitting.{Sitting}
+use Rattle.cap_shared.specs.Calls.{CopyIs, CommitAnswers, CommitsBack}
+use Rattle.cap_workers.specs.declared.worker.End.{End}
+use Rattle.cap_workers.specs.declared.worker.End.TheVariants as ends
+
+-- one copy of the cluster is noted, and this is the choice on it, from the starting node
+pub record Chooses (opening : Flat 2) (start : ℕ) (old new : Sitting) (choice : Option NodeProposal) : Type 0 where
+  pub snapshot : Seen
+  pub copied : CopyIs opening old new snapshot
+  pub chosen : choice ≡ choice_from (sight_in 2 snapshot) start
+
+-- the proposal was committed once, and the end is what that was answered
+abbrev pub IsCommitted : NodeProposal → ℕ → Sitting → Sitting → End → Type 0
+IsCommitted p limit old new ends.Nothing = ⊥
+IsCommitted p limit old new (ends.Done event) = CommitAnswers p old new (verdict.Done event)
+IsCommitted p limit old new (ends.Rejected reason) = CommitAnswers p old new (verdict.Rejected reason)
+IsCommitted p limit old new (ends.Sealed back) = CommitsBack p limit old new (fault.Sealed back)
+IsCommitted p limit old new ends.NoMemory = CommitsBack p limit old new (fault.NoMemory p)
+
+-- a proposal was chosen and then committed
+abbrev pub CommitsChoice : Flat 2 → ℕ → ℕ → Sitting → Sitting → End → Type 0
+CommitsChoice opening limit start old new end =
+    (mid : Sitting) × (p : NodeProposal) × Chooses opening start old mid (Some p) × IsCommitted p limit mid new end
+
+-- A turn notes one copy of the cluster. Where nothing is chosen on it from the start, that is all; else the choice went to one commit, and the
+-- end is what that was answered. Where memory was refused for the copy, nothing is noted.
+abbrev pub IsTurn : Flat 2 → ℕ → ℕ → Sitting → Sitting → End → Type 0
+IsTurn opening limit start old new ends.Nothing = Chooses opening start old new None
+IsTurn opening limit start old new (ends.Done event) = CommitsChoice opening limit start old new (ends.Done event)
+IsTurn opening limit start old new (ends.Rejected reason) = CommitsChoice opening limit start old new (ends.Rejected reason)
+IsTurn opening limit start old new (ends.Sealed back) = CommitsChoice opening limit start old new (ends.Sealed back)
+IsTurn opening limit start old new ends.NoMemory = (new ≡ old) ⊎ CommitsChoice opening limit start old new ends.NoMemory

@@ -1,0 +1,25 @@
+//! Where a worker can be held.
+
+/// A point of a turn.
+#[derive(Clone, Copy, Debug, PartialEq, Eq)]
+pub enum Point {
+    /// The cluster was copied.
+    Copied,
+    /// A proposal was made, or there is nothing to propose.
+    Proposed,
+    /// The commit was answered.
+    Committed,
+}
+
+/// Is told when a worker comes to a point of its turn, and may hold it there. The worker has no lock then.
+pub trait Gate {
+    fn at(&self, worker: u32, point: Point);
+}
+
+/// Holds no worker.
+#[derive(Clone, Copy, Debug)]
+pub struct OpenGate;
+
+impl Gate for OpenGate {
+    fn at(&self, _worker: u32, _point: Point) {}
+}

@@ -1,0 +1,10 @@
+//! Workers that take turns over a shared cluster, and sessions whose requests are answered from it.
+#![tactic(auto)]
+
+mod gate;
+mod sessions;
+mod worker;
+
+pub use gate::{Gate, OpenGate, Point};
+pub use sessions::{EndCause, SessionEnd, serve_session};
+pub use worker::{End, Turn, Worker};

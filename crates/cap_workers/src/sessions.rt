@@ -1,0 +1,281 @@
+//! Serving a session from a shared cluster.
+ghost use Rattle.std.specs.Prelude.{◌≡◌, ◌≢◌, ℕ, ◌-◌, ◌^◌, List, length, min, None, Some};
+ghost use Rattle.cap_session.specs.Counted.{state_of, inner_of, CanCount};
+ghost use Rattle.cap_session.specs.Session.{after_sent, IsSession};
+ghost use Rattle.cap_session.specs.declared.counted.Sent.{Sent};
+ghost use Rattle.cap_workers.specs.Sessions.{pending_request, IsServed, IsRound, IsPause, IsCallMade, IsRead, IsWritten, GoesOn, ReadsOn, end_of};
+
+use cap_model::{OwnedReply, Refusal, ReplyWith, Request};
+use cap_session::{Cause, Counted, Fed, Got, Next, Sent, Session};
+use cap_shared::{CallFault, Naming, Seat, Shared};
+use std::io::{Read, Write};
+use std::sync::Wait;
+
+/// Why serving a session ended.
+#[derive(Debug, Drop)]
+pub enum EndCause {
+    /// The input has ended, and all requests were answered.
+    InputEnded,
+    /// A length came that no frame has: it was answered with status 40.
+    Faulted,
+    /// The journal is full. The request comes back; it was not called, and is still open.
+    Sealed(Request<2>),
+    /// Nothing came in time.
+    Quiet,
+    /// The reader failed.
+    ReadFault,
+    /// The writer failed.
+    WriteFault,
+    /// An allocation failed.
+    NoMemory,
+}
+
+/// A session that was served.
+#[derive(Drop)]
+pub struct SessionEnd {
+    pub session: Session,
+    /// How many bytes went out. It stops at `u64::MAX`.
+    pub sent: u64,
+    pub cause: EndCause,
+}
+
+/// Why no payload is answered now.
+#[derive(Drop)]
+pub(crate) enum Pause {
+    /// More bytes are needed.
+    Need,
+    /// The journal is full.
+    Sealed(Request<2>),
+    /// The session has ended.
+    Ended(Cause),
+}
+
+/// Serves a session that has not ended; `pending` is its open request, if it has one. Reads, makes the calls that are asked for,
+/// the pending one first, and writes their answers out, until one of the causes comes. A call that finds no memory is answered with
+/// status 20. After `Quiet` the session can be served again, after `Sealed` with the request as `pending` in another epoch.
+pub fn serve_session<J: Naming, H: Wait, R: Read, W: Write>(
+    rt: &H,
+    shared: &Shared<J>,
+    seat: &mut Seat<J>,
+    session: Session,
+    pending: Option<Request<2>>,
+    reader: &mut Counted<R>,
+    writer: &mut Counted<W>,
+) -> SessionEnd
+    requires goes_on { session.ended ≡ None }
+    requires pending { pending ≡ pending_request session.open_request }
+    requires reader { CanCount (state_of reader.old) }
+    requires writer { CanCount (state_of writer.old) }
+    ensures served { IsServed J.limit session result.session seat.old seat.new result.cause }
+    ensures session { IsSession result.session }
+    ensures read { IsRead (Some result.cause) (state_of reader.old) (state_of reader.new)
+        (R.remaining (inner_of reader.old)) (R.remaining (inner_of reader.new))
+        session.fed result.session.fed }
+    ensures written { (out : List ℕ) × IsWritten (Some result.cause)
+        (state_of writer.old) (state_of writer.new)
+        (W.contents (inner_of writer.old)) (W.contents (inner_of writer.new))
+        session.sent result.session.sent out
+        × (result.sent ≡ min (length out) (2 ^ 64 - 1)) }
+{
+    let mut session = session;
+    let mut pending = pending;
+    let mut sent = 0u64;
+    for _ in rt.forever() {
+        let Round { sent: out, end } = serve_once(
+            rt,
+            shared,
+            seat,
+            &mut session,
+            pending,
+            reader,
+            writer,
+        );
+        sent = sent.saturating_add(out);
+        if let Some(cause) = end {
+            // Read for contracts alone: what every session promises.
+            let _unsent = session.unsent();
+            return SessionEnd {
+                session,
+                sent,
+                cause,
+            };
+        }
+        pending = None;
+    }
+    unreachable!()
+}
+
+/// What a round did: how many bytes went out, and why the session is not served on, if so.
+#[derive(Drop)]
+struct Round {
+    sent: u64,
+    end: Option<EndCause>,
+}
+
+/// Answers what was fed, writes it out, and reads once.
+fn serve_once<J: Naming, H: Wait, R: Read, W: Write>(
+    rt: &H,
+    shared: &Shared<J>,
+    seat: &mut Seat<J>,
+    session: &mut Session,
+    pending: Option<Request<2>>,
+    reader: &mut Counted<R>,
+    writer: &mut Counted<W>,
+) -> Round
+    requires goes_on { session.old.ended ≡ None }
+    requires pending { pending ≡ pending_request session.old.open_request }
+    requires reader { CanCount (state_of reader.old) }
+    requires writer { CanCount (state_of writer.old) }
+    ensures round { IsRound J.limit session.old session.new seat.old seat.new result.end }
+    ensures read { IsRead result.end (state_of reader.old) (state_of reader.new)
+        (R.remaining (inner_of reader.old)) (R.remaining (inner_of reader.new))
+        session.old.fed session.new.fed }
+    ensures written { (out : List ℕ) × IsWritten result.end
+        (state_of writer.old) (state_of writer.new)
+        (W.contents (inner_of writer.old)) (W.contents (inner_of writer.new))
+        session.old.sent session.new.sent out
+        × (result.sent ≡ length out) }
+{
+    match answer_all(rt, shared, seat, session, pending) {
+        Pause::Need => go_on(session, reader, writer),
+        Pause::Sealed(request) => Round {
+            sent: 0,
+            end: Some(EndCause::Sealed(request)),
+        },
+        Pause::Ended(Cause::BadLength) => finish(session, writer, EndCause::Faulted),
+        Pause::Ended(Cause::NoMemory) => finish(session, writer, EndCause::NoMemory),
+        Pause::Ended(Cause::WriteFault) => unreachable!(),
+    }
+}
+
+/// Writes out what a session that has ended still has to say.
+fn finish<W: Write>(session: &mut Session, writer: &mut Counted<W>, cause: EndCause) -> Round
+    requires counts { CanCount (state_of writer.old) }
+    requires cause { cause ≢ EndCause.WriteFault }
+    ensures sent { (sent : Sent) × (session.new ≡ after_sent session.old sent)
+        × (result.end ≡ Some (end_of cause sent)) }
+    ensures written { (out : List ℕ) × IsWritten result.end
+        (state_of writer.old) (state_of writer.new)
+        (W.contents (inner_of writer.old)) (W.contents (inner_of writer.new))
+        session.old.sent session.new.sent out
+        × (result.sent ≡ length out) }
+{
+    match session.write_out(writer) {
+        Sent::All(count) => Round {
+            sent: count as u64,
+            end: Some(cause),
+        },
+        Sent::Fault { sent } => Round {
+            sent: sent as u64,
+            end: Some(EndCause::WriteFault),
+        },
+    }
+}
+
+/// Writes out what a session has to say, and reads more for it.
+fn go_on<R: Read, W: Write>(
+    session: &mut Session,
+    reader: &mut Counted<R>,
+    writer: &mut Counted<W>,
+) -> Round
+    requires goes_on { session.old.ended ≡ None }
+    requires reader { CanCount (state_of reader.old) }
+    requires writer { CanCount (state_of writer.old) }
+    ensures sent { (sent : Sent)
+        × GoesOn sent (after_sent session.old sent) session.new result.end }
+    ensures read { IsRead result.end (state_of reader.old) (state_of reader.new)
+        (R.remaining (inner_of reader.old)) (R.remaining (inner_of reader.new))
+        session.old.fed session.new.fed }
+    ensures written { (out : List ℕ) × IsWritten result.end
+        (state_of writer.old) (state_of writer.new)
+        (W.contents (inner_of writer.old)) (W.contents (inner_of writer.new))
+        session.old.sent session.new.sent out
+        × (result.sent ≡ length out) }
+{
+    match session.write_out(writer) {
+        Sent::All(count) => Round {
+            sent: count as u64,
+            end: read_more(session, reader),
+        },
+        Sent::Fault { sent } => Round {
+            sent: sent as u64,
+            end: Some(EndCause::WriteFault),
+        },
+    }
+}
+
+/// Reads once, and feeds what came.
+fn read_more<R: Read>(session: &mut Session, reader: &mut Counted<R>) -> Option<EndCause>
+    requires goes_on { session.old.ended ≡ None }
+    requires reader { CanCount (state_of reader.old) }
+    ensures step { ReadsOn session.old session.new result }
+    ensures read { IsRead result (state_of reader.old) (state_of reader.new)
+        (R.remaining (inner_of reader.old)) (R.remaining (inner_of reader.new))
+        session.old.fed session.new.fed }
+    ensures sent { session.new.sent ≡ session.old.sent }
+{
+    let mut buffer = [0u8; 1024];
+    match reader.read(&mut buffer) {
+        Got::Bytes(count) => match session.feed(&buffer[..count]) {
+            Fed::Taken => None,
+            Fed::Ended(_) => Some(EndCause::NoMemory),
+        },
+        Got::End => Some(EndCause::InputEnded),
+        Got::Quiet => Some(EndCause::Quiet),
+        Got::Fault => Some(EndCause::ReadFault),
+    }
+}
+
+/// Answers all that was fed, a pending request first.
+fn answer_all<J: Naming, H: Wait>(
+    rt: &H,
+    shared: &Shared<J>,
+    seat: &mut Seat<J>,
+    session: &mut Session,
+    pending: Option<Request<2>>,
+) -> Pause
+    requires goes_on { session.old.ended ≡ None }
+    requires pending { pending ≡ pending_request session.old.open_request }
+    ensures pause { IsPause J.limit session.old session.new seat.old seat.new result }
+    ensures same { (session.new.fed ≡ session.old.fed) × (session.new.sent ≡ session.old.sent) }
+{
+    let mut pending = pending;
+    for _ in rt.forever() {
+        if let Some(back) = make_call(rt, shared, seat, session, pending) {
+            return Pause::Sealed(back);
+        }
+        match session.next_request() {
+            Next::Request(request) => pending = Some(request),
+            Next::Need => return Pause::Need,
+            Next::Ended(cause) => return Pause::Ended(cause),
+        }
+    }
+    unreachable!()
+}
+
+/// Makes the pending call, if any, and answers it. Where the journal is full the request comes back.
+fn make_call<J: Naming, H: Wait>(
+    rt: &H,
+    shared: &Shared<J>,
+    seat: &mut Seat<J>,
+    session: &mut Session,
+    pending: Option<Request<2>>,
+) -> Option<Request<2>>
+    requires { pending ≡ pending_request session.old.open_request }
+    ensures call { IsCallMade J.limit session.old session.new seat.old seat.new result }
+    ensures same { (session.new.fed ≡ session.old.fed) × (session.new.sent ≡ session.old.sent) }
+{
+    let request = pending?;
+    match shared.call(rt, seat, request) {
+        Ok(reply) => {
+            session.answer(&reply);
+            None
+        }
+        Err(CallFault::NoMemory(_request)) => {
+            let starved: OwnedReply<2> = ReplyWith::Refused(Refusal::NoMemory);
+            session.answer(&starved);
+            None
+        }
+        Err(CallFault::Sealed(back)) => Some(back),
+    }
+}

@@ -1,0 +1,124 @@
+//! A worker: a scheduler thread, as far as it is no thread.
+ghost use Rattle.std.specs.Prelude.{◌≡◌, ◌+◌, ◌%◌, ◌^◌, MatchResult};
+ghost use Rattle.cap_workers.specs.Worker.{Chooses, IsCommitted, IsTurn};
+
+use crate::gate::{Gate, Point};
+use bumpalo::Bump;
+use cap_model::{Event, NoMemory, Proposal, Reason, Verdict};
+use cap_propose::propose;
+use cap_shared::{CommitFault, Naming, Seat, Shared};
+use std::sync::Wait;
+
+/// A worker. Contracts see its number, and the node at which its next turn starts.
+#[derive(Clone, Copy, Debug, PartialEq, Eq)]
+pub struct Worker {
+    pub number: u32,
+    pub start: u32,
+}
+
+/// How a turn ended.
+#[derive(Drop)]
+pub enum End {
+    /// There was nothing to propose.
+    Nothing,
+    /// The proposal was made: a grant or a reservation.
+    Done(Event<2>),
+    /// The proposal was rejected, and nothing changed.
+    Rejected(Reason),
+    /// The journal is full. The proposal comes back, and was not made.
+    Sealed(Proposal<2>),
+    /// An allocation failed, and nothing was made.
+    NoMemory,
+}
+
+/// What came of a turn.
+#[derive(Drop)]
+pub struct Turn {
+    pub end: End,
+    /// Whether the arena was reset. If not it is spent, and the next turn wants another.
+    pub reset: bool,
+}
+
+impl Worker {
+    /// A worker whose first turn starts at the node of its number.
+    pub fn new(number: u32) -> Worker
+        ensures { result ≡ record { number = number; start = number } }
+    {
+        Worker {
+            number,
+            start: number,
+        }
+    }
+
+    /// Takes a turn: copies the cluster into the arena, under the lock; proposes on the copy, with the nodes as a ring from its
+    /// start on, drops the copy and resets the arena, outside the lock; and commits what it proposes. The next turn starts one
+    /// node later, after 2^32 - 1 at 0. If an allocation fails nothing is made.
+    pub fn turn<J: Naming, R: Wait, G: Gate>(
+        &mut self,
+        rt: &R,
+        shared: &Shared<J>,
+        seat: &mut Seat<J>,
+        arena: &mut Bump,
+        gate: &G,
+    ) -> Turn
+        ensures start { self.new ≡ record {
+          number = self.old.number;
+          start = (self.old.start + 1) % 2 ^ 32;
+        } }
+        ensures turn { IsTurn J.opening J.limit self.old.start seat.old seat.new result.end }
+    {
+        let start = self.start;
+        self.start = start.wrapping_add(1);
+        let choice = choose(rt, shared, seat, arena, gate, self.number, start);
+        let reset = arena.reset().is_ok();
+        let end = match choice {
+            Ok(Some(proposal)) => commit(rt, shared, seat, gate, self.number, proposal),
+            Ok(None) => End::Nothing,
+            Err(NoMemory) => End::NoMemory,
+        };
+        Turn { end, reset }
+    }
+}
+
+/// What a worker proposes on a copy of the cluster, which it drops. If an allocation fails there is none.
+fn choose<J: Naming, R: Wait, G: Gate>(
+    rt: &R,
+    shared: &Shared<J>,
+    seat: &mut Seat<J>,
+    arena: &Bump,
+    gate: &G,
+    worker: u32,
+    start: u32,
+) -> Result<Option<Proposal<2>>, NoMemory>
+    ensures { MatchResult result (Chooses J.opening start seat.old seat.new)
+        (λ _. seat.new ≡ seat.old) }
+{
+    let Ok(snapshot) = shared.copy(rt, arena, seat) else {
+        return Err(NoMemory);
+    };
+    gate.at(worker, Point::Copied);
+    let choice = propose(&snapshot, start);
+    gate.at(worker, Point::Proposed);
+    Ok(choice)
+}
+
+/// Commits what a worker proposes, once.
+fn commit<J: Naming, R: Wait, G: Gate>(
+    rt: &R,
+    shared: &Shared<J>,
+    seat: &mut Seat<J>,
+    gate: &G,
+    worker: u32,
+    proposal: Proposal<2>,
+) -> End
+    ensures { IsCommitted proposal J.limit seat.old seat.new result }
+{
+    let end = match shared.commit(rt, seat, proposal) {
+        Ok(Verdict::Done(event)) => End::Done(event),
+        Ok(Verdict::Rejected(reason)) => End::Rejected(reason),
+        Err(CommitFault::Sealed(back)) => End::Sealed(back),
+        Err(CommitFault::NoMemory(_back)) => End::NoMemory,
+    };
+    gate.at(worker, Point::Committed);
+    end
+}
