@@ -130,13 +130,13 @@ IsLost (Some (ends.Sealed request)) lost = lost ≡ []
 IsLost (Some ends.NoMemory) lost = Unit {0}
 
 -- The bytes that were fed are those that the reader gave; it found its end, was quiet or failed exactly where that is the cause of the end.
-pub record IsRead (end : Option EndCause) (old new : StreamState) (left rest : Option (List ℕ)) (fed taken : List ℕ) : Type 0 where
+pub record IsRead (end : Option EndCause) (old new : StreamState) (left rest : Option (List ℕ)) (before after : List ℕ) : Type 0 where
   pub reads : ℕ
   pub more : List ℕ
   pub lost : List ℕ
   pub state : new ≡ reader_at end (after_reads old reads (more ++ lost))
   pub consumes : Consumes left rest (more ++ lost)
-  pub fed : taken ≡ fed ++ more
+  pub fed : after ≡ before ++ more
   pub is_lost : IsLost end lost
 
 -- ---- what was written
@@ -153,10 +153,10 @@ writer_at (Some (ends.Sealed request)) s = s
 writer_at (Some ends.NoMemory) s = s
 
 -- The bytes that the writer took are those that went out of the session; it failed exactly where that is the cause of the end.
-pub record IsWritten (end : Option EndCause) (old new : StreamState) (had has : Option (List ℕ)) (sent all : List ℕ) (out : List ℕ) : Type 0 where
+pub record IsWritten (end : Option EndCause) (old new : StreamState) (had has : Option (List ℕ)) (before after out : List ℕ) : Type 0 where
   pub state : new ≡ writer_at end (record old { taken = old.taken ++ out })
   pub appends : Appends had has out
-  pub sent : all ≡ sent ++ out
+  pub sent : after ≡ before ++ out
 
 -- ---- the steps of a round
 

@@ -1,0 +1,4 @@
+mod Receipts
+mod Answering
+mod Streams
+mod Rounds
