@@ -1,17 +1,17 @@
 -- Calls that are made, and what comes next.
-use Rattle.std.proofs.Common.{◌≡◌, ℕ, List, [], ◌∷◌, ◌++◌, Option, Some, None, refl, ap, sym, ◌∙◌, subst, append-nil, inl, inr, false}
+use Rattle.std.proofs.Common.{◌≡◌, ℕ, List, [], ◌∷◌, ◌++◌, Option, Some, None, refl, ap, sym, ◌∙◌, subst, append-nil, inl, inr}
 use Rattle.cap_model.specs.declared.request.Request.{Request}
 use Rattle.cap_model.specs.News.{Reply}
 use Rattle.cap_frames.specs.Stream.{frame_of}
 use Rattle.cap_messages.specs.Spelling.{IsOfKind, kind_of, fault_reply}
-use Rattle.cap_session.specs.Answers.{Call, Answers}
+use Rattle.cap_session.specs.Answers.{Answers}
 use Rattle.cap_session.specs.Session.{SessionState, OpenRequest, Continues, NextGives, EndsNow, MayAnswer, SpellsAnswer, after_answer, with_answer}
 use Rattle.cap_session.specs.declared.session.Cause.{Cause}
 use Rattle.cap_session.specs.declared.session.Cause.TheVariants as causes
 use Rattle.cap_session.specs.declared.session.Next.{Next}
 use Rattle.cap_session.specs.declared.session.Next.TheVariants as nexts
 use Rattle.cap_session.proofs.Continuing.{continues_bad, continues_answer}
-use Rattle.cap_shared.specs.Calls.{HasMore, IsSealedCall}
+use Rattle.cap_shared.specs.Calls.{HasMore}
 use Rattle.cap_shared.specs.Rule.{sitting}
 use Rattle.cap_shared.specs.declared.history.Answer.TheVariants as answer
 use Rattle.cap_shared.specs.declared.history.Moment.{Moment}

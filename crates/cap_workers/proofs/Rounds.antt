@@ -8,7 +8,6 @@ use Rattle.cap_session.specs.declared.session.Cause.{Cause}
 use Rattle.cap_session.specs.declared.session.Cause.TheVariants as causes
 use Rattle.cap_session.specs.declared.session.Fed.TheVariants as feds
 use Rattle.cap_session.proofs.Continuing.{continues_fed}
-use Rattle.cap_shared.specs.declared.history.Moment.{Moment}
 use Rattle.cap_shared.specs.declared.history.Sitting.{Sitting}
 use Rattle.cap_workers.specs.declared.sessions.EndCause.{EndCause}
 use Rattle.cap_workers.specs.declared.sessions.EndCause.TheVariants as ends

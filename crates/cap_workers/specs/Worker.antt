@@ -1,10 +1,12 @@
 -- What a turn of a worker does.
-use Rattle.std.specs.Prelude.{◌≡◌, ◌⊎◌, ℕ, Option, Some, None}
+use Rattle.std.specs.Prelude.{◌≡◌, ◌⊎◌, ℕ, Option, Some, None, Result, Ok, Err}
 use Rattle.cap_model.specs.Admission.{NodeProposal}
 use Rattle.cap_model.specs.Candidates.{choice_from}
 use Rattle.cap_model.specs.Flat.{Flat}
+use Rattle.cap_model.specs.declared.proposal.Verdict.{Verdict}
 use Rattle.cap_model.specs.declared.proposal.Verdict.TheVariants as verdict
 use Rattle.cap_copy.specs.Snapshot.{Seen, sight_in}
+use Rattle.cap_shared.specs.declared.faults.CommitFault.{CommitFault}
 use Rattle.cap_shared.specs.declared.faults.CommitFault.TheVariants as fault
 use Rattle.cap_shared.specs.declared.history.Sitting.{Sitting}
 use Rattle.cap_shared.specs.Calls.{CopyIs, CommitAnswers, CommitsBack}
@@ -16,6 +18,17 @@ pub record Chooses (opening : Flat 2) (start : ℕ) (old new : Sitting) (choice 
   pub snapshot : Seen
   pub copied : CopyIs opening old new snapshot
   pub chosen : choice ≡ choice_from (sight_in 2 snapshot) start
+
+-- how a turn ends whose proposal came back
+abbrev pub end_by_fault : CommitFault → End
+end_by_fault (fault.Sealed back) = ends.Sealed back
+end_by_fault (fault.NoMemory back) = ends.NoMemory
+
+-- how a turn ends whose commit was answered so
+abbrev pub end_by : Result (Verdict 2) CommitFault → End
+end_by (Ok (verdict.Done event)) = ends.Done event
+end_by (Ok (verdict.Rejected reason)) = ends.Rejected reason
+end_by (Err missed) = end_by_fault missed
 
 -- the proposal was committed once, and the end is what that was answered
 abbrev pub IsCommitted : NodeProposal → ℕ → Sitting → Sitting → End → Type 0

@@ -1,6 +1,6 @@
 //! A worker: a scheduler thread, as far as it is no thread.
 ghost use Rattle.std.specs.Prelude.{◌≡◌, ◌+◌, ◌%◌, ◌^◌, MatchResult};
-ghost use Rattle.cap_workers.specs.Worker.{Chooses, IsCommitted, IsTurn};
+ghost use Rattle.cap_workers.specs.Worker.{Chooses, IsCommitted, IsTurn, end_by, end_by_fault};
 
 use crate::gate::{Gate, Point};
 use bumpalo::Bump;
@@ -113,12 +113,28 @@ fn commit<J: Naming, R: Wait, G: Gate>(
 ) -> End
     ensures { IsCommitted proposal J.limit seat.old seat.new result }
 {
-    let end = match shared.commit(rt, seat, proposal) {
+    let answer = shared.commit(rt, seat, proposal);
+    gate.at(worker, Point::Committed);
+    end_of(answer)
+}
+
+/// How a turn ends whose commit was answered so.
+fn end_of(answer: Result<Verdict<2>, CommitFault>) -> End
+    ensures { result ≡ end_by answer }
+{
+    match answer {
         Ok(Verdict::Done(event)) => End::Done(event),
         Ok(Verdict::Rejected(reason)) => End::Rejected(reason),
-        Err(CommitFault::Sealed(back)) => End::Sealed(back),
-        Err(CommitFault::NoMemory(_back)) => End::NoMemory,
-    };
-    gate.at(worker, Point::Committed);
-    end
+        Err(fault) => end_without(&fault),
+    }
+}
+
+/// How a turn ends whose proposal came back.
+fn end_without(fault: &CommitFault) -> End
+    ensures { result ≡ end_by_fault fault.now }
+{
+    match fault {
+        CommitFault::Sealed(back) => End::Sealed(*back),
+        CommitFault::NoMemory(_) => End::NoMemory,
+    }
 }

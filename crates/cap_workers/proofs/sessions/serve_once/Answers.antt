@@ -1,4 +1,4 @@
-use Rattle.std.proofs.Common.{refl, sym, ap, ◌∙◌, subst, [], Some}
+use Rattle.std.proofs.Common.{refl, ap, ◌∙◌, subst, [], Some}
 use Rattle.cap_session.specs.Counted.{state_of, inner_of}
 use Rattle.cap_session.specs.Session.{SessionState}
 use Rattle.cap_session.specs.declared.session.Cause.{Cause}

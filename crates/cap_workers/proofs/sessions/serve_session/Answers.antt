@@ -1,6 +1,6 @@
-use Rattle.std.proofs.Common.{refl, sym, ap, ◌∙◌, subst, [], ◌++◌, Some, None, Option, List, ℕ}
-use Rattle.cap_session.specs.Counted.{StreamState, CanCount, state_of, inner_of}
-use Rattle.cap_workers.specs.Sessions.{IsRead, IsRound, IsWritten, pending_request, after_reads}
+use Rattle.std.proofs.Common.{refl, sym, ap, subst, [], ◌++◌, None, Option}
+use Rattle.cap_session.specs.Counted.{state_of, inner_of}
+use Rattle.cap_workers.specs.Sessions.{IsRead, IsRound, IsWritten, pending_request}
 use Rattle.cap_workers.specs.declared.sessions.EndCause.{EndCause}
 use Rattle.cap_workers.proofs.Receipts.{serves_none, serves_then}
 use Rattle.cap_workers.proofs.Rounds.{served_then}
