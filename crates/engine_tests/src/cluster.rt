@@ -86,12 +86,8 @@ fn set_state(cluster: &mut Cluster<2>, path: &str, running: bool) -> Option<()> 
 /// Whether a queue runs, once another was stopped or started.
 fn runs_after(alloc: Global, changes: &[(&str, bool)], path: &str) -> Option<bool> {
     let mut cluster = cluster(alloc, NESTED_QUEUES)?;
-    runs_after_in(&mut cluster, changes, path)
-}
-
-fn runs_after_in(cluster: &mut Cluster<2>, changes: &[(&str, bool)], path: &str) -> Option<bool> {
     for (changed, running) in changes {
-        set_state(cluster, changed, *running)?;
+        set_state(&mut cluster, changed, *running)?;
     }
     let queue = cluster.report(path.as_bytes())?;
     Some(queue.running)
