@@ -11,7 +11,7 @@ pub enum Point {
     Committed,
 }
 
-/// Is told when a worker comes to a point of its turn, and may hold it there. The worker has no lock then.
+/// A hook that a worker calls at each point of its turn, and that may hold it there. The worker has no lock then.
 pub trait Gate {
     fn at(&self, worker: u32, point: Point);
 }

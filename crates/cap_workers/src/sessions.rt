@@ -148,7 +148,7 @@ fn serve_once<J: Naming, H: Wait, R: Read, W: Write>(
     }
 }
 
-/// Writes out what a session that has ended still has to say.
+/// Writes out the unsent answers of a session that has ended.
 fn finish<W: Write>(session: &mut Session, writer: &mut Counted<W>, cause: EndCause) -> Round
     requires counts { CanCount (state_of writer.old) }
     requires cause { cause ≢ EndCause.WriteFault }
@@ -172,7 +172,7 @@ fn finish<W: Write>(session: &mut Session, writer: &mut Counted<W>, cause: EndCa
     }
 }
 
-/// Writes out what a session has to say, and reads more for it.
+/// Writes out the unsent answers of a session, and reads more for it.
 fn go_on<R: Read, W: Write>(
     session: &mut Session,
     reader: &mut Counted<R>,

@@ -1,4 +1,4 @@
-//! A worker: a scheduler thread, as far as it is no thread.
+//! A worker, and what it does in a turn.
 ghost use Rattle.std.specs.Prelude.{◌≡◌, ◌+◌, ◌%◌, ◌^◌, MatchResult};
 ghost use Rattle.cap_workers.specs.Worker.{Chooses, IsCommitted, IsTurn, end_by, end_by_fault};
 
@@ -35,7 +35,7 @@ pub enum End {
 #[derive(Drop)]
 pub struct Turn {
     pub end: End,
-    /// Whether the arena was reset. If not it is spent, and the next turn wants another.
+    /// Whether the arena was reset. If not, its memory is not given back before it is dropped: use another for the next turn.
     pub reset: bool,
 }
 
