@@ -1,14 +1,13 @@
 -- What a call and a proposal come to, as events and receipts.
-use Rattle.std.proofs.Common.{◌≡◌, ℕ, true, cond, [], ◌∷◌, ◌++◌, refl, ap, sym, ◌∙◌, subst}
+use Rattle.std.proofs.Common.{◌≡◌, ℕ, [], ◌∷◌, ◌++◌, refl, ap, sym, ◌∙◌, subst}
 use Rattle.atomic_table.specs.Table.{Me}
 use Rattle.cap_model.specs.Flat.{Flat}
 use Rattle.cap_model.specs.News.{Reply}
-use Rattle.cap_model.specs.Events.{Step, is_no_memory}
-use Rattle.cap_model.specs.Replies.{Replies, after_request}
+use Rattle.cap_model.specs.Events.{Step}
+use Rattle.cap_model.specs.Replies.{Replies}
 use Rattle.cap_model.specs.declared.event.Event.{Event}
 use Rattle.cap_model.specs.declared.event.Event.TheVariants as event
 use Rattle.cap_model.specs.declared.request.Request.{Request}
-use Rattle.cap_model.proofs.numbers.Balance.{determined}
 use Rattle.cap_shared.specs.declared.entry.Receipt.TheVariants as receipt
 use Rattle.cap_shared.specs.declared.history.Mark.{Mark}
 use Rattle.cap_shared.specs.declared.history.Moment.{Moment}
@@ -21,10 +20,6 @@ use Rattle.cap_shared.specs.Journal.{receipt_for, IsBy}
 use Rattle.cap_shared.specs.Making.{event_of_made}
 use Rattle.cap_shared.specs.Passes.{Pass}
 use Rattle.cap_shared.specs.Rule.{sitter, sitting, sitting_of}
-
--- a call that found no memory changed nothing
-pub unchanged : (old new : Flat 2) (request : Request 2) (reply : Reply 2) → Replies old request reply new → is_no_memory reply ≡ true → new ≡ old
-unchanged old new request reply is none = determined old new (event.Call 0 request reply) is ∙ ap (λ b. cond b old (after_request old request)) none
 
 pub call_step : (old new : Flat 2) (by : ℕ) (request q : Request 2) (reply r : Reply 2) (e : Event 2) → Replies old request reply new → q ≡ request → r ≡ reply → e ≡ event.Call by q r → Step old e new
 call_step old new by request q reply r e is same_q same_r e_is = subst (λ (x : Event 2). Step old x new) (sym (e_is ∙ ap (λ (x : Request 2). event.Call by x r) same_q ∙ ap (λ (x : Reply 2). event.Call by request x) same_r)) is

@@ -1,41 +1,39 @@
 -- The room of a call, made before it.
-use Rattle.std.specs.Prelude.{◌≡◌, false}
+use Rattle.std.specs.Prelude.{◌≡◌, ◌==◌, ◌&&◌, Bool, true, Option, Some, None}
 use Rattle.cap_model.specs.Flat.{Flat}
 use Rattle.cap_model.specs.News.{Reply}
-use Rattle.cap_model.specs.Events.{is_no_memory}
 use Rattle.cap_model.specs.Replies.{Replies}
-use Rattle.cap_model.specs.Reporting.{HasRoomFor, HasRoomForReplies}
+use Rattle.cap_model.specs.Reporting.{HasRoomFor, no_news}
+use Rattle.cap_model.specs.declared.replies.AllocateNumbers.{AllocateNumbers}
+use Rattle.cap_model.specs.declared.reply.ReplyWith.{ReplyWith}
+use Rattle.cap_model.specs.declared.reply.ReplyWith.TheVariants as reply
 use Rattle.cap_model.specs.declared.request.Request.{Request}
-use Rattle.cap_messages.specs.Spelling.{IsOfKind, kind_of}
-use Rattle.cap_shared.specs.declared.calls.Answered.{Answered}
-use Rattle.cap_shared.specs.declared.calls.CallCopy.{CallCopy}
 use Rattle.cap_shared.specs.declared.calls.CallRoom.{CallRoom}
-use Rattle.cap_shared.specs.declared.calls.Rooms.{Rooms}
+use Rattle.cap_shared.specs.declared.calls.NewsRooms.{NewsRooms}
+use Rattle.cap_shared.specs.declared.calls.ReplyCopies.{ReplyCopies}
+use Rattle.cap_shared.specs.Requests.{IsCopyIfTexts}
 
--- a copy of the request, and room for a copy of whatever it is answered
-abbrev pub IsRoomFor : Flat 2 → Request 2 → CallRoom → Type 0
-IsRoomFor cluster request room = (room.request ≡ request) × HasRoomForReplies cluster request room.reply
+-- each of the rooms has room for the grants and ends of a reply; where there are no rooms, it has none
+abbrev pub HasRoomsFor : Reply 2 → Option NewsRooms → Type 0
+HasRoomsFor reply (Some rooms) = HasRoomFor reply rooms.entry × HasRoomFor reply rooms.receipt × HasRoomFor reply rooms.given
+HasRoomsFor reply None = HasRoomFor reply no_news
 
--- the same for an entry and for a receipt, and room for the reply
-pub record AreRoomsFor (cluster : Flat 2) (request : Request 2) (rooms : Rooms) : Type 0 where
-  pub entry : IsRoomFor cluster request rooms.entry
-  pub receipt : IsRoomFor cluster request rooms.receipt
-  pub reply : HasRoomForReplies cluster request rooms.reply
+-- the same, whatever the call is answered
+abbrev pub AreRoomsFor : Flat 2 → Request 2 → Option NewsRooms → Type 0
+AreRoomsFor old request rooms = (reply : Reply 2) (new : Flat 2) → Replies old request reply new → HasRoomsFor reply rooms
 
--- each has room for a reply
-pub record HasRoomsFor (answer : Reply 2) (rooms : Rooms) : Type 0 where
-  pub entry : HasRoomFor answer rooms.entry.reply
-  pub receipt : HasRoomFor answer rooms.receipt.reply
-  pub reply : HasRoomFor answer rooms.reply
+-- the memory for a call: a copy for its entry where it has texts, a copy for its receipt, and room for its reply
+pub record IsRoomFor (cluster : Flat 2) (request : Request 2) (room : CallRoom) : Type 0 where
+  pub entry : IsCopyIfTexts request room.entry
+  pub receipt : room.receipt ≡ request
+  pub news : AreRoomsFor cluster request room.news
 
--- a copy of the call
-abbrev pub IsCopyOf : Request 2 → Reply 2 → CallCopy → Type 0
-IsCopyOf request reply copy = (copy.request ≡ request) × (copy.reply ≡ reply)
+pub record AreCopiesOf (reply : Reply 2) (copies : ReplyCopies) : Type 0 where
+  pub entry : copies.entry ≡ reply
+  pub receipt : copies.receipt ≡ reply
+  pub given : copies.given ≡ reply
 
--- the call is answered as the reply function says, with a reply of its kind, not that no memory was found, and both copies are of it
-pub record IsAnswered (old : Flat 2) (request : Request 2) (new : Flat 2) (a : Answered) : Type 0 where
-  pub replies : Replies old request a.reply new
-  pub found : is_no_memory a.reply ≡ false
-  pub kind : IsOfKind (kind_of request) a.reply
-  pub entry : IsCopyOf request a.reply a.entry
-  pub receipt : IsCopyOf request a.reply a.receipt
+-- whether a reply reports no grant and no end
+abbrev pub tells_nothing : ReplyWith 2 AllocateNumbers → Bool
+tells_nothing (reply.Allocate n) = (n.reported.grants == 0) && (n.reported.ends == 0)
+tells_nothing other = true

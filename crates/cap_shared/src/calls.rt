@@ -1,129 +1,148 @@
 //! What a call needs beside what the cluster itself needs: room for its entry, its receipt and its reply.
-ghost use Rattle.std.specs.Prelude.{◌≡◌, ◌<◌, IfOk, OnOk, OnErr, vec_len, vec_capacity};
+ghost use Rattle.std.specs.Prelude.{◌≡◌, ◌<◌, true, IfOk, OnOk, vec_len, vec_capacity};
 ghost use Rattle.cap_model.specs.Flat.{Flat};
 ghost use Rattle.cap_model.specs.Events.{is_no_memory};
-ghost use Rattle.cap_model.specs.Reporting.{HasRoomFor, full_reply};
-ghost use Rattle.cap_shared.specs.Rooms.{IsRoomFor, AreRoomsFor, HasRoomsFor, IsAnswered};
+ghost use Rattle.cap_model.specs.Reporting.{HasNumbers, full_reply};
+ghost use Rattle.cap_shared.specs.Rooms.{IsRoomFor, AreRoomsFor, HasRoomsFor, AreCopiesOf, tells_nothing};
 
 use crate::entry::Receipt;
-use crate::request::CompactRequest;
+use crate::request::{CompactRequest, TextCopy, text_copy};
 use cap_commit::Cluster;
-use cap_messages::dispatch;
-use cap_model::{NoMemory, OwnedReply, Refusal, Reply, ReplyRoom, ReplyView, ReplyWith, Request};
+use cap_model::{
+    AllocateReply, NoMemory, OwnedReply, Refusal, Reply, ReplyRoom, ReplyWith, Request,
+};
 use std::alloc::Global;
 
-/// A copy of a request, and room for a copy of the reply.
+/// Room for the lists of the replies to an Allocate: in its entry, in its receipt, and the one that is given.
 #[derive(Drop)]
-pub struct CallRoom {
-    pub request: CompactRequest,
-    pub reply: ReplyRoom<2>,
+pub struct NewsRooms {
+    pub entry: ReplyRoom<2>,
+    pub receipt: ReplyRoom<2>,
+    pub given: ReplyRoom<2>,
 }
 
-/// A copy of a call.
+/// A reply three times: in its entry, in its receipt, and the one that is given.
 #[derive(Drop)]
-pub struct CallCopy {
-    pub request: CompactRequest,
-    pub reply: OwnedReply<2>,
+pub struct ReplyCopies {
+    pub entry: OwnedReply<2>,
+    pub receipt: OwnedReply<2>,
+    pub given: OwnedReply<2>,
+}
+
+/// Room for the replies to an Allocate, whatever it is answered now; the reply to any other call needs none. If an allocation fails
+/// there is none.
+fn news_rooms(
+    alloc: Global,
+    cluster: &Cluster<2>,
+    request: &Request<2>,
+) -> Result<Option<NewsRooms>, NoMemory>
+    ensures { IfOk result (AreRoomsFor cluster.now.flat request.now) }
+{
+    let Request::Allocate {
+        app,
+        response,
+        releases,
+        ..
+    } = request
+    else {
+        return Ok(None);
+    };
+    let Some(app) = cluster.apps().app(*app) else {
+        return Ok(None);
+    };
+    let releases = releases.as_slice().len();
+    Ok(Some(NewsRooms {
+        entry: app.reply_room(alloc, *response, releases)?,
+        receipt: app.reply_room(alloc, *response, releases)?,
+        given: app.reply_room(alloc, *response, releases)?,
+    }))
+}
+
+/// The reply that the cluster has just given, three times. It takes no memory.
+pub(crate) fn own_copies(
+    alloc: Global,
+    news: Option<NewsRooms>,
+    cluster: &Cluster<2>,
+    reply: &Reply<2>,
+) -> ReplyCopies
+    requires numbers { HasNumbers cluster.now.flat reply.now }
+    requires room { HasRoomsFor (full_reply cluster.now.flat reply.now) news }
+    ensures { AreCopiesOf (full_reply cluster.now.flat reply.now) result }
+{
+    if tells_nothing(reply) {
+        return ReplyCopies {
+            entry: own_without_lists(alloc, reply),
+            receipt: own_without_lists(alloc, reply),
+            given: own_without_lists(alloc, reply),
+        };
+    }
+    let Some(news) = news else { unreachable!() };
+    let reply = cluster.view(reply);
+    ReplyCopies {
+        entry: news.entry.own(&reply),
+        receipt: news.receipt.own(&reply),
+        given: news.given.own(&reply),
+    }
+}
+
+/// Whether a reply reports no grant and no end.
+fn tells_nothing(reply: &Reply<2>) -> bool
+    ensures { result ≡ tells_nothing reply.now }
+{
+    match reply {
+        ReplyWith::Allocate { reply } => reply.reported.grants == 0 && reply.reported.ends == 0,
+        _ => true,
+    }
+}
+
+/// The reply that a cluster has just given, where it reports no grant and no end. It takes no memory.
+fn own_without_lists(alloc: Global, reply: &Reply<2>) -> OwnedReply<2>
+    requires { tells_nothing reply.now ≡ true }
+    ensures { (cluster : Flat 2) → HasNumbers cluster reply.now
+        → result ≡ full_reply cluster reply.now }
+{
+    let ReplyWith::Allocate { reply } = reply else {
+        return reply.other();
+    };
+    ReplyWith::Allocate {
+        reply: AllocateReply {
+            response: reply.reported.response,
+            ignored: reply.reported.ignored,
+            grants: Vec::new(alloc),
+            ends: Vec::new(alloc),
+        },
+    }
+}
+
+/// All the memory that a call needs beside what the cluster itself needs.
+#[derive(Drop)]
+pub struct CallRoom {
+    pub entry: Option<TextCopy>,
+    pub receipt: CompactRequest,
+    pub news: Option<NewsRooms>,
 }
 
 impl CallRoom {
-    /// Room for a copy of the call, whatever it is answered now. If an allocation fails there is none.
-    fn of(alloc: Global, cluster: &Cluster<2>, request: &Request<2>) -> Result<CallRoom, NoMemory>
-        ensures { IfOk result (IsRoomFor cluster.now.flat request.now) }
+    /// The memory for a call, whatever it is answered now, with room for its receipt. If an allocation fails there is none.
+    pub fn of(
+        alloc: Global,
+        cluster: &Cluster<2>,
+        receipts: &mut Vec<Receipt>,
+        request: &Request<2>,
+    ) -> Result<CallRoom, NoMemory>
+        ensures ok { IfOk result (IsRoomFor cluster.now.flat request.now) }
+        ensures room { OnOk result (vec_len receipts.new < vec_capacity receipts.new) }
+        ensures receipts { receipts.new.items ≡ receipts.old.items }
     {
-        let reply = cluster.reply_room(alloc, request)?;
-        let request = CompactRequest::of(alloc, request)?;
-        Ok(CallRoom { request, reply })
-    }
-
-    /// The copy of the call with this reply.
-    pub fn own(self, reply: &ReplyView<'_, 2>) -> CallCopy
-        requires { HasRoomFor reply.now self.reply }
-        ensures request { result.request ≡ self.request }
-        ensures reply { result.reply ≡ reply.now }
-    {
-        let CallRoom {
-            request,
-            reply: room,
-        } = self;
-        CallCopy {
-            request,
-            reply: room.own(reply),
+        if receipts.reserve(1).is_err() {
+            return Err(NoMemory);
         }
-    }
-}
-
-/// Room for the copies of a call in its entry and in its receipt, and for its reply.
-#[derive(Drop)]
-pub struct Rooms {
-    pub entry: CallRoom,
-    pub receipt: CallRoom,
-    pub reply: ReplyRoom<2>,
-}
-
-impl Rooms {
-    /// The rooms for a call, whatever it is answered now. If an allocation fails there are none.
-    pub fn of(alloc: Global, cluster: &Cluster<2>, request: &Request<2>) -> Result<Rooms, NoMemory>
-        ensures { IfOk result (AreRoomsFor cluster.now.flat request.now) }
-    {
-        Ok(Rooms {
-            entry: CallRoom::of(alloc, cluster, request)?,
-            receipt: CallRoom::of(alloc, cluster, request)?,
-            reply: cluster.reply_room(alloc, request)?,
+        Ok(CallRoom {
+            entry: text_copy(alloc, request)?,
+            receipt: CompactRequest::of(alloc, request)?,
+            news: news_rooms(alloc, cluster, request)?,
         })
     }
-
-    /// The call with this reply.
-    fn own(self, reply: &ReplyView<'_, 2>) -> Answered
-        requires { HasRoomsFor reply.now self }
-        ensures entry { (result.entry.request ≡ self.entry.request)
-            × (result.entry.reply ≡ reply.now) }
-        ensures receipt { (result.receipt.request ≡ self.receipt.request)
-            × (result.receipt.reply ≡ reply.now) }
-        ensures reply { result.reply ≡ reply.now }
-    {
-        let Rooms {
-            entry,
-            receipt,
-            reply: room,
-        } = self;
-        Answered {
-            entry: entry.own(reply),
-            receipt: receipt.own(reply),
-            reply: room.own(reply),
-        }
-    }
-}
-
-/// A call that was made: a copy for its entry, one for its receipt, and its reply.
-#[derive(Drop)]
-pub struct Answered {
-    pub entry: CallCopy,
-    pub receipt: CallCopy,
-    pub reply: OwnedReply<2>,
-}
-
-/// Makes a call, with room for its receipt. If an allocation fails nothing changes but room.
-pub(crate) fn answer(
-    alloc: Global,
-    cluster: &mut Cluster<2>,
-    receipts: &mut Vec<Receipt>,
-    request: &Request<2>,
-) -> Result<Answered, NoMemory>
-    ensures ok { IfOk result (IsAnswered cluster.old.flat request.now cluster.new.flat) }
-    ensures room { OnOk result (vec_len receipts.new < vec_capacity receipts.new) }
-    ensures receipts { receipts.new.items ≡ receipts.old.items }
-    ensures err { OnErr result (cluster.new.flat ≡ cluster.old.flat) }
-{
-    let rooms = Rooms::of(alloc, cluster, request)?;
-    if receipts.reserve(1).is_err() {
-        return Err(NoMemory);
-    }
-    let given = dispatch(alloc, cluster, request);
-    if is_no_memory(&given) {
-        return Err(NoMemory);
-    }
-    Ok(rooms.own(&cluster.view(&given)))
 }
 
 /// Whether a reply says that no memory was found, so that the call changed nothing.

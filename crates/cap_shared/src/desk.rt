@@ -1,10 +1,10 @@
 //! What lies under the lock.
-ghost use Rattle.std.specs.Prelude.{◌≡◌, ◌<◌, ◌≤◌, MatchResult, length, ◌↔◌, IsTrue, None};
+ghost use Rattle.std.specs.Prelude.{◌≡◌, ◌<◌, ◌≤◌, MatchResult, OnErr, length, ◌↔◌, IsTrue, None};
 ghost use Rattle.cap_model.specs.Sight.{sight_of};
 ghost use Rattle.cap_model.specs.Admission.{reason_of};
 ghost use Rattle.cap_shared.specs.Calls.{CallsOk, CallMisses, CommitAnswers, CommitsBack, CopyIs};
 
-use crate::calls::{Answered, answer};
+use crate::calls::{CallRoom, is_no_memory, own_copies};
 use crate::entry::{Entry, Receipt};
 use crate::event::{CompactEvent, EventForm};
 use crate::faults::{CommitFault, Fault};
@@ -13,10 +13,12 @@ use crate::marks::{
     enter, note_copied, note_no_memory, note_rejected, note_sealed_call, note_sealed_commit,
 };
 use crate::passes::{Pass, Word};
+use crate::request::CompactRequest;
 use crate::seat::{Naming, Seat};
 use bumpalo::Bump;
 use cap_commit::Cluster;
 use cap_copy::Snapshot;
+use cap_messages::dispatch;
 use cap_model::{Event, NoMemory, OwnedReply, Proposal, Request, Verdict};
 use cap_sights::snapshot_in;
 use std::alloc::Global;
@@ -52,36 +54,45 @@ impl<J: Naming> Desk<J> {
         self.journal.len() >= self.limit
     }
 
-    /// Makes a call, with an entry and a receipt. A full journal is noted, and if an allocation fails nothing changes.
+    /// How many entries the journal has.
+    pub fn entries(&self) -> usize
+        ensures { result ≡ length self.now.log }
+    {
+        self.journal.len()
+    }
+
+    /// Makes a call, with an entry and a receipt; the entry takes the lists of the request. A full journal is noted, and if an
+    /// allocation fails nothing changes.
     pub fn call(
         &mut self,
         alloc: Global,
         word: &Word,
         seat: &mut Seat<J>,
-        request: &Request<2>,
+        request: &mut Request<2>,
     ) -> Result<OwnedReply<2>, Fault>
         requires word { (word.now.table_id ≡ J.table) × (0 < word.now.table_id.words) }
-        ensures { MatchResult result (CallsOk request.now seat.old seat.new)
-            (CallMisses request.now J.limit seat.old seat.new) }
+        ensures answer { MatchResult result (CallsOk request.old seat.old seat.new)
+            (CallMisses request.old J.limit seat.old seat.new) }
+        ensures back { OnErr result (request.new ≡ request.old) }
     {
         if self.journal.len() >= self.limit {
             note_sealed_call(word, &mut self.pass, &self.journal, &mut seat.pass, request);
             return Err(Fault::Sealed);
         }
-        let Ok(answered) = answer(alloc, &mut self.cluster, &mut seat.receipts, request) else {
+        let Ok(room) = CallRoom::of(alloc, &self.cluster, &mut seat.receipts, request) else {
             return Err(Fault::NoMemory);
         };
-        let Answered {
-            entry,
-            receipt,
-            reply,
-        } = answered;
+        let answer = dispatch(alloc, &mut self.cluster, request);
+        if is_no_memory(&answer) {
+            return Err(Fault::NoMemory);
+        }
+        let copies = own_copies(alloc, room.news, &self.cluster, &answer);
         let position = self.journal.len() as u64;
         let by = seat.number;
         let event = CompactEvent::of(EventForm::Call {
             by,
-            request: entry.request,
-            reply: entry.reply,
+            request: CompactRequest::moved(alloc, request, room.entry),
+            reply: copies.entry,
         });
         enter(
             word,
@@ -92,11 +103,11 @@ impl<J: Naming> Desk<J> {
             Entry { seat: by, event },
             Receipt::Call {
                 position,
-                request: receipt.request,
-                reply: receipt.reply,
+                request: room.receipt,
+                reply: copies.receipt,
             },
         );
-        Ok(reply)
+        Ok(copies.given)
     }
 
     /// Makes a proposal that is admissible now, with an entry and a receipt. A rejection, a full journal and a failed allocation are

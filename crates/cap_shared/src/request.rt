@@ -1,9 +1,11 @@
 //! A request in little space: one with texts, which are long, stands behind a pointer.
 ghost use Rattle.std.specs.Prelude.{◌≡◌, IfOk};
+ghost use Rattle.cap_shared.specs.Requests.{IsCopyIfTexts};
 
-use cap_model::{Asks, NoMemory, Numbers, Request};
+use cap_model::{Asks, List, NoMemory, Numbers, Request};
 use std::alloc::Global;
 use std::marker::Model;
+use std::mem;
 
 /// How a request is kept: a request with texts, which are long, behind a pointer, and any other in place.
 #[derive(Drop)]
@@ -12,8 +14,8 @@ pub enum RequestForm {
         app: u64,
     },
     Allocate {
-        app: u64,
         response: u32,
+        app: u64,
         asks: Asks<2>,
         releases: Numbers,
     },
@@ -21,8 +23,8 @@ pub enum RequestForm {
         app: u64,
     },
     Heartbeat {
-        node: u64,
         response: u32,
+        node: u64,
         ended: Numbers,
     },
     NodeGone {
@@ -82,6 +84,50 @@ impl CompactRequest {
         Ok(CompactRequest { form })
     }
 
+    /// The same request: its lists are taken out of it, and one with texts is its copy. It takes no memory.
+    pub(crate) fn moved(
+        alloc: Global,
+        request: &mut Request<2>,
+        copy: Option<TextCopy>,
+    ) -> CompactRequest
+        requires { IsCopyIfTexts request.old copy }
+        ensures { result ≡ request.old }
+    {
+        if let Some(copy) = copy {
+            return CompactRequest {
+                form: RequestForm::WithTexts(copy.request),
+            };
+        }
+        let form = match request {
+            Request::RegisterMaster { app } => RequestForm::RegisterMaster { app: *app },
+            Request::Allocate {
+                app,
+                response,
+                asks,
+                releases,
+            } => RequestForm::Allocate {
+                app: *app,
+                response: *response,
+                asks: mem::replace(asks, List::of(Vec::new(alloc))),
+                releases: mem::replace(releases, List::of(Vec::new(alloc))),
+            },
+            Request::FinishMaster { app } => RequestForm::FinishMaster { app: *app },
+            Request::Heartbeat {
+                node,
+                response,
+                ended,
+            } => RequestForm::Heartbeat {
+                node: *node,
+                response: *response,
+                ended: mem::replace(ended, List::of(Vec::new(alloc))),
+            },
+            Request::NodeGone { node } => RequestForm::NodeGone { node: *node },
+            Request::ClusterInfo => RequestForm::ClusterInfo,
+            _ => unreachable!(),
+        };
+        CompactRequest { form }
+    }
+
     /// The request, in memory of its own. If an allocation fails there is none.
     pub fn request(&self, alloc: Global) -> Result<Request<2>, NoMemory>
         ensures { IfOk result (λ request. request ≡ self.now) }
@@ -113,6 +159,27 @@ impl CompactRequest {
             RequestForm::ClusterInfo => Ok(Request::ClusterInfo),
             RequestForm::WithTexts(request) => request.copy(alloc),
         }
+    }
+}
+
+/// A copy of a request with texts.
+#[derive(Drop)]
+pub struct TextCopy {
+    pub request: Box<Request<2>>,
+}
+
+/// A copy of the request, where it has texts. If an allocation fails there is none.
+pub(crate) fn text_copy(alloc: Global, request: &Request<2>) -> Result<Option<TextCopy>, NoMemory>
+    ensures { IfOk result (IsCopyIfTexts request.now) }
+{
+    match request {
+        Request::Submit { .. }
+        | Request::RegisterNode { .. }
+        | Request::QueueInfo { .. }
+        | Request::SetQueueState { .. } => Ok(Some(TextCopy {
+            request: boxed(alloc, request)?,
+        })),
+        _ => Ok(None),
     }
 }
 

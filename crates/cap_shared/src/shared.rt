@@ -41,7 +41,7 @@ impl<J: Naming> Shared<J> {
         &self,
         rt: &R,
         seat: &mut Seat<J>,
-        request: Request<2>,
+        mut request: Request<2>,
     ) -> Result<OwnedReply<2>, CallFault>
         ensures { MatchResult result (CallsOk request seat.old seat.new)
             (CallsBack request J.limit seat.old seat.new) }
@@ -49,7 +49,7 @@ impl<J: Naming> Shared<J> {
         let answer = self
             .desk
             .lock(rt)
-            .call(self.alloc, &self.table.shared, seat, &request);
+            .call(self.alloc, &self.table.shared, seat, &mut request);
         match answer {
             Ok(reply) => Ok(reply),
             Err(Fault::Sealed) => Err(CallFault::Sealed(request)),
@@ -92,8 +92,14 @@ impl<J: Naming> Shared<J> {
         self.desk.lock(rt).is_full()
     }
 
-    /// Opens an epoch over a cluster, with a journal of at most so many entries, and seats that were answered nothing. All that `close`
-    /// needs is allocated here. If an allocation fails the cluster is given up.
+    /// How many entries the journal has. Another thread may have entered more by the time that this returns.
+    pub fn entries<R: Wait>(&self, rt: &R) -> usize {
+        self.desk.lock(rt).entries()
+    }
+
+    /// Opens an epoch over a cluster, with a journal of at most so many entries, and seats that were answered nothing. The journal, room for
+    /// the receipts of an even share of it in each seat, and all that `close` needs are allocated here. If an allocation fails the cluster
+    /// is given up.
     pub fn open(
         alloc: Global,
         blank: Blank,
@@ -123,11 +129,15 @@ impl<J: Naming> Shared<J> {
         let Ok(mut seats) = Vec::with_capacity(alloc, count as usize) else {
             return Err(NoMemory);
         };
+        let share = limit / count as usize;
         for number in 0..count {
+            let Ok(receipts) = Vec::with_capacity(alloc, share) else {
+                return Err(NoMemory);
+            };
             let own = table.shared.split_seat::<Handover>(&mut pass);
             seats.push_reserved(Seat {
                 number,
-                receipts: Vec::new(alloc),
+                receipts,
                 pass: own,
                 of: PhantomData,
             });

@@ -1,4 +1,5 @@
 use Rattle.std.proofs.Common.{[], ◌∷◌, ◌++◌, refl, ap, ◌∙◌, arith}
+use Rattle.cap_model.specs.Reporting.{full_reply}
 use Rattle.cap_shared.specs.declared.entry.Receipt.TheVariants as receipt
 use Rattle.cap_shared.specs.declared.history.Answer.TheVariants as answer
 use Rattle.cap_shared.proofs.Entering.{call_step, call_by}
@@ -10,17 +11,24 @@ invariant_of-seat g c =
     let len = c.self.inside.journal.ok.0 in
     noted_seat _ _ _ _ c.self.inside.journal.items c.self.inside.pass c.note_sealed_call.new.desk c.seat.inside.pass c.note_sealed_call.new.seat _ _ _ (answer.SealedCall c.args.request.now) c.seat.invariant c.note_sealed_call.ensures refl (omega (arith, c.self.invariant.fits, c.self.invariant.limit_is))
 
+pub own_copies-copies-requires-clause-room : goal.own_copies-copies-requires-clause-room
+own_copies-copies-requires-clause-room g c =
+    let new = c.dispatch-answer.new.cluster.flat in
+    c.in-Ok.ensures.ok.news (full_reply new c.dispatch-answer.result) new c.dispatch-answer.ensures.replies
+
 pub invariant_of-self-2 : goal.invariant_of-self-2
 invariant_of-self-2 g c =
-    let a = c.in-Ok.ensures.ok in
+    let new = c.dispatch-answer.new.cluster.flat in
+    let reply = full_reply new c.dispatch-answer.result in
+    let copies = c.own_copies-copies in
     let len = c.self.inside.journal.ok.0 in
-    let step = call_step c.self.inside.cluster.flat c.answer.new.cluster.flat c.seat.inside.number c.args.request.now _ _ _ c.of-event.result a.replies a.entry.0 a.entry.1 c.of-event.ensures in
-    entered_desk _ _ _ _ c.self.inside.journal.items c.self.inside.pass c.enter.new.desk c.seat.inside.pass c.enter.new.seat c.self.inside.cluster.flat c.answer.new.cluster.flat _ _ _ (record { seat = c.seat.inside.number; event = c.of-event.result })
-    (receipt.Call c.len-position.result c.in-Ok.answered.receipt.request c.in-Ok.answered.receipt.reply) _ c.self.invariant c.enter.ensures.entered step (c.seat.invariant.below, call_by _ _ _ c.of-event.result c.of-event.ensures) (omega arith) c.enter.ensures.journal c.enter.ensures.capacity
+    let step = call_step c.self.inside.cluster.flat new c.seat.inside.number c.args.request.now _ reply _ c.of-event.result c.dispatch-answer.ensures.replies c.moved.ensures copies.ensures.entry c.of-event.ensures in
+    entered_desk _ _ _ _ c.self.inside.journal.items c.self.inside.pass c.enter.new.desk c.seat.inside.pass c.enter.new.seat c.self.inside.cluster.flat new _ _ _ (record { seat = c.seat.inside.number; event = c.of-event.result })
+    (receipt.Call c.len-position.result c.in-Ok.room.receipt copies.result.receipt) _ c.self.invariant c.enter.ensures.entered step (c.seat.invariant.below, call_by _ _ _ c.of-event.result c.of-event.ensures) (omega arith) c.enter.ensures.journal c.enter.ensures.capacity
 
 pub invariant_of-seat-2 : goal.invariant_of-seat-2
 invariant_of-seat-2 g c =
-    let r = receipt.Call c.len-position.result c.in-Ok.answered.receipt.request c.in-Ok.answered.receipt.reply in
+    let r = receipt.Call c.len-position.result c.in-Ok.room.receipt c.own_copies-copies.result.receipt in
     let at = c.self.inside.journal.ok.0 in
     entered_seat _ _ _ _ c.self.inside.journal.items c.self.inside.pass c.enter.new.desk c.seat.inside.pass c.enter.new.seat _ _ _ (record { seat = c.seat.inside.number; event = c.of-event.result }) r
     c.seat.invariant c.enter.ensures.entered (omega (arith, c.len-position.ensures)) (c.enter.ensures.receipts ∙ ap (λ xs. xs ++ r ∷ []) c.in-Ok.ensures.receipts)

@@ -20,7 +20,7 @@ invariant_of-push_reserved g c =
     let m = c.blank.inside.seats in
     let e = c.split_seat-own.ensures in
     let me = e.4 ∙ ap (λ (t : Me Mark View). (only_first t.0, [])) (i.me ∙ ap (λ ss. (view_of true [] ss, [])) (fresh-step n m c.loop-number-test.true)) in
-    seat_fresh _ _ _ _ n _ _ _ (e.3 ∙ i.same) me (omega (arith, c.requires.seats, ap (λ (b : TableId × ℕ). b.1) c.blank.view_is)) c.new.ensures.items
+    seat_fresh _ _ _ _ n _ _ _ (e.3 ∙ i.same) me (omega (arith, c.requires.seats, ap (λ (b : TableId × ℕ). b.1) c.blank.view_is)) c.in-Ok-with_capacity-3.ensures.items
 
 pub push_reserved-requires : goal.push_reserved-requires
 push_reserved-requires g c =
