@@ -10,8 +10,11 @@ use Rattle.cap_shared.specs.declared.faults.CommitFault.{CommitFault}
 use Rattle.cap_shared.specs.declared.faults.CommitFault.TheVariants as fault
 use Rattle.cap_shared.specs.declared.history.Sitting.{Sitting}
 use Rattle.cap_shared.specs.Calls.{CopyIs, CommitAnswers, CommitsBack}
+use Rattle.cap_lanes.specs.Sides.{WorkerSide, after_put}
 use Rattle.cap_workers.specs.declared.worker.End.{End}
 use Rattle.cap_workers.specs.declared.worker.End.TheVariants as ends
+use Rattle.cap_workers.specs.declared.worker.OfferEnd.{OfferEnd}
+use Rattle.cap_workers.specs.declared.worker.OfferEnd.TheVariants as offers
 
 -- one copy of the cluster is noted, and this is the choice on it, from the starting node
 pub record Chooses (opening : Flat 2) (start : ℕ) (old new : Sitting) (choice : Option NodeProposal) : Type 0 where
@@ -51,3 +54,23 @@ IsTurn opening limit start old new (ends.Done event) = CommitsChoice opening lim
 IsTurn opening limit start old new (ends.Rejected reason) = CommitsChoice opening limit start old new (ends.Rejected reason)
 IsTurn opening limit start old new (ends.Sealed back) = CommitsChoice opening limit start old new (ends.Sealed back)
 IsTurn opening limit start old new ends.NoMemory = (new ≡ old) ⊎ CommitsChoice opening limit start old new ends.NoMemory
+
+-- the proposal was put once, and the end is what that was answered
+abbrev pub IsPut : NodeProposal → WorkerSide → WorkerSide → OfferEnd → Type 0
+IsPut p before after offers.Nothing = ⊥
+IsPut p before after offers.Put = after ≡ after_put before p
+IsPut p before after (offers.Refused back) = (after ≡ before) × (back ≡ p)
+IsPut p before after offers.NoMemory = ⊥
+
+-- a proposal was chosen and then put
+abbrev pub PutsChoice : Flat 2 → ℕ → Sitting → Sitting → WorkerSide → WorkerSide → OfferEnd → Type 0
+PutsChoice opening start old new before after end =
+    (p : NodeProposal) × Chooses opening start old new (Some p) × IsPut p before after end
+
+-- An offer notes one copy of the cluster. Where nothing is chosen on it from the start, that is all; else the choice went to one put, and the
+-- end is what that was answered. Where memory was refused, nothing is noted and nothing is put.
+abbrev pub IsOffer : Flat 2 → ℕ → Sitting → Sitting → WorkerSide → WorkerSide → OfferEnd → Type 0
+IsOffer opening start old new before after offers.Nothing = Chooses opening start old new None × (after ≡ before)
+IsOffer opening start old new before after offers.Put = PutsChoice opening start old new before after offers.Put
+IsOffer opening start old new before after (offers.Refused back) = PutsChoice opening start old new before after (offers.Refused back)
+IsOffer opening start old new before after offers.NoMemory = (new ≡ old) × (after ≡ before)

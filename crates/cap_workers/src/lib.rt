@@ -5,6 +5,7 @@ mod gate;
 mod sessions;
 mod worker;
 
+pub use cap_lanes::{Committer, Ended, LanesClosed, PutFault, Putter, lanes};
 pub use gate::{Gate, OpenGate, Point};
 pub use sessions::{EndCause, SessionEnd, serve_session};
-pub use worker::{End, Turn, Worker};
+pub use worker::{End, Offer, OfferEnd, Turn, Worker};

@@ -1,9 +1,10 @@
 //! A worker, and what it does in a turn.
 ghost use Rattle.std.specs.Prelude.{◌≡◌, ◌+◌, ◌%◌, ◌^◌, MatchResult};
-ghost use Rattle.cap_workers.specs.Worker.{Chooses, IsCommitted, IsTurn, end_by, end_by_fault};
+ghost use Rattle.cap_workers.specs.Worker.{Chooses, IsCommitted, IsOffer, IsPut, IsTurn, end_by, end_by_fault};
 
 use crate::gate::{Gate, Point};
 use bumpalo::Bump;
+use cap_lanes::Putter;
 use cap_model::{Event, NoMemory, Proposal, Reason, Verdict};
 use cap_propose::propose;
 use cap_shared::{CommitFault, Naming, Seat, Shared};
@@ -36,6 +37,27 @@ pub enum End {
 pub struct Turn {
     pub end: End,
     /// Whether the arena was reset. If not, its memory is not given back before it is dropped: use another for the next turn.
+    pub reset: bool,
+}
+
+/// How an offer ended.
+#[derive(Drop)]
+pub enum OfferEnd {
+    /// There was nothing to propose.
+    Nothing,
+    /// The proposal was put into the worker's lane.
+    Put,
+    /// The lane did not take the proposal. It comes back.
+    Refused(Proposal<2>),
+    /// An allocation failed, and nothing was put.
+    NoMemory,
+}
+
+/// What came of an offer.
+#[derive(Drop)]
+pub struct Offer {
+    pub end: OfferEnd,
+    /// Whether the arena was reset. If not, its memory is not given back before it is dropped: use another for the next offer.
     pub reset: bool,
 }
 
@@ -77,6 +99,36 @@ impl Worker {
             Err(NoMemory) => End::NoMemory,
         };
         Turn { end, reset }
+    }
+
+    /// The same as a turn, but what it proposes is put into the worker's lane, for the committer, and waits there while the lane is
+    /// full. If an allocation fails nothing is put.
+    pub fn offer<J: Naming, R: Wait, G: Gate>(
+        &mut self,
+        rt: &R,
+        shared: &Shared<J>,
+        seat: &mut Seat<J>,
+        putter: &mut Putter,
+        arena: &mut Bump,
+        gate: &G,
+    ) -> Offer
+        ensures start { self.new ≡ record {
+          number = self.old.number;
+          start = (self.old.start + 1) % 2 ^ 32;
+        } }
+        ensures offer { IsOffer J.opening self.old.start seat.old seat.new
+            putter.old putter.new result.end }
+    {
+        let start = self.start;
+        self.start = start.wrapping_add(1);
+        let choice = choose(rt, shared, seat, arena, gate, self.number, start);
+        let reset = arena.reset().is_ok();
+        let end = match choice {
+            Ok(Some(proposal)) => put(rt, putter, proposal),
+            Ok(None) => OfferEnd::Nothing,
+            Err(NoMemory) => OfferEnd::NoMemory,
+        };
+        Offer { end, reset }
     }
 }
 
@@ -136,5 +188,15 @@ fn end_without(fault: &CommitFault) -> End
     match fault {
         CommitFault::Sealed(back) => End::Sealed(*back),
         CommitFault::NoMemory(_) => End::NoMemory,
+    }
+}
+
+/// Puts what a worker proposes, once.
+fn put<R: Wait>(rt: &R, putter: &mut Putter, proposal: Proposal<2>) -> OfferEnd
+    ensures { IsPut proposal putter.old putter.new result }
+{
+    match putter.put(rt, proposal) {
+        Ok(()) => OfferEnd::Put,
+        Err(fault) => OfferEnd::Refused(fault.back),
     }
 }

@@ -4,6 +4,8 @@
 #[cfg(test)]
 mod epochs;
 #[cfg(test)]
+mod offering;
+#[cfg(test)]
 mod serving;
 #[cfg(test)]
 mod sessions;

@@ -1,4 +1,5 @@
 use crate::epochs::take_turns;
+use crate::offering::{Offered, Offering};
 use crate::turning::Came;
 use cap_commit::Cluster;
 use cap_masters::{allocate, register_master, submit};
@@ -6,8 +7,9 @@ use cap_model::{Ask, Key, List, PathText, Reason, ShortText};
 use cap_testing::{TWO_QUEUES, cluster};
 use cap_trackers::register_node;
 use cap_vector::Resource;
+use shared_testing::epoch;
 use std::alloc::Global;
-use std::sync::Wait;
+use std::sync::{Mutex, Wait};
 use std::test::*;
 
 fn join(cluster: &mut Cluster<2>, host: &str) -> Option<()> {
@@ -116,4 +118,28 @@ fn a_full_journal_gives_the_proposal_back(rt: HostRuntime) {
         Came::Points(123_123_123),
     ];
     assert!(rt; is_turned(came, &want));
+}
+
+#[test]
+fn an_offer_is_taken_by_the_committer(rt: HostRuntime) -> Result<(), Fail> {
+    let Some(mut cluster) = cluster(rt.alloc(), TWO_QUEUES) else {
+        return Ok(());
+    };
+    let _filled = fill(rt.alloc(), &mut cluster, &["n1"], 1);
+    let offering = Offering {
+        alloc: rt.alloc(),
+        came: Mutex::new([None, None]),
+    };
+    let closed = epoch(&rt, rt.alloc(), cluster, 1, 100, &offering);
+    let taken = Offered::Taken {
+        worker: 0,
+        app: 1,
+        node: 1,
+    };
+    assert_eq!(rt;
+        *offering.came.lock(&rt),
+        [Some(taken), Some(Offered::Nothing)]
+    );
+    assert_eq!(rt; closed.map(|closed| closed.journal.len()), Some(1));
+    Ok(())
 }
