@@ -2,6 +2,7 @@
 #![tactic(auto)]
 
 mod input;
+mod serve;
 mod streams;
 mod texts;
 mod words;

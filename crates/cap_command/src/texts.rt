@@ -37,7 +37,12 @@ pub(crate) fn check_settings<R: Read, W: Write>(
 }
 
 /// Leaves the words for a fault of the settings in `complaint`.
-fn complain(alloc: Global, text: &[u8], fault: &ConfigFault, complaint: &mut String) -> u8
+pub(crate) fn complain(
+    alloc: Global,
+    text: &[u8],
+    fault: &ConfigFault,
+    complaint: &mut String,
+) -> u8
     ensures { result < 4 }
 {
     if fault.kind == ConfigFaultKind::NoMemory {

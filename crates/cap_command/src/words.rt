@@ -1,6 +1,7 @@
 ghost use Rattle.std.specs.Prelude.{◌≡◌, ◌<◌};
 ghost use Rattle.cap_session.specs.Counted.{state_of, CanCount};
 
+use crate::serve::{serve, serve_command};
 use crate::streams::explain_streams;
 use crate::texts::{check_settings, explain_lines, print};
 use cap_daemon::{Counted, replay_with_words};
@@ -9,14 +10,31 @@ use clap::{Command, Error};
 use std::alloc::{AllocError, Global};
 use std::convert::AsStr;
 use std::io::{Read, Write};
+use std::net::{Net, TcpListener, TcpStream};
+use std::rt::Files;
+use std::sync::Wait;
+use std::thread::Threads;
+use std::time::Clock;
 
-/// Runs the program on the words of its command line, of which the first is its own name: `replay` plays a script, `check` looks at
-/// property lines, `explain` puts words under the lines of a script or of what `replay` printed. The result is the exit status: 0
+/// Runs the program on the words of its command line, of which the first is its own name: `replay` plays a script, `serve` is the daemon,
+/// `check` looks at property lines, `explain` puts words under the lines of a script or of what `replay` printed. The result is the exit status: 0
 /// done; 1 a stream failed; 2 bad words, a bad line of a script or a fault of its settings; 3 an allocation failed. What was wrong is
 /// left in words in `complaint`, for the error stream: with status 2, and with status 1 the stream and the system's error. Help and
 /// the version are written to the writer.
-pub fn run<'a, S: AsStr, R: Read, W: Write>(
-    alloc: Global,
+pub fn run<
+    'a,
+    H: Net<Listener = TcpListener, Stream = TcpStream>
+        + Threads
+        + Wait
+        + Clock
+        + Files
+        + AllocGlobal
+        + Sync,
+    S: AsStr,
+    R: Read,
+    W: Write,
+>(
+    rt: &H,
     words: &'a [S],
     reader: &mut Counted<R>,
     writer: &mut Counted<W>,
@@ -27,18 +45,20 @@ pub fn run<'a, S: AsStr, R: Read, W: Write>(
     ensures status { result < 4 }
     ensures failed { (state_of writer.old).failures < (state_of writer.new).failures → result ≡ 1 }
 {
+    let alloc = rt.alloc();
     let Ok(command) = command_line(alloc) else {
         return 3;
     };
     let status = match command.try_get_matches_from(words) {
-        Ok(matches) => match matches.subcommand_name() {
-            Some("check") => check_settings(alloc, reader, writer, complaint),
-            Some("explain") => explain_lines(alloc, reader, writer),
+        Ok(matches) => match matches.subcommand() {
+            Some(("serve", matches)) => serve(rt, matches, writer, complaint),
+            Some(("check", _)) => check_settings(alloc, reader, writer, complaint),
+            Some(("explain", _)) => explain_lines(alloc, reader, writer),
             _ => replay_with_words(alloc, reader, writer, complaint),
         },
         Err(error) => report(alloc, &error, writer, complaint),
     };
-    if status == 1 {
+    if status == 1 && complaint.is_empty() {
         let _explained = explain_streams(alloc, reader, writer, complaint);
     }
     status
@@ -61,6 +81,7 @@ fn command_line<'a>(alloc: Global) -> Result<Command<'a>, Error> {
             .about("The allocation engine of a YARN cluster: a proved Capacity Scheduler")
             .subcommand_required(true)
             .subcommand(replay)?
+            .subcommand(serve_command(alloc)?)?
             .subcommand(check)?
             .subcommand(explain)?,
     )

@@ -9,7 +9,7 @@ fn main(rt: HostRuntime) -> anyhow::Result<ExitCode> {
     let words: Vec<String> = env::args(&rt)?.collect(rt.alloc())?;
     let mut complaint = String::new(rt.alloc());
     let status = run(
-        rt.alloc(),
+        &rt,
         words.as_slice(),
         &mut Counted::new(rt.reader()),
         &mut Counted::new(io::writer(&rt)),

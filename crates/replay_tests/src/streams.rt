@@ -4,8 +4,13 @@ use cap_daemon::replay;
 use std::alloc::Global;
 use std::cell::Cell;
 use std::io::{self, Read, Write};
+use std::net::{Net, TcpListener, TcpStream};
 use std::process::Abort;
+use std::rt::Files;
+use std::sync::Wait;
 use std::test::Fail;
+use std::thread::Threads;
+use std::time::Clock;
 
 /// Gives its pieces one a read, then the end or a failure. It notes how much was written before each read.
 #[derive(Drop)]
@@ -118,7 +123,16 @@ struct Played {
 }
 
 /// Runs the program on the words.
-fn play(alloc: Global, words: &[&str], pieces: &[&[u8]], fails: bool, limit: usize) -> Played {
+fn play<
+    H: Net<Listener = TcpListener, Stream = TcpStream>
+        + Threads
+        + Wait
+        + Clock
+        + Files
+        + AllocGlobal
+        + Sync,
+>(rt: &H, words: &[&str], pieces: &[&[u8]], fails: bool, limit: usize) -> Played {
+    let alloc = rt.alloc();
     let written = Cell::new(0);
     let mut reader = Pieces {
         pieces,
@@ -135,7 +149,7 @@ fn play(alloc: Global, words: &[&str], pieces: &[&[u8]], fails: bool, limit: usi
     let mut input = Counted::new(&mut reader);
     let mut output = Counted::new(&mut writer);
     let mut complaint = String::new(alloc);
-    let status = run(alloc, words, &mut input, &mut output, &mut complaint);
+    let status = run(rt, words, &mut input, &mut output, &mut complaint);
     let failures = (input.failures(), output.failures());
     writer.kept.truncate(written.get());
     Played {
@@ -184,7 +198,7 @@ fn the_status_says_what_went_wrong(rt: HostRuntime) {
         (&["capsched", "explain"], b"open 1\n", false, 0, 1),
     ];
     for (words, script, fails, limit, status) in rows {
-        let played = play(rt.alloc(), words, &[script], fails, limit);
+        let played = play(&rt, words, &[script], fails, limit);
         let is_shown = !played.printed.is_empty();
         let is_help = matches!(words, [_, "--help"] | [_, "--version"]);
         let is_explained = played.complaint.is_empty() == (status == 0)
@@ -236,7 +250,7 @@ fn a_bad_line_has_words(rt: HostRuntime) {
         ),
     ];
     for (script, line, words) in rows {
-        let played = play(rt.alloc(), &["capsched", "replay"], &[script], false, 99);
+        let played = play(&rt, &["capsched", "replay"], &[script], false, 99);
         let is_explained = played.complaint.strip_prefix(line) == Some(words);
         assert!(rt; played.status == 2 && is_explained, "{words}");
     }
@@ -249,27 +263,15 @@ fn a_fault_of_the_settings_has_words(rt: HostRuntime) {
     let lines: &[u8] = b"yarn.scheduler.capacity.root.b.state=STOPPED";
     let words =
         "line 2: yarn.scheduler.capacity.root.b.state: root.b is not listed by the .queues line of the queue above it\n";
-    let checked = play(
-        rt.alloc(),
-        &["capsched", "check"],
-        &[QUEUES, lines],
-        false,
-        9999,
-    );
+    let checked = play(&rt, &["capsched", "check"], &[QUEUES, lines], false, 9999);
     assert!(rt; (checked.status, checked.printed.len()) == (2, 0));
     assert!(rt; checked.complaint.as_str() == words);
     let pieces: [&[u8]; 4] = [b"conf ", QUEUES, b"\n# b\nconf ", lines];
-    let played = play(rt.alloc(), &["capsched", "replay"], &pieces, false, 9999);
+    let played = play(&rt, &["capsched", "replay"], &pieces, false, 9999);
     assert!(rt; played.printed.as_slice() == b"config 2 5\n".as_slice());
     assert!(rt; played.complaint.strip_prefix("conf ") == Some(words));
     let rootless: &[u8] = b"conf yarn.scheduler.capacity.maximum-applications=1";
-    let played = play(
-        rt.alloc(),
-        &["capsched", "replay"],
-        &[rootless],
-        false,
-        9999,
-    );
+    let played = play(&rt, &["capsched", "replay"], &[rootless], false, 9999);
     assert!(rt;
         played.complaint.as_str()
             == "root needs a .queues line, and a .queues line names at least one queue\n"
@@ -312,7 +314,7 @@ fn a_failed_stream_has_words(rt: HostRuntime) {
         ),
     ];
     for (words, fails, limit, said) in rows {
-        let played = play(rt.alloc(), words, &[b"open 1\n"], fails, limit);
+        let played = play(&rt, words, &[b"open 1\n"], fails, limit);
         assert!(rt;
             played.status == 1 && played.complaint.as_str() == said,
             "{said}"
@@ -327,7 +329,7 @@ fn lines_are_explained(rt: HostRuntime) {
         b"open 1\nbytes 1 00000006010a\nbyt",
         b"es 1 00000001\nout 1 0000000700000000000029\n",
     ];
-    let played = play(rt.alloc(), &["capsched", "explain"], &pieces, false, 9999);
+    let played = play(&rt, &["capsched", "explain"], &pieces, false, 9999);
     let words =
         b"open 1\nbytes 1 00000006010a\nbytes 1 00000001\n# 1 -> ClusterInfo 1\nout 1 0000000700000000000029\n";
     assert!(rt; played.status == 0);
@@ -337,7 +339,7 @@ fn lines_are_explained(rt: HostRuntime) {
 #[test]
 fn a_failed_stream_loses_nothing_printed(rt: HostRuntime) {
     let played = play(
-        rt.alloc(),
+        &rt,
         &["capsched", "replay"],
         &[b"open 1\nope", b"n 2\nend 1"],
         true,
@@ -350,32 +352,20 @@ fn a_failed_stream_loses_nothing_printed(rt: HostRuntime) {
 
 #[test]
 fn settings_are_not_read_after_a_failed_read(rt: HostRuntime) {
-    let played = play(
-        rt.alloc(),
-        &["capsched", "replay"],
-        &[b"conf x=1\nop"],
-        true,
-        1000,
-    );
+    let played = play(&rt, &["capsched", "replay"], &[b"conf x=1\nop"], true, 1000);
     assert!(rt; (played.status, played.printed.len()) == (1, 0));
 }
 
 #[test]
 fn replies_are_written_before_the_next_read(rt: HostRuntime) {
-    let played = play(
-        rt.alloc(),
-        &["capsched", "replay"],
-        &[b"open 1\n"],
-        false,
-        1000,
-    );
+    let played = play(&rt, &["capsched", "replay"], &[b"open 1\n"], false, 1000);
     assert!(rt; (played.status, played.before_last) == (0, 9));
 }
 
 #[test]
 fn a_closed_output_ends_the_program(rt: HostRuntime) {
     let pieces: [&[u8]; 3] = [b"open 1\n", b"open 2\n", b"open 3\n"];
-    let played = play(rt.alloc(), &["capsched", "replay"], &pieces, false, 1);
+    let played = play(&rt, &["capsched", "replay"], &pieces, false, 1);
     assert!(rt; (played.status, played.failures) == (1, (0, 1)));
     assert!(rt; played.printed.as_slice() == b"opened 1\n".as_slice());
 }

@@ -1,0 +1,180 @@
+//! The command `serve`: its words, its settings file and its port.
+ghost use Rattle.std.specs.Prelude.{◌≡◌, ◌<◌, ◌≤◌, IfSome};
+ghost use Rattle.cap_session.specs.Counted.{state_of, CanCount};
+
+use crate::texts::{complain, print};
+use cap_config::{ConfigFault, ConfigFaultKind, read_config};
+use cap_daemon::Counted;
+use cap_server::{Sizes, serve_on};
+use cap_workers::OpenGate;
+use clap::builder::ValueParser;
+use clap::{Arg, ArgAction, ArgMatches, Command, Error};
+use std::alloc::Global;
+use std::fs;
+use std::io::{self, Write};
+use std::net::{Net, TcpListener, TcpStream};
+use std::rt::Files;
+use std::sync::Wait;
+use std::thread::Threads;
+use std::time::Clock;
+
+/// How many entries an epoch's journal has.
+const JOURNAL: usize = 4096;
+
+/// How many proposals wait for the committer, if no other number is given.
+const LANES: &str = "64";
+
+/// What the words of `serve` say.
+#[derive(Drop)]
+struct Words<'a> {
+    port: u16,
+    config: &'a str,
+    sizes: Sizes,
+}
+
+/// The command and its words.
+pub(crate) fn serve_command<'a>(alloc: Global) -> Result<Command<'a>, Error> {
+    Ok(
+        Command::new(alloc, "serve")
+            .about("Serves connections on a port of 127.0.0.1, and schedules, until all have ended")
+            .arg(number(alloc, "port", 1, 65535, "The port").required(true))?
+            .arg(number(alloc, "workers", 1, 8, "How many threads schedule").required(true))?
+            .arg(text(alloc, "config", "The file of property lines").required(true))?
+            .arg(number(
+                alloc,
+                "connections",
+                1,
+                128,
+                "How many connections are accepted",
+            )
+            .required(true))?
+            .arg(number(
+                alloc,
+                "lanes",
+                0,
+                1024,
+                "How many proposals wait for the committer; 0: each worker commits its own",
+            )
+            .default_value(LANES))?,
+    )
+}
+
+/// A word that is a number within bounds.
+fn number<'a>(alloc: Global, name: &'a str, least: u64, most: u64, help: &'a str) -> Arg<'a> {
+    text(alloc, name, help).value_parser(ValueParser::Unsigned(least, most))
+}
+
+/// A word of any text.
+fn text<'a>(alloc: Global, name: &'a str, help: &'a str) -> Arg<'a> {
+    Arg::new(alloc, name)
+        .long(name)
+        .action(ArgAction::Set)
+        .help(help)
+}
+
+/// What the words say. `None` if one is missing or is no number within its bounds.
+fn read_words<'a>(matches: &ArgMatches<'a>) -> Option<Words<'a>>
+    ensures lanes { IfSome result (λ w. IfSome w.sizes.lanes (λ n. (0 < n) × (n ≤ 1024))) }
+    ensures journal { IfSome result (λ w. (1 ≤ w.sizes.journal) × (w.sizes.journal ≤ 1000000)) }
+{
+    let lanes: usize = matches.get_one("lanes")?;
+    if lanes > 1024 {
+        return None;
+    }
+    Some(Words {
+        port: matches.get_one("port")?,
+        config: matches.get_str("config")?,
+        sizes: Sizes {
+            workers: matches.get_one("workers")?,
+            connections: matches.get_one("connections")?,
+            journal: JOURNAL,
+            lanes: if lanes == 0 { None } else { Some(lanes) },
+        },
+    })
+}
+
+/// Serves connections on a port of 127.0.0.1, over a cluster with the queues of a settings file. The result is the exit status: 0 done; 1
+/// if the writer, the settings file or the listener failed; 2 for a fault of the settings, which is printed; 3 if an allocation failed.
+/// What was wrong is left in words in `complaint`, except of the writer.
+pub(crate) fn serve<
+    H: Net<Listener = TcpListener, Stream = TcpStream>
+        + Threads
+        + Wait
+        + Clock
+        + Files
+        + AllocGlobal
+        + Sync,
+    W: Write,
+>(rt: &H, matches: &ArgMatches<'_>, writer: &mut Counted<W>, complaint: &mut String) -> u8
+    requires writer { CanCount (state_of writer.old) }
+    ensures status { result < 4 }
+    ensures failed { (state_of writer.old).failures < (state_of writer.new).failures → result ≡ 1 }
+{
+    let alloc = rt.alloc();
+    let Some(words) = read_words(matches) else {
+        return 2;
+    };
+    let text = match fs::read(rt, words.config) {
+        Ok(text) => text,
+        Err(error) => return refuse(alloc, "settings file", Some(error), complaint),
+    };
+    let config = match read_config(alloc, &text) {
+        Ok(config) => config,
+        Err(fault) => return refuse_settings(alloc, &text, &fault, writer, complaint),
+    };
+    let listener = match TcpListener::bind(rt, ("127.0.0.1", words.port)) {
+        Ok(listener) => listener,
+        Err(error) => return refuse(alloc, "listener", Some(error), complaint),
+    };
+    let status = serve_on(
+        rt,
+        alloc,
+        &listener,
+        &words.sizes,
+        &config,
+        &OpenGate,
+        writer,
+    );
+    if status == 1 && writer.failures() == 0 {
+        return refuse(alloc, "listener", None, complaint);
+    }
+    status
+}
+
+/// Leaves in `complaint` what failed, with the system's error. The result is the exit status 1.
+fn refuse(alloc: Global, what: &str, error: Option<io::Error>, complaint: &mut String) -> u8
+    ensures { result ≡ 1 }
+{
+    let line = match error {
+        Some(error) => format!(in alloc; "{what}: {error}\n"),
+        None => format!(in alloc; "{what}: a connection could not be accepted\n"),
+    };
+    if let Ok(line) = line {
+        let _kept = complaint.push_str(line.as_str());
+    }
+    1
+}
+
+/// Prints a fault of the settings, and leaves its words in `complaint`. The result is the exit status.
+fn refuse_settings<W: Write>(
+    alloc: Global,
+    text: &[u8],
+    fault: &ConfigFault,
+    writer: &mut Counted<W>,
+    complaint: &mut String,
+) -> u8
+    requires writer { CanCount (state_of writer.old) }
+    ensures status { result < 4 }
+    ensures failed { (state_of writer.old).failures < (state_of writer.new).failures → result ≡ 1 }
+{
+    if fault.kind == ConfigFaultKind::NoMemory {
+        return 3;
+    }
+    let Ok(line) = format!(in alloc; "config {} {}\n", fault.line, fault.kind as u8) else {
+        return 3;
+    };
+    match print(writer, line.as_bytes()) {
+        0 => complain(alloc, text, fault, complaint),
+        failed => failed,
+    }
+}

@@ -1,0 +1,153 @@
+//! The daemon's run: its epochs, and what it prints.
+ghost use Rattle.std.specs.Prelude.{◌≡◌, ◌<◌, ◌≤◌, IfSome};
+ghost use Rattle.cap_session.specs.Counted.{state_of, CanCount};
+
+use crate::epoch::epoch;
+use crate::job::Job;
+use crate::site::Site;
+use cap_commit::Cluster;
+use cap_config::Config;
+use cap_daemon::{Counted, write_out};
+use cap_model::NoMemory;
+use cap_workers::{Gate, Worker};
+use std::alloc::Global;
+use std::io::Write;
+use std::net::TcpListener;
+use std::sync::Wait;
+use std::thread::Threads;
+use std::time::Clock;
+
+/// How large a daemon is.
+#[derive(Clone, Copy, Debug)]
+pub struct Sizes {
+    /// How many workers schedule: 1 to 8.
+    pub workers: u32,
+    /// How many connections are accepted: 1 to 128.
+    pub connections: u32,
+    /// How many entries an epoch's journal has at most: 1 to 1,000,000.
+    pub journal: usize,
+    /// How many proposals wait for the committer at most: 1 to 1,024. `None` if each worker commits what it proposes.
+    pub lanes: Option<usize>,
+}
+
+/// How many epochs there were, and how many entries their journals had together.
+#[derive(Clone, Copy)]
+struct Totals {
+    epochs: u64,
+    entries: u64,
+}
+
+/// Serves connections that the listener accepts, exactly as many as `sizes` says, each in a thread of its own, over one cluster with the
+/// queues of the settings, on which workers schedule, until all connections have ended. Prints `listening` with the port first, and at
+/// the end `closed` with the number of epochs and the sum of their journals' lengths. A connection that fails ends alone; the others go
+/// on. The result is the exit status: 0 done; 1 if the writer failed or a connection could not be accepted, after which those that were
+/// accepted are still served; 3 if an allocation of the daemon's own failed, after it has printed `no memory`.
+pub fn serve_on<H: Threads + Wait + Clock + Sync, G: Gate + Sync, W: Write>(
+    rt: &H,
+    alloc: Global,
+    listener: &TcpListener,
+    sizes: &Sizes,
+    config: &Config<2>,
+    gate: &G,
+    writer: &mut Counted<W>,
+) -> u8
+    requires journal { (1 ≤ sizes.now.journal) × (sizes.now.journal ≤ 1000000) }
+    requires lanes { IfSome sizes.now.lanes (λ n. (0 < n) × (n ≤ 1024)) }
+    requires writer { CanCount (state_of writer.old) }
+    ensures status { result < 4 }
+    ensures failed { (state_of writer.old).failures < (state_of writer.new).failures → result ≡ 1 }
+{
+    let Ok((cluster, jobs)) = begin(alloc, config, sizes) else {
+        return no_memory(writer);
+    };
+    let Some(port) = port_of(listener) else {
+        return 1;
+    };
+    let Ok(listening) = format!(in alloc; "listening {port}\n") else {
+        return no_memory(writer);
+    };
+    if write_out(writer, listening.as_bytes()).is_err() {
+        return 1;
+    }
+    let site = Site::new(listener, gate, sizes);
+    let Ok(Totals { epochs, entries }) = run_epochs(rt, alloc, &site, cluster, jobs) else {
+        return no_memory(writer);
+    };
+    let Ok(closed) = format!(in alloc; "closed epochs={epochs} entries={entries}\n") else {
+        return no_memory(writer);
+    };
+    if write_out(writer, closed.as_bytes()).is_err() || site.has_failed(rt) {
+        return 1;
+    }
+    0
+}
+
+/// Prints that an allocation failed. The result is the exit status: 3, or 1 if the writer failed.
+fn no_memory<W: Write>(writer: &mut Counted<W>) -> u8
+    requires { CanCount (state_of writer.old) }
+    ensures status { result < 4 }
+    ensures failed { (state_of writer.old).failures < (state_of writer.new).failures → result ≡ 1 }
+{
+    match write_out(writer, b"no memory\n") {
+        Ok(()) => 3,
+        Err(_) => 1,
+    }
+}
+
+/// The port of the listener, which does not wait for connections any more. `None` if the system refuses.
+fn port_of(listener: &TcpListener) -> Option<u16> {
+    if listener.set_nonblocking(true).is_err() {
+        return None;
+    }
+    match listener.local_addr() {
+        Ok(address) => Some(address.port()),
+        Err(_) => None,
+    }
+}
+
+/// The cluster of the settings, and the jobs of all threads. An error means that an allocation failed.
+fn begin(
+    alloc: Global,
+    config: &Config<2>,
+    sizes: &Sizes,
+) -> Result<(Cluster<2>, Vec<Job>), NoMemory> {
+    let cluster = Cluster::from_config(alloc, config)?;
+    let mut jobs = Vec::new(alloc);
+    let committers = if sizes.lanes.is_some() { 1 } else { 0 };
+    let connections = (0..sizes.connections).map(|_| Job::Awaiting);
+    let workers = (0..sizes.workers).map(|number| Job::Scheduling(Worker::new(number)));
+    let committer = (0..committers).map(|_| Job::Committing);
+    for job in connections.chain(workers).chain(committer) {
+        if jobs.push(job).is_err() {
+            return Err(NoMemory);
+        }
+    }
+    Ok((cluster, jobs))
+}
+
+/// One epoch after the other, each over the cluster that the last one closed, until all connections have ended. An error means that an
+/// allocation failed.
+fn run_epochs<H: Threads + Wait + Clock + Sync, G: Gate + Sync>(
+    rt: &H,
+    alloc: Global,
+    site: &Site<'_, G>,
+    cluster: Cluster<2>,
+    jobs: Vec<Job>,
+) -> Result<Totals, NoMemory> {
+    let (mut cluster, mut jobs) = (cluster, jobs);
+    let mut totals = Totals {
+        epochs: 0,
+        entries: 0,
+    };
+    for _ in rt.forever() {
+        let past = epoch(rt, alloc, cluster, site, jobs)?;
+        totals.epochs = totals.epochs.saturating_add(1);
+        totals.entries = totals.entries.saturating_add(past.entries as u64);
+        cluster = past.cluster;
+        jobs = past.jobs;
+        if !jobs.iter().any(Job::is_open) {
+            return Ok(totals);
+        }
+    }
+    unreachable!()
+}
