@@ -1,0 +1,497 @@
+//! A load on a server of the frames of docs/FORMATS.md at 127.0.0.1.
+//!
+//!     load port                                     prints a port that is free
+//!     load info PORT CONNECTIONS WINDOW REQUESTS    keeps WINDOW ClusterInfos in flight on each connection, REQUESTS in all on each
+//!     load cluster PORT NODES APPS QUEUES SECONDS   a cluster in which containers are asked for, granted and ended all the time, over 9 connections
+//!     load quiet PORT CONNECTIONS NODES SECONDS PID connections to the process PID that say nothing, once the first has registered the nodes
+//!
+//! `info` takes as an answer a reply with success, or the request itself as echo_run writes it back. `cluster` submits its applications in turn to the
+//! queues root.q1, root.q2 and so on, on a server that has just begun.
+use std::collections::VecDeque;
+use std::env;
+use std::fs;
+use std::io::{self, BufReader, Read, Write};
+use std::net::{TcpListener, TcpStream};
+use std::sync::atomic::{AtomicBool, AtomicU64, Ordering::SeqCst};
+use std::sync::{Barrier, Mutex};
+use std::thread;
+use std::time::{Duration, Instant};
+
+const SUBMIT: u8 = 1;
+const REGISTER_MASTER: u8 = 2;
+const ALLOCATE: u8 = 3;
+const REGISTER_NODE: u8 = 5;
+const HEARTBEAT: u8 = 6;
+const CLUSTER_INFO: u8 = 10;
+
+/// Version, kind and call id.
+const HEAD: usize = 6;
+
+/// How many connections the masters have, and how many the nodes.
+const LANES: usize = 4;
+/// How often a master allocates, and a node sends a heartbeat.
+const PERIOD: Duration = Duration::from_millis(100);
+/// How long a cluster runs before it is measured.
+const WARM_UP: Duration = Duration::from_secs(1);
+/// How long the connection that is measured waits after each reply.
+const PAUSE: Duration = Duration::from_millis(1);
+/// How many containers an application always wants.
+const WANTED: u32 = 64;
+/// The most ended containers in one heartbeat.
+const ENDED_MAX: usize = 1024;
+
+type Result<T> = std::result::Result<T, Box<dyn std::error::Error + Send + Sync>>;
+
+fn main() -> Result<()> {
+    let words: Vec<String> = env::args().skip(1).collect();
+    let numbers: Vec<usize> = words
+        .iter()
+        .skip(1)
+        .map(|word| word.parse())
+        .collect::<std::result::Result<_, _>>()?;
+    match (words.first().map(String::as_str), numbers.as_slice()) {
+        (Some("port"), []) => {
+            println!("{}", TcpListener::bind("127.0.0.1:0")?.local_addr()?.port())
+        }
+        (Some("info"), &[port, connections, window, requests]) => {
+            info(port, connections, window, requests)?
+        }
+        (Some("cluster"), &[port, nodes, apps, queues, seconds]) => {
+            cluster(port, nodes, apps, queues, seconds as u64)?
+        }
+        (Some("quiet"), &[port, connections, nodes, seconds, pid]) => {
+            quiet(port, connections, nodes, seconds as u64, pid)?
+        }
+        _ => return Err("the words are those of one line at the head of load.rs".into()),
+    }
+    Ok(())
+}
+
+/// One connection. Requests are collected and sent together; replies come in their order.
+struct Connection {
+    stream: TcpStream,
+    reader: BufReader<TcpStream>,
+    unsent: Vec<u8>,
+    call_id: u32,
+    awaited: VecDeque<[u8; HEAD]>,
+}
+
+impl Connection {
+    fn open(port: usize) -> io::Result<Connection> {
+        let stream = TcpStream::connect(("127.0.0.1", port as u16))?;
+        stream.set_nodelay(true)?;
+        let reader = BufReader::with_capacity(1 << 16, stream.try_clone()?);
+        Ok(Connection {
+            stream,
+            reader,
+            unsent: Vec::new(),
+            call_id: 0,
+            awaited: VecDeque::new(),
+        })
+    }
+
+    /// Adds a request to those that are sent next.
+    fn put(&mut self, kind: u8, body: &[u8]) {
+        self.call_id = self.call_id.wrapping_add(1);
+        let [a, b, c, d] = self.call_id.to_be_bytes();
+        let head = [1, kind, a, b, c, d];
+        self.unsent
+            .extend_from_slice(&((HEAD + body.len()) as u32).to_be_bytes());
+        self.unsent.extend_from_slice(&head);
+        self.unsent.extend_from_slice(body);
+        self.awaited.push_back(head);
+    }
+
+    fn send(&mut self) -> io::Result<()> {
+        self.stream.write_all(&self.unsent)?;
+        self.unsent.clear();
+        Ok(())
+    }
+
+    /// Reads the next reply, and gives its body.
+    fn read(&mut self) -> Result<Body> {
+        let mut length = [0; 4];
+        self.reader.read_exact(&mut length)?;
+        let mut reply = vec![0; u32::from_be_bytes(length) as usize];
+        self.reader.read_exact(&mut reply)?;
+        let head = self
+            .awaited
+            .pop_front()
+            .ok_or("a reply that nothing asked for")?;
+        if !reply.starts_with(&head) {
+            return Err(format!("a reply {reply:02x?} to the request {head:02x?}").into());
+        }
+        match reply.get(HEAD) {
+            None | Some(0) => Ok(Body {
+                bytes: reply,
+                at: HEAD + 1,
+            }),
+            Some(status) => Err(format!(
+                "a request of kind {} is answered with status {status}",
+                head[1]
+            )
+            .into()),
+        }
+    }
+
+    /// Whether the next reply, or a part of it, was read already.
+    fn has_more(&self) -> bool {
+        !self.reader.buffer().is_empty()
+    }
+
+    fn call(&mut self, kind: u8, body: &[u8]) -> Result<Body> {
+        self.put(kind, body);
+        self.send()?;
+        self.read()
+    }
+}
+
+/// The body of a reply, read from left to right.
+struct Body {
+    bytes: Vec<u8>,
+    at: usize,
+}
+
+impl Body {
+    fn skip(&mut self, count: usize) {
+        self.at += count;
+    }
+
+    /// A number of so many bytes.
+    fn number(&mut self, width: usize) -> Result<u64> {
+        let bytes = self
+            .bytes
+            .get(self.at..self.at + width)
+            .ok_or("a reply is too short")?;
+        self.at += width;
+        Ok(bytes
+            .iter()
+            .fold(0, |number, byte| number << 8 | u64::from(*byte)))
+    }
+}
+
+fn put_text(body: &mut Vec<u8>, text: &str) {
+    body.push(text.len() as u8);
+    body.extend_from_slice(text.as_bytes());
+}
+
+fn put_resource(body: &mut Vec<u8>, memory: u64, vcores: u64) {
+    body.extend_from_slice(&memory.to_be_bytes());
+    body.extend_from_slice(&vcores.to_be_bytes());
+}
+
+/// The least of the times that so many of a hundred are at most, in microseconds.
+fn percentile(sorted: &[Duration], percent: usize) -> u128 {
+    let index = (sorted.len() * percent).div_ceil(100).max(1) - 1;
+    sorted.get(index).map_or(0, Duration::as_micros)
+}
+
+fn print_times(mut times: Vec<Duration>) {
+    times.sort_unstable();
+    println!(
+        "{} microseconds at the 50th percentile of {} ClusterInfos",
+        percentile(&times, 50),
+        times.len()
+    );
+    println!(
+        "{} microseconds at the 99th percentile",
+        percentile(&times, 99)
+    );
+}
+
+fn info(port: usize, connections: usize, window: usize, requests: usize) -> Result<()> {
+    let opened: io::Result<Vec<Connection>> =
+        (0..connections).map(|_| Connection::open(port)).collect();
+    let barrier = Barrier::new(connections + 1);
+    let (seconds, times) = thread::scope(|scope| -> Result<(f64, Vec<Duration>)> {
+        let barrier = &barrier;
+        let threads: Vec<_> = opened?
+            .into_iter()
+            .map(|connection| scope.spawn(move || ask(connection, barrier, window, requests)))
+            .collect();
+        barrier.wait();
+        let begin = Instant::now();
+        let mut times = Vec::new();
+        for thread in threads {
+            times.append(&mut thread.join().map_err(|_| "a thread has panicked")??);
+        }
+        Ok((begin.elapsed().as_secs_f64(), times))
+    })?;
+    println!(
+        "{:.0} requests a second on {connections} connections",
+        times.len() as f64 / seconds
+    );
+    print_times(times);
+    Ok(())
+}
+
+/// Keeps `window` requests in flight, `requests` in all: how long each took.
+fn ask(
+    mut connection: Connection,
+    barrier: &Barrier,
+    window: usize,
+    requests: usize,
+) -> Result<Vec<Duration>> {
+    let mut begins = VecDeque::with_capacity(window);
+    let mut times = Vec::with_capacity(requests);
+    let mut left = requests;
+    barrier.wait();
+    while times.len() < requests {
+        let free = (window - begins.len()).min(left);
+        left -= free;
+        for _ in 0..free {
+            connection.put(CLUSTER_INFO, &[]);
+            begins.push_back(Instant::now());
+        }
+        connection.send()?;
+        loop {
+            connection.read()?;
+            times.extend(begins.pop_front().map(|begin| begin.elapsed()));
+            if !connection.has_more() {
+                break;
+            }
+        }
+    }
+    Ok(times)
+}
+
+/// The time that the processors have spent for a process, in hundredths of a second.
+fn spent(pid: usize) -> Result<u64> {
+    let stat = fs::read_to_string(format!("/proc/{pid}/stat"))?;
+    let (_, numbers) = stat.rsplit_once(')').ok_or("a stat of another form")?;
+    let times = numbers.split_whitespace().skip(11).take(2);
+    Ok(times.map(|time| time.parse::<u64>().unwrap_or(0)).sum())
+}
+
+fn quiet(
+    port: usize,
+    connections: usize,
+    nodes: usize,
+    seconds: u64,
+    pid: usize,
+) -> Result<()> {
+    let mut lane = Lane::open(port)?;
+    let _others = (1..connections)
+        .map(|_| Connection::open(port))
+        .collect::<io::Result<Vec<Connection>>>()?;
+    for index in 0..nodes {
+        lane.add_node(&format!("n{index}"))?;
+    }
+    thread::sleep(WARM_UP);
+    let before = spent(pid)?;
+    thread::sleep(Duration::from_secs(seconds));
+    let hundredths = spent(pid)? - before;
+    println!(
+        "{} thousandths of a core with {connections} quiet connections",
+        hundredths * 10 / seconds.max(1)
+    );
+    Ok(())
+}
+
+/// An application or a node: its number, and the response id of its last reply.
+struct Caller {
+    number: u64,
+    response: u32,
+}
+
+/// One connection, and those that call on it.
+struct Lane {
+    connection: Connection,
+    callers: Vec<Caller>,
+}
+
+impl Lane {
+    fn open(port: usize) -> io::Result<Lane> {
+        Ok(Lane {
+            connection: Connection::open(port)?,
+            callers: Vec::new(),
+        })
+    }
+
+    fn add_node(&mut self, host: &str) -> Result<()> {
+        let mut body = Vec::new();
+        put_text(&mut body, host);
+        put_text(&mut body, "/r1");
+        put_resource(&mut body, 65536, 64);
+        let number = self.connection.call(REGISTER_NODE, &body)?.number(8)?;
+        self.callers.push(Caller {
+            number,
+            response: 0,
+        });
+        Ok(())
+    }
+
+    fn add_app(&mut self, queue: &str) -> Result<()> {
+        let mut body = Vec::new();
+        put_text(&mut body, queue);
+        put_text(&mut body, "u1");
+        let number = self.connection.call(SUBMIT, &body)?.number(8)?;
+        self.connection
+            .call(REGISTER_MASTER, &number.to_be_bytes())?;
+        self.callers.push(Caller {
+            number,
+            response: 0,
+        });
+        Ok(())
+    }
+}
+
+/// What the threads of a cluster share.
+struct Cluster {
+    /// What runs on each node, by its number, which are 1, 2 and so on.
+    running: Vec<Mutex<Vec<u64>>>,
+    granted: AtomicU64,
+    ended: AtomicU64,
+    stops: AtomicBool,
+}
+
+fn cluster(port: usize, nodes: usize, apps: usize, queues: usize, seconds: u64) -> Result<()> {
+    let mut measured = Connection::open(port)?;
+    let lanes = || {
+        (0..LANES)
+            .map(|_| Lane::open(port))
+            .collect::<io::Result<Vec<Lane>>>()
+    };
+    let (mut masters, mut managers) = (lanes()?, lanes()?);
+    for index in 0..nodes {
+        managers[index % LANES].add_node(&format!("n{index}"))?;
+    }
+    for index in 0..apps {
+        masters[index % LANES].add_app(&format!("root.q{}", index % queues + 1))?;
+    }
+    let cluster = Cluster {
+        running: (0..=nodes).map(|_| Mutex::default()).collect(),
+        granted: AtomicU64::new(0),
+        ended: AtomicU64::new(0),
+        stops: AtomicBool::new(false),
+    };
+    thread::scope(|scope| {
+        let cluster = &cluster;
+        let mut threads = Vec::new();
+        threads.extend(
+            masters
+                .into_iter()
+                .map(|lane| scope.spawn(move || cluster.repeat(lane, Cluster::allocate))),
+        );
+        threads.extend(
+            managers
+                .into_iter()
+                .map(|lane| scope.spawn(move || cluster.repeat(lane, Cluster::heartbeat))),
+        );
+        let answer = cluster.measure(&mut measured, seconds);
+        cluster.stops.store(true, SeqCst);
+        for thread in threads {
+            thread.join().map_err(|_| "a thread has panicked")??;
+        }
+        answer
+    })
+}
+
+impl Cluster {
+    /// Lets those of a lane call in each period.
+    fn repeat(&self, mut lane: Lane, call: fn(&Cluster, &mut Lane) -> Result<()>) -> Result<()> {
+        while !self.stops.load(SeqCst) {
+            let begin = Instant::now();
+            call(self, &mut lane)?;
+            thread::sleep(PERIOD.saturating_sub(begin.elapsed()));
+        }
+        Ok(())
+    }
+
+    /// Each master asks, and lets run what it was granted.
+    fn allocate(&self, lane: &mut Lane) -> Result<()> {
+        for app in &lane.callers {
+            let mut body = app.number.to_be_bytes().to_vec();
+            body.extend_from_slice(&app.response.to_be_bytes());
+            body.extend_from_slice(&1u16.to_be_bytes());
+            body.extend_from_slice(&1u32.to_be_bytes());
+            body.extend_from_slice(&1u64.to_be_bytes());
+            body.extend_from_slice(&WANTED.to_be_bytes());
+            put_resource(&mut body, 1024, 1);
+            put_text(&mut body, "*");
+            body.extend_from_slice(&0u16.to_be_bytes());
+            lane.connection.put(ALLOCATE, &body);
+        }
+        lane.connection.send()?;
+        for app in &mut lane.callers {
+            let mut reply = lane.connection.read()?;
+            app.response = reply.number(4)? as u32;
+            reply.skip(2);
+            let granted = reply.number(1)?;
+            for _ in 0..granted {
+                let container = reply.number(8)?;
+                reply.skip(4 + 8);
+                let node = reply.number(8)? as usize;
+                let host = reply.number(1)? as usize;
+                reply.skip(host + 16);
+                self.running
+                    .get(node)
+                    .ok_or("a node of an unknown number")?
+                    .lock()
+                    .map_err(|_| "a thread has panicked")?
+                    .push(container);
+            }
+            self.granted.fetch_add(granted, SeqCst);
+        }
+        Ok(())
+    }
+
+    /// Each node reports all that runs on it as ended.
+    fn heartbeat(&self, lane: &mut Lane) -> Result<()> {
+        let mut reported = Vec::new();
+        for node in &lane.callers {
+            let mut running = self.running[node.number as usize]
+                .lock()
+                .map_err(|_| "a thread has panicked")?;
+            let count = running.len().min(ENDED_MAX);
+            let ended: Vec<u64> = running.drain(..count).collect();
+            reported.push(ended.len() as u64);
+            let mut body = node.number.to_be_bytes().to_vec();
+            body.extend_from_slice(&node.response.to_be_bytes());
+            body.extend_from_slice(&(ended.len() as u16).to_be_bytes());
+            body.extend(ended.iter().flat_map(|container| container.to_be_bytes()));
+            lane.connection.put(HEARTBEAT, &body);
+        }
+        lane.connection.send()?;
+        for (node, reported) in lane.callers.iter_mut().zip(reported) {
+            let mut reply = lane.connection.read()?;
+            node.response = reply.number(4)? as u32;
+            let ignored = reply.number(2)?;
+            self.ended.fetch_add(reported - ignored, SeqCst);
+        }
+        Ok(())
+    }
+
+    /// How many containers were granted: those that were reported, and those that have ended or live.
+    fn count(&self, measured: &mut Connection) -> Result<(u64, u64)> {
+        let mut reply = measured.call(CLUSTER_INFO, &[])?;
+        reply.skip(4 + 4);
+        let live = reply.number(4)?;
+        Ok((self.granted.load(SeqCst), self.ended.load(SeqCst) + live))
+    }
+
+    fn measure(&self, measured: &mut Connection, seconds: u64) -> Result<()> {
+        thread::sleep(WARM_UP);
+        let (reported, counted) = self.count(measured)?;
+        let begin = Instant::now();
+        let mut times = Vec::new();
+        while begin.elapsed() < Duration::from_secs(seconds) {
+            let sent = Instant::now();
+            measured.call(CLUSTER_INFO, &[])?;
+            times.push(sent.elapsed());
+            thread::sleep(PAUSE);
+        }
+        let passed = begin.elapsed().as_secs_f64();
+        let (more_reported, more_counted) = self.count(measured)?;
+        println!(
+            "{:.0} grants a second were reported to masters",
+            (more_reported - reported) as f64 / passed
+        );
+        println!(
+            "{:.0} grants a second, by the containers that ended and live",
+            (more_counted - counted) as f64 / passed
+        );
+        print_times(times);
+        Ok(())
+    }
+}
