@@ -1,12 +1,14 @@
 use crate::client::{ASK, ask_last, connect, is_answered};
-use crate::side::{Client, Host, beside_daemon, number_after, said};
+use crate::side::{Client, beside_daemon, number_after, said};
 use cap_server::Sizes;
 use cap_workers::OpenGate;
 use std::alloc::Global;
 use std::io::{self, Write};
-use std::net::TcpStream;
+use std::net::{Net, TcpListener, TcpStream};
+use std::sync::Wait;
 use std::test::*;
-use std::time::Duration;
+use std::thread::Threads;
+use std::time::{Clock, Duration};
 
 /// The fault reply with status 40.
 const BAD_LENGTH: [u8; 11] = [0, 0, 0, 7, 1, 0, 0, 0, 0, 0, 40];
@@ -35,7 +37,12 @@ fn flood(alloc: Global, stream: &TcpStream) -> io::Result<()> {
 struct Hostile;
 
 impl Client for Hostile {
-    fn talk<H: Host>(&self, rt: &H, alloc: Global, port: u16) -> io::Result<bool> {
+    fn talk<H: Net<Listener = TcpListener, Stream = TcpStream> + Threads + Wait + Clock + Sync>(
+        &self,
+        rt: &H,
+        alloc: Global,
+        port: u16,
+    ) -> io::Result<bool> {
         let good = connect(rt, port)?;
         let garbage = connect(rt, port)?;
         let answer = ask_last(alloc, &garbage, &[0, 0, 0, 0, 1, 2, 3, 4])?;

@@ -13,4 +13,4 @@ mod scheduling;
 mod serving;
 mod side;
 
-pub use side::{Client, Host, Outcome, beside_daemon, number_after, said};
+pub use side::{Client, Outcome, beside_daemon, number_after, said};

@@ -1,15 +1,16 @@
 use crate::client::{call, connect};
-use crate::side::{Client, Host, beside_daemon, number_after, said};
+use crate::side::{Client, beside_daemon, number_after, said};
 use cap_server::Sizes;
 use cap_testing::{Call, TWO_QUEUES, WantedContainers};
 use cap_workers::OpenGate;
 use std::alloc::Global;
 use std::io;
-use std::net::TcpStream;
+use std::net::{Net, TcpListener, TcpStream};
+use std::sync::Wait;
 use std::sync::atomic::{AtomicU64, Ordering};
 use std::test::*;
-use std::thread::sleep;
-use std::time::Duration;
+use std::thread::{Threads, sleep};
+use std::time::{Clock, Duration};
 
 /// Ten containers of (1024, 1), anywhere.
 const TEN: &[WantedContainers<'_>] = &[WantedContainers {
@@ -41,7 +42,12 @@ impl Master {
 }
 
 impl Client for Master {
-    fn talk<H: Host>(&self, rt: &H, alloc: Global, port: u16) -> io::Result<bool> {
+    fn talk<H: Net<Listener = TcpListener, Stream = TcpStream> + Threads + Wait + Clock + Sync>(
+        &self,
+        rt: &H,
+        alloc: Global,
+        port: u16,
+    ) -> io::Result<bool> {
         let stream = connect(rt, port)?;
         for host in [b"n1", b"n2"] {
             let node = Call::RegisterNode(host.as_slice(), b"/r1", [8192, 8]);
@@ -50,27 +56,29 @@ impl Client for Master {
         let _app = self.call(alloc, &stream, &Call::Submit(b"root.a", b"ann"))?;
         let _limits = self.call(alloc, &stream, &Call::RegisterMaster(1))?;
         let mut told = 0u8;
-        let mut response = 0;
-        let mut asks = TEN;
+        let mut reply = self.call(alloc, &stream, &Call::Allocate(1, 0, TEN, &[]))?;
         for _ in 0..100 {
-            let reply = self.call(alloc, &stream, &Call::Allocate(1, response, asks, &[]))?;
-            let Some((grants, next)) = grants_in(reply.as_slice()) else {
+            let Some((grants, response)) = grants_in(reply.as_slice()) else {
                 return Ok(false);
             };
             told = told.saturating_add(grants);
-            response = next;
-            asks = &[];
             if told >= 10 {
                 return Ok(told == 10);
             }
             sleep(rt, Duration::from_millis(20));
+            reply = self.call(alloc, &stream, &Call::Allocate(1, response, &[], &[]))?;
         }
         Ok(false)
     }
 }
 
 /// Whether the master is told its ten grants, and the journal has an entry for each of its calls and for each grant, and no more.
-fn scheduled<H: Host>(rt: &H, alloc: Global, workers: u32, lanes: Option<usize>) -> bool {
+fn scheduled<H: Net<Listener = TcpListener, Stream = TcpStream> + Threads + Wait + Clock + Sync>(
+    rt: &H,
+    alloc: Global,
+    workers: u32,
+    lanes: Option<usize>,
+) -> bool {
     let sizes = Sizes {
         workers,
         connections: 1,

@@ -1,11 +1,15 @@
 use crate::client::{ANSWER, ASK, ask_last, connect, is_answered};
 use crate::gates::{Holding, Mark, Meeting};
-use crate::side::{Client, Host, beside_daemon, said};
+use crate::side::{Client, beside_daemon, said};
 use cap_server::Sizes;
 use cap_workers::OpenGate;
 use std::alloc::Global;
 use std::io;
+use std::net::{Net, TcpListener, TcpStream};
+use std::sync::Wait;
 use std::test::*;
+use std::thread::Threads;
+use std::time::Clock;
 
 /// One leaf queue.
 const ONE_QUEUE: &[u8] = b"yarn.scheduler.capacity.root.queues=default";
@@ -25,7 +29,12 @@ struct Asks {
 }
 
 impl Client for Asks {
-    fn talk<H: Host>(&self, rt: &H, alloc: Global, port: u16) -> io::Result<bool> {
+    fn talk<H: Net<Listener = TcpListener, Stream = TcpStream> + Threads + Wait + Clock + Sync>(
+        &self,
+        rt: &H,
+        alloc: Global,
+        port: u16,
+    ) -> io::Result<bool> {
         let stream = connect(rt, port)?;
         let mut bytes = Vec::new(alloc);
         let mut expected = Vec::new(alloc);
@@ -70,7 +79,12 @@ fn six_calls_take_two_epochs_of_four(rt: HostRuntime) -> Result<(), Fail> {
 struct Silent;
 
 impl Client for Silent {
-    fn talk<H: Host>(&self, rt: &H, alloc: Global, port: u16) -> io::Result<bool> {
+    fn talk<H: Net<Listener = TcpListener, Stream = TcpStream> + Threads + Wait + Clock + Sync>(
+        &self,
+        rt: &H,
+        alloc: Global,
+        port: u16,
+    ) -> io::Result<bool> {
         let first = connect(rt, port)?;
         let second = connect(rt, port)?;
         let answer = ask_last(alloc, &second, &ASK)?;
@@ -99,7 +113,12 @@ struct Crowd {
 }
 
 impl Client for Crowd {
-    fn talk<H: Host>(&self, rt: &H, alloc: Global, port: u16) -> io::Result<bool> {
+    fn talk<H: Net<Listener = TcpListener, Stream = TcpStream> + Threads + Wait + Clock + Sync>(
+        &self,
+        rt: &H,
+        alloc: Global,
+        port: u16,
+    ) -> io::Result<bool> {
         let mut streams = Vec::with_capacity(alloc, self.count)?;
         for _ in 0..self.count {
             streams.push(connect(rt, port)?)?;
@@ -135,14 +154,21 @@ struct Witness<'a> {
 }
 
 impl Client for Witness<'_> {
-    fn talk<H: Host>(&self, rt: &H, _alloc: Global, port: u16) -> io::Result<bool> {
+    fn talk<H: Net<Listener = TcpListener, Stream = TcpStream> + Threads + Wait + Clock + Sync>(
+        &self,
+        rt: &H,
+        _alloc: Global,
+        port: u16,
+    ) -> io::Result<bool> {
         let stream = connect(rt, port)?;
         Ok(self.both.awaits(1) && is_answered(&stream)?)
     }
 }
 
 /// Whether two workers propose at the same time.
-fn two_workers_meet<H: Host>(rt: &H, alloc: Global, lanes: Option<usize>) -> bool {
+fn two_workers_meet<
+    H: Net<Listener = TcpListener, Stream = TcpStream> + Threads + Wait + Clock + Sync,
+>(rt: &H, alloc: Global, lanes: Option<usize>) -> bool {
     let sizes = Sizes {
         workers: 2,
         lanes,
@@ -176,7 +202,12 @@ struct Releasing<'a> {
 }
 
 impl Client for Releasing<'_> {
-    fn talk<H: Host>(&self, rt: &H, _alloc: Global, port: u16) -> io::Result<bool> {
+    fn talk<H: Net<Listener = TcpListener, Stream = TcpStream> + Threads + Wait + Clock + Sync>(
+        &self,
+        rt: &H,
+        _alloc: Global,
+        port: u16,
+    ) -> io::Result<bool> {
         let stream = connect(rt, port)?;
         for step in 1..3 {
             if !self.gate.held.awaits(step) || !is_answered(&stream)? {

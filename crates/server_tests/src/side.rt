@@ -10,16 +10,15 @@ use std::sync::Wait;
 use std::thread::{Threads, join};
 use std::time::Clock;
 
-/// What a daemon and a client beside it need of the host.
-pub trait Host: Net<Listener = TcpListener, Stream = TcpStream> + Threads + Wait + Clock + Sync {}
-
-impl<H: Net<Listener = TcpListener, Stream = TcpStream> + Threads + Wait + Clock + Sync> Host
-    for H {}
-
 /// What is done at the other end of the daemon's connections.
 pub trait Client {
     /// Opens the connections, and says whether all was answered as it has to be. An error means that a socket failed.
-    fn talk<H: Host>(&self, rt: &H, alloc: Global, port: u16) -> io::Result<bool>;
+    fn talk<H: Net<Listener = TcpListener, Stream = TcpStream> + Threads + Wait + Clock + Sync>(
+        &self,
+        rt: &H,
+        alloc: Global,
+        port: u16,
+    ) -> io::Result<bool>;
 }
 
 /// What came of a daemon: its exit status, what it printed, and what the client said.
@@ -32,14 +31,11 @@ pub struct Outcome {
 
 /// Runs a daemon with the queues of these property lines on a port of the loopback, in a thread of its own, and the client beside it.
 /// `None` if the lines have a fault, or the system has no port.
-pub fn beside_daemon<H: Host, G: Gate + Sync, C: Client + Sync>(
-    rt: &H,
-    alloc: Global,
-    lines: &[u8],
-    sizes: &Sizes,
-    gate: &G,
-    client: &C,
-) -> Option<Outcome> {
+pub fn beside_daemon<
+    H: Net<Listener = TcpListener, Stream = TcpStream> + Threads + Wait + Clock + Sync,
+    G: Gate + Sync,
+    C: Client + Sync,
+>(rt: &H, alloc: Global, lines: &[u8], sizes: &Sizes, gate: &G, client: &C) -> Option<Outcome> {
     let listener = TcpListener::bind(rt, "127.0.0.1:0").ok()?;
     let port = listener.local_addr().ok()?.port();
     let ((status, printed), answered) = join(

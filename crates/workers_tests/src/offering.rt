@@ -1,8 +1,8 @@
 //! A worker that offers what it proposes to a committer.
 use bumpalo::Bump;
-use cap_model::Proposal;
+use cap_model::NoMemory;
 use cap_shared::{Naming, Seat, Shared};
-use cap_workers::{Offer, OfferEnd, OpenGate, Worker, lanes};
+use cap_workers::{Committer, Offer, OfferEnd, OpenGate, Putter, Worker, lanes};
 use shared_testing::Work;
 use std::alloc::Global;
 use std::sync::{Mutex, Wait};
@@ -26,26 +26,48 @@ pub struct Offering {
     pub came: Mutex<[Option<Offered>; 2]>,
 }
 
-fn offered_of(offer: &Offer, taken: Option<(u32, Proposal<2>)>) -> Offered {
+/// What came of an offer; `None` if its proposal was put.
+fn offered_of(offer: &Offer) -> Option<Offered> {
     if !offer.reset {
-        return Offered::Spent;
+        return Some(Offered::Spent);
     }
-    match (&offer.end, taken) {
-        (OfferEnd::Put, Some((worker, proposal))) => Offered::Taken {
-            worker,
-            app: proposal.app(),
-            node: proposal.node(),
-        },
-        (OfferEnd::Nothing, _) => Offered::Nothing,
-        (OfferEnd::NoMemory, _) => Offered::NoMemory,
-        _ => Offered::Refused,
+    match &offer.end {
+        OfferEnd::Put => None,
+        OfferEnd::Nothing => Some(Offered::Nothing),
+        OfferEnd::NoMemory => Some(Offered::NoMemory),
+        _ => Some(Offered::Refused),
     }
+}
+
+/// Takes a proposal out of the lanes, and commits it.
+fn take_one<J: Naming, H: Wait>(
+    rt: &H,
+    shared: &Shared<J>,
+    seat: &mut Seat<J>,
+    committer: &mut Committer,
+) -> Offered {
+    let Some((worker, proposal)) = committer.take(rt) else {
+        return Offered::Refused;
+    };
+    let app = proposal.app();
+    let node = proposal.node();
+    let _verdict = shared.commit(rt, seat, proposal);
+    Offered::Taken { worker, app, node }
+}
+
+/// Lanes of ten places. An error means that an allocation failed.
+fn ten_places(alloc: Global) -> Result<(Committer, Vec<Putter>), NoMemory> {
+    let (committer, putters) = lanes(alloc, 10)?;
+    let Ok(putters) = Vec::from_array(alloc, putters) else {
+        return Err(NoMemory);
+    };
+    Ok((committer, putters))
 }
 
 impl Work for Offering {
     fn work<J: Naming, H: Wait>(&self, rt: &H, shared: &Shared<J>, seat: Seat<J>) -> Seat<J> {
         let mut seat = seat;
-        let Ok((mut committer, mut putters)) = lanes(self.alloc, 10) else {
+        let Ok((mut committer, mut putters)) = ten_places(self.alloc) else {
             return seat;
         };
         let mut arena = Bump::new(self.alloc);
@@ -53,14 +75,11 @@ impl Work for Offering {
         for turn in 0..2 {
             let own = &mut putters[0];
             let offer = worker.offer(rt, shared, &mut seat, own, &mut arena, &OpenGate);
-            let taken = match offer.end {
-                OfferEnd::Put => committer.take(rt),
-                _ => None,
+            let came = match offered_of(&offer) {
+                Some(came) => came,
+                None => take_one(rt, shared, &mut seat, &mut committer),
             };
-            self.came.lock(rt)[turn] = Some(offered_of(&offer, taken));
-            if let Some((_worker, proposal)) = taken {
-                let _verdict = shared.commit(rt, &mut seat, proposal);
-            }
+            self.came.lock(rt)[turn] = Some(came);
         }
         seat
     }
