@@ -73,7 +73,9 @@ impl Work for Offering {
         let mut arena = Bump::new(self.alloc);
         let mut worker = Worker::new(0);
         for turn in 0..2 {
-            let own = &mut putters[0];
+            let Some(own) = putters.first_mut() else {
+                return seat;
+            };
             let offer = worker.offer(rt, shared, &mut seat, own, &mut arena, &OpenGate);
             let came = match offered_of(&offer) {
                 Some(came) => came,
