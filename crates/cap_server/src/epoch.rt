@@ -31,7 +31,7 @@ struct Tools {
 }
 
 impl Tools {
-    /// Lanes of this capacity, or nothing. If an allocation fails there are none.
+    /// Lanes with room for so many proposals, or nothing. If an allocation fails there are none.
     fn new(alloc: Global, capacity: Option<usize>) -> Result<Tools, NoMemory>
         requires { ForSome capacity (λ n. (0 < n) × (n ≤ 1024)) }
     {
@@ -41,7 +41,7 @@ impl Tools {
                 putters: Vec::new(alloc),
             });
         };
-        let (committer, putters) = lanes(alloc, capacity)?;
+        let (committer, putters) = lanes(alloc, places_for(capacity))?;
         let Ok(mut putters) = Vec::from_array(alloc, putters) else {
             return Err(NoMemory);
         };
@@ -77,6 +77,18 @@ impl Tools {
             let _ended = putter.finish(rt);
         }
     }
+}
+
+/// The places of lanes for so many proposals: at least one for the end of each lane without a worker, of which there are at most seven.
+/// These lanes are finished before the committer begins to take.
+fn places_for(capacity: usize) -> usize
+    requires { (0 < capacity) × (capacity ≤ 1024) }
+    ensures { (0 < result) × (result ≤ 1024) }
+{
+    if capacity < 7 {
+        return 7;
+    }
+    capacity
 }
 
 /// An epoch over a cluster, with a seat for each job, a thread each: its journal leads from this cluster to the one that is left. If an

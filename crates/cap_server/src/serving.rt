@@ -26,7 +26,8 @@ pub struct Sizes {
     pub connections: u32,
     /// How many entries an epoch's journal has at most: 1 to 1,000,000.
     pub journal: usize,
-    /// How many proposals wait for the committer at most: 1 to 1,024. `None` if each worker commits what it proposes.
+    /// How many proposals wait for the committer at most: 1 to 1,024, of which 1 to 6
+    /// count as 7. `None` if each worker commits what it proposes.
     pub lanes: Option<usize>,
 }
 

@@ -102,6 +102,13 @@ fn a_worker_schedules(rt: HostRuntime) -> Result<(), Fail> {
     Ok(())
 }
 
+/// Seven of the lanes have no worker then, and one place is fewer than their ends need.
+#[test]
+fn one_worker_schedules_through_a_committer(rt: HostRuntime) -> Result<(), Fail> {
+    assert!(rt; scheduled(&rt, rt.alloc(), 1, Some(1)));
+    Ok(())
+}
+
 #[test]
 fn eight_workers_schedule_through_a_committer(rt: HostRuntime) -> Result<(), Fail> {
     assert!(rt; scheduled(&rt, rt.alloc(), 8, Some(1)));
