@@ -2,7 +2,7 @@
 # The daemon on the loopback. First ClusterInfos over 1, 16 and 128 connections with 16 in flight on each: how many a second `capsched serve` answers,
 # beside how many frames a second `echo_run` writes back as they came, the best of three runs of each; fails where the daemon makes less than half of
 # what echo_run makes. Then a cluster of 512 nodes, 64 leaf queues and 256 applications, in which masters ask and nodes end all that runs on them every
-# 100 ms: grants a second by 1, 2 and 4 workers, without a committer (lanes=0) and with lanes of so many places to one, and how long a ClusterInfo takes
+# 100 ms: grants a second by 1, 2 and 4 workers, without a committer (lanes=0) and with lanes of so many places (1 to 6 count as 7) to one, and how long a ClusterInfo takes
 # meanwhile; fails where its 99th percentile with 4 workers and 64 places is above 60 ms. Last how much of a core the daemon takes while nobody says
 # anything, with 512 nodes: fails where one worker with 16 connections takes 1 % or more, or 8 workers with 128 take 5 % or more. A number as the
 # argument is for how many seconds each cluster is measured, 10 without. Figures depend on the machine, and on what else runs there. Needs rustc for the
