@@ -106,6 +106,7 @@ impl Connection {
         let SessionEnd {
             session,
             sent: _,
+            unsent: _,
             cause,
         } = serve_session(rt, shared, seat, session, pending, &mut reader, &mut writer);
         match cause {

@@ -4,10 +4,9 @@ use cap_shared::{Naming, Shared};
 use std::io::ErrorKind;
 use std::net::TcpStream;
 use std::sync::Wait;
-use std::thread::sleep;
-use std::time::{Clock, Duration};
+use std::time::Clock;
 
-/// How long the thread that waits for a connection sleeps before it looks again, in milliseconds.
+/// How long the thread that waits for a connection rests before it looks again, in milliseconds.
 const LOOK_AGAIN: u64 = 5;
 
 /// Where connections come in.
@@ -51,7 +50,7 @@ pub(crate) fn await_connection<J: Naming, H: Wait + Clock, G>(
         }
         match look_out(site) {
             Look::Accepted(stream) => return Arrival::Accepted(stream),
-            Look::Nobody => sleep(rt, Duration::from_millis(LOOK_AGAIN)),
+            Look::Nobody => site.rest.wait(rt, LOOK_AGAIN),
             Look::Failed => door.failed = true,
         }
     }

@@ -107,6 +107,7 @@ pub(crate) fn epoch<H: Threads + Wait + Clock + Sync, G: Gate + Sync>(
     if seats == 0 || seats > 256 {
         return Err(NoMemory);
     }
+    site.rest.open(rt);
     let count = seats as u32;
     let blank = Blank::new(alloc, count)?;
     named_epoch::<Brand, H, G>(rt, alloc, blank, cluster, limit, count, site, jobs)

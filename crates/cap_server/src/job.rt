@@ -60,7 +60,8 @@ impl<J: Naming> Drop for Seated<J> {
 }
 
 impl<J: Naming> Seated<J> {
-    /// Does the job in an epoch, and gives back the seat, with what is left to do in the next.
+    /// Does the job in an epoch, and gives back the seat, with what is left to do in the next. If the epoch ends, those that rest are
+    /// woken.
     pub(crate) fn work<H: Wait + Clock, G: Gate>(
         self,
         rt: &H,
@@ -82,6 +83,9 @@ impl<J: Naming> Seated<J> {
             Job::Committing => commit_with(rt, shared, &mut seat, tool),
             Job::Over => Job::Over,
         };
+        if site.is_over() || shared.is_full(rt) {
+            site.rest.close(rt);
+        }
         (left, seat)
     }
 }

@@ -5,6 +5,7 @@ mod connection;
 mod door;
 mod epoch;
 mod job;
+mod rest;
 mod scheduling;
 mod serving;
 mod site;

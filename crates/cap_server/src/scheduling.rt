@@ -5,8 +5,7 @@ use cap_shared::{Naming, Seat, Shared};
 use cap_workers::{Committer, End, Gate, OfferEnd, Putter, Worker};
 use std::alloc::Global;
 use std::sync::Wait;
-use std::thread::sleep;
-use std::time::{Clock, Duration};
+use std::time::Clock;
 
 /// How long a worker that finds nothing to do waits at most, in milliseconds.
 const PAUSE_MAX: u64 = 10;
@@ -41,9 +40,9 @@ impl Pace {
         }
     }
 
-    /// Sleeps, and twice as long the next time.
-    fn wait<H: Clock>(&mut self, rt: &H) {
-        sleep(rt, Duration::from_millis(self.pause));
+    /// Rests until the epoch ends, or for a while, and twice as long the next time.
+    fn wait<H: Wait + Clock, G>(&mut self, rt: &H, site: &Site<'_, G>) {
+        site.rest.wait(rt, self.pause);
         self.pause = self.pause.saturating_mul(2).min(PAUSE_MAX);
     }
 }
@@ -126,7 +125,7 @@ pub(crate) fn schedule<J: Naming, H: Wait + Clock, G: Gate, D: Hand>(
             return;
         }
         if pace.idle_at == Some(entries) {
-            pace.wait(rt);
+            pace.wait(rt, site);
             continue;
         }
         let (came, reset) = hand.propose(rt, shared, seat, worker, &mut arena, site.gate);
@@ -135,9 +134,12 @@ pub(crate) fn schedule<J: Naming, H: Wait + Clock, G: Gate, D: Hand>(
         }
         match came {
             Came::Proposed => pace = Pace::new(),
-            Came::Nothing => pace.idle_at = Some(entries),
+            Came::Nothing => {
+                pace.idle_at = Some(entries);
+                pace.wait(rt, site);
+            }
             Came::Sealed => return,
-            Came::NoMemory => pace.wait(rt),
+            Came::NoMemory => pace.wait(rt, site),
         }
     }
 }

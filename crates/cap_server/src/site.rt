@@ -3,6 +3,7 @@ ghost use Rattle.std.specs.Prelude.{◌≡◌, ◌<◌, ◌≤◌, IfSome};
 ghost use Rattle.std.specs.Option.{ForSome};
 
 use crate::door::Door;
+use crate::rest::Rest;
 use crate::serving::Sizes;
 use std::net::TcpListener;
 use std::sync::atomic::{AtomicU64, Ordering};
@@ -19,6 +20,8 @@ pub(crate) struct Site<'a, G> {
     pub lanes: Option<usize>,
     /// One thread at a time waits for a connection, and knows whether none can be accepted any more.
     pub door: Mutex<Door>,
+    /// Where threads wait that have nothing to do.
+    pub rest: Rest,
     /// How many connections have not ended, of those that are served and those that are still to come.
     pub open: AtomicU64,
     ghost is_limit: { (1 ≤ limit) × (limit ≤ 1000000) },
@@ -37,6 +40,7 @@ impl<'a, G> Site<'a, G> {
             limit: sizes.journal,
             lanes: sizes.lanes,
             door: Mutex::new(Door { failed: false }),
+            rest: Rest::new(),
             open: AtomicU64::new(u64::from(sizes.connections)),
         }
     }

@@ -36,6 +36,8 @@ pub struct SessionEnd {
     pub session: Session,
     /// How many bytes went out. It stops at `u64::MAX`.
     pub sent: u64,
+    /// How many bytes of answers are still to be written.
+    pub unsent: usize,
     pub cause: EndCause,
 }
 
@@ -76,6 +78,7 @@ pub fn serve_session<J: Naming, H: Wait, R: Read, W: Write>(
         (W.contents (inner_of writer.old)) (W.contents (inner_of writer.new))
         session.sent result.session.sent out
         × (result.sent ≡ min (length out) (2 ^ 64 - 1)) }
+    ensures unsent { result.unsent ≡ length result.session.unsent }
 {
     let mut session = session;
     let mut pending = pending;
@@ -92,11 +95,11 @@ pub fn serve_session<J: Naming, H: Wait, R: Read, W: Write>(
         );
         sent = sent.saturating_add(out);
         if let Some(cause) = end {
-            // Read for contracts alone: what every session promises.
-            let _unsent = session.unsent();
+            let unsent = session.unsent().len();
             return SessionEnd {
                 session,
                 sent,
+                unsent,
                 cause,
             };
         }

@@ -45,12 +45,14 @@ impl Waiting {
     }
 }
 
-/// A session through all that it was served: how it ended each time, and how many bytes went out.
+/// A session through all that it was served: how it ended each time, how many bytes went out, and how many of its answers are still to be
+/// written.
 #[derive(Drop)]
 pub struct Line {
     pub waiting: Option<Waiting>,
     pub endings: Vec<Ending>,
     pub sent: u64,
+    pub unsent: usize,
 }
 
 /// What came of serving a session once.
@@ -58,6 +60,7 @@ pub struct Line {
 struct Served {
     ending: Ending,
     sent: u64,
+    unsent: usize,
     next: Option<Waiting>,
 }
 
@@ -84,6 +87,7 @@ fn serve_once<J: Naming, H: Wait, R: Read, W: Write>(
     let SessionEnd {
         session,
         sent,
+        unsent,
         cause,
     } = serve_session(rt, shared, seat, session, pending, reader, writer);
     let (ending, next) = match cause {
@@ -107,7 +111,12 @@ fn serve_once<J: Naming, H: Wait, R: Read, W: Write>(
         EndCause::WriteFault => (Ending::WriteFault, None),
         EndCause::NoMemory => (Ending::NoMemory, None),
     };
-    Some(Served { ending, sent, next })
+    Some(Served {
+        ending,
+        sent,
+        unsent,
+        next,
+    })
 }
 
 /// Serves a session in one epoch, again after each time that it was quiet.
@@ -126,8 +135,14 @@ pub fn serve<J: Naming, H: Wait, R: Read, W: Write>(
         let Some(served) = serve_once(rt, shared, seat, waiting, reader, writer) else {
             return;
         };
-        let Served { ending, sent, next } = served;
+        let Served {
+            ending,
+            sent,
+            unsent,
+            next,
+        } = served;
         line.sent = line.sent.saturating_add(sent);
+        line.unsent = unsent;
         line.waiting = next;
         if line.endings.push(ending).is_err() || ending != Ending::Quiet {
             return;

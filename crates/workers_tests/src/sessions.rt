@@ -30,22 +30,24 @@ const ANSWERS: &[u8] = &[
 /// The fault reply with status 40.
 const BAD_LENGTH: &[u8] = &[0, 0, 0, 7, 1, 0, 0, 0, 0, 0, 40];
 
-/// How a session ended each time that it was served, and how many bytes went out.
+/// How a session ended each time that it was served, how many bytes went out, and how many are still to be written.
 #[derive(Clone, Copy, Debug, PartialEq, Eq)]
 struct Outcome {
     first: Option<Ending>,
     second: Option<Ending>,
     sent: u64,
+    unsent: usize,
     entries: usize,
     failures: u64,
 }
 
-/// A session that ended once, so that so many bytes went out, with so many entries in the journal.
+/// A session that ended once, so that so many bytes went out and no more are to be written, with so many entries in the journal.
 fn once(ending: Ending, sent: u64, entries: usize, failures: u64) -> Option<Outcome> {
     Some(Outcome {
         first: Some(ending),
         second: None,
         sent,
+        unsent: 0,
         entries,
         failures,
     })
@@ -56,6 +58,7 @@ fn outcome_of(line: &Line, closed: Option<Closed>, failures: u64) -> Option<Outc
         first: line.endings.first().copied(),
         second: line.endings.get(1).copied(),
         sent: line.sent,
+        unsent: line.unsent,
         entries: closed?.journal.len(),
         failures,
     })
@@ -67,6 +70,7 @@ fn served<H: Wait>(rt: &H, alloc: Global, source: Source<'_>, sink: &mut Sink) -
         waiting: Some(Waiting::new(alloc)?),
         endings: Vec::new(alloc),
         sent: 0,
+        unsent: 0,
     };
     let mut reader = Counted::new(source);
     let mut writer = Counted::new(sink);
@@ -126,6 +130,7 @@ fn a_quiet_reader_goes_on_wherever_it_was(rt: HostRuntime) {
             first: Some(Ending::Quiet),
             second: Some(Ending::InputEnded),
             sent: 74,
+            unsent: 0,
             entries: 2,
             failures: 0,
         };
@@ -214,11 +219,23 @@ fn narrowed<H: Wait>(
     }
 }
 
+/// A session whose writer failed after so many of the 74 bytes of answers.
+fn stopped(count: usize) -> Option<Outcome> {
+    Some(Outcome {
+        first: Some(Ending::WriteFault),
+        second: None,
+        sent: count as u64,
+        unsent: 74usize.saturating_sub(count),
+        entries: 2,
+        failures: 1,
+    })
+}
+
 #[test]
 fn a_failing_writer_has_what_it_took(rt: HostRuntime) {
     for limit in 0..74 {
         let answer = narrowed(&rt, rt.alloc(), 7, limit);
-        let want = once(Ending::WriteFault, limit as u64, 2, 1);
+        let want = stopped(limit);
         assert!(rt; answer == Some((want, limit)), "failure after {limit}");
     }
 }
@@ -228,7 +245,7 @@ fn a_writer_may_take_a_byte_at_a_time_and_fails_if_it_takes_none(rt: HostRuntime
     let narrow = narrowed(&rt, rt.alloc(), 1, 100);
     assert!(rt; narrow == Some((once(Ending::InputEnded, 74, 2, 0), 74)));
     let none = narrowed(&rt, rt.alloc(), 0, 100);
-    assert!(rt; none == Some((once(Ending::WriteFault, 0, 2, 1), 0)));
+    assert!(rt; none == Some((stopped(0), 0)));
 }
 
 #[test]
@@ -269,6 +286,7 @@ fn through_two_epochs<H: Wait>(rt: &H, alloc: Global, sink: &mut Sink) -> Option
         waiting: Some(Waiting::new(alloc)?),
         endings: Vec::new(alloc),
         sent: 0,
+        unsent: 0,
     };
     let mut reader = Counted::new(Source {
         first: SIX,
@@ -289,6 +307,7 @@ fn through_two_epochs<H: Wait>(rt: &H, alloc: Global, sink: &mut Sink) -> Option
         first: line.endings.first().copied(),
         second: line.endings.get(1).copied(),
         sent: line.sent,
+        unsent: line.unsent,
         entries: journal.len(),
         failures: 0,
     };
@@ -305,6 +324,7 @@ fn a_pending_request_goes_on_in_the_next_epoch(rt: HostRuntime) {
         first: Some(Ending::Sealed),
         second: None,
         sent: 0,
+        unsent: 220,
         entries: 4,
         failures: 0,
     };
@@ -312,6 +332,7 @@ fn a_pending_request_goes_on_in_the_next_epoch(rt: HostRuntime) {
         first: Some(Ending::Sealed),
         second: Some(Ending::InputEnded),
         sent: 330,
+        unsent: 0,
         entries: 2,
         failures: 0,
     };
