@@ -84,6 +84,7 @@ for run in '1 0' '2 0' '4 0' '1 64' '2 64' '4 1' '4 8' '4 64'; do
   echo "workers=$workers lanes=$lanes: $(figure 'grants a second, by') grants a second, by the containers that ended and live"
   echo "workers=$workers lanes=$lanes: $slowest us at the 99th percentile of a ClusterInfo"
   echo "workers=$workers lanes=$lanes: $(tail -n 1 "$work/said")"
+  echo "workers=$workers lanes=$lanes: $(tail -n 1 "$work/messages")"
 done
 [ "$slowest" -le 60000 ] || { echo "with 4 workers a ClusterInfo takes more than 60000 us at the 99th percentile" >&2; broken=1; }
 for run in '1 16 10' '8 128 50'; do

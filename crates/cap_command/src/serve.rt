@@ -6,7 +6,7 @@ use crate::texts::{complain, print};
 use cap_config::{ConfigFault, ConfigFaultKind, read_config};
 use cap_daemon::Counted;
 use cap_server::{Sizes, serve_on};
-use cap_workers::OpenGate;
+use cap_workers::Tally;
 use clap::builder::ValueParser;
 use clap::{Arg, ArgAction, ArgMatches, Command, Error};
 use std::alloc::Global;
@@ -95,7 +95,7 @@ fn read_words<'a>(matches: &ArgMatches<'a>) -> Option<Words<'a>>
 
 /// Serves connections on a port of 127.0.0.1, over a cluster with the queues of a settings file. The result is the exit status: 0 done; 1
 /// if the writer, the settings file or the listener failed; 2 for a fault of the settings, which is printed; 3 if an allocation failed.
-/// What was wrong is left in words in `complaint`, except of the writer.
+/// What was wrong is left in words in `complaint`, except of the writer, and how many proposals were made and rejected.
 pub(crate) fn serve<
     H: Net<Listener = TcpListener, Stream = TcpStream>
         + Threads
@@ -126,19 +126,21 @@ pub(crate) fn serve<
         Ok(listener) => listener,
         Err(error) => return refuse(alloc, "listener", Some(error), complaint),
     };
-    let status = serve_on(
-        rt,
-        alloc,
-        &listener,
-        &words.sizes,
-        &config,
-        &OpenGate,
-        writer,
-    );
+    let tally = Tally::new();
+    let status = serve_on(rt, alloc, &listener, &words.sizes, &config, &tally, writer);
+    report(alloc, &tally, complaint);
     if status == 1 && writer.failures() == 0 {
         return refuse(alloc, "listener", None, complaint);
     }
     status
+}
+
+/// Leaves in `complaint` how many proposals were made and rejected.
+fn report(alloc: Global, tally: &Tally, complaint: &mut String) {
+    let (made, rejected) = (tally.made(), tally.rejected());
+    if let Ok(line) = format!(in alloc; "proposals: {made} made, {rejected} rejected\n") {
+        let _kept = complaint.push_str(line.as_str());
+    }
 }
 
 /// Leaves in `complaint` what failed, with the system's error. The result is the exit status 1.

@@ -80,7 +80,7 @@ impl<J: Naming> Seated<J> {
             Job::Scheduling(worker) => {
                 schedule_with(rt, alloc, shared, &mut seat, site, worker, tool)
             }
-            Job::Committing => commit_with(rt, shared, &mut seat, tool),
+            Job::Committing => commit_with(rt, shared, &mut seat, site, tool),
             Job::Over => Job::Over,
         };
         if site.is_over() || shared.is_full(rt) {
@@ -111,14 +111,15 @@ fn schedule_with<J: Naming, H: Wait + Clock, G: Gate>(
 }
 
 /// Commits what workers put into their lanes.
-fn commit_with<J: Naming, H: Wait>(
+fn commit_with<J: Naming, H: Wait, G: Gate>(
     rt: &H,
     shared: &Shared<J>,
     seat: &mut Seat<J>,
+    site: &Site<'_, G>,
     tool: Tool,
 ) -> Job {
     match tool {
-        Tool::Lanes(committer) => commit_all(rt, shared, seat, committer),
+        Tool::Lanes(committer) => commit_all(rt, shared, seat, site.gate, committer),
         Tool::Lane(_putter) => {}
         Tool::Bare => {}
     }

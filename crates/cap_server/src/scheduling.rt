@@ -2,7 +2,7 @@
 use crate::site::Site;
 use bumpalo::Bump;
 use cap_shared::{Naming, Seat, Shared};
-use cap_workers::{Committer, End, Gate, OfferEnd, Putter, Worker};
+use cap_workers::{Committer, End, Gate, OfferEnd, Outcome, Point, Putter, Worker};
 use std::alloc::Global;
 use std::sync::Wait;
 use std::time::Clock;
@@ -125,7 +125,10 @@ pub(crate) fn schedule<J: Naming, H: Wait + Clock, G: Gate, D: Hand>(
             return;
         }
         if pace.idle_at == Some(entries) {
-            pace.wait(rt, site);
+            let _watch = site.watch.lock(rt);
+            if shared.entries(rt) == entries {
+                pace.wait(rt, site);
+            }
             continue;
         }
         let (came, reset) = hand.propose(rt, shared, seat, worker, &mut arena, site.gate);
@@ -160,16 +163,18 @@ pub(crate) fn schedule_by_lane<J: Naming, H: Wait + Clock, G: Gate>(
 
 /// The committer commits what the workers put, in the order in which it takes it, until all workers have finished. What it takes once
 /// the journal is full is dropped, as is a proposal that an allocation fails for.
-pub(crate) fn commit_all<J: Naming, H: Wait>(
+pub(crate) fn commit_all<J: Naming, H: Wait, G: Gate>(
     rt: &H,
     shared: &Shared<J>,
     seat: &mut Seat<J>,
+    gate: &G,
     mut committer: Committer,
 ) {
     for _ in rt.forever() {
-        let Some((_worker, proposal)) = committer.take(rt) else {
+        let Some((worker, proposal)) = committer.take(rt) else {
             return;
         };
-        let _answer = shared.commit(rt, seat, proposal);
+        let answer = shared.commit(rt, seat, proposal);
+        gate.at(worker, Point::Committed(Outcome::of(&answer)));
     }
 }

@@ -9,6 +9,10 @@ use std::net::TcpListener;
 use std::sync::atomic::{AtomicU64, Ordering};
 use std::sync::{Mutex, Wait};
 
+/// What the worker has that looks whether there is something to do.
+#[derive(Drop)]
+pub(crate) struct Watch;
+
 /// What all threads have in common, through all epochs.
 #[derive(Drop)]
 pub(crate) struct Site<'a, G> {
@@ -22,6 +26,8 @@ pub(crate) struct Site<'a, G> {
     pub door: Mutex<Door>,
     /// Where threads wait that have nothing to do.
     pub rest: Rest,
+    /// One worker at a time looks whether there is something to do. The others that found nothing wait for it.
+    pub watch: Mutex<Watch>,
     /// How many connections have not ended, of those that are served and those that are still to come.
     pub open: AtomicU64,
     ghost is_limit: { (1 ≤ limit) × (limit ≤ 1000000) },
@@ -41,6 +47,7 @@ impl<'a, G> Site<'a, G> {
             lanes: sizes.lanes,
             door: Mutex::new(Door { failed: false }),
             rest: Rest::new(),
+            watch: Mutex::new(Watch),
             open: AtomicU64::new(u64::from(sizes.connections)),
         }
     }

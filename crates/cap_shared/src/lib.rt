@@ -27,4 +27,4 @@ pub use history::{Answer, Mark, Moment, Sitting, View};
 pub use laws::journals_stay_bounded;
 pub use request::CompactRequest;
 pub use seat::{Naming, Seat};
-pub use shared::Shared;
+pub use shared::{Held, Shared};

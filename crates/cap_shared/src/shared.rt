@@ -10,6 +10,7 @@ use crate::closed::{Closed, SeatReport};
 use crate::desk::Desk;
 use crate::faults::{CallFault, CommitFault, Fault};
 use crate::history::{Mark, View};
+use crate::passes::Word;
 use crate::rule::{Compares, Handover, JournalRule};
 use crate::seat::{Naming, Seat};
 use atomic_table::Table;
@@ -19,7 +20,7 @@ use cap_copy::Snapshot;
 use cap_model::{NoMemory, OwnedReply, Proposal, Request, Verdict};
 use std::alloc::Global;
 use std::marker::PhantomData;
-use std::sync::{Mutex, Wait};
+use std::sync::{Mutex, MutexGuard, Wait};
 
 /// A cluster under a lock, its journal, and the word that ties both to the seats. Threads share it by reference, each with a seat.
 #[derive(Drop)]
@@ -34,6 +35,35 @@ pub struct Shared<J: Naming> {
     ghost roomy: { J.seats ≤ vec_capacity room },
 }
 
+/// A cluster that one thread holds for some calls. All others wait until it is dropped.
+#[derive(Drop)]
+pub struct Held<'a, J: Naming> {
+    alloc: Global,
+    word: &'a Word,
+    desk: MutexGuard<'a, Desk<J>>,
+    ghost named: { word.now.table_id ≡ J.table },
+    ghost some: { 0 < word.now.table_id.words },
+}
+
+impl<'a, J: Naming> Held<'a, J> {
+    /// Makes a call, as `Shared::call`.
+    pub fn call(
+        &mut self,
+        seat: &mut Seat<J>,
+        mut request: Request<2>,
+    ) -> Result<OwnedReply<2>, CallFault>
+        ensures { MatchResult result (CallsOk request seat.old seat.new)
+            (CallsBack request J.limit seat.old seat.new) }
+    {
+        let answer = self.desk.call(self.alloc, self.word, seat, &mut request);
+        match answer {
+            Ok(reply) => Ok(reply),
+            Err(Fault::Sealed) => Err(CallFault::Sealed(request)),
+            Err(Fault::NoMemory) => Err(CallFault::NoMemory(request)),
+        }
+    }
+}
+
 impl<J: Naming> Shared<J> {
     /// Makes a call. It is entered in the journal, whatever it is answered, and the seat has a receipt. If the journal is full, or if
     /// an allocation fails, the request comes back and nothing changes; `Refusal::NoMemory` is never a reply.
@@ -41,19 +71,20 @@ impl<J: Naming> Shared<J> {
         &self,
         rt: &R,
         seat: &mut Seat<J>,
-        mut request: Request<2>,
+        request: Request<2>,
     ) -> Result<OwnedReply<2>, CallFault>
         ensures { MatchResult result (CallsOk request seat.old seat.new)
             (CallsBack request J.limit seat.old seat.new) }
     {
-        let answer = self
-            .desk
-            .lock(rt)
-            .call(self.alloc, &self.table.shared, seat, &mut request);
-        match answer {
-            Ok(reply) => Ok(reply),
-            Err(Fault::Sealed) => Err(CallFault::Sealed(request)),
-            Err(Fault::NoMemory) => Err(CallFault::NoMemory(request)),
+        self.hold(rt).call(seat, request)
+    }
+
+    /// Holds the cluster for some calls, which then take the lock once.
+    pub fn hold<R: Wait>(&self, rt: &R) -> Held<'_, J> {
+        Held {
+            alloc: self.alloc,
+            word: &self.table.shared,
+            desk: self.desk.lock(rt),
         }
     }
 

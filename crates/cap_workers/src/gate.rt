@@ -1,4 +1,29 @@
-//! Where a worker can be held.
+//! Where a worker can be held, and what can be counted there.
+use cap_model::Verdict;
+use cap_shared::CommitFault;
+use std::sync::atomic::{AtomicU64, Ordering};
+
+/// What came of a commit.
+#[derive(Clone, Copy, Debug, PartialEq, Eq)]
+pub enum Outcome {
+    /// The proposal was made.
+    Made,
+    /// The proposal was not admissible any more.
+    Rejected,
+    /// The journal was full, or an allocation failed.
+    Unmade,
+}
+
+impl Outcome {
+    /// What came of a commit that was answered so.
+    pub fn of(answer: &Result<Verdict<2>, CommitFault>) -> Outcome {
+        match answer {
+            Ok(Verdict::Done(_)) => Outcome::Made,
+            Ok(Verdict::Rejected(_)) => Outcome::Rejected,
+            Err(_) => Outcome::Unmade,
+        }
+    }
+}
 
 /// A point of a turn.
 #[derive(Clone, Copy, Debug, PartialEq, Eq)]
@@ -7,11 +32,12 @@ pub enum Point {
     Copied,
     /// A proposal was made, or there is nothing to propose.
     Proposed,
-    /// The commit was answered.
-    Committed,
+    /// The commit was answered, to the worker itself or to the committer.
+    Committed(Outcome),
 }
 
-/// A hook that a worker calls at each point of its turn, and that may hold it there. The worker has no lock then.
+/// A hook that a worker calls at each point of its turn, and that may hold it there. The worker has no lock then. The committer calls it
+/// for a worker whose proposal it has committed.
 pub trait Gate {
     fn at(&self, worker: u32, point: Point);
 }
@@ -22,4 +48,42 @@ pub struct OpenGate;
 
 impl Gate for OpenGate {
     fn at(&self, _worker: u32, _point: Point) {}
+}
+
+/// Holds no worker, and counts what came of commits. Each count wraps after `u64::MAX`.
+#[derive(Drop)]
+pub struct Tally {
+    made: AtomicU64,
+    rejected: AtomicU64,
+}
+
+impl Tally {
+    /// Before the first commit.
+    pub fn new() -> Tally {
+        Tally {
+            made: AtomicU64::new(0),
+            rejected: AtomicU64::new(0),
+        }
+    }
+
+    /// How many proposals were made.
+    pub fn made(&self) -> u64 {
+        self.made.load(Ordering::SeqCst)
+    }
+
+    /// How many proposals were rejected.
+    pub fn rejected(&self) -> u64 {
+        self.rejected.load(Ordering::SeqCst)
+    }
+}
+
+impl Gate for Tally {
+    fn at(&self, _worker: u32, point: Point) {
+        let count = match point {
+            Point::Committed(Outcome::Made) => &self.made,
+            Point::Committed(Outcome::Rejected) => &self.rejected,
+            _ => return,
+        };
+        count.fetch_add(1, Ordering::SeqCst);
+    }
 }

@@ -6,6 +6,6 @@ mod sessions;
 mod worker;
 
 pub use cap_lanes::{Committer, Ended, LanesClosed, PutFault, Putter, lanes};
-pub use gate::{Gate, OpenGate, Point};
+pub use gate::{Gate, OpenGate, Outcome, Point, Tally};
 pub use sessions::{EndCause, SessionEnd, serve_session};
 pub use worker::{End, Offer, OfferEnd, Turn, Worker};

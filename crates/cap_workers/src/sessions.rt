@@ -7,7 +7,7 @@ ghost use Rattle.cap_workers.specs.Sessions.{pending_request, IsServed, IsRound,
 
 use cap_model::{OwnedReply, Refusal, ReplyWith, Request};
 use cap_session::{Cause, Counted, Fed, Got, Next, Sent, Session};
-use cap_shared::{CallFault, Naming, Seat, Shared};
+use cap_shared::{CallFault, Held, Naming, Seat, Shared};
 use std::io::{Read, Write};
 use std::sync::Wait;
 
@@ -229,7 +229,7 @@ fn read_more<R: Read>(session: &mut Session, reader: &mut Counted<R>) -> Option<
     }
 }
 
-/// Answers all that was fed, a pending request first.
+/// Answers all that was fed, a pending request first. It holds the cluster until all is answered.
 fn answer_all<J: Naming, H: Wait>(
     rt: &H,
     shared: &Shared<J>,
@@ -242,9 +242,10 @@ fn answer_all<J: Naming, H: Wait>(
     ensures pause { IsPause J.limit session.old session.new seat.old seat.new result }
     ensures same { (session.new.fed ≡ session.old.fed) × (session.new.sent ≡ session.old.sent) }
 {
+    let mut held = shared.hold(rt);
     let mut pending = pending;
     for _ in rt.forever() {
-        if let Some(back) = make_call(rt, shared, seat, session, pending) {
+        if let Some(back) = make_call(&mut held, seat, session, pending) {
             return Pause::Sealed(back);
         }
         match session.next_request() {
@@ -257,9 +258,8 @@ fn answer_all<J: Naming, H: Wait>(
 }
 
 /// Makes the pending call, if any, and answers it. Where the journal is full the request comes back.
-fn make_call<J: Naming, H: Wait>(
-    rt: &H,
-    shared: &Shared<J>,
+fn make_call<J: Naming>(
+    held: &mut Held<'_, J>,
     seat: &mut Seat<J>,
     session: &mut Session,
     pending: Option<Request<2>>,
@@ -269,7 +269,7 @@ fn make_call<J: Naming, H: Wait>(
     ensures same { (session.new.fed ≡ session.old.fed) × (session.new.sent ≡ session.old.sent) }
 {
     let request = pending?;
-    match shared.call(rt, seat, request) {
+    match held.call(seat, request) {
         Ok(reply) => {
             session.answer(&reply);
             None

@@ -2,7 +2,7 @@
 ghost use Rattle.std.specs.Prelude.{◌≡◌, ◌+◌, ◌%◌, ◌^◌, MatchResult};
 ghost use Rattle.cap_workers.specs.Worker.{Chooses, IsCommitted, IsOffer, IsPut, IsTurn, end_by, end_by_fault};
 
-use crate::gate::{Gate, Point};
+use crate::gate::{Gate, Outcome, Point};
 use bumpalo::Bump;
 use cap_lanes::Putter;
 use cap_model::{Event, NoMemory, Proposal, Reason, Verdict};
@@ -166,7 +166,7 @@ fn commit<J: Naming, R: Wait, G: Gate>(
     ensures { IsCommitted proposal J.limit seat.old seat.new result }
 {
     let answer = shared.commit(rt, seat, proposal);
-    gate.at(worker, Point::Committed);
+    gate.at(worker, Point::Committed(Outcome::of(&answer)));
     end_of(answer)
 }
 

@@ -69,7 +69,7 @@ impl Gate for Holding {
         let step = match point {
             Point::Copied => 1,
             Point::Proposed => 2,
-            Point::Committed => return,
+            Point::Committed(_) => return,
         };
         self.held.reach(step);
         let _in_time = self.let_go.awaits(step);

@@ -2,7 +2,7 @@ use crate::client::{call, connect};
 use crate::side::{Client, beside_daemon, number_after, said};
 use cap_server::Sizes;
 use cap_testing::{Call, TWO_QUEUES, WantedContainers};
-use cap_workers::OpenGate;
+use cap_workers::Tally;
 use std::alloc::Global;
 use std::io;
 use std::net::{Net, TcpListener, TcpStream};
@@ -72,7 +72,8 @@ impl Client for Master {
     }
 }
 
-/// Whether the master is told its ten grants, and the journal has an entry for each of its calls and for each grant, and no more.
+/// Whether the master is told its ten grants, as many proposals were made, and the journal has an entry for each of its calls and for each
+/// grant, and no more.
 fn scheduled<H: Net<Listener = TcpListener, Stream = TcpStream> + Threads + Wait + Clock + Sync>(
     rt: &H,
     alloc: Global,
@@ -88,12 +89,15 @@ fn scheduled<H: Net<Listener = TcpListener, Stream = TcpStream> + Threads + Wait
     let master = Master {
         calls: AtomicU64::new(0),
     };
-    let outcome = beside_daemon(rt, alloc, TWO_QUEUES, &sizes, &OpenGate, &master);
+    let tally = Tally::new();
+    let outcome = beside_daemon(rt, alloc, TWO_QUEUES, &sizes, &tally, &master);
     let Some((0, true, line)) = said(&outcome) else {
         return false;
     };
     let made = master.calls.load(Ordering::SeqCst).saturating_add(10);
-    number_after(line, b"epochs=") == Some(1) && number_after(line, b"entries=") == Some(made)
+    tally.made() == 10
+        && number_after(line, b"epochs=") == Some(1)
+        && number_after(line, b"entries=") == Some(made)
 }
 
 #[test]

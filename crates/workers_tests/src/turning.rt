@@ -56,7 +56,7 @@ fn digit(point: Point) -> u64 {
     match point {
         Point::Copied => 1,
         Point::Proposed => 2,
-        Point::Committed => 3,
+        Point::Committed(_) => 3,
     }
 }
 
