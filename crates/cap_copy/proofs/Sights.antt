@@ -1,35 +1,40 @@
 -- A snapshot of the parts of a cluster is whole, and its sight is that of the parts.
 use Rattle.std.proofs.Common.{◌≡◌, ℕ, suc, ◌<◌, ◌≤◌, Bool, true, false, List, [], ◌∷◌, refl, sym, subst, ◌∙◌, ap, inl, inr, length, arith}
-use Rattle.std.specs.Prelude.{Option, Some, IsSome, cond, count_by, drop, filter, find, map, option_map, unwrap_or, ◌==◌}
+use Rattle.std.specs.Prelude.{Option, Some, None, IsSome, bytes_eq, cond, count_by, drop, filter, find, map, option_map, unwrap_or, ◌==◌}
 use Rattle.std.specs.List.{All, slice_get}
 use Rattle.std.specs.Option.{option_map_or}
 use Rattle.std.proofs.lemmas.Bool.Decides.{nat_tests}
 use Rattle.std.proofs.lemmas.List.{drop-map, length-map}
-use Rattle.std.proofs.lemmas.Option.{slice_get-map, slice_get_within}
+use Rattle.std.proofs.lemmas.Option.{same_Some, slice_get-map, slice_get_within}
 use Rattle.cap_model.specs.Asks.{Ask, same_key}
 use Rattle.cap_model.specs.Bounds.{AreApart, IsRising}
 use Rattle.cap_model.specs.Cascade.{holds_of}
 use Rattle.cap_model.specs.Choice.{level_of}
 use Rattle.cap_model.specs.Flat.{App, AppTable, ClusterNode, NodeTable, Reservation, ask_at, is_for, is_under, node_in}
-use Rattle.cap_model.specs.Sight.{AppSight, NodeSight, app_sight, queues_to, seen_app, still_wanted}
+use Rattle.cap_model.specs.Sight.{AppSight, NodeSight, QueueSight, app_sight, queues_to, seen_app, still_wanted}
 use Rattle.cap_model.proofs.bounds.Wanting.{nodes_on, on_nodes}
 use Rattle.cap_model.proofs.calls.KeptAsks.{same_key_itself}
-use Rattle.cap_model.proofs.lists.Filters.{find_mapped_at, length-kept, map_same, map_twice}
-use Rattle.cap_model.proofs.lists.Members.{IsIn, each_of, found, of_each, of_filter, of_map}
+use Rattle.cap_model.proofs.lists.Filters.{find_mapped_at, length-kept, map_twice}
+use Rattle.cap_model.proofs.lists.Members.{IsIn, each_of, found, in_map, of_each, of_filter, of_map}
 use Rattle.cap_model.proofs.lists.Numbered.{found_by_number, rising_kept}
 use Rattle.cap_model.proofs.lists.Sums.{sum_by_map}
 use Rattle.cap_model.proofs.lists.Tests.{value_of}
-use Rattle.cap_tree.specs.Rows.{IsAt, Row, rows_to}
+use Rattle.cap_tree.specs.Queue.{Queue}
+use Rattle.cap_tree.specs.Rows.{AreRows, IsAt, Row, items_to, rows_to}
 use Rattle.cap_tree.specs.Service.{levels_at}
 use Rattle.cap_tree.specs.ServiceOrder.{IsServiceOrder, position_nth}
-use Rattle.cap_tree.specs.Spot.{IsPosition, path_at}
-use Rattle.cap_asks.specs.Apps.{position_of}
-use Rattle.cap_asks.specs.Held.{Account, AreKept}
+use Rattle.cap_tree.specs.Serving.{Waiter}
+use Rattle.cap_tree.specs.Spot.{IsPosition, item_at, path_at}
+use Rattle.cap_tree.proofs.RowPaths.{at_position}
+use Rattle.cap_asks.specs.Apps.{account_of, position_of}
+use Rattle.cap_asks.specs.Held.{Account, AreKept, HeldApp}
 use Rattle.cap_asks.proofs.Keeping.{before_not_same}
-use Rattle.cap_copy.specs.Entries.{app_entries, app_entry, ask_entries, registered_of, wanted_of}
-use Rattle.cap_copy.specs.Snapshot.{AppEntry, AskEntry, IsAskEntry, IsSnapshot, Seen, app_seen, asks_for, queue_seen, sight_in}
-use Rattle.cap_copy.specs.Taking.{ArePartsSeen, IsSnapshotOf, node_seen}
+use Rattle.cap_copy.specs.Entries.{ask_entries, registered_of, wanted_of}
+use Rattle.cap_copy.specs.Limits.{IsEachOnce, limit_in, limit_of, no_limit, queue_use}
+use Rattle.cap_copy.specs.Snapshot.{AskEntry, IsAskEntry, IsLimitOf, IsSnapshot, Limit, QueueUse, Seen, asks_for, queue_seen, sight_in}
+use Rattle.cap_copy.specs.Taking.{IsSnapshotOf, node_seen}
 use Rattle.cap_copy.proofs.Blocks.{asks_for_is}
+use Rattle.cap_copy.proofs.Found.{row_found}
 use Rattle.cap_copy.proofs.Serving.{after_in, all_in_order, ask_in, levels_of, once}
 use Rattle.cap_copy.proofs.Steps.{slice_get_in}
 
@@ -55,22 +60,48 @@ asked_by_key (x ∷ asks) ask k (inl e) =
 asked_by_key (x ∷ asks) ask k (inr m) =
     ap (λ b. cond b (Some x) (ask_at ask.key asks)) (before_not_same x.key ask.key (after_in x.key asks ask k.1 m)) ∙ asked_by_key asks ask k.2 m
 
--- the parts of a cluster, with the order of service of the registered applications
-pub record AreParts (K : ℕ) (rows : List Row) (apps : AppTable) (accounts : List (ℕ × Account)) (nodes : NodeTable) (order : List ℕ) : Type 0 where
+-- an application and its account, of an application in a list of these
+held_at : (registered : List HeldApp) (i : ℕ) (app : App) → slice_get (map (λ r. r.app) registered) i ≡ Some app → (held : HeldApp) × (slice_get registered i ≡ Some held) × (held.app ≡ app)
+held_at registered i app e = by (slice_get registered i) refl (sym (slice_get-map (λ (r : HeldApp). r.app) registered i) ∙ e)
+  where
+    by : (o : Option HeldApp) → slice_get registered i ≡ o → option_map (λ (r : HeldApp). r.app) o ≡ Some app → (held : HeldApp) × (slice_get registered i ≡ Some held) × (held.app ≡ app)
+    by None at h = absurd (cc h)
+    by (Some held) at h = (held, at, same_Some held.app app h)
+
+-- the parts of a cluster: its registered applications with their accounts, and the order in which they are served
+pub record AreParts (K : ℕ) (rows : List Row) (apps : AppTable) (accounts : List (ℕ × Account)) (nodes : NodeTable) (registered : List HeldApp) (order : List ℕ) : Type 0 where
+  pub rows_are : AreRows rows
   pub rising : IsRising 1 (map (λ app. app.number) apps.active) apps.next
-  pub kept : All (λ app. AreKept app.asks) apps.active
+  pub kept : All (λ r. AreKept r.app.asks) registered
   pub placed : All (λ app. IsAt rows app.leaf (position_of app.number accounts)) apps.active
   pub numbers : IsRising 1 (map (λ node. node.number) nodes.present) nodes.next_node
   pub apart : AreApart nodes.reserved
   pub there : All (λ r. IsSome (node_in nodes r.node)) nodes.reserved
-  pub served : IsServiceOrder rows (map (λ a. a.position) (app_entries accounts apps.active)) order
+  pub apps_are : map (λ r. r.app) registered ≡ registered_of apps.active
+  pub accounts_are : All (λ r. account_of r.app.number accounts ≡ Some r.account) registered
+  pub served : IsServiceOrder rows (map (λ r. r.account.position) registered) order
 
-module _ (K : ℕ) (rows : List Row) (apps : AppTable) (accounts : List (ℕ × Account)) (nodes : NodeTable) (order : List ℕ) where
+-- the position of an application is that in its account
+pub position_is : (accounts : List (ℕ × Account)) (held : HeldApp) → account_of held.app.number accounts ≡ Some held.account → position_of held.app.number accounts ≡ held.account.position
+position_is accounts held e = ap (λ (o : Option Account). option_map_or (λ x. x.position) o []) e
+
+-- what is registered is placed where the active are
+pub placed_all : (rows : List Row) (accounts : List (ℕ × Account)) (active : List App) (registered : List HeldApp) → map (λ r. r.app) registered ≡ registered_of active →
+    All (λ r. account_of r.app.number accounts ≡ Some r.account) registered → All (λ app. IsAt rows app.leaf (position_of app.number accounts)) active → All (λ r. IsAt rows r.app.leaf r.account.position) registered
+placed_all rows accounts active registered apps_are accounts_are placed =
+    of_each (λ r. IsAt rows r.app.leaf r.account.position) registered
+    (λ held m.
+    let member : IsIn held.app (registered_of active) = subst (IsIn held.app) apps_are (in_map (λ (r : HeldApp). r.app) registered held m) in
+    let at = each_of (λ app. IsAt rows app.leaf (position_of app.number accounts)) active placed held.app (of_filter (λ (a : App). a.registered) active held.app member).1 in
+    subst (IsAt rows held.app.leaf) (position_is accounts held (each_of (λ r. account_of r.app.number accounts ≡ Some r.account) registered accounts_are held m)) at)
+
+module _ (K : ℕ) (rows : List Row) (apps : AppTable) (accounts : List (ℕ × Account)) (nodes : NodeTable) (registered : List HeldApp) (order : List ℕ) where
   -- what a snapshot of the parts sees
   abbrev pub taken : Seen
   taken = record {
     rows = rows;
-    apps = app_entries accounts apps.active;
+    apps = map app_sight (registered_of apps.active);
+    limits = map (limit_of K rows) registered;
     asks = ask_entries nodes (registered_of apps.active) order;
     nodes = map (node_seen K nodes) nodes.present;
     live = length nodes.live;
@@ -78,55 +109,71 @@ module _ (K : ℕ) (rows : List Row) (apps : AppTable) (accounts : List (ℕ × 
   }
 
   abbrev positions : List (List ℕ)
-  positions = map (λ a. a.position) (app_entries accounts apps.active)
+  positions = map (λ r. r.account.position) registered
 
-  module _ (parts : AreParts K rows apps accounts nodes order) where
+  module _ (parts : AreParts K rows apps accounts nodes registered order) where
     rising : IsRising 1 (map (λ app. app.number) (registered_of apps.active)) apps.next
     rising = rising_kept (λ (app : App). app.number) (λ (app : App). app.registered) 1 apps.active apps.next parts.rising
 
-    of_active : (P : App → Type 0) → All P apps.active → (i : ℕ) (app : App) → slice_get (registered_of apps.active) i ≡ Some app → P app
-    of_active P all i app at = each_of P apps.active all app (of_filter (λ (a : App). a.registered) apps.active app (slice_get_in (registered_of apps.active) i app at)).1
+    held_of : (i : ℕ) (app : App) → slice_get (registered_of apps.active) i ≡ Some app → (held : HeldApp) × (slice_get registered i ≡ Some held) × (held.app ≡ app)
+    held_of i app at = held_at registered i app (ap (λ list. slice_get list i) parts.apps_are ∙ at)
 
     kept : (i : ℕ) (app : App) → slice_get (registered_of apps.active) i ≡ Some app → AreKept app.asks
-    kept i app at = of_active (λ a. AreKept a.asks) parts.kept i app at
+    kept i app at =
+        let h = held_of i app at in
+        subst (λ (a : App). AreKept a.asks) (h.2) (each_of (λ (r : HeldApp). AreKept r.app.asks) registered parts.kept (h.0) (slice_get_in registered i (h.0) (h.1)))
 
-    placed : (i : ℕ) (app : App) → slice_get (registered_of apps.active) i ≡ Some app → IsAt rows app.leaf (position_of app.number accounts)
-    placed i app at = of_active (λ a. IsAt rows a.leaf (position_of a.number accounts)) parts.placed i app at
+    placed : (i : ℕ) (held : HeldApp) → slice_get registered i ≡ Some held → IsAt rows held.app.leaf held.account.position
+    placed i held at =
+        each_of (λ r. IsAt rows r.app.leaf r.account.position) registered (placed_all rows accounts apps.active registered parts.apps_are parts.accounts_are parts.placed) held (slice_get_in registered i held at)
 
-    entry_at : (i : ℕ) (app : App) → slice_get (registered_of apps.active) i ≡ Some app → slice_get (app_entries accounts apps.active) i ≡ Some (app_entry accounts app)
-    entry_at i app at = slice_get-map (app_entry accounts) (registered_of apps.active) i ∙ ap (option_map (app_entry accounts)) at
-
-    position_is : (i : ℕ) (app : App) → slice_get (registered_of apps.active) i ≡ Some app → position_nth i positions ≡ position_of app.number accounts
-    position_is i app at =
-        ap (λ (o : Option (List ℕ)). option_map_or (λ p. p) o []) (slice_get-map (λ (a : AppEntry). a.position) (app_entries accounts apps.active) i ∙ ap (option_map (λ (a : AppEntry). a.position)) (entry_at i app at))
+    position_at : (i : ℕ) (held : HeldApp) → slice_get registered i ≡ Some held → position_nth i positions ≡ held.account.position
+    position_at i held at =
+        ap (λ (o : Option (List ℕ)). option_map_or (λ p. p) o []) (slice_get-map (λ (r : HeldApp). r.account.position) registered i ∙ ap (option_map (λ (r : HeldApp). r.account.position)) at)
 
     asks_are : (i : ℕ) (app : App) → slice_get (registered_of apps.active) i ≡ Some app → asks_for app.number (ask_entries nodes (registered_of apps.active) order) ≡ app.asks
     asks_are i app at =
-        let within = slice_get_within (registered_of apps.active) i app at in
-        let entries = length-map (registered_of apps.active) (app_entry accounts) in
-        let places = length-map (app_entries accounts apps.active) (λ (a : AppEntry). a.position) in
-        asks_for_is nodes (registered_of apps.active) apps.next rising order i app at (parts.served.each i (omega (arith, within, entries, places)))
+        let within = slice_get_within registered i ((held_of i app at).0) ((held_of i app at).1) in
+        let places = length-map registered (λ (r : HeldApp). r.account.position) in
+        asks_for_is nodes (registered_of apps.active) apps.next rising order i app at (parts.served.each i (omega (arith, within, places)))
 
-    -- an application as it is seen
-    seen_is : (i : ℕ) (app : App) → slice_get (registered_of apps.active) i ≡ Some app → app_seen rows taken.asks (app_entry accounts app) ≡ app_sight app
-    seen_is i app at = λ k. record { number = app.number; leaf = (placed i app at).path_is k; user = app.user; asks = asks_are i app at k }
-
-    found_app : (i : ℕ) (app : App) → slice_get (registered_of apps.active) i ≡ Some app → seen_app (sight_in K taken) app.number ≡ Some (app_seen rows taken.asks (app_entry accounts app))
+    found_app : (i : ℕ) (app : App) → slice_get (registered_of apps.active) i ≡ Some app → seen_app (sight_in K taken) app.number ≡ Some (app_sight app)
     found_app i app at =
-        find_mapped_at (app_seen rows taken.asks) (λ (a : AppSight). a.number == app.number) (app_entries accounts apps.active)
-        ∙ ap (option_map (app_seen rows taken.asks)) (
-        find_mapped_at (app_entry accounts) (λ (a : AppEntry). a.number == app.number) (registered_of apps.active)
-        ∙ ap (option_map (app_entry accounts)) (found_by_number (λ (a : App). a.number) 1 (registered_of apps.active) apps.next app rising (slice_get_in (registered_of apps.active) i app at))
-        )
+        find_mapped_at app_sight (λ (a : AppSight). a.number == app.number) (registered_of apps.active)
+        ∙ ap (option_map app_sight) (found_by_number (λ (a : App). a.number) 1 (registered_of apps.active) apps.next app rising (slice_get_in (registered_of apps.active) i app at))
 
     levels_are : (i : ℕ) (app : App) → slice_get (registered_of apps.active) i ≡ Some app → levels_of K taken app.number ≡ levels_at (position_nth i positions) rows
     levels_are i app at =
-        let leaf = path_at (position_of app.number accounts) rows in
+        let h = held_of i app at in
+        let leaf = path_at (h.0).account.position rows in
+        let leaf_is : app.leaf ≡ leaf = ap (λ (a : App). a.leaf) (sym (h.2)) ∙ sym (placed i (h.0) (h.1)).path_is in
         ap (λ (o : Option AppSight). map level_of (drop 1 (queues_to (sight_in K taken) (unwrap_or (option_map (λ a. a.leaf) o) [])))) (found_app i app at)
+        ∙ ap (λ l. map level_of (drop 1 (queues_to (sight_in K taken) l))) leaf_is
         ∙ ap (λ qs. map level_of (drop 1 qs)) (filter_mapped (λ q. is_under q.row.path leaf) (queue_seen K) rows)
         ∙ ap (map level_of) (drop-map (queue_seen K) 1 (rows_to leaf rows))
         ∙ map_twice level_of (queue_seen K) (drop 1 (rows_to leaf rows))
-        ∙ ap (λ p. levels_at p rows) (sym (position_is i app at))
+        ∙ ap (λ p. levels_at p rows) (sym (position_at i (h.0) (h.1)))
+
+    -- the limits of an application are those of its leaf and of the queues above it
+    limit_is : (held : HeldApp) → IsAt rows held.app.leaf held.account.position → IsLimitOf (sight_in K taken) (app_sight held.app) (limit_of K rows held)
+    limit_is held at =
+        let p = held.account.position in
+        let r = at_position p rows at.present in
+        let leaf = path_at p rows in
+        let is : limit_of K rows held ≡ limit_in K (map queue_use (items_to leaf rows)) held.app.user r.row.item =
+        ap (λ (o : Option Queue). option_map_or (limit_in K (map queue_use (items_to leaf rows)) held.app.user) o no_limit) r.item_is in
+        let found : find (λ (x : Row). bytes_eq x.path leaf) rows ≡ Some r.row = ap (λ l. find (λ (x : Row). bytes_eq x.path l) rows) r.path_is ∙ row_found rows parts.rows_are.listing.tree.distinct r.row r.member in
+        let seen : QueueSight → QueueUse = λ q. record { maximum = q.row.maximum; used = q.used } in
+        subst (IsLimitOf (sight_in K taken) (app_sight held.app)) (sym is)
+        (subst (λ l. IsLimitOf (sight_in K taken) (record { number = held.app.number; leaf = l; user = held.app.user; asks = held.app.asks }) (limit_in K (map queue_use (items_to leaf rows)) held.app.user r.row.item)) at.path_is
+        (record {
+          way = map_twice queue_use (λ (x : Row). x.item) (rows_to leaf rows) ∙ sym (ap (map seen) (filter_mapped (λ q. is_under q.row.path leaf) (queue_seen K) rows) ∙ map_twice seen (queue_seen K) (rows_to leaf rows));
+          leaf = queue_seen K r.row;
+          found = find_mapped_at (queue_seen K) (λ (q : QueueSight). bytes_eq q.row.path leaf) rows ∙ ap (option_map (queue_seen K)) found;
+          factor = refl;
+          guaranteed = refl;
+          used = refl;
+        }))
 
     node_of : (r : Reservation) → IsIn r nodes.reserved → (x : ClusterNode) × IsIn x nodes.present × (x.number ≡ r.node)
     node_of r m =
@@ -147,13 +194,14 @@ module _ (K : ℕ) (rows : List Row) (apps : AppTable) (accounts : List (ℕ × 
     entry_is e m =
         let x = (ask_in nodes (registered_of apps.active) order e m).2 in
         let i = (ask_in nodes (registered_of apps.active) order e m).0 in
+        let h = held_of i x.app x.at in
         subst (IsAskEntry K taken) x.is (record {
-          app = app_entry accounts x.app;
-          at = entry_at i x.app x.at;
-          number = refl;
+          app = app_sight x.app;
           found = found_app i x.app x.at;
-          leaf = (placed i x.app x.at).present;
-          asked = ap (ask_at x.ask.key) (asks_are i x.app x.at) ∙ asked_by_key x.app.asks x.ask (kept i x.app x.at) x.member;
+          limit = limit_of K rows (h.0);
+          at = slice_get-map (limit_of K rows) registered i ∙ ap (option_map (limit_of K rows)) (h.1);
+          is = subst (λ (a : App). IsLimitOf (sight_in K taken) (app_sight a) (limit_of K rows (h.0))) (h.2) (limit_is (h.0) (placed i (h.0) (h.1)));
+          asked = asked_by_key x.app.asks x.ask (kept i x.app x.at) x.member;
           wanted = wanted_is x.app.number x.ask;
         })
 
@@ -171,51 +219,43 @@ module _ (K : ℕ) (rows : List Row) (apps : AppTable) (accounts : List (ℕ × 
         ∙ ap (option_map (node_seen K nodes)) (found_by_number (λ (a : ClusterNode). a.number) 1 nodes.present nodes.next_node (y.0) parts.numbers (y.1))
         )
 
-    apps_are : map (app_seen rows taken.asks) (app_entries accounts apps.active) ≡ map app_sight (registered_of apps.active)
-    apps_are =
-        map_twice (app_seen rows taken.asks) (app_entry accounts) (registered_of apps.active)
-        ∙ map_same (λ app. app_seen rows taken.asks (app_entry accounts app)) app_sight (registered_of apps.active) (λ app m. let x = index_in (registered_of apps.active) app m in seen_is (x.0) app (x.1))
+    app_whole : (a : AppSight) → IsIn a taken.apps → asks_for a.number taken.asks ≡ a.asks
+    app_whole a m =
+        let x = of_map app_sight (registered_of apps.active) a m in
+        let at = index_in (registered_of apps.active) (x.0) (x.1) in
+        subst (λ (b : AppSight). asks_for b.number taken.asks ≡ b.asks) (x.2) (asks_are (at.0) (x.0) (at.1))
 
     pub is_whole : IsSnapshot K taken
     is_whole = record {
       entries = of_each (IsAskEntry K taken) taken.asks entry_is;
+      whole = of_each (λ a. asks_for a.number taken.asks ≡ a.asks) taken.apps app_whole;
       order = all_in_order K taken nodes (registered_of apps.active) apps.next rising positions levels_are kept order (once order each_once) parts.served.sorted;
       nodes = of_each (λ x. find (λ y. y.number == x.number) taken.nodes ≡ Some x) taken.nodes node_found;
     }
 
     pub is_of_parts : IsSnapshotOf K rows apps nodes taken
-    is_of_parts = record {
-      rows = refl;
-      sight = λ k. record {
-        queues = map (queue_seen K) rows;
-        apps = apps_are k;
-        nodes = map (node_seen K nodes) nodes.present;
-        live = length nodes.live;
-        next_container = nodes.next_container;
-      };
-      numbers = parts.numbers;
-    }
+    is_of_parts = record { rows = refl; sight = refl; numbers = parts.numbers }
 
--- what is kept beside the tree makes a snapshot with it
-pub parts_are : (K : ℕ) (rows : List Row) (apps : AppTable) (accounts : List (ℕ × Account)) (nodes : NodeTable) (order : List ℕ) (seen : List AppEntry) (asks : List AskEntry) (present : List NodeSight) →
-    AreParts K rows apps accounts nodes order → seen ≡ app_entries accounts apps.active → asks ≡ ask_entries nodes (registered_of apps.active) order → present ≡ map (node_seen K nodes) nodes.present → ArePartsSeen K rows apps nodes seen asks present
-parts_are K rows apps accounts nodes order seen asks present parts e f h =
-    subst (λ s. ArePartsSeen K rows apps nodes s asks present) (sym e)
-    (subst (λ s. ArePartsSeen K rows apps nodes (app_entries accounts apps.active) s present) (sym f)
-    (subst (λ s. ArePartsSeen K rows apps nodes (app_entries accounts apps.active) (ask_entries nodes (registered_of apps.active) order) s) (sym h)
-    (record { whole = is_whole K rows apps accounts nodes order parts; same = is_of_parts K rows apps accounts nodes order parts })))
-
--- the positions of entries are in the tree, and they are no more than the applications
-pub placed_entries : (rows : List Row) (accounts : List (ℕ × Account)) (active : List App) (seen : List AppEntry) → seen ≡ app_entries accounts active →
-    All (λ app. IsAt rows app.leaf (position_of app.number accounts)) active → All (λ a. IsPosition rows a.position) seen
-placed_entries rows accounts active seen e h =
-    subst (λ s. All (λ a. IsPosition rows a.position) s) (sym e)
-    (of_each (λ a. IsPosition rows a.position) (app_entries accounts active)
-    (λ a m.
-    let x = of_map (app_entry accounts) (registered_of active) a m in
-    subst (λ y. IsPosition rows y.position) (x.2) (each_of (λ (app : App). IsAt rows app.leaf (position_of app.number accounts)) active h (x.0) (of_filter (λ (app : App). app.registered) active (x.0) (x.1)).1).present))
-
-pub few_entries : (accounts : List (ℕ × Account)) (active : List App) (seen : List AppEntry) (most : ℕ) → seen ≡ app_entries accounts active → length active ≤ most → length seen ≤ most
-few_entries accounts active seen most e h =
+-- no more are registered than are active
+pub few_registered : (active : List App) (registered : List HeldApp) (most : ℕ) → map (λ r. r.app) registered ≡ registered_of active → length active ≤ most → length registered ≤ most
+few_registered active registered most e h =
     let same = ap length e in
-    omega (arith, same, length-map (registered_of active) (app_entry accounts), length-kept (λ (app : App). app.registered) active)
+    omega (arith, same, length-map registered (λ (r : HeldApp). r.app), length-kept (λ (app : App). app.registered) active, h)
+
+-- what waits for the registered applications waits at their leaves
+pub waiters_placed : (rows : List Row) (registered : List HeldApp) (waiting : List Waiter) → map (λ w. w.steps) waiting ≡ map (λ r. r.account.position) registered → All (λ r. IsAt rows r.app.leaf r.account.position) registered →
+    All (λ w. IsPosition rows w.steps) waiting
+waiters_placed rows registered waiting same placed =
+    of_each (λ (w : Waiter). IsPosition rows w.steps) waiting
+    (λ w m.
+    let x = of_map (λ (r : HeldApp). r.account.position) registered w.steps (subst (IsIn w.steps) same (in_map (λ (v : Waiter). v.steps) waiting w m)) in
+    subst (IsPosition rows) (x.2) (each_of (λ (r : HeldApp). IsAt rows r.app.leaf r.account.position) registered placed (x.0) (x.1)).present)
+
+pub positions_there : (rows : List Row) (registered : List HeldApp) → All (λ r. IsAt rows r.app.leaf r.account.position) registered → All (λ r. IsPosition rows r.account.position) registered
+positions_there rows registered placed = λ k d lt. (placed k d lt).present
+
+-- an order of service has each index once
+pub each_once_in : (rows : List Row) (registered : List HeldApp) (order : List ℕ) → IsServiceOrder rows (map (λ r. r.account.position) registered) order → IsEachOnce (length registered) order
+each_once_in rows registered order served =
+    let long = length-map registered (λ (r : HeldApp). r.account.position) in
+    subst (λ n. IsEachOnce n order) long (record { within = served.within; each = served.each })

@@ -4,20 +4,11 @@ use Rattle.std.specs.List.{slice_get}
 use Rattle.std.specs.Option.{option_map_or}
 use Rattle.cap_model.specs.Asks.{Ask}
 use Rattle.cap_model.specs.Flat.{App, NodeTable, is_for}
-use Rattle.cap_asks.specs.Apps.{position_of}
-use Rattle.cap_asks.specs.Held.{Account}
-use Rattle.cap_copy.specs.Snapshot.{AppEntry, AskEntry}
+use Rattle.cap_copy.specs.Snapshot.{AskEntry}
 
 -- the applications whose masters have registered
 abbrev pub registered_of : List App → List App
 registered_of active = filter (λ app. app.registered) active
-
--- an application, by its row and by the accounts, which know its position
-abbrev pub app_entry : List (ℕ × Account) → App → AppEntry
-app_entry accounts app = record { number = app.number; user = app.user; position = position_of app.number accounts }
-
-abbrev pub app_entries : List (ℕ × Account) → List App → List AppEntry
-app_entries accounts active = map (app_entry accounts) (registered_of active)
 
 -- how many containers an ask of an application wants beyond those that there are reservations for
 abbrev pub wanted_of : NodeTable → ℕ → Ask → ℕ

@@ -2,12 +2,10 @@
 use Rattle.std.specs.Borrow.{RattleType}
 use Rattle.std.specs.Mem.{FitsInMemory}
 use Rattle.std.specs.declared.alloc.Allocator.{Ghosts}
-use Rattle.cap_tree.specs.contracts.tree.QueueTree as tree
 use Rattle.cap_copy.specs.contracts.snapshot.Snapshot as snapshot
-use Rattle.cap_copy.specs.contracts.taking.Parts as parts
+use Rattle.cap_copy.specs.contracts.limits.Limits as limits
 
--- the types of a snapshot, of its tree and of what it keeps beside that are no larger than memory, as is so wherever a value of them exists
+-- the types of a snapshot and of its limits are no larger than memory, as is so wherever a value of them exists
 pub record CopyFitsInMemory (K A : RattleType) (alloc : Ghosts A.Denot) : Type 0 where
   pub snapshot : FitsInMemory (snapshot.the_row K A alloc)
-  pub tree : FitsInMemory (tree.the_row K A alloc)
-  pub parts : FitsInMemory (parts.the_row K A alloc)
+  pub limits : FitsInMemory (limits.the_row K A alloc)

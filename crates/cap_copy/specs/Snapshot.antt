@@ -1,23 +1,30 @@
 -- What a snapshot keeps, and the sight that it is.
-use Rattle.std.specs.Prelude.{◌≡◌, ℕ, ◌==◌, false, List, [], ◌∷◌, Some, map, filter, find}
-use Rattle.std.specs.List.{All, slice_get}
+use Rattle.std.specs.Prelude.{◌≡◌, ℕ, ◌==◌, Bool, false, ◌&&◌, List, [], ◌∷◌, Option, Some, map, filter, find}
+use Rattle.std.specs.List.{All, list_all, slice_get}
 use Rattle.std.specs.Ordering.{is_gt}
 use Rattle.std.specs.declared.cmp.Ordering.{Ordering}
 use Rattle.cap_model.specs.declared.proposal.ProposalKind.TheVariants.{Grant}
 use Rattle.cap_model.specs.Asks.{Ask}
 use Rattle.cap_model.specs.Flat.{ask_at}
-use Rattle.cap_model.specs.Sight.{Sight, QueueSight, AppSight, NodeSight, seen_app, still_wanted}
-use Rattle.cap_model.specs.Admission.{NodeProposal}
+use Rattle.cap_model.specs.Sight.{Sight, QueueSight, AppSight, NodeSight, queues_to, seen_app, seen_queue, still_wanted}
+use Rattle.cap_vector.specs.Vector.{amounts_exchanged}
+use Rattle.cap_model.specs.Admission.{NodeProposal, fits_maximum, fits_user_limit}
 use Rattle.cap_model.specs.Choice.{rank_cmp, rank_of}
 use Rattle.cap_tree.specs.Queue.{use_of, user_row}
 use Rattle.cap_tree.specs.Rows.{Row, settings_of_row}
-use Rattle.cap_tree.specs.Spot.{IsPosition, path_at}
 
--- a registered application: its number, its user, and the position of its leaf in the tree
-pub record AppEntry : Type 0 where
-  pub number : ℕ
-  pub user : List ℕ
-  pub position : List ℕ
+-- how much a queue may use, and how much is used in it and under it
+pub record QueueUse : Type 0 where
+  pub maximum : Option (List ℕ)
+  pub used : List ℕ
+
+-- the limits of an application: those of the queues from the root down to its leaf; and of its leaf the user limit factor, the guarantee,
+-- and what its user uses there
+pub record Limit : Type 0 where
+  pub way : List QueueUse
+  pub factor : ℕ
+  pub guaranteed : List ℕ
+  pub used : List ℕ
 
 -- an ask of a registered application: the application's number and its index among the applications, the ask, and how many containers
 -- it wants beyond those that room is reserved for
@@ -27,11 +34,13 @@ pub record AskEntry : Type 0 where
   pub ask : Ask
   pub wanted : ℕ
 
--- a snapshot: the rows of its tree, the registered applications and the nodes in order of number, how many containers are live, the
--- number of the next, and the asks of all applications in the order in which they are served
+-- a snapshot: for contracts alone the rows of the tree and the registered applications as a proposal sees them; the limits of these
+-- applications, the nodes in order of number, how many containers are live, the number of the next, and the asks of all applications in
+-- the order in which they are served
 pub record Seen : Type 0 where
   pub rows : List Row
-  pub apps : List AppEntry
+  pub apps : List AppSight
+  pub limits : List Limit
   pub asks : List AskEntry
   pub nodes : List NodeSight
   pub live : ℕ
@@ -41,18 +50,15 @@ pub record Seen : Type 0 where
 abbrev pub asks_for : ℕ → List AskEntry → List Ask
 asks_for n entries = map (λ e. e.ask) (filter (λ e. e.app == n) entries)
 
--- a row of K resources and an application, as a proposal sees them
+-- a row of K resources, as a proposal sees it
 abbrev pub queue_seen : ℕ → Row → QueueSight
 queue_seen K r = record { row = settings_of_row r; used = r.item.used; used_by = λ user. use_of K (user_row user r.item.users) }
-
-abbrev pub app_seen : List Row → List AskEntry → AppEntry → AppSight
-app_seen rows asks app = record { number = app.number; leaf = path_at app.position rows; user = app.user; asks = asks_for app.number asks }
 
 -- the sight that a snapshot of K resources is
 abbrev pub sight_in : (K : ℕ) → Seen → Sight K
 sight_in K seen = record {
   queues = map (queue_seen K) seen.rows;
-  apps = map (app_seen seen.rows seen.asks) seen.apps;
+  apps = seen.apps;
   nodes = seen.nodes;
   live = seen.live;
   next_container = seen.next_container;
@@ -71,23 +77,38 @@ abbrev pub AreServedInOrder : ℕ → Seen → List AskEntry → Type 0
 AreServedInOrder K seen [] = Unit {0}
 AreServedInOrder K seen (e ∷ es) = All (λ f. is_gt (served_cmp K seen e f) ≡ false) es × AreServedInOrder K seen es
 
--- an ask is one of the application at its index, which a sight finds by its number and whose leaf is in the tree; it is found by its key,
--- and wants what the sight shows
+-- whether a use stays within the limits, with old taken away and new added
+abbrev pub stays_within : List ℕ → List ℕ → Limit → Bool
+stays_within old new l =
+    list_all (λ u. fits_maximum u.maximum (amounts_exchanged old new u.used)) l.way && fits_user_limit l.factor l.guaranteed (amounts_exchanged old new l.used)
+
+-- the limits are those of an application
+pub record IsLimitOf {K : ℕ} (sight : Sight K) (app : AppSight) (l : Limit) : Type 0 where
+  pub way : l.way ≡ map (λ q. record { maximum = q.row.maximum; used = q.used }) (queues_to sight app.leaf)
+  pub leaf : QueueSight
+  pub found : seen_queue sight app.leaf ≡ Some leaf
+  pub factor : l.factor ≡ leaf.row.factor
+  pub guaranteed : l.guaranteed ≡ leaf.row.guaranteed
+  pub used : l.used ≡ leaf.used_by app.user
+
+-- an ask is one of an application that a sight finds by its number, and whose limits are at its index; it is found by its key, and wants
+-- what the sight shows
 pub record IsAskEntry (K : ℕ) (seen : Seen) (e : AskEntry) : Type 0 where
-  pub app : AppEntry
-  pub at : slice_get seen.apps e.index ≡ Some app
-  pub number : app.number ≡ e.app
-  pub found : seen_app (sight_in K seen) e.app ≡ Some (app_seen seen.rows seen.asks app)
-  pub leaf : IsPosition seen.rows app.position
-  pub asked : ask_at e.ask.key (asks_for e.app seen.asks) ≡ Some e.ask
+  pub app : AppSight
+  pub found : seen_app (sight_in K seen) e.app ≡ Some app
+  pub limit : Limit
+  pub at : slice_get seen.limits e.index ≡ Some limit
+  pub is : IsLimitOf (sight_in K seen) app limit
+  pub asked : ask_at e.ask.key app.asks ≡ Some e.ask
   pub wanted : e.wanted ≡ still_wanted (sight_in K seen) e.app e.ask
 
 -- each node is found by its number
 abbrev pub AreFound : List NodeSight → Type 0
 AreFound nodes = All (λ node. find (λ m. m.number == node.number) nodes ≡ Some node) nodes
 
--- a snapshot whose asks are in the order of service, each of one of its applications, and whose nodes are found by their numbers
+-- a snapshot whose asks are those of its applications, in the order of service, and whose nodes are found by their numbers
 pub record IsSnapshot (K : ℕ) (seen : Seen) : Type 0 where
   pub entries : All (IsAskEntry K seen) seen.asks
+  pub whole : All (λ app. asks_for app.number seen.asks ≡ app.asks) seen.apps
   pub order : AreServedInOrder K seen seen.asks
   pub nodes : AreFound seen.nodes

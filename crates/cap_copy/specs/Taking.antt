@@ -5,7 +5,7 @@ use Rattle.cap_model.specs.Flat.{AppTable, ClusterNode, NodeTable}
 use Rattle.cap_model.specs.Sight.{Sight, NodeSight, app_sight}
 use Rattle.cap_tree.specs.Rows.{Row}
 use Rattle.cap_nodes.specs.Tables.{free_on}
-use Rattle.cap_copy.specs.Snapshot.{AppEntry, AskEntry, IsSnapshot, Seen, queue_seen, sight_in}
+use Rattle.cap_copy.specs.Snapshot.{Seen, queue_seen, sight_in}
 
 -- a node of a table, as a proposal sees it
 abbrev pub node_seen : ℕ → NodeTable → ClusterNode → NodeSight
@@ -33,19 +33,3 @@ pub record IsSnapshotOf (K : ℕ) (tree : List Row) (apps : AppTable) (nodes : N
   pub rows : seen.rows ≡ tree
   pub sight : sight_in K seen ≡ sight_of_parts K tree apps nodes
   pub numbers : IsRising 1 (map (λ node. node.number) nodes.present) nodes.next_node
-
--- what is seen of a tree's rows and of nodes, with the applications, asks and nodes that a snapshot keeps
-abbrev pub seen_with : List Row → NodeTable → List AppEntry → List AskEntry → List NodeSight → Seen
-seen_with rows nodes seen asks present = record {
-  rows = rows;
-  apps = seen;
-  asks = asks;
-  nodes = present;
-  live = length nodes.live;
-  next_container = nodes.next_container;
-}
-
--- they make a snapshot of the parts
-pub record ArePartsSeen (K : ℕ) (rows : List Row) (apps : AppTable) (nodes : NodeTable) (seen : List AppEntry) (asks : List AskEntry) (present : List NodeSight) : Type 0 where
-  pub whole : IsSnapshot K (seen_with rows nodes seen asks present)
-  pub same : IsSnapshotOf K rows apps nodes (seen_with rows nodes seen asks present)

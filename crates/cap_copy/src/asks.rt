@@ -1,42 +1,36 @@
 //! The asks of a snapshot.
-ghost use Rattle.std.specs.Prelude.{◌≡◌, ◌<◌, ◌≤◌, ◌++◌, IfOk, OnOk, length};
+ghost use Rattle.std.specs.Prelude.{◌≡◌, ◌<◌, ◌≤◌, ◌++◌, IfOk, OnOk, length, map};
 ghost use Rattle.std.specs.List.{All};
 ghost use Rattle.cap_model.specs.Limits.{resources_max};
 ghost use Rattle.cap_asks.specs.Held.{AreKept};
-ghost use Rattle.cap_copy.specs.Entries.{app_entries, ask_entries, asks_of, registered_of, wanted_of};
+ghost use Rattle.cap_copy.specs.Entries.{ask_entries, asks_of, wanted_of};
 
-use crate::apps::count_asks;
-use crate::seen::{SeenApp, SeenAsk};
-use cap_asks::{App, Apps};
+use crate::registered::Registered;
+use crate::seen::SeenAsk;
+use cap_asks::App;
 use cap_model::{Ask, NoMemory};
 use cap_nodes::Nodes;
 use std::alloc::Allocator;
 
 /// The asks of the applications in an order of their indexes, those of each in order of key, in one piece of memory. An error means
-/// that an allocation failed. The asks of each active application are in order of key.
+/// that an allocation failed. The asks of each application are in order of key.
 pub(crate) fn seen_asks<const K: usize, B: Allocator + Copy>(
     alloc: B,
     order: &[u32],
-    seen: &[SeenApp<B>],
-    apps: &Apps<K>,
+    registered: &[Registered<'_, K>],
     nodes: &Nodes<K>,
 ) -> Result<Vec<SeenAsk<K>, B>, NoMemory>
     requires resources { K ≤ resources_max }
-    requires seen { seen.now ≡ app_entries apps.now.accounts apps.now.table.active }
-    requires within { All (λ i. i < length seen.now) order.now }
+    requires within { All (λ i. i < length registered.now) order.now }
     ensures entries { IfOk result (λ asks.
-        asks.items ≡ ask_entries nodes.now (registered_of apps.now.table.active) order.now) }
-    ensures kept { All (λ app. AreKept app.asks) apps.now.table.active }
+        asks.items ≡ ask_entries nodes.now (map (λ r. r.app) registered.now) order.now) }
+    ensures kept { All (λ r. AreKept r.app.asks) registered.now }
 {
-    let Ok(mut asks) = Vec::with_capacity(alloc, count_asks(apps)) else {
+    let Ok(mut asks) = Vec::with_capacity(alloc, count_asks(registered)) else {
         return Err(NoMemory);
     };
     for index in order {
-        let number = seen[*index as usize].number();
-        let Some(app) = apps.app(number) else {
-            unreachable!()
-        };
-        match add_asks(&mut asks, *index, app, nodes) {
+        match add_asks(&mut asks, *index, registered[*index as usize].app(), nodes) {
             Ok(()) => {}
             Err(NoMemory) => return Err(NoMemory),
         }
@@ -76,4 +70,16 @@ fn wanted<const K: usize>(app: u64, ask: &Ask<K>, nodes: &Nodes<K>) -> u32
 {
     let reserved = nodes.reserved_for(app, &ask.key());
     (ask.count() as usize).saturating_sub(reserved) as u32
+}
+
+/// How many asks the applications have together. The asks of each are in order of key.
+fn count_asks<const K: usize>(registered: &[Registered<'_, K>]) -> usize
+    requires { K ≤ resources_max }
+    ensures { All (λ r. AreKept r.app.asks) registered.now }
+{
+    let mut count = 0usize;
+    for seen in registered {
+        count = count.saturating_add(seen.app().asks().len());
+    }
+    count
 }

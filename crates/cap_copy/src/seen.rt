@@ -1,60 +1,10 @@
-//! What a snapshot keeps of an application, an ask and a node.
+//! What a snapshot keeps of an ask and of a node.
 ghost use Rattle.std.specs.Prelude.{◌≡◌};
 ghost use Rattle.cap_vector.specs.Vector.{IsResource};
 
 use cap_model::{Ask, Reservation, ShortText};
-use cap_tree::Path;
 use cap_vector::Resource;
-use std::alloc::Allocator;
 use std::marker::Model;
-
-/// A registered application.
-pub struct SeenApp<B: Allocator> {
-    pub(crate) number: u64,
-    pub(crate) user: ShortText,
-    pub(crate) position: Path<B>,
-}
-
-impl<B: Allocator> Model for SeenApp<B> {
-    ghost use Rattle.cap_copy.specs.Snapshot.{AppEntry};
-
-    ghost Value = { AppEntry };
-
-    ghost view = { λ a. record { number = a.number; user = a.user; position = a.position.items } };
-}
-
-impl<B: Allocator> Drop for SeenApp<B> {
-    fn drop(self) {
-        let SeenApp {
-            number: _,
-            user: _,
-            position: _,
-        } = self;
-    }
-}
-
-impl<B: Allocator> SeenApp<B> {
-    /// Its number.
-    pub fn number(&self) -> u64
-        ensures { result ≡ self.now.number }
-    {
-        self.number
-    }
-
-    /// Its user.
-    pub fn user(&self) -> &ShortText
-        ensures { result.now ≡ self.now.user }
-    {
-        &self.user
-    }
-
-    /// Where its leaf queue is in the snapshot's tree.
-    pub fn position(&self) -> &Path<B>
-        ensures { result.now.items ≡ self.now.position }
-    {
-        &self.position
-    }
-}
 
 /// An ask of a registered application.
 #[derive(Drop)]
@@ -81,7 +31,7 @@ impl<const K: usize> SeenAsk<K> {
         self.app
     }
 
-    /// The index of its application among those of the snapshot.
+    /// The index of its application among those that are registered.
     pub fn index(&self) -> usize
         ensures { result ≡ self.now.index }
     {

@@ -1,38 +1,46 @@
 //! The snapshot of a cluster.
 ghost use Rattle.std.specs.Prelude.{◌≡◌, ◌<◌, Some, length};
 ghost use Rattle.std.specs.List.{slice_get};
-ghost use Rattle.cap_copy.specs.Snapshot.{IsSnapshot};
+ghost use Rattle.cap_model.specs.Cascade.{holds_of};
+ghost use Rattle.cap_copy.specs.Snapshot.{IsSnapshot, stays_within};
 
-use crate::seen::{SeenApp, SeenAsk, SeenNode};
+use crate::limits::Limits;
+use crate::seen::{SeenAsk, SeenNode};
+use cap_asks::Apps;
 use cap_tree::QueueTree;
-use std::alloc::Allocator;
+use cap_vector::Resource;
+use http_server::Log;
+use std::alloc::{Allocator, Global};
 use std::marker::Model;
 
-/// What a proposal looks at: the tree of queues with their use, the registered applications and their asks, the nodes with what
-/// they have left and their reservations, how many containers are live, and the number of the next. The asks of all applications
-/// are in the order in which they are served. It is a value of its own, and no change of the cluster is seen in it.
+/// What a proposal looks at: the asks of the registered applications in the order in which they are served, the limits of the queues
+/// and users that they wait for, the nodes with what they have left and their reservations, how many containers are live, and the
+/// number of the next. It is a value of its own, and no change of the cluster is seen in it. Contracts see the sight of the cluster.
 #[derive(Drop)]
 pub struct Snapshot<const K: usize, B: Allocator> {
-    pub(crate) tree: QueueTree<K, B>,
-    pub(crate) apps: Vec<SeenApp<B>, B>,
+    pub(crate) limits: Limits<K, B>,
     pub(crate) asks: Vec<SeenAsk<K>, B>,
     pub(crate) nodes: Vec<SeenNode<K>, B>,
     pub(crate) live: usize,
     pub(crate) next_container: u64,
+    // This is for contracts alone, and takes no room.
+    pub(crate) sources: Log<QueueTree<K, Global>, Apps<K>>,
 }
 
 impl<const K: usize, B: Allocator> Model for Snapshot<K, B> {
     ghost use Rattle.std.specs.Coded.{codes};
     ghost use Rattle.cap_tree.specs.Queue.{users_code};
     ghost use Rattle.cap_copy.specs.Snapshot.{IsSnapshot, Seen};
+    ghost use Rattle.cap_copy.specs.Sources.{apps_in, rows_in};
 
     ghost Value = { Seen };
 
     ghost coded = { Prim.hlevel (codes, users_code) };
 
     ghost view = { λ s. record {
-      rows = s.tree;
-      apps = s.apps.items;
+      rows = rows_in s.sources.items;
+      apps = apps_in s.sources.items;
+      limits = s.limits;
       asks = s.asks.items;
       nodes = s.nodes.items;
       live = s.live;
@@ -40,8 +48,9 @@ impl<const K: usize, B: Allocator> Model for Snapshot<K, B> {
     } };
 
     ghost invariant = { λ s. IsSnapshot K (record {
-      rows = s.tree;
-      apps = s.apps.items;
+      rows = rows_in s.sources.items;
+      apps = apps_in s.sources.items;
+      limits = s.limits;
       asks = s.asks.items;
       nodes = s.nodes.items;
       live = s.live;
@@ -49,14 +58,7 @@ impl<const K: usize, B: Allocator> Model for Snapshot<K, B> {
     }) };
 }
 
-impl<const K: usize, B: Allocator> Snapshot<K, B> {
-    /// The queues, with their use.
-    pub fn tree(&self) -> &QueueTree<K, B>
-        ensures { result.now ≡ self.now.rows }
-    {
-        &self.tree
-    }
-
+impl<const K: usize, B: Allocator + Copy> Snapshot<K, B> {
     /// How many nodes there are. Each is found by its number.
     pub fn node_count(&self) -> usize
         ensures count { result ≡ length self.now.nodes }
@@ -89,12 +91,14 @@ impl<const K: usize, B: Allocator> Snapshot<K, B> {
         &self.asks[index]
     }
 
-    /// The application at an index, in order of number.
-    pub fn app(&self, index: usize) -> &SeenApp<B>
-        requires { index < length self.now.apps }
-        ensures { slice_get self.now.apps index ≡ Some result.now }
+    /// Whether the use of the ask's queues and user stays within their limits with `old` taken away and what is asked for added, in MiB
+    /// and vcores.
+    pub fn stays_within(&self, ask: &SeenAsk<K>, old: &Resource<K>) -> bool
+        requires { ask.now.index < length self.now.limits }
+        ensures { result ≡ holds_of (stays_within old.now ask.now.ask.resource)
+            (slice_get self.now.limits ask.now.index) }
     {
-        &self.apps[index]
+        self.limits.stays_within(ask.index(), old, &ask.ask().resource())
     }
 
     /// How many containers are live.

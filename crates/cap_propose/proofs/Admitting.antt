@@ -17,13 +17,9 @@ use Rattle.cap_model.specs.Asks.{Ask}
 use Rattle.cap_model.specs.Sight.{Sight, AppSight, NodeSight, seen_node, seen_queue, still_wanted, queues_to, QueueSight}
 use Rattle.cap_model.specs.Admission.{NodeProposal, IsAdmissible, NeedsOf, asks_resource, fits_free, fits_maximum, fits_total, fits_user_limit, is_grant, is_wanted, leaf_path, node_reservation, proposed_ask, stays_in_maxima, stays_in_user_limit, suits_place, takes_place, use_after, user_name}
 use Rattle.cap_model.proofs.lists.Tests.{bytes_itself}
-use Rattle.cap_tree.specs.Spot.{IsPosition, path_at}
-use Rattle.cap_tree.specs.Limits.{over_limit}
-use Rattle.cap_tree.specs.Rows.{Row, AreRows}
-use Rattle.cap_tree.specs.declared.limits.OverLimit.{OverLimit}
-use Rattle.cap_copy.specs.Snapshot.{AppEntry, AskEntry, IsAskEntry, Seen, asks_for, sight_in}
+use Rattle.cap_copy.specs.Snapshot.{AskEntry, IsAskEntry, QueueUse, Seen, sight_in, stays_within}
 use Rattle.cap_propose.specs.Proposing.{IsSeenNode, IsAdmittedAs, IsClosed, IsOpen, has_numbers, is_in_limits, kind_beside, kind_by_room, proposal_of, room_back, room_kind, takes}
-use Rattle.cap_propose.proofs.WithinLimits.{same_exchange, limits_are, maxima, user_limit}
+use Rattle.cap_propose.proofs.WithinLimits.{all_mapped, same_exchange}
 
 -- the kind for which there is room, over plain tests
 abbrev kind_where : (Reservation → Bool) → Bool → Bool → Bool → Option Reservation → Option ProposalKind
@@ -80,7 +76,7 @@ module _ (K : ℕ) (seen : Seen) (node : NodeSight) (e : AskEntry) (at : IsSeenN
   own = is_for e.app e.ask.key
 
   ask_is : (k : ProposalKind) → proposed_ask sight (of k) ≡ Some e.ask
-  ask_is k = ap (option_and_then (λ (app : AppSight). ask_at e.ask.key app.asks)) is.found ∙ ap (λ n. ask_at e.ask.key (asks_for n seen.asks)) is.number ∙ is.asked
+  ask_is k = ap (option_and_then (λ (app : AppSight). ask_at e.ask.key app.asks)) is.found ∙ is.asked
 
   reservation_is : (k : ProposalKind) → node_reservation sight (of k) ≡ node.reservation
   reservation_is k = ap (option_and_then (λ (n : NodeSight). n.reservation)) at
@@ -115,8 +111,8 @@ module _ (K : ℕ) (seen : Seen) (node : NodeSight) (e : AskEntry) (at : IsSeenN
   has_room : (k : ProposalKind) → IsAdmissible sight (of k) → room_kind node e ≡ Some k
   has_room k a = kind_is ∙ to_kind own k (nat_le 1 e.wanted) (fits e.ask.resource node.free) (fits e.ask.resource node.total) node.reservation (subst (λ T. T) (needs_are k k) a.1)
 
-  -- the limits, as the proposal has them and as the tree does
-  module _ (are : AreRows seen.rows) (k : ProposalKind) (room : room_kind node e ≡ Some k) where
+  -- the limits, as the proposal has them and as the snapshot keeps them
+  module _ (k : ProposalKind) (room : room_kind node e ≡ Some k) where
     old : List ℕ
     old = room_back K node
 
@@ -125,23 +121,26 @@ module _ (K : ℕ) (seen : Seen) (node : NodeSight) (e : AskEntry) (at : IsSeenN
         (λ i. amounts_exchanged (cond (is_grant k && holds_of own (reservation_is k i)) (unwrap_or (option_map (λ (x : Reservation). x.resource) (reservation_is k i)) []) []) e.ask.resource used)
         ∙ back_is own K k (nat_le 1 e.wanted) (fits e.ask.resource node.free) (fits e.ask.resource node.total) node.reservation (sym kind_is ∙ room) e.ask.resource used
 
-    leaf_is : leaf_path sight (of k) ≡ path_at is.app.position seen.rows
+    leaf_is : leaf_path sight (of k) ≡ is.app.leaf
     leaf_is = ap (λ o. unwrap_or (option_map (λ (a : AppSight). a.leaf) o) []) is.found
 
     user_is : user_name sight (of k) ≡ is.app.user
     user_is = ap (λ o. unwrap_or (option_map (λ (a : AppSight). a.user) o) []) is.found
 
-    maxima_are : stays_in_maxima sight (of k) ≡ maxima K seen.rows are is.app.position is.leaf is.app.user (room_back K node) e.ask.resource
-    maxima_are = λ i. list_all (λ (q : QueueSight). fits_maximum q.row.maximum (after_is q.used i)) (queues_to sight (leaf_is i))
+    maxima_are : stays_in_maxima sight (of k) ≡ list_all (λ (u : QueueUse). fits_maximum u.maximum (amounts_exchanged (room_back K node) e.ask.resource u.used)) is.limit.way
+    maxima_are =
+        (λ i. list_all (λ (q : QueueSight). fits_maximum q.row.maximum (after_is q.used i)) (queues_to sight (leaf_is i)))
+        ∙ sym (ap (list_all (λ (u : QueueUse). fits_maximum u.maximum (amounts_exchanged (room_back K node) e.ask.resource u.used))) is.is.way
+        ∙ all_mapped (λ (q : QueueSight). record { maximum = q.row.maximum; used = q.used }) (λ (u : QueueUse). fits_maximum u.maximum (amounts_exchanged (room_back K node) e.ask.resource u.used)) (queues_to sight is.app.leaf))
 
-    user_limit_is : stays_in_user_limit sight (of k) ≡ user_limit K seen.rows are is.app.position is.leaf is.app.user (room_back K node) e.ask.resource
-    user_limit_is = λ i. holds_of (λ (q : QueueSight). fits_user_limit q.row.factor q.row.guaranteed (after_is (q.used_by (user_is i)) i)) (seen_queue sight (leaf_is i))
+    user_limit_is : stays_in_user_limit sight (of k) ≡ fits_user_limit is.limit.factor is.limit.guaranteed (amounts_exchanged (room_back K node) e.ask.resource is.limit.used)
+    user_limit_is =
+        (λ i. holds_of (λ (q : QueueSight). fits_user_limit q.row.factor q.row.guaranteed (after_is (q.used_by (user_is i)) i)) (seen_queue sight (leaf_is i)))
+        ∙ ap (holds_of (λ (q : QueueSight). fits_user_limit q.row.factor q.row.guaranteed (amounts_exchanged (room_back K node) e.ask.resource (q.used_by is.app.user)))) is.is.found
+        ∙ sym (λ i. fits_user_limit (is.is.factor i) (is.is.guaranteed i) (amounts_exchanged (room_back K node) e.ask.resource (is.is.used i)))
 
-    limits_here : is_in_limits K seen e (room_back K node) ≡ (stays_in_maxima sight (of k) && stays_in_user_limit sight (of k))
-    limits_here =
-        ap (holds_of (λ app. is_none (over_limit K app.position app.user (room_back K node) e.ask.resource seen.rows))) is.at
-        ∙ limits_are K seen.rows are is.app.position is.leaf is.app.user (room_back K node) e.ask.resource
-        ∙ (λ i. sym maxima_are i && sym user_limit_is i)
+    limits_here : is_in_limits seen e (room_back K node) ≡ (stays_in_maxima sight (of k) && stays_in_user_limit sight (of k))
+    limits_here = ap (holds_of (stays_within (room_back K node) e.ask.resource)) is.at ∙ (λ i. sym maxima_are i && sym user_limit_is i)
 
   -- each way in which neither kind is admissible
   abbrev pub IsRefused : Type 0
@@ -156,9 +155,9 @@ module _ (K : ℕ) (seen : Seen) (node : NodeSight) (e : AskEntry) (at : IsSeenN
   pub without_numbers : has_numbers seen ≡ false → IsRefused
   without_numbers n k a = let l = a.0.few_live in let m = a.0.numbers_left in absurd (grind (arith, nat_tests, n, l, m))
 
-  pub over_limits : AreRows seen.rows → is_in_limits K seen e (room_back K node) ≡ false → IsRefused
-  over_limits are n k a =
-      let h = limits_here are k (has_room k a) in
+  pub over_limits : is_in_limits seen e (room_back K node) ≡ false → IsRefused
+  over_limits n k a =
+      let h = limits_here k (has_room k a) in
       let both : (stays_in_maxima sight (of k) && stays_in_user_limit sight (of k)) ≡ true = λ i. a.0.maxima i && a.0.user i in
       absurd (cc (n, h, both))
 
@@ -177,8 +176,8 @@ module _ (K : ℕ) (seen : Seen) (node : NodeSight) (e : AskEntry) (at : IsSeenN
         either true = refl
         either false = refl
 
-    pub over_limits_there : AreRows seen.rows → is_in_limits K seen e (zeros K) ≡ false → IsRefused
-    over_limits_there are n = over_limits are (ap (λ o. is_in_limits K seen e (option_map_or (λ (r : Reservation). r.resource) o (zeros K))) unreserved ∙ n)
+    pub over_limits_there : is_in_limits seen e (zeros K) ≡ false → IsRefused
+    over_limits_there n = over_limits (ap (λ o. is_in_limits seen e (option_map_or (λ (r : Reservation). r.resource) o (zeros K))) unreserved ∙ n)
 
     pub not_taken : takes node e ≡ false → IsRefused
     not_taken n = by (kind_by_room node e) refl (takes_place e.ask.place node) refl
@@ -189,9 +188,9 @@ module _ (K : ℕ) (seen : Seen) (node : NodeSight) (e : AskEntry) (at : IsSeenN
         by (Some kind) k true p = absurd (cc (n, unreserved, k, p))
 
   -- and where one is
-  pub admitted : AreRows seen.rows → (k : ProposalKind) → room_kind node e ≡ Some k → takes_place e.ask.place node ≡ true → has_numbers seen ≡ true → is_in_limits K seen e (room_back K node) ≡ true → IsAdmissible sight (of k)
-  admitted are k room place numbers limits =
-      let both = and_parts (stays_in_maxima sight (of k)) (stays_in_user_limit sight (of k)) (sym (limits_here are k room) ∙ limits) in
+  pub admitted : (k : ProposalKind) → room_kind node e ≡ Some k → takes_place e.ask.place node ≡ true → has_numbers seen ≡ true → is_in_limits seen e (room_back K node) ≡ true → IsAdmissible sight (of k)
+  admitted k room place numbers limits =
+      let both = and_parts (stays_in_maxima sight (of k)) (stays_in_user_limit sight (of k)) (sym (limits_here k room) ∙ limits) in
       let left = and_parts (nat_lt seen.live live_max) (nat_lt seen.next_container number_end) numbers in (
         record {
           registered = ap is_some is.found;
@@ -228,33 +227,12 @@ module _ (K : ℕ) (seen : Seen) (node : NodeSight) (e : AskEntry) (at : IsSeenN
     pub room_there : is_some (kind_by_room node e) ≡ true
     room_there = parts.1
 
-    pub admitted_there : AreRows seen.rows → nat_le 1 e.wanted ≡ true → has_numbers seen ≡ true → is_in_limits K seen e (zeros K) ≡ true → (k : ProposalKind) → kind_by_room node e ≡ Some k → IsAdmissible sight (of k)
-    admitted_there are wanted numbers limits k kind =
-        admitted are k
+    pub admitted_there : nat_le 1 e.wanted ≡ true → has_numbers seen ≡ true → is_in_limits seen e (zeros K) ≡ true → (k : ProposalKind) → kind_by_room node e ≡ Some k → IsAdmissible sight (of k)
+    admitted_there wanted numbers limits k kind =
+        admitted k
         (ap (λ o. kind_beside o node e) holds_none ∙ ap (λ b. cond b (kind_by_room node e) None) wanted ∙ kind)
         (parts.2) numbers
-        (ap (λ o. is_in_limits K seen e (option_map_or (λ (r : Reservation). r.resource) o (zeros K))) holds_none ∙ limits)
-
--- what the tree is asked of an ask's application
-module _ (K : ℕ) (seen : Seen) (e : AskEntry) (index : ℕ) (app : AppEntry) (at : slice_get seen.apps index ≡ Some app) (same : index ≡ e.index) where
-  entry_is : slice_get seen.apps e.index ≡ Some app
-  entry_is = ap (slice_get seen.apps) (sym same) ∙ at
-
-  pub app_there : (is : IsAskEntry K seen e) → e.index < length seen.apps
-  app_there is = slice_get_within seen.apps e.index is.app is.at
-
-  pub leaf_there : (is : IsAskEntry K seen e) (rows : List Row) (position : List ℕ) → rows ≡ seen.rows → position ≡ app.position → IsPosition rows position
-  leaf_there is rows position same_rows same_position =
-      let a : is.app ≡ app = ap (λ o. unwrap_or o app) (sym is.at ∙ entry_is) in
-      let p : is.app.position ≡ position = ap (λ (x : AppEntry). x.position) a ∙ sym same_position in
-      subst (λ r. IsPosition r position) (sym same_rows) (subst (IsPosition seen.rows) p is.leaf)
-
-  pub limits_tested : (rows : List Row) (position user old new : List ℕ) (o : Option OverLimit) → rows ≡ seen.rows → position ≡ app.position → user ≡ app.user → new ≡ e.ask.resource →
-      over_limit K position user old new rows ≡ o → is_none o ≡ is_in_limits K seen e old
-  limits_tested rows position user old new o same_rows same_position same_user same_new h =
-      ap is_none (sym h)
-      ∙ (λ i. is_none (over_limit K (same_position i) (same_user i) old (same_new i) (same_rows i)))
-      ∙ ap (holds_of (λ (a : AppEntry). is_none (over_limit K a.position a.user old e.ask.resource seen.rows))) (sym entry_is)
+        (ap (λ o. is_in_limits seen e (option_map_or (λ (r : Reservation). r.resource) o (zeros K))) holds_none ∙ limits)
 
 -- the two tests on numbers, one after the other
 pub numbers_left : (seen : Seen) (live next : ℕ) → live ≡ seen.live → next ≡ seen.next_container → live < live_max → nat_lt next number_end ≡ has_numbers seen
@@ -276,11 +254,11 @@ module _ (K : ℕ) (seen : Seen) (e : AskEntry) (is : IsAskEntry K seen e) where
   pub closed_without_numbers : has_numbers seen ≡ false → IsClosed K seen e
   closed_without_numbers n node at unreserved = without_numbers K seen node e at is n
 
-  pub closed_over_limits : AreRows seen.rows → is_in_limits K seen e (zeros K) ≡ false → IsClosed K seen e
-  closed_over_limits are n node at unreserved = over_limits_there K seen node e at is unreserved are n
+  pub closed_over_limits : is_in_limits seen e (zeros K) ≡ false → IsClosed K seen e
+  closed_over_limits n node at unreserved = over_limits_there K seen node e at is unreserved n
 
   -- and else it is open
-  pub open_is : AreRows seen.rows → (wanted : ℕ) → wanted ≡ e.wanted → (wanted ≡ 0 → ⊥) → has_numbers seen ≡ true → is_in_limits K seen e (zeros K) ≡ true → IsOpen K seen e
-  open_is are wanted same some numbers limits node kind at takes_it has =
+  pub open_is : (wanted : ℕ) → wanted ≡ e.wanted → (wanted ≡ 0 → ⊥) → has_numbers seen ≡ true → is_in_limits seen e (zeros K) ≡ true → IsOpen K seen e
+  open_is wanted same some numbers limits node kind at takes_it has =
       let left : nat_le 1 e.wanted ≡ true = grind (arith, nat_tests, same, some) in
-      admitted_there K seen node e at is takes_it are left numbers limits kind has
+      admitted_there K seen node e at is takes_it left numbers limits kind has

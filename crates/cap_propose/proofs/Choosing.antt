@@ -18,7 +18,7 @@ use Rattle.cap_model.specs.Candidates.{choice_on}
 use Rattle.cap_model.proofs.choice.Choosing.{choice_is_computed}
 use Rattle.cap_model.proofs.choice.Orders.{rank_cmp_total, not_after_itself}
 use Rattle.cap_model.proofs.lists.Members.{IsIn, each_of, found, of_filter, of_map}
-use Rattle.cap_copy.specs.Snapshot.{AppEntry, AskEntry, Seen, IsSnapshot, IsAskEntry, AreServedInOrder, app_seen, asks_for, served_cmp, sight_in}
+use Rattle.cap_copy.specs.Snapshot.{AskEntry, Seen, IsSnapshot, IsAskEntry, AreServedInOrder, asks_for, served_cmp, sight_in}
 use Rattle.cap_propose.specs.Proposing.{IsAdmittedAs, IsSeenNode, proposal_of}
 use Rattle.cap_propose.proofs.Unique.{one_on_node}
 
@@ -70,27 +70,27 @@ module _ (K : ℕ) (seen : Seen) where
         let b : ask.key.request ≡ q.key.request = grind (arith, nat_tests, both.1) in
         λ i. record { priority = a i; request = b i }
 
-    of_ask : (app : AppEntry) → app.number ≡ q.app → (o : Option Ask) → ask_at q.key (asks_for app.number seen.asks) ≡ o → holds_of (λ ask. bytes_eq ask.resource q.resource) o ≡ true → IsOfEntry q
-    of_ask app number None e h = absurd (cc h)
-    of_ask app number (Some ask) e h =
-        let f = found (λ (x : Ask). same_key x.key q.key) (asks_for app.number seen.asks) ask e in
-        let m = of_map (λ (x : AskEntry). x.ask) (filter (λ (x : AskEntry). x.app == app.number) seen.asks) ask f.0 in
-        let g = of_filter (λ (x : AskEntry). x.app == app.number) seen.asks m.0 m.1 in
-        let own : (m.0).app ≡ q.app = (let t : (m.0).app ≡ app.number = (let u = g.0 in grind (arith, nat_tests, u)) in t ∙ number) in
+    of_ask : (n : ℕ) → n ≡ q.app → (o : Option Ask) → ask_at q.key (asks_for n seen.asks) ≡ o → holds_of (λ ask. bytes_eq ask.resource q.resource) o ≡ true → IsOfEntry q
+    of_ask n number None e h = absurd (cc h)
+    of_ask n number (Some ask) e h =
+        let f = found (λ (x : Ask). same_key x.key q.key) (asks_for n seen.asks) ask e in
+        let m = of_map (λ (x : AskEntry). x.ask) (filter (λ (x : AskEntry). x.app == n) seen.asks) ask f.0 in
+        let g = of_filter (λ (x : AskEntry). x.app == n) seen.asks m.0 m.1 in
+        let own : (m.0).app ≡ q.app = (let t : (m.0).app ≡ n = (let u = g.0 in grind (arith, nat_tests, u)) in t ∙ number) in
         let key : (m.0).ask.key ≡ q.key = ap (λ (x : Ask). x.key) m.2 ∙ key_is ask f.1 in
         let resource : (m.0).ask.resource ≡ q.resource = ap (λ (x : Ask). x.resource) m.2 ∙ (bytes_eq-Decides ask.resource q.resource).0 h in
         record { entry = m.0; member = g.1; is = λ i. record { kind = q.kind; app = own i; key = key i; node = q.node; resource = resource i } }
 
-    of_app : (o : Option AppSight) → seen_app sight q.app ≡ o → holds_of (λ ask. bytes_eq ask.resource q.resource) (option_and_then (λ app. ask_at q.key app.asks) o) ≡ true → IsOfEntry q
-    of_app None e h = absurd (cc h)
-    of_app (Some s) e h =
-        let f = found (λ (x : AppSight). x.number == q.app) (map (app_seen seen.rows seen.asks) seen.apps) s e in
-        let m = of_map (app_seen seen.rows seen.asks) seen.apps s f.0 in
-        let number : (m.0).number ≡ q.app = ap (λ (x : AppSight). x.number) m.2 ∙ (let t = f.1 in grind (arith, nat_tests, t)) in
-        of_ask m.0 number (ask_at q.key (asks_for (m.0).number seen.asks)) refl (subst (λ (x : AppSight). holds_of (λ ask. bytes_eq ask.resource q.resource) (ask_at q.key x.asks) ≡ true) (sym m.2) h)
+    of_app : IsSnapshot K seen → (o : Option AppSight) → seen_app sight q.app ≡ o → holds_of (λ ask. bytes_eq ask.resource q.resource) (option_and_then (λ app. ask_at q.key app.asks) o) ≡ true → IsOfEntry q
+    of_app whole None e h = absurd (cc h)
+    of_app whole (Some s) e h =
+        let f = found (λ (x : AppSight). x.number == q.app) seen.apps s e in
+        let number : s.number ≡ q.app = (let t = f.1 in grind (arith, nat_tests, t)) in
+        let asks : asks_for s.number seen.asks ≡ s.asks = each_of (λ (x : AppSight). asks_for x.number seen.asks ≡ x.asks) seen.apps whole.whole s f.0 in
+        of_ask s.number number (ask_at q.key (asks_for s.number seen.asks)) refl (subst (λ list. holds_of (λ (ask : Ask). bytes_eq ask.resource q.resource) (ask_at q.key list) ≡ true) (sym asks) h)
 
-    of_entry : IsAdmissible sight q → IsOfEntry q
-    of_entry a = of_app (seen_app sight q.app) refl a.0.resource
+    of_entry : IsSnapshot K seen → IsAdmissible sight q → IsOfEntry q
+    of_entry whole a = of_app whole (seen_app sight q.app) refl a.0.resource
 
   -- an ask that stands before another is not served after it
   in_order : (asks : List AskEntry) → AreServedInOrder K seen asks → (i j : ℕ) (e f : AskEntry) → slice_get asks i ≡ Some e → slice_get asks j ≡ Some f → i < j → is_gt (served_cmp K seen e f) ≡ false
@@ -105,7 +105,7 @@ module _ (K : ℕ) (seen : Seen) where
   module _ (whole : IsSnapshot K seen) (n : ℕ) where
     -- the first that is admitted is the choice
     first_is : (i : ℕ) (e : AskEntry) (k : ProposalKind) → slice_get seen.asks i ≡ Some e → NoneBefore n i → IsAdmissible sight (proposal_of k n e) → IsNodeChoice sight n (Some (proposal_of k n e))
-    first_is i e k at none a = (refl, a, λ q node b. not_before q node b (of_entry q b))
+    first_is i e k at none a = (refl, a, λ q node b. not_before q node b (of_entry q whole b))
       where
         not_before : (q : NodeProposal) → q.node ≡ n → IsAdmissible sight q → IsOfEntry q → is_after sight (proposal_of k n e) q ≡ false
         not_before q node b c =
@@ -126,7 +126,7 @@ module _ (K : ℕ) (seen : Seen) where
     none_is : (i : ℕ) → length seen.asks ≤ i → NoneBefore n i → IsNodeChoice sight n None
     none_is i all none =
         λ q node a.
-        let c = of_entry q a in
+        let c = of_entry q whole a in
         let j = index_of seen.asks c.entry c.member in
         let here : proposal_of q.kind n c.entry ≡ q = ap (λ m. proposal_of q.kind m c.entry) (sym node) ∙ c.is in
         let within = slice_get_within seen.asks j.0 c.entry j.1 in

@@ -1,6 +1,6 @@
 -- The choice on a node that holds a reservation.
 use Rattle.std.proofs.Common.{◌≡◌, ℕ, ◌+◌, ◌<◌, ◌≤◌, Bool, true, false, cond, length, Some, None, refl, sym, ◌∙◌, ap, subst, inl, inr, arith}
-use Rattle.std.specs.Prelude.{◌&&◌, ◌==◌, unwrap_or}
+use Rattle.std.specs.Prelude.{◌&&◌, ◌==◌, option_and_then, unwrap_or}
 use Rattle.std.specs.List.{slice_get}
 use Rattle.std.proofs.lemmas.Bool.{and_parts, cases_lt}
 use Rattle.std.proofs.lemmas.Bool.Decides.{nat_tests}
@@ -9,11 +9,11 @@ use Rattle.cap_model.specs.declared.proposal.ProposalKind.TheVariants.{Grant}
 use Rattle.cap_model.specs.Amounts.{fits}
 use Rattle.cap_model.specs.Asks.{same_key}
 use Rattle.cap_model.specs.Flat.{Reservation, ask_at, is_for}
-use Rattle.cap_model.specs.Sight.{NodeSight}
+use Rattle.cap_model.specs.Sight.{AppSight, NodeSight, seen_app}
 use Rattle.cap_model.specs.Admission.{IsAdmissible}
 use Rattle.cap_model.specs.Candidates.{choice_on}
 use Rattle.cap_model.proofs.calls.KeptAsks.{same_key_is}
-use Rattle.cap_copy.specs.Snapshot.{AskEntry, IsAskEntry, IsSnapshot, Seen, asks_for, sight_in}
+use Rattle.cap_copy.specs.Snapshot.{AskEntry, IsAskEntry, IsSnapshot, Seen, sight_in}
 use Rattle.cap_propose.specs.Proposing.{AreForOthers, IsAdmittedAs, IsSeenNode, kind_beside, proposal_of}
 use Rattle.cap_propose.proofs.Admitting.{without_room}
 use Rattle.cap_propose.proofs.Choosing.{NoneBefore, entry_is, first_chosen, none_chosen}
@@ -30,8 +30,11 @@ module _ (K : ℕ) (seen : Seen) (r : Reservation) where
   own_key : (e : AskEntry) → is_for e.app e.ask.key r ≡ true → r.key ≡ e.ask.key
   own_key e h = same_key_is r.key e.ask.key (and_parts (r.app == e.app) (same_key r.key e.ask.key) h).1
 
-  own_ask : (e : AskEntry) → IsAskEntry K seen e → is_for e.app e.ask.key r ≡ true → ask_at r.key (asks_for r.app seen.asks) ≡ Some e.ask
-  own_ask e is h = (λ i. ask_at (own_key e h i) (asks_for (own_app e h i) seen.asks)) ∙ is.asked
+  own_ask : (e : AskEntry) → IsAskEntry K seen e → is_for e.app e.ask.key r ≡ true → option_and_then (λ (a : AppSight). ask_at r.key a.asks) (seen_app (sight_in K seen) r.app) ≡ Some e.ask
+  own_ask e is h =
+      (λ i. option_and_then (λ (a : AppSight). ask_at (own_key e h i) a.asks) (seen_app (sight_in K seen) (own_app e h i)))
+      ∙ ap (option_and_then (λ (a : AppSight). ask_at e.ask.key a.asks)) is.found
+      ∙ is.asked
 
   same_proposal : (k : ProposalKind) (n : ℕ) (e f : AskEntry) → IsAskEntry K seen e → IsAskEntry K seen f → is_for e.app e.ask.key r ≡ true → is_for f.app f.ask.key r ≡ true → proposal_of k n e ≡ proposal_of k n f
   same_proposal k n e f is is_f h g =

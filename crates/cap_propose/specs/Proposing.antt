@@ -13,8 +13,7 @@ use Rattle.cap_model.specs.Sight.{Sight, NodeSight, seen_node}
 use Rattle.cap_model.specs.Admission.{NodeProposal, IsAdmissible, takes_place}
 use Rattle.cap_model.specs.Choice.{IsNodeChoice, IsChoiceFrom}
 use Rattle.cap_model.specs.Candidates.{choice_on}
-use Rattle.cap_tree.specs.Limits.{over_limit}
-use Rattle.cap_copy.specs.Snapshot.{AskEntry, Seen, sight_in}
+use Rattle.cap_copy.specs.Snapshot.{AskEntry, Seen, sight_in, stays_within}
 
 -- the proposal of an ask on the node of a number
 abbrev pub proposal_of : ProposalKind → ℕ → AskEntry → NodeProposal
@@ -41,8 +40,8 @@ abbrev pub has_numbers : Seen → Bool
 has_numbers seen = nat_lt seen.live live_max && nat_lt seen.next_container number_end
 
 -- whether the queues and the user of an ask stay within their limits, with old taken away and the ask's resource added
-abbrev pub is_in_limits : ℕ → Seen → AskEntry → List ℕ → Bool
-is_in_limits K seen e old = holds_of (λ app. is_none (over_limit K app.position app.user old e.ask.resource seen.rows)) (slice_get seen.apps e.index)
+abbrev pub is_in_limits : Seen → AskEntry → List ℕ → Bool
+is_in_limits seen e old = holds_of (stays_within old e.ask.resource) (slice_get seen.limits e.index)
 
 -- the index of the node that is so many after the first in a ring
 abbrev pub ring_index : ℕ → ℕ → ℕ → ℕ

@@ -5,8 +5,6 @@ use Rattle.std.specs.declared.alloc.Allocator.{Ghosts}
 use Rattle.cap_vector.specs.Vector.{amount_max}
 use Rattle.cap_vector.specs.contracts.vector.Amounts as amounts
 use Rattle.cap_model.specs.contracts.proposal.Proposal as proposal
-use Rattle.cap_tree.specs.Paths.{TreeFitsInMemory}
-use Rattle.cap_tree.specs.contracts.tree.QueueTree as tree
 use Rattle.cap_copy.specs.contracts.seen.SeenAsk as ask
 use Rattle.cap_copy.specs.contracts.seen.SeenNode as node
 use Rattle.cap_copy.specs.contracts.snapshot.Snapshot as snapshot
@@ -14,8 +12,6 @@ use Rattle.cap_copy.specs.contracts.snapshot.Snapshot as snapshot
 -- the types of a snapshot and of what is in it are no larger than memory, as is so wherever a value of them exists
 pub record SnapshotFitsInMemory (K A : RattleType) (alloc : Ghosts A.Denot) : Type 0 where
   pub snapshot : FitsInMemory (snapshot.the_row K A alloc)
-  pub tree : FitsInMemory (tree.the_row K A alloc)
-  pub parts : TreeFitsInMemory K A alloc
   pub ask : FitsInMemory (ask.the_row K)
   pub node : FitsInMemory (node.the_row K)
   pub resource : FitsInMemory (amounts.the_row K (denote.Param.number amount_max))

@@ -5,7 +5,6 @@ ghost use Rattle.cap_model.specs.Amounts.{fits};
 ghost use Rattle.cap_model.specs.Texts.{star};
 ghost use Rattle.cap_model.specs.Flat.{is_for};
 ghost use Rattle.cap_model.specs.Admission.{takes_place};
-ghost use Rattle.cap_tree.specs.Rows.{AreRows};
 ghost use Rattle.cap_copy.specs.Snapshot.{IsAskEntry, sight_in};
 ghost use Rattle.cap_propose.specs.Sizes.{SnapshotFitsInMemory};
 ghost use Rattle.cap_propose.specs.Proposing.{IsAdmittedAs, IsClosed, IsOpen, IsSeenNode, has_numbers, is_in_limits, kind_by_room, room_back, room_kind, takes};
@@ -170,14 +169,7 @@ fn is_in_limits<const K: usize, B: Allocator + Copy>(
 ) -> bool
     requires fits { SnapshotFitsInMemory K.row B.row B.Allocator }
     requires ask { IsAskEntry K snapshot.now ask.now }
-    ensures value { result ≡ is_in_limits K snapshot.now ask.now old.now }
-    ensures rows { AreRows snapshot.now.rows }
+    ensures { result ≡ is_in_limits snapshot.now ask.now old.now }
 {
-    let app = snapshot.app(ask.index());
-    let tree = snapshot.tree();
-    let resource = ask.ask().resource();
-    match tree.accept(app.position(), app.user(), old, &resource) {
-        Ok(()) => true,
-        Err(_) => false,
-    }
+    snapshot.stays_within(ask, old)
 }

@@ -13,6 +13,7 @@ pub mod Rooms
 pub mod RowPaths
 pub mod Service
 pub mod ServiceRows
+pub mod Served
 pub mod Spots
 pub mod UserCopies
 pub mod Users

@@ -50,7 +50,7 @@ module _ {T : Type 0} where
   -- what is in a child
 
   module _ (name : T → List ℕ) (item : T) (kids : List (List (Spot T))) (value : List (Spot T)) (e : spots name item kids ≡ value) where
-    items_at_root : items_along [] value ≡ item ∷ []
+    pub items_at_root : items_along [] value ≡ item ∷ []
     items_at_root = ap (items_along []) (sym e) ∙ ap (λ ss. item ∷ map (λ s. s.item) ss) (along-root_below (name item) 0 kids)
 
     module _ (i : ℕ) (kid : List (Spot T)) (within : i < length kids) (is : kid ≡ get_or kids i kid) where
@@ -66,7 +66,7 @@ module _ {T : Type 0} where
       pub top_of_child : (x : T) → IsTop name x kid → item_at (i ∷ []) value ≡ Some x
       top_of_child x t = item_in_child [] ∙ ap (item_at []) t.is
 
-      items_in_child : (p : List ℕ) → items_along (i ∷ p) value ≡ item ∷ items_along p kid
+      pub items_in_child : (p : List ℕ) → items_along (i ∷ p) value ≡ item ∷ items_along p kid
       items_in_child p =
           ap (items_along (i ∷ p)) (sym e)
           ∙ ap (λ ss. item ∷ map (λ s. s.item) ss) (along-below (name item) i 0 i p kids (omega arith))
@@ -129,6 +129,14 @@ module _ {T : Type 0} where
       first_decides Equal p h = absurd (h refl)
       first_decides Greater p h = refl
 
+      -- no two children are alike
+      pub kids_apart : ((x y : T) → order x y ≡ Equal → name x ≡ name y) → HasPathsOnce value → (i j : ℕ) (kid other : List (Spot T)) (x y : T) →
+          i < length kids → kid ≡ get_or kids i kid → IsTop name x kid → j < length kids → other ≡ get_or kids j other → IsTop name y other → order x y ≡ Equal → i ≡ j
+      kids_apart names once i j kid other x y w k t v l u h =
+          let m = in_child_spot i kid w k (record { position = []; path = name x; item = x }) (subst (IsIn _) (sym t.is) (inl refl)) in
+          let n = in_child_spot j other v l (record { position = []; path = name y; item = y }) (subst (IsIn _) (sym u.is) (inl refl)) in
+          ap (λ z. get_or z 0 0) (once _ _ m n (ap (λ z. name item ++ dot ∷ z) (names x y h)))
+
       pub served_apart : ((x y : T) → order x y ≡ Equal → name x ≡ name y) → HasPathsOnce value → (a b : List ℕ) (i j : ℕ) (p q : List ℕ) (kid other : List (Spot T)) (x y : T) (r : Ordering) → a ≡ i ∷ p → b ≡ j ∷ q → i ≢ j →
           i < length kids → kid ≡ get_or kids i kid → IsTop name x kid → j < length kids → other ≡ get_or kids j other → IsTop name y other → r ≡ order x y → IsServed a b r
       served_apart names once a b i j p q kid other x y r ea eb apart w k t v l u er =
@@ -136,10 +144,7 @@ module _ {T : Type 0} where
           let ys = map (λ s. s.item) (along q (below (name y) 0 u.kids)) in
           let first : items_along a value ≡ item ∷ x ∷ xs = ap (λ z. items_along z value) ea ∙ items_in_child i kid w k p ∙ ap (λ z. item ∷ items_along p z) t.is in
           let second : items_along b value ≡ item ∷ y ∷ ys = ap (λ z. items_along z value) eb ∙ items_in_child j other v l q ∙ ap (λ z. item ∷ items_along q z) u.is in
-          let differ : order x y ≢ Equal = λ h.
-          (let m = in_child_spot i kid w k (record { position = []; path = name x; item = x }) (subst (IsIn _) (sym t.is) (inl refl)) in
-          let n = in_child_spot j other v l (record { position = []; path = name y; item = y }) (subst (IsIn _) (sym u.is) (inl refl)) in
-          apart (ap (λ z. get_or z 0 0) (once _ _ m n (ap (λ z. name item ++ dot ∷ z) (names x y h))))) in
+          let differ : order x y ≢ Equal = λ h. apart (kids_apart names once i j kid other x y w k t v l u h) in
           both_begin a b (x ∷ xs) (y ∷ ys) r first second (er ∙ first_decides (order x y) (slice_cmp order xs ys) differ) (λ t. absurd (differ (sym er ∙ t)))
 
 -- the child with that index, none where none is named

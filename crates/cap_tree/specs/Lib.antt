@@ -12,5 +12,6 @@ pub mod Rows
 pub mod Service
 pub mod ServiceLaws
 pub mod ServiceOrder
+pub mod Serving
 pub mod Spot
 pub mod UserLaws

@@ -97,6 +97,10 @@ root_use rows = option_map_or (λ q. q.used) (first rows) []
 abbrev pub rows_to : List ℕ → List Row → List Row
 rows_to path rows = filter (λ r. is_under r.path path) rows
 
+-- the queues of these rows
+abbrev pub items_to : List ℕ → List Row → List Queue
+items_to path rows = map (λ r. r.item) (rows_to path rows)
+
 -- whether the queue of that path, and each above it, runs
 abbrev pub is_running : List Row → List ℕ → Bool
 is_running rows path = list_all (λ q. q.running) (filter (λ q. is_under q.path path) (queues_of rows))

@@ -1,6 +1,6 @@
 //! A tree of items, seen as a list of its spots.
 ghost use Rattle.std.specs.Prelude.{◌≡◌, ◌+◌, ◌-◌, ◌≤◌, ◌∷◌, [], ℕ, List, Some, Bool, IfSome, IfOk, OnOk, OnErr, MatchOption, drop, map, length, ◌++◌};
-ghost use Rattle.std.specs.List.{All};
+ghost use Rattle.std.specs.List.{All, slice_get};
 ghost use Rattle.std.specs.Cmp.{IsTotalOrder};
 ghost use Rattle.std.specs.Cmp.Lexicographic.{slice_cmp};
 ghost use Rattle.std.specs.Option.{option_copied};
@@ -10,9 +10,12 @@ ghost use Rattle.cap_tree.specs.Measure.{Measure, MayChange};
 ghost use Rattle.cap_tree.specs.Spot.{HoldsOfItem, IsAdded, IsPosition, along, change_along, first, first_failing, has_below, item_at, made_of, spots};
 ghost use Rattle.cap_tree.specs.Finding.{IsFound, IsStart, is_parent};
 ghost use Rattle.cap_tree.specs.Branch.{IsBranch, root_count};
+ghost use Rattle.cap_tree.specs.Serving.{AreRanked, AreServed, index_cmp};
 ghost use Rattle.cap_tree.specs.Service.{HasNoneAfter, HasPathsOnce, IsFirstAfter, IsTop, child_item, children_at, is_after, is_before, items_along};
 
 use crate::found::{Kind, Path};
+use crate::serving::{add_here, parts_of, served_children};
+use crate::waiting::Waiter;
 use cap_model::NoMemory;
 use std::alloc::Allocator;
 use std::cmp::Ordering;
@@ -241,6 +244,39 @@ impl<T: Held + Drop, A: Allocator + Copy> Branch<T, A> {
         }
     }
 
+    /// How many items are on the way that the steps lead: one more than there are steps.
+    pub fn count_on_way(&self, steps: &[u32]) -> usize
+        requires { IsPosition self.now steps.now }
+        ensures value { result ≡ length (items_along steps.now self.now) }
+        ensures steps { result ≡ length steps.now + 1 }
+    {
+        match steps {
+            [] => 1,
+            [i, rest @ ..] => {
+                let child = &self.children[*i as usize];
+                child.count_on_way(rest) + 1
+            }
+        }
+    }
+
+    /// The item at a level on the way that the steps lead, from the root as level 0.
+    pub fn get_on_way(&self, steps: &[u32], level: usize) -> &T
+        requires position { IsPosition self.now steps.now }
+        requires within { level ≤ length steps.now }
+        ensures { slice_get (items_along steps.now self.now) level ≡ Some result.now }
+    {
+        if level == 0 {
+            return self.top();
+        }
+        match steps {
+            [] => unreachable!(),
+            [i, rest @ ..] => {
+                let child = &self.children[*i as usize];
+                child.get_on_way(rest, level - 1)
+            }
+        }
+    }
+
     /// The least level on the way that the steps lead, from the root as level 0, whose item does not pass the test.
     pub fn first_failing<C: Test<T>>(&self, steps: &[u32], test: &C) -> Option<usize>
         requires { IsPosition self.now steps.now }
@@ -331,7 +367,7 @@ impl<T: Held + Drop, A: Allocator + Copy> Branch<T, A> {
     }
 
     /// Its own item, which is above all others.
-    fn top(&self) -> &T
+    pub(crate) fn top(&self) -> &T
         ensures { IsTop T.name result.now self.now }
     {
         &self.item
@@ -364,6 +400,45 @@ impl<T: Held + Drop, A: Allocator + Copy> Branch<T, A> {
         }
         let other = &children[*j as usize];
         child.top().cmp_served(other.top())
+    }
+
+    /// Adds the indexes of what waits in the tree to an order, in the order in which it is served: the items on the ways decide, an item
+    /// before those under it, and of what waits at one item the earlier index comes first. An error means that an allocation failed.
+    pub fn serve<B: Allocator + Copy>(
+        &self,
+        alloc: B,
+        waiting: &[Waiter<'_>],
+        order: &mut Vec<u32, B>,
+    ) -> Result<(), NoMemory>
+    where
+        T: Served,
+        requires placed { All (λ w. IsPosition self.now w.steps) waiting.now }
+        requires rising { AreRanked index_cmp waiting.now }
+        requires once { HasPathsOnce self.now }
+        ensures { OnOk result
+            (AreServed T.order self.now waiting.now order.old.items order.new.items) }
+    {
+        match add_here(waiting, order) {
+            Ok(()) => {}
+            Err(NoMemory) => return Err(NoMemory),
+        }
+        let children = self.children.as_slice();
+        let parts = match parts_of(alloc, children.len(), waiting) {
+            Ok(parts) => parts,
+            Err(NoMemory) => return Err(NoMemory),
+        };
+        let kids = match served_children(alloc, children, &parts) {
+            Ok(kids) => kids,
+            Err(NoMemory) => return Err(NoMemory),
+        };
+        for kid in &kids {
+            let child = &children[*kid as usize];
+            match child.serve(alloc, parts[*kid as usize].waiters(), order) {
+                Ok(()) => {}
+                Err(NoMemory) => return Err(NoMemory),
+            }
+        }
+        Ok(())
     }
 
     /// The index of the child that is served next after that one, the first where none is named, under the item that the steps

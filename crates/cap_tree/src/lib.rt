@@ -8,10 +8,12 @@ mod found;
 mod limits;
 mod order;
 mod queue;
+mod serving;
 mod tree;
+mod waiting;
 
 pub use found::{Found, Path};
 pub use limits::OverLimit;
-pub use order::Waiting;
 pub use queue::Queue;
 pub use tree::QueueTree;
+pub use waiting::Waiter;

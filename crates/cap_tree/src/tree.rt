@@ -1,6 +1,6 @@
 //! The tree of queues, seen as the list of its rows.
 ghost use Rattle.std.specs.Prelude.{◌≡◌, ◌<◌, ◌≤◌, ◌+◌, length, ◌++◌, ◌∷◌, [], map, None, Some, IfErr, IfOk, IfSome, MatchOption, OnOk, OnErr};
-ghost use Rattle.std.specs.List.{All};
+ghost use Rattle.std.specs.List.{All, slice_get};
 ghost use Rattle.std.specs.Cmp.Lexicographic.{slice_cmp};
 ghost use Rattle.std.specs.declared.cmp.Ordering.TheVariants.{Equal};
 ghost use Rattle.cap_model.specs.Choice.{level_cmp};
@@ -14,7 +14,7 @@ ghost use Rattle.cap_tree.specs.Limits.{over_limit};
 ghost use Rattle.cap_tree.specs.Paths.{TreeFitsInMemory};
 ghost use Rattle.cap_tree.specs.Count.{IsPart};
 ghost use Rattle.cap_tree.specs.Queue.{IsUnused, MayGive, MayLeave, count_in, stays_in_user_limit, use_of};
-ghost use Rattle.cap_tree.specs.Rows.{AreRows, FindsQueue, HasRoomAtRoot, active_in, applied_row, entered_row, is_running, left_row, lowered_row, moved_rows, queues_of, root_use, used_at, user_row_at, with_state};
+ghost use Rattle.cap_tree.specs.Rows.{AreRows, FindsQueue, HasRoomAtRoot, active_in, applied_row, entered_row, is_running, items_to, left_row, lowered_row, moved_rows, queues_of, root_use, used_at, user_row_at, with_state};
 ghost use Rattle.cap_tree.specs.Service.{HasNoChildAfter, IsNextChild, levels_at};
 ghost use Rattle.cap_tree.specs.Spot.{HoldsOfItem, IsPosition, item_at, path_at};
 
@@ -36,7 +36,7 @@ use std::marker::Model;
 /// list of rows, each queue before those under it.
 #[derive(Drop)]
 pub struct QueueTree<const K: usize, A: Allocator> {
-    root: Branch<Queue<K, A>, A>,
+    pub(crate) root: Branch<Queue<K, A>, A>,
     start: Path<A>,
 }
 
@@ -281,6 +281,26 @@ impl<const K: usize, A: Allocator + Copy> QueueTree<K, A> {
         ensures { item_at path.now.items self.now ≡ Some result.now }
     {
         self.root.get(path.as_slice())
+    }
+
+    /// How many queues are on the way to the queue, `root` and itself among them.
+    pub fn count_on_way(&self, path: &Path<A>) -> usize
+        requires { IsPosition self.now path.now.items }
+        ensures value { result ≡
+            length (items_to (path_at path.now.items self.now) self.now) }
+        ensures steps { result ≡ length path.now.items + 1 }
+    {
+        self.root.count_on_way(path.as_slice())
+    }
+
+    /// The queue at a level on the way to the queue, where `root` is level 0.
+    pub fn row_on_way(&self, path: &Path<A>, level: usize) -> &Queue<K, A>
+        requires position { IsPosition self.now path.now.items }
+        requires within { level ≤ length path.now.items }
+        ensures { slice_get (items_to (path_at path.now.items self.now) self.now) level
+            ≡ Some result.now }
+    {
+        self.root.get_on_way(path.as_slice(), level)
     }
 
     /// Which of two queues is served first: at the first level below `root` where they differ, the one that uses the smaller

@@ -11,6 +11,8 @@ use Rattle.cap_shared.specs.declared.faults.CommitFault.TheVariants as fault
 use Rattle.cap_shared.specs.declared.history.Sitting.{Sitting}
 use Rattle.cap_shared.specs.Calls.{CopyIs, CommitAnswers, CommitsBack}
 use Rattle.cap_lanes.specs.Sides.{WorkerSide, after_put}
+use Rattle.cap_workers.specs.declared.gate.Outcome.{Outcome}
+use Rattle.cap_workers.specs.declared.gate.Outcome.TheVariants as outcomes
 use Rattle.cap_workers.specs.declared.worker.End.{End}
 use Rattle.cap_workers.specs.declared.worker.End.TheVariants as ends
 use Rattle.cap_workers.specs.declared.worker.OfferEnd.{OfferEnd}
@@ -32,6 +34,12 @@ abbrev pub end_by : Result (Verdict 2) CommitFault → End
 end_by (Ok (verdict.Done event)) = ends.Done event
 end_by (Ok (verdict.Rejected reason)) = ends.Rejected reason
 end_by (Err missed) = end_by_fault missed
+
+-- what came of a commit that was answered so
+abbrev pub outcome_by : Result (Verdict 2) CommitFault → Outcome
+outcome_by (Ok (verdict.Done event)) = outcomes.Made
+outcome_by (Ok (verdict.Rejected reason)) = outcomes.Rejected
+outcome_by (Err missed) = outcomes.Unmade
 
 -- the proposal was committed once, and the end is what that was answered
 abbrev pub IsCommitted : NodeProposal → ℕ → Sitting → Sitting → End → Type 0

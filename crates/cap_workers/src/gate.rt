@@ -1,4 +1,7 @@
 //! Where a worker can be held, and what can be counted there.
+ghost use Rattle.std.specs.Prelude.{◌≡◌};
+ghost use Rattle.cap_workers.specs.Worker.{outcome_by};
+
 use cap_model::Verdict;
 use cap_shared::CommitFault;
 use std::sync::atomic::{AtomicU64, Ordering};
@@ -16,7 +19,9 @@ pub enum Outcome {
 
 impl Outcome {
     /// What came of a commit that was answered so.
-    pub fn of(answer: &Result<Verdict<2>, CommitFault>) -> Outcome {
+    pub fn of(answer: &Result<Verdict<2>, CommitFault>) -> Outcome
+        ensures { result ≡ outcome_by answer.now }
+    {
         match answer {
             Ok(Verdict::Done(_)) => Outcome::Made,
             Ok(Verdict::Rejected(_)) => Outcome::Rejected,

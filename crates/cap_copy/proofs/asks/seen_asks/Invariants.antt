@@ -1,6 +1,6 @@
-use Rattle.std.proofs.Common.{◌≡◌, take}
-use Rattle.cap_copy.specs.Entries.{ask_entries, registered_of}
+use Rattle.std.proofs.Common.{◌≡◌, map, take}
+use Rattle.cap_copy.specs.Entries.{ask_entries}
 use Rattle.cap_copy.proofs.asks.seen_asks.Given as goal
 
 abbrev pub invariant-loop-index : goal.invariant-loop-index
-invariant-loop-index g l = l.asks.items ≡ ask_entries l.nodes (registered_of l.apps.table.active) (take l.index-index l.order)
+invariant-loop-index g l = l.asks.items ≡ ask_entries l.nodes (map (λ r. r.app) l.registered) (take l.index-index l.order)

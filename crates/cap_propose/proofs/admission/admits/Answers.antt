@@ -14,11 +14,11 @@ returns-then-not-has_numbers g c = without_numbers g.row.K c.args.snapshot.now c
 
 pub returns-then-not-is_in_limits : goal.returns-then-not-is_in_limits
 returns-then-not-is_in_limits g c =
-    over_limits g.row.K c.args.snapshot.now c.args.node.now c.args.ask.now c.requires.node c.requires.ask c.is_in_limits.ensures.rows
-    (ap (is_in_limits g.row.K c.args.snapshot.now c.args.ask.now) (sym c.room_back.ensures) ∙ sym c.is_in_limits.ensures.value ∙ c.if-not-is_in_limits.true)
+    over_limits g.row.K c.args.snapshot.now c.args.node.now c.args.ask.now c.requires.node c.requires.ask
+    (ap (is_in_limits c.args.snapshot.now c.args.ask.now) (sym c.room_back.ensures) ∙ sym c.is_in_limits.ensures ∙ c.if-not-is_in_limits.true)
 
 pub returns : goal.returns
 returns g c =
-    admitted g.row.K c.args.snapshot.now c.args.node.now c.args.ask.now c.requires.node c.requires.ask c.is_in_limits.ensures.rows c.in-Some.kind (sym c.room_kind.ensures ∙ c.in-Some.is) (sym c.suits.ensures ∙ c.if-not-suits.false)
+    admitted g.row.K c.args.snapshot.now c.args.node.now c.args.ask.now c.requires.node c.requires.ask c.in-Some.kind (sym c.room_kind.ensures ∙ c.in-Some.is) (sym c.suits.ensures ∙ c.if-not-suits.false)
     (sym c.has_numbers.ensures ∙ c.if-not-has_numbers.false)
-    (ap (is_in_limits g.row.K c.args.snapshot.now c.args.ask.now) (sym c.room_back.ensures) ∙ sym c.is_in_limits.ensures.value ∙ c.if-not-is_in_limits.false)
+    (ap (is_in_limits c.args.snapshot.now c.args.ask.now) (sym c.room_back.ensures) ∙ sym c.is_in_limits.ensures ∙ c.if-not-is_in_limits.false)

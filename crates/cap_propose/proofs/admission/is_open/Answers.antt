@@ -12,11 +12,11 @@ returns-then-not-has_numbers-clause-closed g c = λ closed. closed_without_numbe
 pub returns-clause-closed : goal.returns-clause-closed
 returns-clause-closed g c =
     λ closed.
-    closed_over_limits g.row.K c.args.snapshot.now c.args.ask.now c.requires.ask c.is_in_limits.ensures.rows
-    (ap (is_in_limits g.row.K c.args.snapshot.now c.args.ask.now) (sym c.zero.ensures) ∙ sym c.is_in_limits.ensures.value ∙ closed)
+    closed_over_limits g.row.K c.args.snapshot.now c.args.ask.now c.requires.ask
+    (ap (is_in_limits c.args.snapshot.now c.args.ask.now) (sym c.zero.ensures) ∙ sym c.is_in_limits.ensures ∙ closed)
 
 pub returns-clause-admits : goal.returns-clause-admits
 returns-clause-admits g c =
     λ yes.
-    open_is g.row.K c.args.snapshot.now c.args.ask.now c.requires.ask c.is_in_limits.ensures.rows c.wanted.result c.wanted.ensures c.if-wanted-eq0.false (sym c.has_numbers.ensures ∙ c.if-not-has_numbers.false)
-    (ap (is_in_limits g.row.K c.args.snapshot.now c.args.ask.now) (sym c.zero.ensures) ∙ sym c.is_in_limits.ensures.value ∙ yes)
+    open_is g.row.K c.args.snapshot.now c.args.ask.now c.requires.ask c.wanted.result c.wanted.ensures c.if-wanted-eq0.false (sym c.has_numbers.ensures ∙ c.if-not-has_numbers.false)
+    (ap (is_in_limits c.args.snapshot.now c.args.ask.now) (sym c.zero.ensures) ∙ sym c.is_in_limits.ensures ∙ yes)

@@ -1,16 +1,116 @@
-use Rattle.std.proofs.Common.{List, subst, sym, rules}
+use Rattle.std.proofs.Common.{rules, ◌≡◌, ◌<◌, ◌≤◌, ◌++◌, ◌∷◌, [], List, ℕ, ap, length, map, subst, sym, ◌∙◌}
 use Rattle.std.specs.List.{All}
-use Rattle.cap_model.specs.Flat.{App}
-use Rattle.cap_tree.specs.Rows.{IsAt, Row}
-use Rattle.cap_asks.specs.Apps.{position_of}
+use Rattle.cap_model.specs.Limits.{applications_max}
+use Rattle.cap_tree.specs.ServiceOrder.{IsServiceOrder}
+use Rattle.cap_tree.specs.Serving.{AreNumbered, Waiter}
+use Rattle.cap_tree.specs.Spot.{IsPosition}
+use Rattle.cap_asks.specs.Held.{AreKept, HeldApp}
+use Rattle.cap_copy.specs.Entries.{ask_entries}
+use Rattle.cap_copy.specs.Limits.{IsEachOnce, limit_of}
+use Rattle.cap_copy.specs.Snapshot.{IsSnapshot}
+use Rattle.cap_copy.specs.Sources.{apps_in, rows_in}
+use Rattle.cap_copy.proofs.Sights.{each_once_in, few_registered, is_whole, placed_all, positions_there, waiters_placed}
 use Rattle.cap_copy.proofs.snapshot.Snapshot.take.Goals as goal
 
-pub copy_tree-requires : goal.copy_tree-requires
-copy_tree-requires g c = (search rules, c.requires.fits.tree)
+pub waiters-requires : goal.waiters-requires
+waiters-requires g c =
+    (search rules, subst (λ (rs : List HeldApp). length rs ≤ applications_max) (sym c.deref.ensures.value) (few_registered c.args.apps.now.table.active c.in-Ok.registered.items applications_max c.in-Ok.ensures.apps c.requires.few))
 
-pub with_tree-requires : goal.with_tree-requires
-with_tree-requires g c =
-    let r = c.requires in
+pub service_order-requires : goal.service_order-requires
+service_order-requires g c =
     let apps = c.args.apps.now in
-    let placed = subst (λ (rows : List Row). All (λ (app : App). IsAt rows app.leaf (position_of app.number apps.accounts)) apps.table.active) (sym c.in-Ok.ensures) r.placed in
-    (r.fits.tree, (search rules, (search rules, (r.fits.snapshot, (r.fits, (r.resources, (r.few, (placed, (r.apart, r.present)))))))))
+    let rows = c.args.tree.now in
+    let registered = c.in-Ok.registered.items in
+    let same = c.in-Ok-waiters.ensures.steps ∙ ap (map (λ (r : HeldApp). r.account.position)) c.deref.ensures.value in
+    let placed = waiters_placed rows registered c.in-Ok-waiters.waiting.items same (placed_all rows apps.accounts apps.table.active registered c.in-Ok.ensures.apps c.in-Ok.ensures.accounts c.requires.placed) in (
+      search rules,
+      (
+        subst (λ (ws : List Waiter). All (λ w. IsPosition rows w.steps) ws) (sym c.deref-2.ensures.value) placed,
+        subst (λ (ws : List Waiter). AreNumbered 0 ws) (sym c.deref-2.ensures.value) c.in-Ok-waiters.ensures.numbered,
+      ),
+    )
+
+pub limits_of-requires : goal.limits_of-requires
+limits_of-requires g c =
+    let apps = c.args.apps.now in
+    let rows = c.args.tree.now in
+    let registered = c.in-Ok.registered.items in
+    let order = c.in-Ok-service_order.order.items in
+    let same = ap (map (λ (w : Waiter). w.steps)) c.deref-2.ensures.value ∙ c.in-Ok-waiters.ensures.steps ∙ ap (map (λ (r : HeldApp). r.account.position)) c.deref.ensures.value in
+    let served = subst (λ ps. IsServiceOrder rows ps order) same c.in-Ok-service_order.ensures.order in
+    let placed = positions_there rows registered (placed_all rows apps.accounts apps.table.active registered c.in-Ok.ensures.apps c.in-Ok.ensures.accounts c.requires.placed) in
+    let each = each_once_in rows registered order served in (
+      search rules,
+      (
+        search rules,
+        (
+          search rules,
+          (
+            c.requires.resources,
+            (
+              subst (λ (rs : List HeldApp). All (λ r. IsPosition rows r.account.position) rs) (sym c.deref-3.ensures.value) placed,
+              subst (λ (rs : List HeldApp). IsEachOnce (length rs) c.deref-4.result.now) (sym c.deref-3.ensures.value) (subst (λ (is : List ℕ). IsEachOnce (length registered) is) (sym c.deref-4.ensures.value) each),
+            ),
+          ),
+        ),
+      ),
+    )
+
+pub seen_asks-requires : goal.seen_asks-requires
+seen_asks-requires g c =
+    let rows = c.args.tree.now in
+    let registered = c.in-Ok.registered.items in
+    let order = c.in-Ok-service_order.order.items in
+    let same = ap (map (λ (w : Waiter). w.steps)) c.deref-2.ensures.value ∙ c.in-Ok-waiters.ensures.steps ∙ ap (map (λ (r : HeldApp). r.account.position)) c.deref.ensures.value in
+    let served = subst (λ ps. IsServiceOrder rows ps order) same c.in-Ok-service_order.ensures.order in
+    let within = (each_once_in rows registered order served).within in (
+      search rules,
+      (
+        search rules,
+        (
+          search rules,
+          (
+            c.requires.resources,
+            subst (λ (rs : List HeldApp). All (λ i. i < length rs) c.deref-5.result.now) (sym c.deref-6.ensures.value) (subst (λ (is : List ℕ). All (λ i. i < length registered) is) (sym c.deref-5.ensures.value) within),
+          ),
+        ),
+      ),
+    )
+
+pub invariant_of-result : goal.invariant_of-result
+invariant_of-result g c =
+    let K = g.row.K in
+    let apps = c.args.apps.now in
+    let rows = c.args.tree.now in
+    let nodes = c.args.nodes.now in
+    let registered = c.in-Ok.registered.items in
+    let order = c.in-Ok-service_order.order.items in
+    let same = ap (map (λ (w : Waiter). w.steps)) c.deref-2.ensures.value ∙ c.in-Ok-waiters.ensures.steps ∙ ap (map (λ (r : HeldApp). r.account.position)) c.deref.ensures.value in
+    let sources = c.and.ensures ∙ ap (λ l. l ++ (rows, apps) ∷ []) c.new.ensures in
+    let limits = c.in-Ok-limits_of.ensures ∙ ap (map (limit_of K rows)) c.deref-3.ensures.value in
+    let asks =
+    c.in-Ok-seen_asks.ensures.entries
+    ∙ (λ k. ask_entries nodes (map (λ (r : HeldApp). r.app) (c.deref-6.ensures.value k)) (c.deref-5.ensures.value k))
+    ∙ ap (λ list. ask_entries nodes list order) c.in-Ok.ensures.apps in
+    subst (IsSnapshot K)
+    (sym (λ k. record {
+      rows = rows_in (sources k);
+      apps = apps_in (sources k);
+      limits = limits k;
+      asks = asks k;
+      nodes = c.in-Ok-seen_nodes.ensures.entries k;
+      live = c.live_count.ensures.value k;
+      next_container = c.next_container.ensures k;
+    }))
+    (is_whole K rows apps.table apps.accounts nodes registered order (record {
+      rows_are = c.in-Ok-service_order.ensures.rows;
+      rising = c.in-Ok.ensures.rising;
+      kept = subst (λ (rs : List HeldApp). All (λ r. AreKept r.app.asks) rs) c.deref-6.ensures.value c.in-Ok-seen_asks.ensures.kept;
+      placed = c.requires.placed;
+      numbers = c.in-Ok-seen_nodes.ensures.rising;
+      apart = c.requires.apart;
+      there = c.requires.present;
+      apps_are = c.in-Ok.ensures.apps;
+      accounts_are = c.in-Ok.ensures.accounts;
+      served = subst (λ ps. IsServiceOrder rows ps order) same c.in-Ok-service_order.ensures.order;
+    }))

@@ -1,0 +1,9 @@
+use Rattle.std.proofs.Common.{length}
+use Rattle.cap_tree.specs.Serving.{AreServedTo}
+use Rattle.cap_tree.proofs.branch.Branch.+serve.Given as goal
+
+abbrev pub decreases-serve : goal.decreases-serve
+decreases-serve g l = length l.self.now
+
+abbrev pub invariant-loop-kid : goal.invariant-loop-kid
+invariant-loop-kid g l = AreServedTo g.T.Served.order l.self l.waiting l.kid-items l.kid-index l.fn.order.items l.order.items
