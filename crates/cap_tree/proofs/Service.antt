@@ -79,56 +79,9 @@ module _ {T : Type 0} where
       pub once_in_child : HasPathsOnce value → HasPathsOnce kid
       once_in_child once s t m n q = ap (drop 1) (once (under (name item) i s) (under (name item) i t) (in_child_spot s m) (in_child_spot t n) (ap (λ x. name item ++ dot ∷ x) q))
 
-    -- which of two is served first
+    -- children in the order
 
     module _ (order : T → T → Ordering) (total : IsTotalOrder order) where
-      pub record IsServed (a b : List ℕ) (r : Ordering) : Type 0 where
-        pub all : r ≡ slice_cmp order (items_along a value) (items_along b value)
-        pub below : r ≡ slice_cmp order (drop 1 (items_along a value)) (drop 1 (items_along b value))
-        pub apart : r ≡ Equal → a ≡ b
-
-      both_begin : (a b : List ℕ) (xs ys : List T) (r : Ordering) → items_along a value ≡ item ∷ xs → items_along b value ≡ item ∷ ys → r ≡ slice_cmp order xs ys → (r ≡ Equal → a ≡ b) → IsServed a b r
-      both_begin a b xs ys r ea eb h tie = record {
-        all = h ∙ sym (ap (λ o. ordering_then o (slice_cmp order xs ys)) (tied_itself total item)) ∙ (λ j. slice_cmp order (sym ea j) (sym eb j));
-        below = h ∙ (λ j. slice_cmp order (drop 1 (sym ea j)) (drop 1 (sym eb j)));
-        apart = tie;
-      }
-
-      child_along : (b : List ℕ) (j : ℕ) (q : List ℕ) → b ≡ j ∷ q → IsPosition value b → IsSome (drop 1 (items_along b value)) × (items_along b value ≡ item ∷ drop 1 (items_along b value))
-      child_along b j q eb h =
-          let there : IsPosition (spots name item kids) (j ∷ q) = subst (λ v. IsPosition v (j ∷ q)) (sym e) (subst (IsPosition value) eb h) in
-          let w = holds-within (λ _. Unit {0}) name item j q kids there in
-          let in_kid : IsPosition (get_or kids j []) q = subst (HoldsOfItem (λ _. Unit {0})) (item_at-spots name item j q kids) there in
-          let s = some_along q (get_or kids j []) in_kid in
-          let whole : items_along b value ≡ item ∷ items_along q (get_or kids j []) = ap (λ x. items_along x value) eb ∙ items_in_child j (get_or kids j []) w (get_or_default kids j [] (get_or kids j []) w) q in
-          let rest : drop 1 (items_along b value) ≡ items_along q (get_or kids j []) = ap (drop 1) whole in
-          (record { head = s.head; tail = s.tail; is = rest ∙ s.is }, whole ∙ ap (λ t. item ∷ t) (sym rest))
-
-      pub served_at_root : (a b : List ℕ) (r : Ordering) → a ≡ [] → IsPosition value b → r ≡ nat_cmp 0 (length b) → IsServed a b r
-      served_at_root a [] r ea h er = both_begin a [] [] [] r (ap (λ x. items_along x value) ea ∙ items_at_root) items_at_root er (λ _. ea)
-      served_at_root a (j ∷ q) r ea h er =
-          let c = child_along (j ∷ q) j q refl h in
-          both_begin a (j ∷ q) [] (drop 1 (items_along (j ∷ q) value)) r (ap (λ x. items_along x value) ea ∙ items_at_root) c.1 (er ∙ sym (nat_cmp_is 0 (length (j ∷ q)) Less (omega arith)) ∙ sym (ap (slice_cmp order []) c.0.is))
-          (λ t. let less = nat_cmp_is 0 (length (j ∷ q)) Less (omega arith) in absurd (cc (less, er, t)))
-
-      pub served_above : (a b : List ℕ) (i : ℕ) (p : List ℕ) (r : Ordering) → a ≡ i ∷ p → b ≡ [] → IsPosition value a → r ≡ Greater → IsServed a b r
-      served_above a b i p r ea eb h er =
-          let c = child_along a i p ea h in
-          both_begin a b (drop 1 (items_along a value)) [] r c.1 (ap (λ x. items_along x value) eb ∙ items_at_root) (er ∙ sym (ap (λ xs. slice_cmp order xs []) c.0.is)) (λ t. absurd (cc (er, t)))
-
-      pub served_in_child : (a b : List ℕ) (i j : ℕ) (p q : List ℕ) (kid : List (Spot T)) (r : Ordering) → a ≡ i ∷ p → b ≡ j ∷ q → i ≡ j → i < length kids → kid ≡ get_or kids i kid →
-          r ≡ slice_cmp order (items_along p kid) (items_along q kid) → (r ≡ Equal → p ≡ q) → IsServed a b r
-      served_in_child a b i j p q kid r ea eb same w k h tie =
-          both_begin a b (items_along p kid) (items_along q kid) r
-          (ap (λ x. items_along x value) ea ∙ items_in_child i kid w k p)
-          (ap (λ x. items_along x value) (eb ∙ ap (λ x. x ∷ q) (sym same)) ∙ items_in_child i kid w k q) h
-          (λ t. ea ∙ (λ n. same n ∷ tie t n) ∙ sym eb)
-
-      first_decides : (o p : Ordering) → o ≢ Equal → o ≡ ordering_then o p
-      first_decides Less p h = refl
-      first_decides Equal p h = absurd (h refl)
-      first_decides Greater p h = refl
-
       -- no two children are alike
       pub kids_apart : ((x y : T) → order x y ≡ Equal → name x ≡ name y) → HasPathsOnce value → (i j : ℕ) (kid other : List (Spot T)) (x y : T) →
           i < length kids → kid ≡ get_or kids i kid → IsTop name x kid → j < length kids → other ≡ get_or kids j other → IsTop name y other → order x y ≡ Equal → i ≡ j
@@ -136,16 +89,6 @@ module _ {T : Type 0} where
           let m = in_child_spot i kid w k (record { position = []; path = name x; item = x }) (subst (IsIn _) (sym t.is) (inl refl)) in
           let n = in_child_spot j other v l (record { position = []; path = name y; item = y }) (subst (IsIn _) (sym u.is) (inl refl)) in
           ap (λ z. get_or z 0 0) (once _ _ m n (ap (λ z. name item ++ dot ∷ z) (names x y h)))
-
-      pub served_apart : ((x y : T) → order x y ≡ Equal → name x ≡ name y) → HasPathsOnce value → (a b : List ℕ) (i j : ℕ) (p q : List ℕ) (kid other : List (Spot T)) (x y : T) (r : Ordering) → a ≡ i ∷ p → b ≡ j ∷ q → i ≢ j →
-          i < length kids → kid ≡ get_or kids i kid → IsTop name x kid → j < length kids → other ≡ get_or kids j other → IsTop name y other → r ≡ order x y → IsServed a b r
-      served_apart names once a b i j p q kid other x y r ea eb apart w k t v l u er =
-          let xs = map (λ s. s.item) (along p (below (name x) 0 t.kids)) in
-          let ys = map (λ s. s.item) (along q (below (name y) 0 u.kids)) in
-          let first : items_along a value ≡ item ∷ x ∷ xs = ap (λ z. items_along z value) ea ∙ items_in_child i kid w k p ∙ ap (λ z. item ∷ items_along p z) t.is in
-          let second : items_along b value ≡ item ∷ y ∷ ys = ap (λ z. items_along z value) eb ∙ items_in_child j other v l q ∙ ap (λ z. item ∷ items_along q z) u.is in
-          let differ : order x y ≢ Equal = λ h. apart (kids_apart names once i j kid other x y w k t v l u h) in
-          both_begin a b (x ∷ xs) (y ∷ ys) r first second (er ∙ first_decides (order x y) (slice_cmp order xs ys) differ) (λ t. absurd (differ (sym er ∙ t)))
 
 -- the child with that index, none where none is named
 abbrev pub named : {T : Type 0} → (ℕ → Option T) → Option ℕ → Option T

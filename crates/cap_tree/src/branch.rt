@@ -373,35 +373,6 @@ impl<T: Held + Drop, A: Allocator + Copy> Branch<T, A> {
         &self.item
     }
 
-    /// Which of the items that the steps lead to is served first: the first items that differ on the way decide, and an item
-    /// is before those under it. It takes no memory.
-    pub fn cmp_served(&self, a: &[u32], b: &[u32]) -> Ordering
-    where
-        T: Served,
-        requires a { IsPosition self.now a.now }
-        requires b { IsPosition self.now b.now }
-        requires once { HasPathsOnce self.now }
-        ensures all { result ≡
-            slice_cmp T.order (items_along a.now self.now) (items_along b.now self.now) }
-        ensures below { result ≡ slice_cmp T.order
-            (drop 1 (items_along a.now self.now)) (drop 1 (items_along b.now self.now)) }
-        ensures apart { result ≡ Equal → a.now ≡ b.now }
-    {
-        let children = &self.children;
-        let [i, rest @ ..] = a else {
-            return 0.cmp(&b.len());
-        };
-        let [j, others @ ..] = b else {
-            return Ordering::Greater;
-        };
-        let child = &children[*i as usize];
-        if *i == *j {
-            return child.cmp_served(rest, others);
-        }
-        let other = &children[*j as usize];
-        child.top().cmp_served(other.top())
-    }
-
     /// Adds the indexes of what waits in the tree to an order, in the order in which it is served: the items on the ways decide, an item
     /// before those under it, and of what waits at one item the earlier index comes first. An error means that an allocation failed.
     pub fn serve<B: Allocator + Copy>(

@@ -12,9 +12,11 @@ use cap_model::NoMemory;
 use std::alloc::Allocator;
 
 impl<const K: usize, A: Allocator + Copy> QueueTree<K, A> {
-    /// The indexes of what waits, in the order of service: the queue that `cmp_served` puts first, and of two that wait at one
-    /// queue the earlier index. It looks at the queues that something waits in, at those above them and at their siblings. An error
-    /// means that an allocation failed. And what `find` says of every tree.
+    /// The indexes of what waits, in the order of service: at the first level below `root` where two queues differ, the one that
+    /// uses the smaller part of its own guarantee, by its dominant share first, and of two that are as full the lesser name in
+    /// byte order. A queue is before those under it, and of two that wait at one queue the earlier index. It looks at the queues that
+    /// something waits in, at those above them and at their siblings. An error means that an allocation failed. And what `find`
+    /// says of every tree.
     pub fn service_order<B: Allocator + Copy>(
         &self,
         alloc: B,

@@ -19,7 +19,7 @@ use std::marker::Model;
 type Users<const K: usize, A> = IndexMap<ShortText, Total<K>, BuildHasherDefault<FoldHasher>, A>;
 
 /// A queue: its settings, and what is used and active in it and under it. Contracts see it as the record of these and of
-/// what is counted of each of its own users, in no order.
+/// what is counted of each of its own users, in no order. The shares of its use are kept, since each comparison asks for them.
 #[derive(Drop)]
 pub struct Queue<const K: usize, A: Allocator> {
     name: Vec<u8, A>,
@@ -28,11 +28,13 @@ pub struct Queue<const K: usize, A: Allocator> {
     factor: u64,
     running: bool,
     count: Total<K>,
+    shares: Shares<K>,
     users: Users<K, A>,
 }
 
 impl<const K: usize, A: Allocator> Model for Queue<K, A> {
     ghost use Rattle.std.specs.Coded.{codes};
+    ghost use Rattle.cap_vector.specs.Fullness.{shares};
     ghost use Rattle.std.specs.FinMap.{from_entries};
     ghost use Rattle.cap_tree.specs.Queue.{Queue as Row, users_code};
 
@@ -50,6 +52,8 @@ impl<const K: usize, A: Allocator> Model for Queue<K, A> {
       active = q.count.active;
       users = from_entries q.users.entries;
     } };
+
+    ghost invariant = { λ q. q.shares ≡ shares q.count.used q.guaranteed };
 }
 
 impl<const K: usize, A: Allocator> Held for Queue<K, A> {
@@ -86,6 +90,7 @@ impl<const K: usize, A: Allocator, B: Allocator + Copy> CopyIn<Queue<K, B>, B> f
             factor: self.factor,
             running: self.running,
             count: self.count,
+            shares: self.shares,
             users,
         })
     }
@@ -104,9 +109,7 @@ impl<const K: usize, A: Allocator> Served for Queue<K, A> {
     ghost order = { queue_cmp };
 
     fn cmp_served(&self, other: &Queue<K, A>) -> Ordering {
-        let own = Shares::of(&self.count.used, &self.guaranteed);
-        let others = Shares::of(&other.count.used, &other.guaranteed);
-        let order = cmp_shares(&own, &others);
+        let order = cmp_shares(&self.shares, &other.shares);
         if order.is_ne() {
             return order;
         }
@@ -127,13 +130,16 @@ impl<const K: usize, A: Allocator + Copy> Queue<K, A> {
         let Ok(name) = Vec::from_slice(alloc, last_name(path.as_bytes())) else {
             return Err(NoMemory);
         };
+        let guaranteed = row.guaranteed();
+        let count = Total::zero();
         Ok(Queue {
             name,
-            guaranteed: row.guaranteed(),
+            guaranteed,
             maximum: row.maximum(),
             factor: row.factor(),
             running: row.is_running(),
-            count: Total::zero(),
+            count,
+            shares: Shares::of(&count.used, &guaranteed),
             users: IndexMap::new(alloc),
         })
     }
@@ -256,6 +262,7 @@ impl<const K: usize, A: Allocator> Queue<K, A> {
         ensures { self.new ≡ moved_above old.now new.now self.old }
     {
         self.count = moved(&self.count, old, new);
+        self.shares = Shares::of(&self.count.used, &self.guaranteed);
     }
 
     /// Takes an old part away from what is counted of a user and of the queue, and adds a new one. `NoMemory` changes nothing, and

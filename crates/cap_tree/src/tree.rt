@@ -303,30 +303,6 @@ impl<const K: usize, A: Allocator + Copy> QueueTree<K, A> {
         self.root.get_on_way(path.as_slice(), level)
     }
 
-    /// Which of two queues is served first: at the first level below `root` where they differ, the one that uses the smaller
-    /// part of its own guarantee, by its dominant share first, and of two that are as full the lesser name in byte order. A
-    /// queue is before those under it. No two queues are alike. It takes no memory.
-    pub fn cmp_served(&self, a: &Path<A>, b: &Path<A>) -> Ordering
-        requires a { IsPosition self.now a.now.items }
-        requires b { IsPosition self.now b.now.items }
-        ensures order { result ≡ slice_cmp level_cmp
-            (levels_at a.now.items self.now) (levels_at b.now.items self.now) }
-        ensures apart { result ≡ Equal → a.now.items ≡ b.now.items }
-    {
-        self.cmp_at(a.as_slice(), b.as_slice())
-    }
-
-    /// The same by the child indexes that lead to the two queues.
-    pub(crate) fn cmp_at(&self, a: &[u32], b: &[u32]) -> Ordering
-        requires a { IsPosition self.now a.now }
-        requires b { IsPosition self.now b.now }
-        ensures order { result ≡ slice_cmp level_cmp
-            (levels_at a.now self.now) (levels_at b.now self.now) }
-        ensures apart { result ≡ Equal → a.now ≡ b.now }
-    {
-        self.root.cmp_served(a, b)
-    }
-
     /// The index of the child of the queue that is served next after that child, and of the first where none is named: the
     /// less full child first, and of two that are as full the lesser name in byte order. None where no child is left. It takes
     /// no memory.
