@@ -1,5 +1,5 @@
 -- The limits of applications, as they are stored one after the other and tested.
-use Rattle.std.proofs.Common.{◌≡◌, ℕ, suc, ◌+◌, ◌-◌, ◌<◌, ◌≤◌, Bool, true, false, ◌&&◌, List, [], ◌∷◌, ◌++◌, length, map, filter, take, drop, get_or, set, refl, sym, subst, ◌∙◌, ap, arith, inl, inr}
+use Rattle.std.proofs.Common.{◌≡◌, ℕ, suc, ◌+◌, ◌-◌, ◌<◌, ◌≤◌, Bool, true, false, ◌&&◌, List, [], ◌∷◌, ◌++◌, length, map, take, drop, get_or, set, refl, sym, subst, ◌∙◌, ap, arith, inl, inr}
 use Rattle.std.specs.Prelude.{Option, Some, option_map, ◌==◌}
 use Rattle.std.specs.List.{All, list_all, slice_get}
 use Rattle.std.specs.Option.{option_map_or}
@@ -7,7 +7,7 @@ use Rattle.std.proofs.lemmas.Bool.{cases_lt, eq-eqb, eqb-true}
 use Rattle.std.proofs.lemmas.List.{drop-append-le, ext_get_or, get_or_append_left, get_or_default, get_or-set_other, get_or-set_same, length-map, length-set, take-append-le, take_all, take_more}
 use Rattle.std.proofs.lemmas.List.Elements.{All-push}
 use Rattle.std.proofs.lemmas.List.Folds.{list_all-append}
-use Rattle.std.proofs.lemmas.Option.{get_or_from_slice_get, slice_get-get_or, slice_get-map, slice_get_within}
+use Rattle.std.proofs.lemmas.Option.{get_or_from_slice_get, slice_get-get_or, slice_get-map}
 use Rattle.std.proofs.Math.Seq.{drop-append_seam, get_or-append_seam}
 use Rattle.cap_vector.specs.Vector.{amounts_exchanged}
 use Rattle.cap_model.specs.Admission.{fits_user_limit}
@@ -17,7 +17,7 @@ use Rattle.cap_tree.specs.Queue.{Queue}
 use Rattle.cap_tree.specs.Rows.{Row, items_to}
 use Rattle.cap_tree.specs.Spot.{item_at, path_at}
 use Rattle.cap_asks.specs.Held.{HeldApp}
-use Rattle.cap_copy.specs.Limits.{AreStored, IsEachOnce, IsLast, IsOneMore, IsUserAdded, IsUserSeen, StoredUser, fits_in_queue, limit_at, limit_in, limit_of, limits_in, no_limit, no_user, queue_use}
+use Rattle.cap_copy.specs.Limits.{AreStored, IsEachOnce, IsLast, IsUserAdded, IsUserSeen, StoredUser, fits_in_queue, limit_at, limit_in, limit_of, limits_in, no_limit, no_user, queue_use}
 use Rattle.cap_copy.specs.Snapshot.{Limit, QueueUse, stays_within}
 use Rattle.cap_copy.proofs.Steps.{slice_get_in}
 

@@ -24,14 +24,14 @@ use Rattle.cap_tree.specs.Rows.{AreRows, IsAt, Row, items_to, rows_to}
 use Rattle.cap_tree.specs.Service.{levels_at}
 use Rattle.cap_tree.specs.ServiceOrder.{IsServiceOrder, position_nth}
 use Rattle.cap_tree.specs.Serving.{Waiter}
-use Rattle.cap_tree.specs.Spot.{IsPosition, item_at, path_at}
+use Rattle.cap_tree.specs.Spot.{IsPosition, path_at}
 use Rattle.cap_tree.proofs.RowPaths.{at_position}
 use Rattle.cap_asks.specs.Apps.{account_of, position_of}
 use Rattle.cap_asks.specs.Held.{Account, AreKept, HeldApp}
 use Rattle.cap_asks.proofs.Keeping.{before_not_same}
 use Rattle.cap_copy.specs.Entries.{ask_entries, registered_of, wanted_of}
 use Rattle.cap_copy.specs.Limits.{IsEachOnce, limit_in, limit_of, no_limit, queue_use}
-use Rattle.cap_copy.specs.Snapshot.{AskEntry, IsAskEntry, IsLimitOf, IsSnapshot, Limit, QueueUse, Seen, asks_for, queue_seen, sight_in}
+use Rattle.cap_copy.specs.Snapshot.{AskEntry, IsAskEntry, IsLimitOf, IsSnapshot, QueueUse, Seen, asks_for, queue_seen, sight_in}
 use Rattle.cap_copy.specs.Taking.{IsSnapshotOf, node_seen}
 use Rattle.cap_copy.proofs.Blocks.{asks_for_is}
 use Rattle.cap_copy.proofs.Found.{row_found}

@@ -1,16 +1,14 @@
 -- One step of a loop over applications, asks or nodes.
-use Rattle.std.proofs.Common.{◌≡◌, ℕ, zero, suc, ◌+◌, Bool, true, false, List, [], ◌∷◌, ◌++◌, refl, sym, subst, ◌∙◌, ap, inl, inr, take}
-use Rattle.std.specs.Prelude.{Option, Some, None, cond, find, flat_map, map, option_map, ◌==◌}
+use Rattle.std.proofs.Common.{◌≡◌, ℕ, zero, suc, ◌+◌, List, [], ◌∷◌, ◌++◌, sym, subst, ◌∙◌, ap, inl, inr, take}
+use Rattle.std.specs.Prelude.{Option, Some, cond, flat_map, map}
 use Rattle.std.specs.List.{All, slice_get}
 use Rattle.std.specs.Option.{option_map_or}
 use Rattle.std.proofs.lemmas.List.{append-nil, map_push, take_more}
 use Rattle.std.proofs.lemmas.List.Elements.{All-push, filter-append}
 use Rattle.std.proofs.lemmas.Grind.{flat_map-append}
-use Rattle.std.proofs.lemmas.Option.{get_or_from_slice_get, slice_get-map, slice_get_within, same_Some}
-use Rattle.cap_model.specs.Bounds.{IsRising}
+use Rattle.std.proofs.lemmas.Option.{get_or_from_slice_get, slice_get_within, same_Some}
 use Rattle.cap_model.specs.Flat.{App, NodeTable}
-use Rattle.cap_model.proofs.lists.Members.{IsIn, each_of, of_each, of_filter, of_map}
-use Rattle.cap_model.proofs.lists.Numbered.{found_by_number}
+use Rattle.cap_model.proofs.lists.Members.{IsIn}
 use Rattle.cap_copy.specs.Entries.{ask_entries, asks_at, asks_of, registered_of}
 
 module _ {A : Type 0} where

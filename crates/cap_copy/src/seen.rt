@@ -1,6 +1,5 @@
 //! What a snapshot keeps of an ask and of a node.
 ghost use Rattle.std.specs.Prelude.{◌≡◌};
-ghost use Rattle.cap_vector.specs.Vector.{IsResource};
 
 use cap_model::{Ask, Reservation, ShortText};
 use cap_vector::Resource;

@@ -1,5 +1,5 @@
 -- The choice on a node is the first ask, in the order of service, that is admitted there.
-use Rattle.std.proofs.Common.{◌≡◌, ℕ, zero, suc, ◌+◌, ◌<◌, ◌≤◌, true, false, List, [], ◌∷◌, length, map, Some, None, refl, sym, ◌∙◌, ap, subst, inl, inr, arith}
+use Rattle.std.proofs.Common.{◌≡◌, ℕ, zero, suc, ◌+◌, ◌<◌, ◌≤◌, true, false, List, [], ◌∷◌, length, Some, None, refl, sym, ◌∙◌, ap, subst, inl, inr, arith}
 use Rattle.std.specs.Prelude.{◌==◌, Option, option_and_then, bytes_eq, filter, find, unwrap_or}
 use Rattle.std.specs.List.{slice_get}
 use Rattle.std.specs.Ordering.{is_gt}

@@ -1,6 +1,5 @@
 //! Whether an ask may be proposed on a node, and as what.
 ghost use Rattle.std.specs.Prelude.{◌≡◌, ◌&&◌, ◌||◌, ◌∷◌, [], bytes_eq, false, true};
-ghost use Rattle.cap_vector.specs.Vector.{IsResource};
 ghost use Rattle.cap_model.specs.Amounts.{fits};
 ghost use Rattle.cap_model.specs.Texts.{star};
 ghost use Rattle.cap_model.specs.Flat.{is_for};

@@ -24,8 +24,8 @@ use Rattle.cap_model.specs.Choice.{level_cmp}
 use Rattle.cap_tree.specs.Rows.{Row, AreRows}
 use Rattle.cap_tree.specs.Service.{HasPathsOnce, IsTop, items_along, levels_at, queue_cmp}
 use Rattle.cap_tree.specs.ServiceOrder.{AreInOrder, IsServiceOrder, position_nth, waiting_cmp}
-use Rattle.cap_tree.proofs.Ranking.{all_more, above_middle, below_middle, IsBetween, ranked_more, rising_of}
-use Rattle.cap_tree.proofs.Service.{items_at_root, items_in_child, kids_apart, once_in_child}
+use Rattle.cap_tree.proofs.Ranking.{all_more, ranked_more}
+use Rattle.cap_tree.proofs.Service.{items_at_root, items_in_child, kids_apart}
 use Rattle.cap_tree.proofs.Spots.{holds-within, item_at-spots}
 use Rattle.cap_tree.proofs.ServiceRows.{served_rows}
 use Rattle.cap_tree.specs.Spot.{Spot, HoldsOfItem, IsPosition, item_at, first, along, below, spots}

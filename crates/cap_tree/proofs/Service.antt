@@ -1,41 +1,23 @@
 -- The order of service, in a tree and its children.
-use Rattle.std.proofs.Common.{◌≡◌, ◌≢◌, ℕ, zero, suc, ◌+◌, ◌<◌, Bool, true, false, cond, List, [], ◌∷◌, ◌++◌, length, get_or, Option, Some, None, refl, sym, ◌∙◌, ap, arith, map, subst, drop, inl, inr, ◌⊎◌}
-use Rattle.std.specs.Prelude.{MatchOption, bytes_eq}
+use Rattle.std.proofs.Common.{◌≡◌, ℕ, zero, suc, ◌+◌, ◌<◌, true, false, List, [], ◌∷◌, ◌++◌, length, get_or, Option, Some, None, refl, sym, ◌∙◌, ap, arith, map, subst, drop, inl, inr, ◌⊎◌}
+use Rattle.std.specs.Prelude.{MatchOption}
 use Rattle.std.specs.Option.{option_cmp}
-use Rattle.std.specs.Ordering.{nat_cmp, ordering_then, ordering_reverse, is_gt, is_lt}
+use Rattle.std.specs.Ordering.{ordering_reverse, is_gt, is_lt}
 use Rattle.std.specs.declared.cmp.Ordering.{Ordering}
 use Rattle.std.specs.declared.cmp.Ordering.TheVariants.{Less, Equal, Greater}
-use Rattle.std.specs.Cmp.{IsTotalOrder, nat_cmp_is}
-use Rattle.std.specs.Cmp.Lexicographic.{slice_cmp, options_total}
+use Rattle.std.specs.Cmp.{IsTotalOrder}
+use Rattle.std.specs.Cmp.Lexicographic.{options_total}
 use Rattle.std.proofs.lemmas.Bool.{cases_lt}
 use Rattle.std.proofs.lemmas.Cmp.{on_total, tied_itself, upto}
 use Rattle.std.proofs.lemmas.List.{get_or_default}
 use Rattle.cap_model.proofs.lists.Members.{IsIn, in_left, in_right, in_map}
 use Rattle.cap_model.specs.Texts.{dot}
-use Rattle.cap_tree.specs.Spot.{Spot, leads_to, along, under, below, spots, item_at, HoldsOfItem, IsPosition}
+use Rattle.cap_tree.specs.Spot.{Spot, along, under, below, spots, item_at, HoldsOfItem}
 use Rattle.cap_tree.specs.Service.{HasPathsOnce, IsTop, items_along, children_at, child_item, is_after, is_before, IsThere, child_cmp, ComesAfter, HasNoneAfter, IsFirstAfter}
-use Rattle.cap_tree.proofs.Spots.{item_at-spots, holds-within}
+use Rattle.cap_tree.proofs.Spots.{item_at-spots}
 use Rattle.cap_tree.proofs.Looking.{along-below, along-root_below}
-use Rattle.cap_tree.proofs.RowPaths.{leads_itself}
-use Rattle.std.proofs.lemmas.Slice.Eq.{bytes_eq-Decides}
 
 module _ {T : Type 0} where
-  -- what is on the way to an item that is there
-
-  pub record IsSome (xs : List T) : Type 0 where
-    pub head : T
-    pub tail : List T
-    pub is : xs ≡ head ∷ tail
-
-  some_along : (p : List ℕ) (ss : List (Spot T)) → IsPosition ss p → IsSome (items_along p ss)
-  some_along p [] h = absurd h
-  some_along p (s ∷ ss) h = by (bytes_eq s.position p) (leads_to s.position p) refl refl h (some_along p ss)
-    where
-      by : (b c : Bool) → bytes_eq s.position p ≡ b → leads_to s.position p ≡ c → HoldsOfItem (λ _. Unit {0}) (cond b (Some s.item) (item_at p ss)) → (IsPosition ss p → IsSome (items_along p ss)) → IsSome (map (λ t. t.item) (cond c (s ∷ along p ss) (along p ss)))
-      by b true eb ec h r = record { head = s.item; tail = items_along p ss; is = refl }
-      by true false eb ec h r = absurd (let l = subst (λ q. leads_to s.position q ≡ true) ((bytes_eq-Decides s.position p).0 eb) (leads_itself s.position) in cc (l, ec))
-      by false false eb ec h r = r h
-
   items_under : (nm : List ℕ) (i : ℕ) (ss : List (Spot T)) → map (λ s. s.item) (map (under nm i) ss) ≡ map (λ s. s.item) ss
   items_under nm i [] = refl
   items_under nm i (s ∷ ss) = ap (λ t. s.item ∷ t) (items_under nm i ss)

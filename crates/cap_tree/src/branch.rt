@@ -1,8 +1,7 @@
 //! A tree of items, seen as a list of its spots.
-ghost use Rattle.std.specs.Prelude.{◌≡◌, ◌+◌, ◌-◌, ◌≤◌, ◌∷◌, [], ℕ, List, Some, Bool, IfSome, IfOk, OnOk, OnErr, MatchOption, drop, map, length, ◌++◌};
+ghost use Rattle.std.specs.Prelude.{◌≡◌, ◌+◌, ◌-◌, ◌≤◌, ◌∷◌, [], ℕ, List, Some, Bool, IfSome, IfOk, OnOk, OnErr, MatchOption, map, length, ◌++◌};
 ghost use Rattle.std.specs.List.{All, slice_get};
 ghost use Rattle.std.specs.Cmp.{IsTotalOrder};
-ghost use Rattle.std.specs.Cmp.Lexicographic.{slice_cmp};
 ghost use Rattle.std.specs.Option.{option_copied};
 ghost use Rattle.std.specs.declared.cmp.Ordering.{Ordering};
 ghost use Rattle.std.specs.declared.cmp.Ordering.TheVariants.{Equal};

@@ -1,5 +1,4 @@
 //! The limits of the queues on a way, and whether a change of use stays within them.
-ghost use Rattle.std.specs.Prelude.{◌≡◌};
 
 use crate::branch::Test;
 use crate::queue::Queue;

@@ -1,5 +1,5 @@
 //! The order in which what waits at queues is served.
-ghost use Rattle.std.specs.Prelude.{◌≡◌, IfOk, map};
+ghost use Rattle.std.specs.Prelude.{IfOk, map};
 ghost use Rattle.std.specs.List.{All};
 ghost use Rattle.cap_tree.specs.Rows.{AreRows};
 ghost use Rattle.cap_tree.specs.ServiceOrder.{IsServiceOrder};

@@ -1,22 +1,18 @@
 //! The tree of queues, seen as the list of its rows.
 ghost use Rattle.std.specs.Prelude.{◌≡◌, ◌<◌, ◌≤◌, ◌+◌, length, ◌++◌, ◌∷◌, [], map, None, Some, IfErr, IfOk, IfSome, MatchOption, OnOk, OnErr};
 ghost use Rattle.std.specs.List.{All, slice_get};
-ghost use Rattle.std.specs.Cmp.Lexicographic.{slice_cmp};
-ghost use Rattle.std.specs.declared.cmp.Ordering.TheVariants.{Equal};
-ghost use Rattle.cap_model.specs.Choice.{level_cmp};
 ghost use Rattle.cap_vector.specs.Vector.{IsWithin, amounts_exchanged, sum_max};
 ghost use Rattle.cap_model.specs.Limits.{number_end, queues_max};
 ghost use Rattle.cap_model.specs.Bounds.{depth};
 ghost use Rattle.cap_model.specs.Cascade.{holds_of};
-ghost use Rattle.cap_tree.specs.Finding.{IsStart};
 ghost use Rattle.cap_tree.specs.Growth.{IsGrowing};
 ghost use Rattle.cap_tree.specs.Limits.{over_limit};
 ghost use Rattle.cap_tree.specs.Paths.{TreeFitsInMemory};
 ghost use Rattle.cap_tree.specs.Count.{IsPart};
 ghost use Rattle.cap_tree.specs.Queue.{IsUnused, MayGive, MayLeave, count_in, stays_in_user_limit, use_of};
 ghost use Rattle.cap_tree.specs.Rows.{AreRows, FindsQueue, HasRoomAtRoot, active_in, applied_row, entered_row, is_running, items_to, left_row, lowered_row, moved_rows, queues_of, root_use, used_at, user_row_at, with_state};
-ghost use Rattle.cap_tree.specs.Service.{HasNoChildAfter, IsNextChild, levels_at};
-ghost use Rattle.cap_tree.specs.Spot.{HoldsOfItem, IsPosition, item_at, path_at};
+ghost use Rattle.cap_tree.specs.Service.{HasNoChildAfter, IsNextChild};
+ghost use Rattle.cap_tree.specs.Spot.{IsPosition, item_at, path_at};
 
 use crate::branch::Branch;
 use crate::change::{Move, Running, SetState};

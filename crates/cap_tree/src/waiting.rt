@@ -1,5 +1,5 @@
 //! What waits at the queues of a tree.
-ghost use Rattle.std.specs.Prelude.{◌≡◌, ◌∷◌, ◌++◌, ◌==◌, [], length, OnOk};
+ghost use Rattle.std.specs.Prelude.{◌≡◌, ◌∷◌, ◌++◌, [], OnOk};
 
 use cap_model::NoMemory;
 use std::alloc::Allocator;

@@ -1,4 +1,4 @@
-use Rattle.std.proofs.Common.{rules, ◌≡◌, ◌<◌, ◌≤◌, ◌+◌, ◌-◌, get_or, length, set, subst, sym, arith}
+use Rattle.std.proofs.Common.{rules, ◌≡◌, ◌+◌, ◌-◌, get_or, length, set, subst, arith}
 use Rattle.cap_copy.proofs.Limiting.{AreSet, all_are, all_stored, last_stays, none_set, seen_more}
 use Rattle.cap_copy.proofs.limits.limits_of.Goals as goal
 

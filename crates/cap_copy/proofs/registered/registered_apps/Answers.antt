@@ -3,7 +3,6 @@ use Rattle.std.specs.Prelude.{Some}
 use Rattle.std.specs.List.{All}
 use Rattle.std.proofs.lemmas.List.{append-nil, map_push}
 use Rattle.std.proofs.lemmas.List.Elements.{All-push}
-use Rattle.cap_model.specs.Flat.{App}
 use Rattle.cap_asks.specs.Apps.{account_of}
 use Rattle.cap_asks.specs.Held.{HeldApp}
 use Rattle.cap_copy.specs.Entries.{registered_of}

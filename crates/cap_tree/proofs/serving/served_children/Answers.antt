@@ -1,5 +1,4 @@
-use Rattle.std.proofs.Common.{◌≡◌, ◌+◌, ◌<◌, ◌≤◌, [], ap, sym, subst, ◌∙◌, get_or, arith, length}
-use Rattle.std.specs.Prelude.{insert}
+use Rattle.std.proofs.Common.{◌≡◌, ◌+◌, ◌<◌, [], sym, subst, ◌∙◌, arith, length}
 use Rattle.std.proofs.lemmas.List.{get_or_default}
 use Rattle.cap_tree.specs.Ranking.{IsPlace, IsRanked}
 use Rattle.cap_tree.specs.Serving.{AreKids, kid_cmp}

@@ -4,8 +4,8 @@ use Rattle.std.proofs.lemmas.List.{length-map, take_all}
 use Rattle.cap_vector.specs.Vector.{amounts_exchanged}
 use Rattle.cap_model.specs.Admission.{fits_maximum}
 use Rattle.cap_tree.proofs.Within.{fits_once, fits_times}
-use Rattle.cap_copy.specs.Limits.{StoredUser, fits_in_queue, limit_at, limits_in, no_user}
-use Rattle.cap_copy.specs.Snapshot.{Limit, QueueUse}
+use Rattle.cap_copy.specs.Limits.{fits_in_queue, limit_at, no_user}
+use Rattle.cap_copy.specs.Snapshot.{Limit}
 use Rattle.cap_copy.proofs.Limiting.{fails_one, passes_more, way_fails, way_passes}
 use Rattle.cap_copy.proofs.limits.Limits.stays_within.Goals as goal
 

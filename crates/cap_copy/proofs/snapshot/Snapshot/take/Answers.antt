@@ -1,4 +1,4 @@
-use Rattle.std.proofs.Common.{rules, ◌≡◌, ◌<◌, ◌≤◌, ◌++◌, ◌∷◌, [], List, ℕ, ap, length, map, subst, sym, ◌∙◌}
+use Rattle.std.proofs.Common.{rules, ◌<◌, ◌≤◌, ◌++◌, ◌∷◌, [], List, ℕ, ap, length, map, subst, sym, ◌∙◌}
 use Rattle.std.specs.List.{All}
 use Rattle.cap_model.specs.Limits.{applications_max}
 use Rattle.cap_tree.specs.ServiceOrder.{IsServiceOrder}

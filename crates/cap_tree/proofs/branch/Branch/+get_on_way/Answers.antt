@@ -1,4 +1,4 @@
-use Rattle.std.proofs.Common.{rules, arith, ◌≡◌, ◌∙◌, ◌-◌, ◌≤◌, ap, sym, get_or, take, drop, length}
+use Rattle.std.proofs.Common.{rules, arith, ◌-◌, ◌≤◌, ap, get_or, take, drop, length}
 use Rattle.cap_tree.proofs.Spots.{in_child, steps-is}
 use Rattle.cap_tree.proofs.Served.{below_on_way, top_on_way}
 use Rattle.cap_tree.proofs.branch.Branch.+get_on_way.Goals as goal

@@ -1,4 +1,4 @@
-use Rattle.std.proofs.Common.{◌≡◌, ◌∙◌, ap, length, map, sym, subst}
+use Rattle.std.proofs.Common.{◌∙◌, ap, length, map, sym, subst}
 use Rattle.cap_tree.specs.Service.{items_along}
 use Rattle.cap_tree.specs.Spot.{IsPosition}
 use Rattle.cap_tree.proofs.RowPaths.{along_rows}

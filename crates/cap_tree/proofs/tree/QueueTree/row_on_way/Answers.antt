@@ -1,4 +1,4 @@
-use Rattle.std.proofs.Common.{◌≡◌, ◌∙◌, ap, map, sym, subst}
+use Rattle.std.proofs.Common.{◌∙◌, ap, map, sym, subst}
 use Rattle.std.specs.List.{slice_get}
 use Rattle.cap_tree.specs.Service.{items_along}
 use Rattle.cap_tree.specs.Spot.{IsPosition}

@@ -1,4 +1,4 @@
-use Rattle.std.proofs.Common.{rules, ◌≡◌, sym, subst, map}
+use Rattle.std.proofs.Common.{sym, subst, map}
 use Rattle.std.specs.List.{All}
 use Rattle.cap_model.proofs.lists.Members.{each_of}
 use Rattle.cap_tree.specs.Serving.{AreServed}
