@@ -5,7 +5,9 @@ use Rattle.std.specs.Ordering.{nat_cmp}
 use Rattle.std.specs.Cmp.Lexicographic.{slice_cmp}
 use Rattle.std.specs.FinMap as finite
 use Rattle.std.specs.Coded.{Coded, code_by, coded×, coded_ℕ, coded_list}
+use Rattle.cap_vector.specs.Fullness.{shares}
 use Rattle.cap_vector.specs.Vector.{amount, amounts_exchanged, zeros, Fits}
+use Rattle.cap_vector.specs.declared.fullness.Share.{Share}
 use Rattle.cap_model.specs.Admission.{fits_maximum, fits_user_limit}
 use Rattle.cap_model.specs.Settings.{QueueRow}
 use Rattle.cap_model.specs.Flat.{name_of}
@@ -34,6 +36,10 @@ pub record Queue : Type 0 where
   pub used : List ℕ
   pub active : ℕ
   pub users : Users
+
+-- what is kept beside a use and a guarantee are the shares of the one in the other
+abbrev pub AreSharesOf : List ℕ → List ℕ → List Share → Type 0
+AreSharesOf used guaranteed kept = kept ≡ shares used guaranteed
 
 -- what is counted of a queue
 abbrev pub queue_count : Queue → Count

@@ -34,9 +34,8 @@ pub struct Queue<const K: usize, A: Allocator> {
 
 impl<const K: usize, A: Allocator> Model for Queue<K, A> {
     ghost use Rattle.std.specs.Coded.{codes};
-    ghost use Rattle.cap_vector.specs.Fullness.{shares};
     ghost use Rattle.std.specs.FinMap.{from_entries};
-    ghost use Rattle.cap_tree.specs.Queue.{Queue as Row, users_code};
+    ghost use Rattle.cap_tree.specs.Queue.{AreSharesOf, Queue as Row, users_code};
 
     ghost Value = { Row };
 
@@ -53,7 +52,7 @@ impl<const K: usize, A: Allocator> Model for Queue<K, A> {
       users = from_entries q.users.entries;
     } };
 
-    ghost invariant = { λ q. q.shares ≡ shares q.count.used q.guaranteed };
+    ghost invariant = { λ q. AreSharesOf q.count.used q.guaranteed q.shares };
 }
 
 impl<const K: usize, A: Allocator> Held for Queue<K, A> {
