@@ -155,9 +155,10 @@ module _ (K : ℕ) (rows : List Row) (registered : List HeldApp) (order : List �
         own : (j : ℕ) → get_or order j 0 ≡ get_or order k 0 → (get_or (set of (get_or order k 0) (length users - 1)) (get_or order j 0) 0 < length users)
             × (slice_get (map (limit_of K rows) registered) (get_or order j 0) ≡ Some (limit_at queues (get_or users (get_or (set of (get_or order k 0) (length users - 1)) (get_or order j 0) 0) no_user)))
         own j e =
-            let at : get_or (set of (get_or order k 0) (length users - 1)) (get_or order j 0) 0 ≡ length users - 1 = ap (λ i. get_or (set of (get_or order k 0) (length users - 1)) i 0) e ∙ here in
-            (let l = last.0 in omega (arith, at, l),
-            ap (slice_get (map (limit_of K rows) registered)) e ∙ last.1 ∙ ap (λ n. Some (limit_at queues (get_or users n no_user))) (sym at))
+            let at : get_or (set of (get_or order k 0) (length users - 1)) (get_or order j 0) 0 ≡ length users - 1 = ap (λ i. get_or (set of (get_or order k 0) (length users - 1)) i 0) e ∙ here in (
+              let l = last.0 in omega (arith, at, l),
+              ap (slice_get (map (limit_of K rows) registered)) e ∙ last.1 ∙ ap (λ n. Some (limit_at queues (get_or users n no_user))) (sym at),
+            )
 
         other : (j : ℕ) → (get_or order j 0 ≡ get_or order k 0 → ⊥) → j < k + 1 → (get_or (set of (get_or order k 0) (length users - 1)) (get_or order j 0) 0 < length users)
             × (slice_get (map (limit_of K rows) registered) (get_or order j 0) ≡ Some (limit_at queues (get_or users (get_or (set of (get_or order k 0) (length users - 1)) (get_or order j 0) 0) no_user)))

@@ -8,8 +8,8 @@ ghost use Rattle.cap_copy.specs.Snapshot.{stays_within};
 ghost use Rattle.cap_tree.specs.Spot.{IsPosition};
 
 use crate::registered::Registered;
-use cap_model::NoMemory;
 use cap_asks::App;
+use cap_model::NoMemory;
 use cap_tree::{Queue, QueueTree};
 use cap_vector::{Resource, Sum, fits_exchanged};
 use std::alloc::{Allocator, Global};
@@ -165,8 +165,7 @@ fn shares_limits<const K: usize>(a: &App<K>, b: &App<K>) -> bool
     ensures { result ≡ true → (a.now.account.position ≡ b.now.account.position)
         × (a.now.app.user ≡ b.now.app.user) }
 {
-    a.position().as_slice() == b.position().as_slice()
-        && a.user().as_bytes() == b.user().as_bytes()
+    a.position().as_slice() == b.position().as_slice() && a.user().as_bytes() == b.user().as_bytes()
 }
 
 /// Adds the user of an application in its leaf, and the queues on the way there. An error means that an allocation failed.

@@ -98,7 +98,8 @@ impl<const K: usize, B: Allocator + Copy> Snapshot<K, B> {
         ensures { result ≡ holds_of (stays_within old.now ask.now.ask.resource)
             (slice_get self.now.limits ask.now.index) }
     {
-        self.limits.stays_within(ask.index(), old, &ask.ask().resource())
+        self.limits
+            .stays_within(ask.index(), old, &ask.ask().resource())
     }
 
     /// How many containers are live.

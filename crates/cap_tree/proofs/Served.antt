@@ -289,15 +289,15 @@ module _ {T : Type 0} (order : T → T → Ordering) (total : IsTotalOrder order
         out = so_far.out ++ added;
         is = more.is ∙ (λ i. so_far.is i ++ sym (map_twice (λ w. w.index) (lifted s) more.out) i) ∙ append_assoc old (map (λ w. w.index) so_far.out) (map (λ w. w.index) added) ∙ ap (λ xs. old ++ xs) (sym (map-append (λ w. w.index) so_far.out added));
         same = λ k.
-        filter-append (has_index k) so_far.out added
-        ∙ (λ i. so_far.same k i ++ same_added k i)
-        ∙ append_assoc (filter (has_index k) (filter waits_here list)) (flat_map (λ x. filter (has_index k) (filter (waits_in x) list)) (take n ks)) (filter (has_index k) (filter (waits_in s) list))
-        ∙ ap (λ xs. filter (has_index k) (filter waits_here list) ++ xs) (
-        ap (λ x. flat_map (λ y. filter (has_index k) (filter (waits_in y) list)) (take n ks) ++ filter (has_index k) (filter (waits_in x) list)) child
-        ∙ ap (λ ys. flat_map (λ y. filter (has_index k) (filter (waits_in y) list)) (take n ks) ++ ys) (sym (append-nil (filter (has_index k) (filter (waits_in (get_or ks n 0)) list))) ∙ sym (flat_map-cons (λ y. filter (has_index k) (filter (waits_in y) list)) (get_or ks n 0) []))
-        ∙ sym (flat_map-append (λ y. filter (has_index k) (filter (waits_in y) list)) (take n ks) (get_or ks n 0 ∷ []))
-        ∙ ap (flat_map (λ y. filter (has_index k) (filter (waits_in y) list))) (sym (take_more ks n 0 lt))
-        );
+            filter-append (has_index k) so_far.out added
+            ∙ (λ i. so_far.same k i ++ same_added k i)
+            ∙ append_assoc (filter (has_index k) (filter waits_here list)) (flat_map (λ x. filter (has_index k) (filter (waits_in x) list)) (take n ks)) (filter (has_index k) (filter (waits_in s) list))
+            ∙ ap (λ xs. filter (has_index k) (filter waits_here list) ++ xs) (
+            ap (λ x. flat_map (λ y. filter (has_index k) (filter (waits_in y) list)) (take n ks) ++ filter (has_index k) (filter (waits_in x) list)) child
+            ∙ ap (λ ys. flat_map (λ y. filter (has_index k) (filter (waits_in y) list)) (take n ks) ++ ys) (sym (append-nil (filter (has_index k) (filter (waits_in (get_or ks n 0)) list))) ∙ sym (flat_map-cons (λ y. filter (has_index k) (filter (waits_in y) list)) (get_or ks n 0) []))
+            ∙ sym (flat_map-append (λ y. filter (has_index k) (filter (waits_in y) list)) (take n ks) (get_or ks n 0 ∷ []))
+            ∙ ap (flat_map (λ y. filter (has_index k) (filter (waits_in y) list))) (sym (take_more ks n 0 lt))
+            );
         those = λ w m. elim (in_either w so_far.out added m) [
           | inl h ↦ (let r = so_far.those w h in (r.0, reached_more n w (r.1)))
           | inr h ↦ (let r = those_added w h in (r.0, inr (n, omega arith, subst (λ x. waits_in x w ≡ true) child (r.1))))
@@ -385,7 +385,7 @@ module _ (rows : List Row) (are : AreRows rows) (waiting : List Waiter) (numbere
   sorted [] h r = tt
   sorted (v ∷ out) h r = (
     of_each (λ j. is_gt (waiting_cmp rows places v.index j) ≡ false) (map (λ w. w.index) out)
-    (λ j m. let o = of_map (λ w. w.index) out j m in ap (λ k. is_gt (waiting_cmp rows places v.index k)) (sym (o.2)) ∙ ap is_gt (cmp_is v (o.0) (h v (inl refl)) (h (o.0) (inr (o.1))) ∙ r.0 (o.0) (o.1))),
+        (λ j m. let o = of_map (λ w. w.index) out j m in ap (λ k. is_gt (waiting_cmp rows places v.index k)) (sym (o.2)) ∙ ap is_gt (cmp_is v (o.0) (h v (inl refl)) (h (o.0) (inr (o.1))) ∙ r.0 (o.0) (o.1))),
     sorted out (λ w m. h w (inr m)) r.1,
   )
 
