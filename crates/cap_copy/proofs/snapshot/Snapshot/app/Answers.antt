@@ -1,9 +1,0 @@
-use Rattle.std.proofs.Common.{refl, sym, subst, ◌<◌, length}
-use Rattle.std.proofs.lemmas.Option.{slice_get_read}
-use Rattle.cap_copy.specs.Snapshot.{Seen}
-use Rattle.cap_copy.proofs.snapshot.Snapshot.app.Goals as goal
-
-pub returns : goal.returns
-returns g c =
-    let within : c.args.index < length c.self.inside.apps.items = subst (λ (s : Seen). c.args.index < length s.apps) (sym c.self.view_is) c.requires in
-    rw (← c.self.view_is) (slice_get_read c.self.inside.apps.items _ c.args.index c.index.result.now refl within c.index.ensures)
