@@ -25,8 +25,11 @@ module _ (u v w : ℕ → ℕ) (r : Rounds u v w) (n : ℕ) (few : n ≤ resourc
   abbrev fields : ℕ
   fields = u (u (v (u (u (24 + amounts) + maximum) + 8) + 1) + counted)
 
+  abbrev shares : ℕ
+  shares = u (0 + n * 16)
+
   abbrev queue : ℕ
-  queue = u (fields + 112)
+  queue = u (u (fields + shares) + 112)
 
   amounts_few : amounts ≤ 9000
   amounts_few = let a = r.eights (0 + n * 8) in let f : n ≤ 1000 = few in omega (arith, a, f)
@@ -47,8 +50,14 @@ module _ (u v w : ℕ → ℕ) (r : Rounds u v w) (n : ℕ) (few : n ≤ resourc
       let y = r.eights (u (0 + amounts) + 8) in
       omega (arith, a, m, b, c, d, e, f, x, y)
 
-  queue_few : queue ≤ 50000
-  queue_few = let a = r.eights (fields + 112) in let f = fields_few in omega (arith, a, f)
+  queue_few : queue ≤ 70000
+  queue_few =
+      let a = fields_few in
+      let b = r.eights (0 + n * 16) in
+      let c = r.eights (fields + shares) in
+      let d = r.eights (u (fields + shares) + 112) in
+      let f : n ≤ 1000 = few in
+      omega (arith, a, b, c, d, f)
 
   queue_is_small : queue < 9223372036854775808
   queue_is_small = let a = queue_few in omega (arith, a)
