@@ -19,7 +19,7 @@ use std::thread::Threads;
 use std::time::Clock;
 
 /// How many entries an epoch's journal has.
-const JOURNAL: usize = 65_536;
+const JOURNAL: usize = 131_072;
 
 /// How many proposals wait for the committer, if no other number is given.
 const LANES: &str = "64";

@@ -3,11 +3,11 @@ ghost use Rattle.std.specs.Prelude.{◌≡◌, ◌≤◌, ◌<◌, IfOk};
 ghost use Rattle.std.specs.Option.{ForSome};
 ghost use Rattle.cap_server.specs.Epochs.{LeadsTo};
 
-use crate::job::{Job, Seated, Tool};
+use crate::job::{Job, Left, Seated, Tool};
 use crate::site::Site;
 use cap_commit::Cluster;
 use cap_model::NoMemory;
-use cap_shared::{Blank, Naming, Seat, Shared};
+use cap_shared::{Blank, Entry, Naming, Seat, SeatReport, Shared};
 use cap_workers::{Committer, Gate, Putter, lanes};
 use std::alloc::Global;
 use std::marker::Brand;
@@ -63,7 +63,7 @@ impl Tools {
                 Some(committer) => Tool::Lanes(committer),
                 None => Tool::Bare,
             },
-            Job::Awaiting | Job::Serving(_) | Job::Over => Tool::Bare,
+            Job::Awaiting | Job::Serving(_) | Job::Clearing(_) | Job::Over => Tool::Bare,
         }
     }
 
@@ -156,9 +156,20 @@ fn named_epoch<J: Naming + Send + Sync, H: Threads + Wait + Clock + Sync, G: Gat
     let closed = shared.close(back);
     Ok(Past {
         cluster: closed.cluster,
-        jobs: next,
         entries: closed.journal.len(),
+        jobs: hand_over(next, closed.journal, closed.seats),
     })
+}
+
+/// The jobs for the next epoch, of which the one that clears has what is left of this one.
+fn hand_over(mut jobs: Vec<Job>, journal: Vec<Entry>, seats: Vec<SeatReport>) -> Vec<Job> {
+    let mut left = Some(Left { journal, seats });
+    for job in jobs.iter_mut() {
+        if let Job::Clearing(held) = job {
+            *held = left.take();
+        }
+    }
+    jobs
 }
 
 /// Each job with a seat and its tool, in order. If an allocation fails there are none.

@@ -3,11 +3,18 @@ use crate::connection::Connection;
 use crate::door::{Arrival, await_connection};
 use crate::scheduling::{Commits, commit_all, schedule, schedule_by_lane};
 use crate::site::Site;
-use cap_shared::{Naming, Seat, Shared};
+use cap_shared::{Entry, Naming, Seat, SeatReport, Shared};
 use cap_workers::{Committer, Gate, Putter, Worker};
 use std::alloc::Global;
 use std::sync::Wait;
 use std::time::Clock;
+
+/// What is left of a closed epoch beside its cluster.
+#[derive(Drop)]
+pub(crate) struct Left {
+    pub journal: Vec<Entry>,
+    pub seats: Vec<SeatReport>,
+}
 
 /// What a thread does, from epoch to epoch.
 #[derive(Drop)]
@@ -20,6 +27,8 @@ pub(crate) enum Job {
     Scheduling(Worker),
     /// Commits what workers put into their lanes.
     Committing,
+    /// Drops what is left of the last epoch, while the other threads are at work.
+    Clearing(Option<Left>),
     /// Nothing: its connection has ended.
     Over,
 }
@@ -81,6 +90,10 @@ impl<J: Naming> Seated<J> {
                 schedule_with(rt, alloc, shared, &mut seat, site, worker, tool)
             }
             Job::Committing => commit_with(rt, shared, &mut seat, site, tool),
+            Job::Clearing(left) => {
+                drop(left);
+                Job::Clearing(None)
+            }
             Job::Over => Job::Over,
         };
         if site.is_over() || shared.is_full(rt) {

@@ -12,10 +12,14 @@ use cap_model::NoMemory;
 use cap_workers::{Gate, Worker};
 use std::alloc::Global;
 use std::io::Write;
+use std::iter::once;
 use std::net::TcpListener;
 use std::sync::Wait;
 use std::thread::Threads;
 use std::time::Clock;
+
+/// How many bytes `keep_memory` asks for: a bit less than 32 MiB.
+const KEPT: usize = 33_000_000;
 
 /// How large a daemon is.
 #[derive(Clone, Copy, Debug)]
@@ -118,12 +122,20 @@ fn begin(
     let connections = (0..sizes.connections).map(|_| Job::Awaiting);
     let workers = (0..sizes.workers).map(|number| Job::Scheduling(Worker::new(number)));
     let committer = (0..committers).map(|_| Job::Committing);
-    for job in connections.chain(workers).chain(committer) {
+    let clearing = once(Job::Clearing(None));
+    for job in connections.chain(workers).chain(committer).chain(clearing) {
         if jobs.push(job).is_err() {
             return Err(NoMemory);
         }
     }
     Ok((cluster, jobs))
+}
+
+/// Lets the memory that an epoch frees be kept for the next. glibc's malloc takes a block above a threshold anew from the system, and gives
+/// it back when it is freed. Freeing such a block of up to 32 MiB raises that threshold to its size, and to twice its size the one for
+/// giving back what is free at the end of the heap (mallopt(3), M_MMAP_THRESHOLD). Nothing is written to the block, so it costs no memory.
+fn keep_memory(alloc: Global) {
+    drop(Vec::<u8>::with_capacity(alloc, KEPT));
 }
 
 /// One epoch after the other, each over the cluster that the last one closed, until all connections have ended. An error means that an
@@ -135,6 +147,7 @@ fn run_epochs<H: Threads + Wait + Clock + Sync, G: Gate + Sync>(
     cluster: Cluster<2>,
     jobs: Vec<Job>,
 ) -> Result<Totals, NoMemory> {
+    keep_memory(alloc);
     let (mut cluster, mut jobs) = (cluster, jobs);
     let mut totals = Totals {
         epochs: 0,

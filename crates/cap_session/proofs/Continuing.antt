@@ -3,7 +3,7 @@ use Rattle.std.proofs.Common.{◌≡◌, ℕ, List, [], ◌∷◌, ◌++◌, Som
 use Rattle.cap_model.specs.News.{Reply}
 use Rattle.cap_frames.specs.Stream.{frame_of}
 use Rattle.cap_session.specs.Answers.{Call, Answers, nothing}
-use Rattle.cap_session.specs.Session.{SessionState, OpenRequest, SpellsAnswer, Continues, all_answers, answer_bytes, after_bad_messages, with_answer}
+use Rattle.cap_session.specs.Session.{SessionState, OpenRequest, SpellsAnswer, Continues, all_answers, answer_bytes, with_answer}
 use Rattle.cap_session.proofs.Answering.{answers_more, one_replied}
 
 pub continues_none : (s : SessionState) → Continues s s [] [] []

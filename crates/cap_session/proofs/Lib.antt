@@ -1,4 +1,5 @@
 mod Logs
+mod ReadingAhead
 pub mod Answering
 mod Steps
 pub mod Continuing

@@ -5,8 +5,9 @@ use Rattle.bytes.specs.Filled.{Filled}
 use Rattle.http_server.specs.declared.log.Log.{Log}
 use Rattle.cap_model.specs.declared.request.Request.{Request}
 use Rattle.cap_model.specs.News.{Reply}
-use Rattle.cap_session.specs.declared.find.Head.{Head}
-use Rattle.cap_session.specs.Kept.{ReadResult, PayloadLog, AnswerLog, payloads_in, calls_in, answered_in, calls_of, open_of, sent_in, IsHeadOf}
+use Rattle.cap_session.specs.declared.asked.Head.{Head}
+use Rattle.cap_session.specs.Kept.{AnswerLog, calls_in, answered_in, calls_of, open_of, sent_in, IsHeadOf}
+use Rattle.cap_session.specs.Asked.{ReadResult, PayloadLog, payloads_in}
 
 pub answered_more : (log : AnswerLog) (l : Log Filled ReadResult) (r : Log (Reply 2) (Unit {0})) → answered_in (log ++ (l, r) ∷ []) ≡ answered_in log ++ payloads_in l.items
 answered_more log l r = sym (flat_map_more (λ (e : Log Filled ReadResult × Log (Reply 2) (Unit {0})). payloads_in e.0.items) [] log (l, r))

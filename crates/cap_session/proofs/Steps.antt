@@ -1,5 +1,5 @@
 -- What each step of a session keeps.
-use Rattle.std.proofs.Common.{◌≡◌, ℕ, ◌≤◌, false, List, [], ◌∷◌, ◌++◌, Option, Some, None, Ok, Err, refl, ap, ap₂, sym, ◌∙◌, subst, append_assoc, append-nil}
+use Rattle.std.proofs.Common.{◌≡◌, ℕ, false, List, [], ◌∷◌, ◌++◌, Option, Some, None, Err, refl, ap, ap₂, sym, ◌∙◌, subst, append_assoc, append-nil}
 use Rattle.bytes.specs.Filled.{Filled}
 use Rattle.http_server.specs.declared.log.Log.{Log}
 use Rattle.cap_model.specs.declared.request.Request.{Request}
@@ -7,11 +7,12 @@ use Rattle.cap_model.specs.News.{Reply}
 use Rattle.cap_frames.specs.Stream.{frame_of, rest, fault, IsStream}
 use Rattle.cap_frames.specs.History.{History, after_gift, IsReading, IsAtFault}
 use Rattle.cap_messages.specs.declared.fault.MessageFault.{MessageFault}
-use Rattle.cap_messages.specs.Spelling.{IsRequest, IsNoRequest, IsReply, kind_of, reply_bytes, fault_reply}
+use Rattle.cap_messages.specs.Spelling.{IsNoRequest, kind_of, fault_reply}
 use Rattle.cap_session.specs.Answers.{nothing}
 use Rattle.cap_session.specs.Session.{OpenRequest, open_payload, SpellsAnswer, FollowsStream, IsSession, EndsNow, NextGives, answer_bytes, with_answer, after_answer, AnswersBy}
-use Rattle.cap_session.specs.Kept.{ReadResult, PayloadLog, AnswerLog, payloads_in, calls_in, answered_in, calls_of, open_of, sent_in, state_inside, SpellsRequest, IsHeadOf, IsKept, HasRoom, AnswersBad, AnswersAllBad, Finds, EndsWith}
-use Rattle.cap_session.specs.declared.find.Head.{Head}
+use Rattle.cap_session.specs.Kept.{AnswerLog, calls_in, answered_in, calls_of, open_of, sent_in, state_inside, SpellsRequest, IsHeadOf, IsKept, HasRoom, AnswersBad, AnswersAllBad, Finds, EndsWith}
+use Rattle.cap_session.specs.Asked.{ReadResult, PayloadLog, payloads_in}
+use Rattle.cap_session.specs.declared.asked.Head.{Head}
 use Rattle.cap_session.specs.declared.find.Found.{Found}
 use Rattle.cap_session.specs.declared.find.Found.TheVariants as found
 use Rattle.cap_session.specs.declared.session.Cause.{Cause}
@@ -92,7 +93,7 @@ follows s kept =
     let coming = kept.reading.0 in (
       kept.lost ++ coming,
       kept.reading.1,
-      subst (λ (x : List (List ℕ)). IsStream s.framer.fed x kept.reading.1)
+      subst (λ (x : List (List ℕ)). IsStream s.payloads.fed x kept.reading.1)
           (ap (λ (x : List (List ℕ)). x ++ coming) kept.given ∙ append_assoc answered (payload ++ kept.lost) coming ∙ ap (λ (x : List (List ℕ)). answered ++ x) (append_assoc payload kept.lost coming))
           kept.reading.2,
     )
@@ -101,7 +102,7 @@ pub promises : (s : Inside) → IsKept s → IsSession (state_inside s)
 promises s kept = record { stream = follows s kept; answers = kept.answers }
 
 -- all payloads that were given were answered
-given_now : (s : Inside) → IsKept s → s.ended ≡ None → open_of s.head s.opened.items ≡ None → s.framer.given ≡ answered_in s.answered.items
+pub given_now : (s : Inside) → IsKept s → s.ended ≡ None → open_of s.head s.opened.items ≡ None → s.payloads.given ≡ answered_in s.answered.items
 given_now s kept over none =
     kept.given ∙ ap₂ (λ (o : Option OpenRequest) (l : List (List ℕ)). answered_in s.answered.items ++ (open_payload o ++ l)) none (kept.none_lost over).0 ∙ append-nil (answered_in s.answered.items)
 
@@ -127,10 +128,10 @@ still_none s t kept none i o =
       room = subst (λ (x : Option OpenRequest). HasRoom x t.unsent.spare) (sym is) tt;
     }
 
-given_none : (t : Inside) (lost : List (List ℕ)) → NoneOpen t → t.framer.given ≡ answered_in t.answered.items ++ lost → t.framer.given ≡ answered_in t.answered.items ++ (open_payload (open_of t.head t.opened.items) ++ lost)
+given_none : (t : Inside) (lost : List (List ℕ)) → NoneOpen t → t.payloads.given ≡ answered_in t.answered.items ++ lost → t.payloads.given ≡ answered_in t.answered.items ++ (open_payload (open_of t.head t.opened.items) ++ lost)
 given_none t lost is given = given ∙ ap (λ (o : Option OpenRequest). answered_in t.answered.items ++ (open_payload o ++ lost)) (sym is.none)
 
-pub asks : (s t : Inside) (head : Head) (opened : Log Filled ReadResult) (request : Request 2) → IsKept s → s.ended ≡ None → open_of s.head s.opened.items ≡ None → Finds s.framer t.framer s.unsent t.unsent s.answered.items t.answered.items (found.Request head opened request)
+pub asks : (s t : Inside) (head : Head) (opened : Log Filled ReadResult) (request : Request 2) → IsKept s → s.ended ≡ None → open_of s.head s.opened.items ≡ None → Finds s.payloads t.payloads s.unsent t.unsent s.answered.items t.answered.items (found.Request head opened request)
     → t.head ≡ Some head → t.opened ≡ opened → t.ended ≡ s.ended → t.sent ≡ s.sent → IsKept t × NextGives (state_inside s) (state_inside t) (nexts.Request request)
 asks s t head opened request kept over none (payloads, frames, p, step, given, ready, reading, one, is, kind, room) i o e g =
     let now_open : OpenRequest = record { payload = p.items; call_id = head.call_id; request = request } in
@@ -142,7 +143,7 @@ asks s t head opened request kept over none (payloads, frames, p, step, given, r
     let calls = step.calls in
     let now : IsKept t = record {
       lost = [];
-      given = given_then s.framer.given t.framer.given (answered_in s.answered.items) (answered_in t.answered.items) payloads (p.items ∷ []) given (given_now s kept over none) answered
+      given = given_then s.payloads.given t.payloads.given (answered_in s.answered.items) (answered_in t.answered.items) payloads (p.items ∷ []) given (given_now s kept over none) answered
           ∙ ap (λ (x : Option OpenRequest). answered_in t.answered.items ++ (open_payload x ++ [])) (sym opens);
       reading = reading;
       none_lost = λ _. (refl, ready);
@@ -154,7 +155,7 @@ asks s t head opened request kept over none (payloads, frames, p, step, given, r
     } in
     (now, (over, payloads, frames, now_open, step.answers, refl, is, cc))
 
-pub starves : (s t : Inside) → IsKept s → s.ended ≡ None → open_of s.head s.opened.items ≡ None → Finds s.framer t.framer s.unsent t.unsent s.answered.items t.answered.items found.NoMemory
+pub starves : (s t : Inside) → IsKept s → s.ended ≡ None → open_of s.head s.opened.items ≡ None → Finds s.payloads t.payloads s.unsent t.unsent s.answered.items t.answered.items found.NoMemory
     → t.head ≡ s.head → t.opened ≡ s.opened → t.ended ≡ Some causes.NoMemory → t.sent ≡ s.sent → IsKept t × EndsNow (state_inside s) (state_inside t) causes.NoMemory
 starves s t kept over none (payloads, frames, lost, step, given, reading) i o e g =
     let is = still_none s t kept none i o in
@@ -166,7 +167,7 @@ starves s t kept over none (payloads, frames, lost, step, given, reading) i o e 
     let calls = step.calls in
     let now : IsKept t = record {
       lost = lost;
-      given = given_none t lost is (given_then s.framer.given t.framer.given (answered_in s.answered.items) (answered_in t.answered.items) payloads lost given (given_now s kept over none) answered);
+      given = given_none t lost is (given_then s.payloads.given t.payloads.given (answered_in s.answered.items) (answered_in t.answered.items) payloads lost given (given_now s kept over none) answered);
       reading = reading;
       none_lost = λ x. cc;
       spells = is.spells;
@@ -177,7 +178,7 @@ starves s t kept over none (payloads, frames, lost, step, given, reading) i o e 
     } in
     (now, (payloads, frames, step.answers, cc))
 
-pub faults : (s t : Inside) → IsKept s → s.ended ≡ None → open_of s.head s.opened.items ≡ None → Finds s.framer t.framer s.unsent t.unsent s.answered.items t.answered.items found.BadLength
+pub faults : (s t : Inside) → IsKept s → s.ended ≡ None → open_of s.head s.opened.items ≡ None → Finds s.payloads t.payloads s.unsent t.unsent s.answered.items t.answered.items found.BadLength
     → t.head ≡ s.head → t.opened ≡ s.opened → t.ended ≡ Some causes.BadLength → t.sent ≡ s.sent → IsKept t × EndsNow (state_inside s) (state_inside t) causes.BadLength
 faults s t kept over none (payloads, frames, w, step, given, said, reading, at) i o e g =
     let is = still_none s t kept none i o in
@@ -188,8 +189,8 @@ faults s t kept over none (payloads, frames, w, step, given, said, reading, at) 
     let unsent : t.unsent.items ≡ s.unsent.items ++ (frames ++ last) = said ∙ ap (λ (x : List ℕ). x ++ last) step.unsent ∙ append_assoc s.unsent.items frames last in
     let answered = step.answered in
     let calls = step.calls in
-    let all : t.framer.given ≡ answered_in t.answered.items = given ∙ ap (λ (x : List (List ℕ)). x ++ payloads) (given_now s kept over none) ∙ sym answered in
-    let end : IsStream t.framer.fed (answered_in t.answered.items) (fault at.0) = subst (λ (x : List (List ℕ)). IsStream t.framer.fed x (fault at.0)) all at.1 in
+    let all : t.payloads.given ≡ answered_in t.answered.items = given ∙ ap (λ (x : List (List ℕ)). x ++ payloads) (given_now s kept over none) ∙ sym answered in
+    let end : IsStream t.payloads.fed (answered_in t.answered.items) (fault at.0) = subst (λ (x : List (List ℕ)). IsStream t.payloads.fed x (fault at.0)) all at.1 in
     let now : IsKept t = record {
       lost = [];
       given = given_none t [] is (all ∙ sym (append-nil (answered_in t.answered.items)));
@@ -203,7 +204,7 @@ faults s t kept over none (payloads, frames, w, step, given, said, reading, at) 
     } in
     (now, (payloads, frames, step.answers, cc, (at.0, end)))
 
-pub rests : (s t : Inside) → IsKept s → s.ended ≡ None → open_of s.head s.opened.items ≡ None → Finds s.framer t.framer s.unsent t.unsent s.answered.items t.answered.items found.Rest
+pub rests : (s t : Inside) → IsKept s → s.ended ≡ None → open_of s.head s.opened.items ≡ None → Finds s.payloads t.payloads s.unsent t.unsent s.answered.items t.answered.items found.Rest
     → t.head ≡ s.head → t.opened ≡ s.opened → t.ended ≡ s.ended → t.sent ≡ s.sent → IsKept t × NextGives (state_inside s) (state_inside t) nexts.Need
 rests s t kept over none (all, at) i o e g =
     let is = still_none s t kept none i o in
@@ -213,11 +214,11 @@ rests s t kept over none (all, at) i o e g =
     let unsent = all.step.unsent in
     let answered = all.step.answered in
     let calls = all.step.calls in
-    let given : t.framer.given ≡ answered_in t.answered.items = all.given ∙ ap (λ (x : List (List ℕ)). x ++ all.payloads) (given_now s kept over none) ∙ sym answered in
+    let given : t.payloads.given ≡ answered_in t.answered.items = all.given ∙ ap (λ (x : List (List ℕ)). x ++ all.payloads) (given_now s kept over none) ∙ sym answered in
     let now : IsKept t = record {
       lost = [];
       given = given_none t [] is (given ∙ sym (append-nil (answered_in t.answered.items)));
-      reading = ([], rest at.0, subst (λ (x : List (List ℕ)). IsStream t.framer.fed x (rest at.0)) (sym (append-nil t.framer.given)) at.1);
+      reading = ([], rest at.0, subst (λ (x : List (List ℕ)). IsStream t.payloads.fed x (rest at.0)) (sym (append-nil t.payloads.given)) at.1);
       none_lost = λ _. (refl, all.ready);
       spells = is.spells;
       head = is.head;
@@ -225,7 +226,7 @@ rests s t kept over none (all, at) i o e g =
       answers = answered_open (state_inside t) (e ∙ over) (answers_refused (state_inside s) (state_inside t) all.payloads all.frames (answers_open (state_inside s) over kept.answers) all.step.answers answered calls sent unsent);
       none_open = λ x. is.none;
     } in
-    (now, (over, all.payloads, all.frames, all.step.answers, cc, (at.0, subst (λ (x : List (List ℕ)). IsStream t.framer.fed x (rest at.0)) given at.1)))
+    (now, (over, all.payloads, all.frames, all.step.answers, cc, (at.0, subst (λ (x : List (List ℕ)). IsStream t.payloads.fed x (rest at.0)) given at.1)))
 
 -- ---- an answer
 
@@ -244,13 +245,13 @@ some_none : (o : OpenRequest) → Some o ≡ None → ⊥
 some_none o is = cc
 
 pub answers_it : (s t : Inside) (head : Head) (o : OpenRequest) (reply : Reply 2) (replies : Log (Reply 2) (Unit {0})) → IsKept s → open_of s.head s.opened.items ≡ Some o → payloads_in s.opened.items ≡ o.payload ∷ [] → calls_in s.opened.items ((reply, tt) ∷ []) ≡ record { request = o.request; reply = reply } ∷ [] → SpellsAnswer (Some o) reply
-    → t.framer ≡ s.framer → t.head ≡ None → t.ended ≡ s.ended → replies.items ≡ (reply, tt) ∷ [] → t.answered.items ≡ s.answered.items ++ (s.opened, replies) ∷ [] → t.sent ≡ s.sent → t.unsent.items ≡ s.unsent.items ++ frame_of (answer_bytes o reply) → IsKept t × (state_inside t ≡ after_answer (state_inside s) reply)
+    → t.payloads ≡ s.payloads → t.head ≡ None → t.ended ≡ s.ended → replies.items ≡ (reply, tt) ∷ [] → t.answered.items ≡ s.answered.items ++ (s.opened, replies) ∷ [] → t.sent ≡ s.sent → t.unsent.items ≡ s.unsent.items ++ frame_of (answer_bytes o reply) → IsKept t × (state_inside t ≡ after_answer (state_inside s) reply)
 answers_it s t head o reply replies kept opens payload call spells f none e r d g u =
     let empty : open_of t.head t.opened.items ≡ None = ap (λ (x : Option Head). open_of x t.opened.items) none in
     let answered : answered_in t.answered.items ≡ answered_in s.answered.items ++ o.payload ∷ [] = ap answered_in d ∙ answered_more s.answered.items s.opened replies ∙ ap (λ (x : List (List ℕ)). answered_in s.answered.items ++ x) payload in
     let calls : calls_of t.answered.items ≡ calls_of s.answered.items ++ record { request = o.request; reply = reply } ∷ [] =
     ap calls_of d ∙ calls_more s.answered.items s.opened replies ∙ ap (λ (x : List (Reply 2 × Unit {0})). calls_of s.answered.items ++ calls_in s.opened.items x) r ∙ ap (λ x. calls_of s.answered.items ++ x) call in
-    let fed : t.framer.fed ≡ s.framer.fed = ap (λ (h : History). h.fed) f in
+    let fed : t.payloads.fed ≡ s.payloads.fed = ap (λ (h : History). h.fed) f in
     let sent : sent_in t.sent.items ≡ sent_in s.sent.items = ap (λ (l : Log Filled ℕ). sent_in l.items) g in
     let now : state_inside t ≡ with_answer (state_inside s) (Some o) reply = cc in (
       record {

@@ -1,7 +1,7 @@
 -- How many bytes are in no payload that was answered.
-use Rattle.std.proofs.Common.{◌≡◌, ℕ, ◌+◌, ◌-◌, ◌<◌, ◌≤◌, List, [], ◌∷◌, ◌++◌, length, length-append, ap, sym, ◌∙◌, arith, append_assoc, subst, inl, inr}
+use Rattle.std.proofs.Common.{◌≡◌, ℕ, ◌+◌, ◌<◌, ◌≤◌, List, [], ◌∷◌, ◌++◌, length, length-append, ap, ◌∙◌, arith, subst, inl, inr}
 use Rattle.std.proofs.lemmas.List.Concat.{flat_map-append}
-use Rattle.cap_frames.specs.Stream.{Tail, IsStream, frame_of, frames_of, tail_bytes}
+use Rattle.cap_frames.specs.Stream.{frame_of, frames_of, tail_bytes}
 use Rattle.cap_session.specs.Session.{SessionState, FollowsStream, EndsNow, NextGives, bytes_unanswered, open_payload}
 use Rattle.cap_session.specs.declared.session.Cause.{Cause}
 use Rattle.cap_session.specs.declared.session.Cause.TheVariants as causes

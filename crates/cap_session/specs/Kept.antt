@@ -1,29 +1,20 @@
 -- What the parts of a session keep.
-use Rattle.std.specs.Prelude.{◌≡◌, ℕ, ◌≤◌, List, [], ◌∷◌, ◌++◌, Option, Some, None, Result, Ok, Err, false, flat_map, map, take}
+use Rattle.std.specs.Prelude.{◌≡◌, ℕ, ◌≤◌, List, [], ◌∷◌, ◌++◌, Option, Some, None, Ok, false, flat_map, take}
 use Rattle.bytes.specs.Filled.{Filled}
 use Rattle.http_server.specs.declared.log.Log.{Log}
-use Rattle.cap_model.specs.declared.request.Request.{Request}
 use Rattle.cap_model.specs.News.{Reply}
 use Rattle.cap_frames.specs.Stream.{frame_of}
 use Rattle.cap_frames.specs.History.{History, IsReading, IsAtRest, IsAtFault}
-use Rattle.cap_messages.specs.declared.fault.MessageFault.{MessageFault}
 use Rattle.cap_messages.specs.Spelling.{IsRequest, kind_of, fault_reply}
 use Rattle.cap_session.specs.Answers.{Call, Answers}
+use Rattle.cap_session.specs.Asked.{ReadResult, PayloadLog, payloads_in}
 use Rattle.cap_session.specs.Session.{SessionState, OpenRequest, open_payload, HasAnswered}
 use Rattle.cap_session.specs.declared.session.Cause.TheVariants as causes
 use Rattle.cap_session.specs.declared.session.Session.TheInside.{Inside}
 use Rattle.cap_session.specs.declared.find.TheConstants.{FRAME_ROOM}
-use Rattle.cap_session.specs.declared.find.Head.{Head}
+use Rattle.cap_session.specs.declared.asked.Head.{Head}
 use Rattle.cap_session.specs.declared.find.Found.{Found}
 use Rattle.cap_session.specs.declared.find.Found.TheVariants as found
-
--- what was read from a payload
-abbrev pub ReadResult : Type 0
-ReadResult = Result (ℕ × Request 2) MessageFault
-
--- payloads with what was read from them
-abbrev pub PayloadLog : Type 0
-PayloadLog = List (Filled × ReadResult)
 
 abbrev pub ReplyLog : Type 0
 ReplyLog = List (Reply 2 × Unit {0})
@@ -31,9 +22,6 @@ ReplyLog = List (Reply 2 × Unit {0})
 -- payloads that were answered, with the reply to each that is a request
 abbrev pub AnswerLog : Type 0
 AnswerLog = List (Log Filled ReadResult × Log (Reply 2) (Unit {0}))
-
-abbrev pub payloads_in : PayloadLog → List (List ℕ)
-payloads_in payloads = map (λ e. e.0.items) payloads
 
 -- the call of a request with a reply
 abbrev pub calls_in : PayloadLog → ReplyLog → List Call
@@ -56,7 +44,11 @@ abbrev pub sent_in : List (Filled × ℕ) → List ℕ
 sent_in log = flat_map (λ e. take e.1 e.0.items) log
 
 abbrev pub state_inside : Inside → SessionState
-state_inside s = record { fed = s.framer.fed; answered = answered_in s.answered.items; open_request = open_of s.head s.opened.items; calls = calls_of s.answered.items; sent = sent_in s.sent.items; unsent = s.unsent.items; ended = s.ended }
+state_inside s = record { fed = s.payloads.fed; answered = answered_in s.answered.items; open_request = open_of s.head s.opened.items; calls = calls_of s.answered.items; sent = sent_in s.sent.items; unsent = s.unsent.items; ended = s.ended }
+
+-- a session that has not ended and of which no request is open
+abbrev pub resting : List ℕ → AnswerLog → List (Filled × ℕ) → List ℕ → SessionState
+resting fed answered sent unsent = record { fed = fed; answered = answered_in answered; open_request = None; calls = calls_of answered; sent = sent_in sent; unsent = unsent; ended = None }
 
 -- while a request is open there is room for the frame of its reply
 abbrev pub HasRoom : Option OpenRequest → ℕ → Type 0
@@ -75,12 +67,12 @@ abbrev pub SpellsRequest : Option OpenRequest → Type 0
 SpellsRequest None = Unit {0}
 SpellsRequest (Some o) = IsRequest o.payload o.call_id o.request
 
--- The frames that the framer gave were answered, but for the open request's, and for one that was lost for want of memory.
+-- The payloads that were given were answered, but for the open request's, and for one that was lost for want of memory.
 pub record IsKept (s : Inside) : Type 0 where
   pub lost : List (List ℕ)
-  pub given : s.framer.given ≡ answered_in s.answered.items ++ (open_payload (open_of s.head s.opened.items) ++ lost)
-  pub reading : IsReading s.framer
-  pub none_lost : s.ended ≡ None → (lost ≡ []) × (s.framer.is_spent ≡ false)
+  pub given : s.payloads.given ≡ answered_in s.answered.items ++ (open_payload (open_of s.head s.opened.items) ++ lost)
+  pub reading : IsReading s.payloads
+  pub none_lost : s.ended ≡ None → (lost ≡ []) × (s.payloads.is_spent ≡ false)
   pub spells : SpellsRequest (open_of s.head s.opened.items)
   pub head : IsHeadOf (open_of s.head s.opened.items) s.head
   pub room : HasRoom (open_of s.head s.opened.items) s.unsent.spare
@@ -95,7 +87,7 @@ pub record AnswersBad (h k : History) (u v : List ℕ) (old new : AnswerLog) (pa
   pub answered : answered_in new ≡ answered_in old ++ payloads
   pub calls : calls_of new ≡ calls_of old
 
--- and these are all that the framer gave
+-- and these are all that were given
 pub record AnswersAllBad (h k : History) (u v : List ℕ) (old new : AnswerLog) : Type 0 where
   pub payloads : List (List ℕ)
   pub frames : List ℕ

@@ -1,34 +1,23 @@
 //! What comes next in a stream.
-ghost use Rattle.std.specs.Prelude.{◌≡◌, ◌++◌, OnOk, OnErr, false, ◌≤◌};
+ghost use Rattle.std.specs.Prelude.{◌≡◌, ◌+◌, ◌++◌, OnOk, OnErr, false, ◌≤◌};
 ghost use Rattle.cap_frames.specs.Stream.{frame_of};
 ghost use Rattle.cap_messages.specs.Spelling.{IsOfKind, IsReply, reply_bytes, fault_reply};
 ghost use Rattle.cap_session.specs.Kept.{Finds, EndsWith};
 
+use crate::asked::{Head, ReadPayload};
+use crate::payloads::Payloads;
 use bytes::BytesMut;
-use cap_frames::{Frame, FrameFault, Framer, close_frame, open_frame};
-use cap_messages::{
-    FAULT_ROOM, MessageFault, REPLY_ROOM, kind, read_request, write_fault, write_reply,
-};
+use cap_frames::{FrameFault, close_frame, open_frame};
+use cap_messages::{FAULT_ROOM, MessageFault, REPLY_ROOM, kind, write_fault, write_reply};
 use cap_model::{NoMemory, OwnedReply, Request};
 use http_server::Log;
-use std::alloc::Global;
 
 const BAD_LENGTH: u8 = 40;
 
 const BAD_MESSAGE: u8 = 41;
 
 /// The room that is made for the frame of a reply: its length, and what `write_reply` asks for.
-const FRAME_ROOM: usize = 4 + REPLY_ROOM;
-
-/// What the reply to a request repeats of it.
-#[derive(Clone, Copy)]
-pub(crate) struct Head {
-    pub(crate) call_id: u32,
-    pub(crate) kind: u8,
-}
-
-/// A payload with the request that was read from it, if it is one. It exists for contracts alone.
-pub(crate) type ReadPayload = Log<Frame, Result<(u32, Request<2>), MessageFault>>;
+pub(crate) const FRAME_ROOM: usize = 4 + REPLY_ROOM;
 
 /// The payloads that were answered, each with the reply to its request, if it is one. It exists for contracts alone.
 pub(crate) type Answered = Log<ReadPayload, Log<OwnedReply<2>, ()>>;
@@ -45,25 +34,18 @@ pub(crate) enum Found {
 
 /// Finds the next request, and makes room for the reply to it. Each payload before it that is none is answered so, and a length
 /// that no frame has too.
-pub(crate) fn find(
-    alloc: Global,
-    framer: &mut Framer,
-    unsent: &mut BytesMut,
-    answered: &mut Answered,
-) -> Found
-    requires { framer.old.is_spent ≡ false }
-    ensures { Finds framer.old framer.new unsent.old unsent.new
+pub(crate) fn find(payloads: &mut Payloads, unsent: &mut BytesMut, answered: &mut Answered) -> Found
+    requires { payloads.old.is_spent ≡ false }
+    ensures { Finds payloads.old payloads.new unsent.old unsent.new
         answered.old.items answered.new.items result }
 {
     loop {
-        let payload = match framer.next() {
-            Ok(Some(payload)) => payload,
+        let (opened, read) = match payloads.next() {
+            Ok(Some(next)) => next,
             Ok(None) => return Found::Rest,
             Err(FrameFault::BadLength) => return end(unsent),
             Err(FrameFault::NoMemory) => return Found::NoMemory,
         };
-        let read = read_request(alloc, payload.as_slice());
-        let opened = Log::new().and(&payload, &read);
         match read {
             Ok((call_id, request)) => {
                 if unsent.reserve(FRAME_ROOM).is_err() {
@@ -114,6 +96,7 @@ pub(crate) fn put_reply(head: Head, reply: &OwnedReply<2>, unsent: &mut BytesMut
         ≡ unsent.old.items ++ frame_of (reply_bytes head.call_id head.kind reply.now) }
     ensures spells { IsReply (reply_bytes head.call_id head.kind reply.now)
         head.call_id head.kind reply.now }
+    ensures spare { unsent.old.spare ≤ unsent.new.spare + FRAME_ROOM }
 {
     let start = open_frame(unsent);
     write_reply(head.call_id, head.kind, &reply.view(), unsent);

@@ -1,10 +1,14 @@
 //! One connection: bytes in, requests out, replies in, bytes out. It knows frames and messages, and no cluster.
 #![tactic(auto)]
 
+mod asked;
+mod batch;
 mod counted;
 mod find;
+mod payloads;
 mod session;
 
+pub use batch::Batch;
 pub use cap_model::{NoMemory, OwnedReply, Request};
 pub use counted::{Counted, Got, Put, Sent, StreamFailed};
 pub use session::{Cause, Fed, Next, Session};

@@ -1,16 +1,23 @@
 //! A session.
-ghost use Rattle.std.specs.Prelude.{◌≡◌, ◌<◌, ◌≤◌, IfOk, take, None};
+ghost use Rattle.std.specs.Prelude.{◌≡◌, ◌<◌, ◌≤◌, ◌++◌, IfOk, IfErr, take, vec_capacity, None};
 ghost use Rattle.std.specs.Io.KnownBytes.{Appends};
 ghost use Rattle.cap_session.specs.Counted.{state_of, inner_of, CanCount, after_writes, sent_count, IsSentCount};
+ghost use Rattle.cap_session.specs.Answers.{Answers};
+ghost use Rattle.cap_session.specs.Batch.{HandsOut};
+ghost use Rattle.cap_session.specs.Kept.{answered_in, calls_of, sent_in, resting};
+ghost use Rattle.cap_session.specs.Parts.{HasGiven};
 ghost use Rattle.cap_session.specs.Session.{new_session, FeedGives, NextGives, MayAnswer, after_answer, SpellsAnswer, after_sent, IsSession, bytes_unanswered};
 
+use crate::asked::{Head, ReadPayload};
+use crate::batch::Batch;
 use crate::counted::{Counted, Sent};
-use crate::find::{Answered, Found, Head, ReadPayload, find, put_reply};
+use crate::find::{Answered, FRAME_ROOM, Found, find, put_reply};
+use crate::payloads::{Parts, Payloads};
 use bytes::BytesMut;
-use cap_frames::Framer;
 use cap_model::{NoMemory, OwnedReply, Request};
 use http_server::Log;
 use std::alloc::Global;
+use std::collections::VecDeque;
 use std::io::Write;
 use std::marker::Model;
 
@@ -49,16 +56,15 @@ pub enum Next {
 /// (each a request with its reply), the bytes of its answers, written out or not yet, and why it has ended.
 #[derive(Drop)]
 pub struct Session {
-    alloc: Global,
-    framer: Framer,
-    unsent: BytesMut,
+    pub(crate) payloads: Payloads,
+    pub(crate) unsent: BytesMut,
     // That of the open request.
-    head: Option<Head>,
-    ended: Option<Cause>,
+    pub(crate) head: Option<Head>,
+    pub(crate) ended: Option<Cause>,
     // These exist for contracts alone.
-    opened: ReadPayload,
-    answered: Answered,
-    sent: Log<BytesMut, usize>,
+    pub(crate) opened: ReadPayload,
+    pub(crate) answered: Answered,
+    pub(crate) sent: Log<BytesMut, usize>,
 }
 
 impl Model for Session {
@@ -77,12 +83,11 @@ impl Session {
     pub fn open(alloc: Global) -> Result<Session, NoMemory>
         ensures { IfOk result (λ s. s ≡ new_session) }
     {
-        let Ok(framer) = Framer::new(alloc) else {
+        let Ok(payloads) = Payloads::new(alloc) else {
             return Err(NoMemory);
         };
         Ok(Session {
-            alloc,
-            framer,
+            payloads,
             unsent: BytesMut::new(alloc),
             head: None,
             ended: None,
@@ -101,12 +106,88 @@ impl Session {
         if let Some(cause) = self.ended {
             return Fed::Ended(cause);
         }
-        match self.framer.feed(piece) {
+        match self.payloads.feed(piece) {
             Ok(()) => Fed::Taken,
             Err(_) => {
                 self.ended = Some(Cause::NoMemory);
                 Fed::Ended(Cause::NoMemory)
             }
+        }
+    }
+
+    /// Reads the requests that were fed, up to a payload that is none, so that they can be handed out together. If an allocation fails, it
+    /// stops there.
+    pub fn read_ahead(&mut self)
+        ensures { self.new ≡ self.old }
+    {
+        self.payloads.read_ahead();
+    }
+
+    /// The requests that were read ahead, all at once, with room for their replies, and an empty list for these, which has room too. If
+    /// there are none, or if an allocation fails, the session comes back as it was.
+    pub fn batch(self) -> Result<(Batch, VecDeque<Request<2>>, Vec<OwnedReply<2>>), Session>
+        requires none_open { self.open_request ≡ None }
+        requires goes_on { self.ended ≡ None }
+        ensures ok { IfOk result
+            (λ r. HandsOut self r.0 r.1.items r.2.items (vec_capacity r.2)) }
+        ensures err { IfErr result (λ s. s ≡ self) }
+    {
+        let Session {
+            payloads,
+            mut unsent,
+            head: _,
+            ended: _,
+            opened: _,
+            answered,
+            sent,
+        } = self;
+        let parts = payloads.into_parts();
+        let count = parts.asked.len();
+        if count == 0 || unsent.reserve(count * FRAME_ROOM).is_err() {
+            return Err(Session::resting(parts, unsent, answered, sent));
+        }
+        let Ok(replies) = Vec::with_capacity(parts.alloc, count) else {
+            return Err(Session::resting(parts, unsent, answered, sent));
+        };
+        let Parts {
+            alloc,
+            framer,
+            asked,
+            requests,
+            refused,
+        } = parts;
+        let batch = Batch {
+            alloc,
+            framer,
+            asked,
+            refused,
+            unsent,
+            answered,
+            sent,
+        };
+        Ok((batch, requests, replies))
+    }
+
+    /// A session that has not ended and of which no request is open, of these parts.
+    pub(crate) fn resting(
+        parts: Parts,
+        unsent: BytesMut,
+        answered: Answered,
+        sent: Log<BytesMut, usize>,
+    ) -> Session
+        requires given { HasGiven (answered_in answered.items) parts }
+        requires answers { Answers (answered_in answered.items) (calls_of answered.items)
+            (sent_in sent.items ++ unsent.items) }
+        ensures { result ≡ resting parts.framer.fed answered.items sent.items unsent.items }
+    {
+        Session {
+            payloads: Payloads::from_parts(parts),
+            unsent,
+            head: None,
+            ended: None,
+            opened: Log::new(),
+            answered,
+            sent,
         }
     }
 
@@ -122,12 +203,7 @@ impl Session {
         if let Some(cause) = self.ended {
             return Next::Ended(cause);
         }
-        match find(
-            self.alloc,
-            &mut self.framer,
-            &mut self.unsent,
-            &mut self.answered,
-        ) {
+        match find(&mut self.payloads, &mut self.unsent, &mut self.answered) {
             Found::Request(head, opened, request) => {
                 self.head = Some(head);
                 self.opened = opened;

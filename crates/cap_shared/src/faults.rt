@@ -19,9 +19,11 @@ pub enum CommitFault {
     NoMemory(Proposal<2>),
 }
 
-/// Why nothing was made under the lock.
+/// Why a call was not made under the lock. Nothing changed.
 #[derive(Clone, Copy, Drop)]
 pub enum Fault {
+    /// The journal is full.
     Sealed,
+    /// An allocation failed.
     NoMemory,
 }

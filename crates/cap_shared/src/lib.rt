@@ -22,7 +22,7 @@ pub use blank::Blank;
 pub use closed::{Closed, SeatReport};
 pub use entry::{Entry, Receipt};
 pub use event::{CompactEvent, EventForm};
-pub use faults::{CallFault, CommitFault};
+pub use faults::{CallFault, CommitFault, Fault};
 pub use history::{Answer, Mark, Moment, Sitting, View};
 pub use laws::journals_stay_bounded;
 pub use request::CompactRequest;

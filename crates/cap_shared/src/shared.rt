@@ -1,6 +1,6 @@
 //! The cluster that threads share, with its seats.
-ghost use Rattle.std.specs.Prelude.{◌≡◌, ℕ, ◌<◌, ◌≤◌, [], length, map, vec_capacity, IfOk, MatchResult};
-ghost use Rattle.cap_shared.specs.Calls.{CallsOk, CallsBack, CommitAnswers, CommitsBack, CopyIs};
+ghost use Rattle.std.specs.Prelude.{◌≡◌, ℕ, ◌<◌, ◌≤◌, [], length, map, vec_capacity, IfOk, OnErr, MatchResult};
+ghost use Rattle.cap_shared.specs.Calls.{CallsOk, CallsBack, CallMisses, CommitAnswers, CommitsBack, CopyIs};
 ghost use Rattle.cap_shared.specs.Journal.{Replays, TagsBelow, AllHonest};
 ghost use Rattle.cap_shared.specs.Parts.{report_of};
 ghost use Rattle.cap_shared.specs.Rule.{fresh, AllFit, times};
@@ -21,6 +21,10 @@ use cap_model::{NoMemory, OwnedReply, Proposal, Request, Verdict};
 use std::alloc::Global;
 use std::marker::PhantomData;
 use std::sync::{Mutex, MutexGuard, Wait};
+use std::thread::yield_now;
+
+/// How often a thread looks whether the cluster is free before it sleeps until it is woken.
+const LOOKS: u32 = 100;
 
 /// A cluster under a lock, its journal, and the word that ties both to the seats. Threads share it by reference, each with a seat.
 #[derive(Drop)]
@@ -46,21 +50,17 @@ pub struct Held<'a, J: Naming> {
 }
 
 impl<'a, J: Naming> Held<'a, J> {
-    /// Makes a call, as `Shared::call`.
+    /// Makes a call, as `Shared::call`. The entry takes the lists of the request; where it is not made the request stays as it was.
     pub fn call(
         &mut self,
         seat: &mut Seat<J>,
-        mut request: Request<2>,
-    ) -> Result<OwnedReply<2>, CallFault>
-        ensures { MatchResult result (CallsOk request seat.old seat.new)
-            (CallsBack request J.limit seat.old seat.new) }
+        request: &mut Request<2>,
+    ) -> Result<OwnedReply<2>, Fault>
+        ensures answer { MatchResult result (CallsOk request.old seat.old seat.new)
+            (CallMisses request.old J.limit seat.old seat.new) }
+        ensures back { OnErr result (request.new ≡ request.old) }
     {
-        let answer = self.desk.call(self.alloc, self.word, seat, &mut request);
-        match answer {
-            Ok(reply) => Ok(reply),
-            Err(Fault::Sealed) => Err(CallFault::Sealed(request)),
-            Err(Fault::NoMemory) => Err(CallFault::NoMemory(request)),
-        }
+        self.desk.call(self.alloc, self.word, seat, request)
     }
 }
 
@@ -76,7 +76,13 @@ impl<J: Naming> Shared<J> {
         ensures { MatchResult result (CallsOk request seat.old seat.new)
             (CallsBack request J.limit seat.old seat.new) }
     {
-        self.hold(rt).call(seat, request)
+        let mut request = request;
+        let answer = self.hold(rt).call(seat, &mut request);
+        match answer {
+            Ok(reply) => Ok(reply),
+            Err(Fault::Sealed) => Err(CallFault::Sealed(request)),
+            Err(Fault::NoMemory) => Err(CallFault::NoMemory(request)),
+        }
     }
 
     /// Holds the cluster for some calls, which then take the lock once.
@@ -84,8 +90,20 @@ impl<J: Naming> Shared<J> {
         Held {
             alloc: self.alloc,
             word: &self.table.shared,
-            desk: self.desk.lock(rt),
+            desk: self.desk(rt),
         }
+    }
+
+    /// The desk under its lock. A thread that finds it locked first looks again a while, since the calls of others take less time than to
+    /// sleep and to be woken.
+    fn desk<R: Wait>(&self, rt: &R) -> MutexGuard<'_, Desk<J>> {
+        for _ in 0..LOOKS {
+            if let Some(desk) = self.desk.try_lock() {
+                return desk;
+            }
+            yield_now();
+        }
+        self.desk.lock(rt)
     }
 
     /// Makes a proposal if it is admissible now: it is entered in the journal, and the seat has a receipt. Else it is rejected for the
@@ -100,9 +118,7 @@ impl<J: Naming> Shared<J> {
         ensures { MatchResult result (CommitAnswers proposal seat.old seat.new)
             (CommitsBack proposal J.limit seat.old seat.new) }
     {
-        self.desk
-            .lock(rt)
-            .commit(&self.table.shared, seat, proposal)
+        self.desk(rt).commit(&self.table.shared, seat, proposal)
     }
 
     /// A snapshot of the cluster in an arena. If an allocation fails nothing changes.
@@ -115,17 +131,17 @@ impl<J: Naming> Shared<J> {
         ensures { MatchResult result (CopyIs J.opening seat.old seat.new)
             (λ _. seat.new ≡ seat.old) }
     {
-        self.desk.lock(rt).copy(arena, &self.table.shared, seat)
+        self.desk(rt).copy(arena, &self.table.shared, seat)
     }
 
     /// Whether the journal is full. Once it is, it stays so.
     pub fn is_full<R: Wait>(&self, rt: &R) -> bool {
-        self.desk.lock(rt).is_full()
+        self.desk(rt).is_full()
     }
 
     /// How many entries the journal has. Another thread may have entered more by the time that this returns.
     pub fn entries<R: Wait>(&self, rt: &R) -> usize {
-        self.desk.lock(rt).entries()
+        self.desk(rt).entries()
     }
 
     /// Opens an epoch over a cluster, with a journal of at most so many entries, and seats that were answered nothing. The journal, room for

@@ -72,6 +72,10 @@ sealed_is {a} {b} {s} {t} limit new u q x over (same, waits, (entries, full, not
   goes_on = ap (λ (v : SessionState). v.ended) same ∙ over;
 }
 
+-- after what was answered before
+pub sealed_then : {a b c : SessionState} {s t u : Sitting} {limit : ℕ} {q : Request 2} → Serves a b s t [] [] → IsSealed limit q b c t u → IsSealed limit q a c s u
+sealed_then x y = record { entries = y.entries; full = y.full; serves = serves_then x y.serves; waits = y.waits; goes_on = y.goes_on }
+
 -- ---- what comes next
 
 -- payloads that are no requests were answered, and last came these bytes

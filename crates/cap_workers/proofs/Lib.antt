@@ -2,3 +2,4 @@ mod Receipts
 mod Answering
 mod Streams
 mod Rounds
+mod Together

@@ -12,7 +12,7 @@ use Rattle.cap_shared.specs.declared.history.Moment.{Moment}
 use Rattle.cap_shared.specs.declared.history.Sitting.{Sitting}
 use Rattle.cap_workers.specs.Sessions.{HaveReceipts, none_made, made, starved, Serves}
 
-receipts_then : {cs ds : List Call} {ms ns : List Moment} → HaveReceipts cs ms → HaveReceipts ds ns → HaveReceipts (cs ++ ds) (ms ++ ns)
+pub receipts_then : {cs ds : List Call} {ms ns : List Moment} → HaveReceipts cs ms → HaveReceipts ds ns → HaveReceipts (cs ++ ds) (ms ++ ns)
 receipts_then none_made y = y
 receipts_then (made {call} found x) y = made {call = call} found (receipts_then x y)
 receipts_then (starved x) y = starved (receipts_then x y)

@@ -1,6 +1,7 @@
 //! Workers that take turns over a shared cluster, and sessions whose requests are answered from it.
 #![tactic(auto)]
 
+mod batches;
 mod gate;
 mod sessions;
 mod worker;

@@ -5,9 +5,10 @@ ghost use Rattle.cap_session.specs.Session.{after_sent, IsSession};
 ghost use Rattle.cap_session.specs.declared.counted.Sent.{Sent};
 ghost use Rattle.cap_workers.specs.Sessions.{pending_request, IsServed, IsRound, IsPause, IsCallMade, IsRead, IsWritten, GoesOn, ReadsOn, end_of};
 
+use crate::batches::answer_batch;
 use cap_model::{OwnedReply, Refusal, ReplyWith, Request};
 use cap_session::{Cause, Counted, Fed, Got, Next, Sent, Session};
-use cap_shared::{CallFault, Held, Naming, Seat, Shared};
+use cap_shared::{CallFault, Naming, Seat, Shared};
 use std::io::{Read, Write};
 use std::sync::Wait;
 
@@ -84,15 +85,12 @@ pub fn serve_session<J: Naming, H: Wait, R: Read, W: Write>(
     let mut pending = pending;
     let mut sent = 0u64;
     for _ in rt.forever() {
-        let Round { sent: out, end } = serve_once(
-            rt,
-            shared,
-            seat,
-            &mut session,
-            pending,
-            reader,
-            writer,
-        );
+        let Round {
+            session: served,
+            sent: out,
+            end,
+        } = serve_once(rt, shared, seat, session, pending, reader, writer);
+        session = served;
         sent = sent.saturating_add(out);
         if let Some(cause) = end {
             let unsent = session.unsent().len();
@@ -108,9 +106,10 @@ pub fn serve_session<J: Naming, H: Wait, R: Read, W: Write>(
     unreachable!()
 }
 
-/// What a round did: how many bytes went out, and why the session is not served on, if so.
+/// What a round did: the session, how many bytes went out, and why it is not served on, if so.
 #[derive(Drop)]
 struct Round {
+    session: Session,
     sent: u64,
     end: Option<EndCause>,
 }
@@ -120,28 +119,30 @@ fn serve_once<J: Naming, H: Wait, R: Read, W: Write>(
     rt: &H,
     shared: &Shared<J>,
     seat: &mut Seat<J>,
-    session: &mut Session,
+    session: Session,
     pending: Option<Request<2>>,
     reader: &mut Counted<R>,
     writer: &mut Counted<W>,
 ) -> Round
-    requires goes_on { session.old.ended ≡ None }
-    requires pending { pending ≡ pending_request session.old.open_request }
+    requires goes_on { session.ended ≡ None }
+    requires pending { pending ≡ pending_request session.open_request }
     requires reader { CanCount (state_of reader.old) }
     requires writer { CanCount (state_of writer.old) }
-    ensures round { IsRound J.limit session.old session.new seat.old seat.new result.end }
+    ensures round { IsRound J.limit session result.session seat.old seat.new result.end }
     ensures read { IsRead result.end (state_of reader.old) (state_of reader.new)
         (R.remaining (inner_of reader.old)) (R.remaining (inner_of reader.new))
-        session.old.fed session.new.fed }
+        session.fed result.session.fed }
     ensures written { (out : List ℕ) × IsWritten result.end
         (state_of writer.old) (state_of writer.new)
         (W.contents (inner_of writer.old)) (W.contents (inner_of writer.new))
-        session.old.sent session.new.sent out
+        session.sent result.session.sent out
         × (result.sent ≡ length out) }
 {
-    match answer_all(rt, shared, seat, session, pending) {
+    let (session, pause) = answer_all(rt, shared, seat, session, pending);
+    match pause {
         Pause::Need => go_on(session, reader, writer),
         Pause::Sealed(request) => Round {
+            session,
             sent: 0,
             end: Some(EndCause::Sealed(request)),
         },
@@ -152,23 +153,26 @@ fn serve_once<J: Naming, H: Wait, R: Read, W: Write>(
 }
 
 /// Writes out the unsent answers of a session that has ended.
-fn finish<W: Write>(session: &mut Session, writer: &mut Counted<W>, cause: EndCause) -> Round
+fn finish<W: Write>(session: Session, writer: &mut Counted<W>, cause: EndCause) -> Round
     requires counts { CanCount (state_of writer.old) }
     requires cause { cause ≢ EndCause.WriteFault }
-    ensures sent { (sent : Sent) × (session.new ≡ after_sent session.old sent)
+    ensures sent { (sent : Sent) × (result.session ≡ after_sent session sent)
         × (result.end ≡ Some (end_of cause sent)) }
     ensures written { (out : List ℕ) × IsWritten result.end
         (state_of writer.old) (state_of writer.new)
         (W.contents (inner_of writer.old)) (W.contents (inner_of writer.new))
-        session.old.sent session.new.sent out
+        session.sent result.session.sent out
         × (result.sent ≡ length out) }
 {
+    let mut session = session;
     match session.write_out(writer) {
         Sent::All(count) => Round {
+            session,
             sent: count as u64,
             end: Some(cause),
         },
         Sent::Fault { sent } => Round {
+            session,
             sent: sent as u64,
             end: Some(EndCause::WriteFault),
         },
@@ -177,30 +181,36 @@ fn finish<W: Write>(session: &mut Session, writer: &mut Counted<W>, cause: EndCa
 
 /// Writes out the unsent answers of a session, and reads more for it.
 fn go_on<R: Read, W: Write>(
-    session: &mut Session,
+    session: Session,
     reader: &mut Counted<R>,
     writer: &mut Counted<W>,
 ) -> Round
-    requires goes_on { session.old.ended ≡ None }
+    requires goes_on { session.ended ≡ None }
     requires reader { CanCount (state_of reader.old) }
     requires writer { CanCount (state_of writer.old) }
     ensures sent { (sent : Sent)
-        × GoesOn sent (after_sent session.old sent) session.new result.end }
+        × GoesOn sent (after_sent session sent) result.session result.end }
     ensures read { IsRead result.end (state_of reader.old) (state_of reader.new)
         (R.remaining (inner_of reader.old)) (R.remaining (inner_of reader.new))
-        session.old.fed session.new.fed }
+        session.fed result.session.fed }
     ensures written { (out : List ℕ) × IsWritten result.end
         (state_of writer.old) (state_of writer.new)
         (W.contents (inner_of writer.old)) (W.contents (inner_of writer.new))
-        session.old.sent session.new.sent out
+        session.sent result.session.sent out
         × (result.sent ≡ length out) }
 {
+    let mut session = session;
     match session.write_out(writer) {
-        Sent::All(count) => Round {
-            sent: count as u64,
-            end: read_more(session, reader),
-        },
+        Sent::All(count) => {
+            let end = read_more(&mut session, reader);
+            Round {
+                session,
+                sent: count as u64,
+                end,
+            }
+        }
         Sent::Fault { sent } => Round {
+            session,
             sent: sent as u64,
             end: Some(EndCause::WriteFault),
         },
@@ -229,37 +239,43 @@ fn read_more<R: Read>(session: &mut Session, reader: &mut Counted<R>) -> Option<
     }
 }
 
-/// Answers all that was fed, a pending request first. It holds the cluster until all is answered.
+/// Answers all that was fed, a pending request first.
 fn answer_all<J: Naming, H: Wait>(
     rt: &H,
     shared: &Shared<J>,
     seat: &mut Seat<J>,
-    session: &mut Session,
+    session: Session,
     pending: Option<Request<2>>,
-) -> Pause
-    requires goes_on { session.old.ended ≡ None }
-    requires pending { pending ≡ pending_request session.old.open_request }
-    ensures pause { IsPause J.limit session.old session.new seat.old seat.new result }
-    ensures same { (session.new.fed ≡ session.old.fed) × (session.new.sent ≡ session.old.sent) }
+) -> (Session, Pause)
+    requires goes_on { session.ended ≡ None }
+    requires pending { pending ≡ pending_request session.open_request }
+    ensures pause { IsPause J.limit session result.0 seat.old seat.new result.1 }
+    ensures same { (result.0.fed ≡ session.fed) × (result.0.sent ≡ session.sent) }
 {
-    let mut held = shared.hold(rt);
+    let mut session = session;
     let mut pending = pending;
     for _ in rt.forever() {
-        if let Some(back) = make_call(&mut held, seat, session, pending) {
-            return Pause::Sealed(back);
+        if let Some(back) = make_call(rt, shared, seat, &mut session, pending) {
+            return (session, Pause::Sealed(back));
+        }
+        let (rest, sealed) = answer_batch(rt, shared, seat, session);
+        session = rest;
+        if let Some(request) = sealed {
+            return (session, Pause::Sealed(request));
         }
         match session.next_request() {
             Next::Request(request) => pending = Some(request),
-            Next::Need => return Pause::Need,
-            Next::Ended(cause) => return Pause::Ended(cause),
+            Next::Need => return (session, Pause::Need),
+            Next::Ended(cause) => return (session, Pause::Ended(cause)),
         }
     }
     unreachable!()
 }
 
 /// Makes the pending call, if any, and answers it. Where the journal is full the request comes back.
-fn make_call<J: Naming>(
-    held: &mut Held<'_, J>,
+fn make_call<J: Naming, H: Wait>(
+    rt: &H,
+    shared: &Shared<J>,
     seat: &mut Seat<J>,
     session: &mut Session,
     pending: Option<Request<2>>,
@@ -269,7 +285,7 @@ fn make_call<J: Naming>(
     ensures same { (session.new.fed ≡ session.old.fed) × (session.new.sent ≡ session.old.sent) }
 {
     let request = pending?;
-    match held.call(seat, request) {
+    match shared.call(rt, seat, request) {
         Ok(reply) => {
             session.answer(&reply);
             None

@@ -1,8 +1,6 @@
-use Rattle.std.proofs.Common.{refl, ◌∙◌, ap, ap₂, sym, subst, ◌≡◌, ◌++◌, ◌∷◌, [], ℕ, List, Option, None, Some}
-use Rattle.cap_frames.specs.Stream.{frame_of}
-use Rattle.cap_messages.specs.Spelling.{IsReply, reply_bytes}
+use Rattle.std.proofs.Common.{refl, ◌∙◌, ap, sym, subst, ◌≡◌, ◌++◌, ◌∷◌, [], Option, None, Some}
 use Rattle.cap_session.specs.Session.{SessionState, OpenRequest, after_answer, SpellsAnswer}
-use Rattle.cap_session.specs.Kept.{IsKept, SpellsRequest, open_of, state_inside}
+use Rattle.cap_session.specs.Kept.{IsKept, SpellsRequest, state_inside}
 use Rattle.cap_session.specs.declared.session.Session.TheInside.{Inside}
 use Rattle.cap_session.proofs.Steps.{opens, answers_it}
 use Rattle.cap_session.proofs.session.Session.answer.Goals as goal

@@ -1,9 +1,8 @@
-use Rattle.std.proofs.Common.{refl, ◌∙◌, ◌≡◌, ap, subst, None, Some, inr}
-use Rattle.cap_session.specs.Session.{SessionState, EndsNow, NextGives, IsSession}
-use Rattle.cap_session.specs.Kept.{IsKept, state_inside, open_of}
+use Rattle.std.proofs.Common.{refl, ◌∙◌, ap, subst, Some}
+use Rattle.cap_session.specs.Session.{SessionState, NextGives, IsSession}
+use Rattle.cap_session.specs.Kept.{IsKept, state_inside}
 use Rattle.cap_session.specs.declared.session.Session.TheInside.{Inside}
 use Rattle.cap_session.specs.declared.session.Cause.TheVariants as causes
-use Rattle.cap_session.specs.declared.session.Next.{Next}
 use Rattle.cap_session.specs.declared.session.Next.TheVariants as nexts
 use Rattle.cap_session.proofs.Steps.{promises, asks, rests, starves, faults}
 use Rattle.cap_session.proofs.Unanswered.{next_fewer}
@@ -15,7 +14,7 @@ returns-in-Some-clause-session c = subst IsSession c.self.view_is (promises c.se
 -- ---- a request
 
 abbrev asking : goal.After-opened-1 → Inside
-asking c = record c.self.inside { framer = c.find.new.framer; unsent = c.find.new.unsent; answered = c.find.new.answered; head = Some c.in-Request.head; opened = c.in-Request.opened }
+asking c = record c.self.inside { payloads = c.find.new.payloads; unsent = c.find.new.unsent; answered = c.find.new.answered; head = Some c.in-Request.head; opened = c.in-Request.opened }
 
 asked : (c : goal.After-opened-1) → IsKept (asking c) × NextGives (state_inside c.self.inside) (state_inside (asking c)) (nexts.Request c.in-Request.request)
 asked c =
@@ -35,15 +34,15 @@ returns-in-Request-clause-less c = next_fewer c.args.self.now (state_inside (ask
 
 pub invariant_of-self-in-Rest : goal.invariant_of-self-in-Rest
 invariant_of-self-in-Rest c =
-    (rests c.self.inside (record c.self.inside { framer = c.find.new.framer; unsent = c.find.new.unsent; answered = c.find.new.answered }) c.self.invariant c.in_default.is (ap (λ (s : SessionState). s.open_request) c.self.view_is ∙ c.requires) c.in-Rest.ensures refl refl refl refl).0
+    (rests c.self.inside (record c.self.inside { payloads = c.find.new.payloads; unsent = c.find.new.unsent; answered = c.find.new.answered }) c.self.invariant c.in_default.is (ap (λ (s : SessionState). s.open_request) c.self.view_is ∙ c.requires) c.in-Rest.ensures refl refl refl refl).0
 
 pub invariant_of-self-in-BadLength : goal.invariant_of-self-in-BadLength
 invariant_of-self-in-BadLength c =
-    (faults c.self.inside (record c.self.inside { framer = c.find.new.framer; unsent = c.find.new.unsent; answered = c.find.new.answered; ended = Some causes.BadLength }) c.self.invariant c.in_default.is (ap (λ (s : SessionState). s.open_request) c.self.view_is ∙ c.requires) c.in-BadLength.ensures refl refl refl refl).0
+    (faults c.self.inside (record c.self.inside { payloads = c.find.new.payloads; unsent = c.find.new.unsent; answered = c.find.new.answered; ended = Some causes.BadLength }) c.self.invariant c.in_default.is (ap (λ (s : SessionState). s.open_request) c.self.view_is ∙ c.requires) c.in-BadLength.ensures refl refl refl refl).0
 
 pub invariant_of-self-in-NoMemory : goal.invariant_of-self-in-NoMemory
 invariant_of-self-in-NoMemory c =
-    (starves c.self.inside (record c.self.inside { framer = c.find.new.framer; unsent = c.find.new.unsent; answered = c.find.new.answered; ended = Some causes.NoMemory }) c.self.invariant c.in_default.is (ap (λ (s : SessionState). s.open_request) c.self.view_is ∙ c.requires) c.in-NoMemory.ensures refl refl refl refl).0
+    (starves c.self.inside (record c.self.inside { payloads = c.find.new.payloads; unsent = c.find.new.unsent; answered = c.find.new.answered; ended = Some causes.NoMemory }) c.self.invariant c.in_default.is (ap (λ (s : SessionState). s.open_request) c.self.view_is ∙ c.requires) c.in-NoMemory.ensures refl refl refl refl).0
 
 pub returns-in-Rest-clause-session : goal.returns-in-Rest-clause-session
 returns-in-Rest-clause-session c = promises _ (invariant_of-self-in-Rest c)

@@ -1,15 +1,9 @@
-use Rattle.std.proofs.Common.{refl, arith, sym, ap, ◌∙◌, subst, [], ◌++◌, List, ℕ, None, false, rules}
-use Rattle.http_server.specs.declared.log.Log.{Log}
-use Rattle.bytes.specs.Filled.{Filled}
-use Rattle.cap_frames.specs.Stream.{rest}
+use Rattle.std.proofs.Common.{refl, sym, ap, ◌∙◌, subst, [], ◌++◌}
 use Rattle.cap_frames.specs.History.{History, IsReading}
-use Rattle.cap_session.specs.Answers.{Answers, nothing}
-use Rattle.cap_session.specs.Kept.{answered_in, calls_of, sent_in, AnswerLog}
+use Rattle.cap_session.specs.Answers.{nothing}
+use Rattle.cap_session.specs.Kept.{answered_in, AnswerLog}
+use Rattle.cap_session.proofs.ReadingAhead.{nothing_read}
 use Rattle.cap_session.proofs.session.Session.open.Goals as goal
-
--- nothing was fed
-nothing_read : IsReading (record { fed = []; given = []; is_spent = false })
-nothing_read = ([], rest [], record { whole = refl; each = search rules; ends = record { length_good = λ l. absurd (omega (arith, l)); short = λ l. absurd (omega (arith, l)) }; fits = search rules })
 
 pub invariant_of-result : goal.invariant_of-result
 invariant_of-result c = record {

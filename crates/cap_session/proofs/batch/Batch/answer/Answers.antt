@@ -1,0 +1,41 @@
+use Rattle.std.proofs.Common.{◌≡◌, ◌++◌, ◌∷◌, [], ◌∙◌, ℕ, List, Some, None, ap, ap₂, sym, append_assoc, length, arith}
+use Rattle.cap_model.specs.News.{Reply}
+use Rattle.cap_frames.specs.Stream.{frame_of}
+use Rattle.cap_session.specs.Answers.{Call}
+use Rattle.cap_session.specs.Session.{OpenRequest, SpellsAnswer, answer_bytes, with_answer}
+use Rattle.cap_session.specs.Asked.{payloads_in}
+use Rattle.cap_session.specs.Payloads.{asked_payloads, refused_payloads}
+use Rattle.cap_session.specs.Kept.{answered_in, calls_in, calls_of}
+use Rattle.cap_session.specs.Batch.{session_inside}
+use Rattle.cap_session.specs.declared.batch.Batch.TheInside.{Inside}
+use Rattle.cap_session.proofs.Answering.{answered_answer}
+use Rattle.cap_session.proofs.Logs.{answered_more, calls_more}
+use Rattle.cap_session.proofs.ReadingAhead.{fewer}
+use Rattle.cap_session.proofs.batch.Batch.answer.Goals as goal
+
+pub invariant_of-self : goal.invariant_of-self
+invariant_of-self c =
+    let b = c.self.inside in
+    let t : Inside = record b { asked = c.pop_front.new.self; unsent = c.put_reply.new.unsent; answered = c.and-self-inside.result } in
+    let o = c.in-Some.asked in
+    let has = c.parts-opened.ensures in
+    let opened = c.parts-opened.result.1 in
+    let reply = c.args.reply.now in
+    let was = rw c.in-Some.is at c.pop_front.ensures.items in
+    let replies = c.and.ensures ∙ ap (λ (x : List (Reply 2 × Unit {0})). x ++ (reply, tt) ∷ []) c.new.ensures in
+    let payload : payloads_in opened.items ≡ o.payload ∷ [] = ap payloads_in has.one ∙ ap (λ (x : List ℕ). x ∷ []) (sym has.payload_is) in
+    let answered : answered_in t.answered.items ≡ answered_in b.answered.items ++ o.payload ∷ [] = ap answered_in c.and-self-inside.ensures ∙ answered_more b.answered.items opened c.and.result ∙ ap (λ (x : List (List ℕ)). answered_in b.answered.items ++ x) payload in
+    let call : calls_in opened.items c.and.result.items ≡ record { request = o.request; reply = reply } ∷ [] = ap₂ calls_in has.one replies in
+    let calls : calls_of t.answered.items ≡ calls_of b.answered.items ++ record { request = o.request; reply = reply } ∷ [] = ap calls_of c.and-self-inside.ensures ∙ calls_more b.answered.items opened c.and.result ∙ ap (λ (x : List Call). calls_of b.answered.items ++ x) call in
+    let spells : SpellsAnswer (Some o) reply = (has.reads, rw (has.call_id, ← has.kind) c.put_reply.ensures.spells) in
+    let unsent : t.unsent.items ≡ b.unsent.items ++ frame_of (answer_bytes o reply) = rw (has.call_id, ← has.kind) c.put_reply.ensures.appends in
+    let now : session_inside t ≡ with_answer (session_inside b) (Some o) reply = cc in
+    record {
+      all = c.self.invariant.all ∙ ap (λ (x : List OpenRequest). answered_in b.answered.items ++ (asked_payloads x ++ refused_payloads b.refused)) was
+          ∙ sym (append_assoc (answered_in b.answered.items) (o.payload ∷ []) (asked_payloads t.asked.items ++ refused_payloads b.refused))
+          ∙ ap (λ (x : List (List ℕ)). x ++ (asked_payloads t.asked.items ++ refused_payloads b.refused)) (sym answered);
+      few = fewer o t.asked.items b.asked.items was c.self.invariant.few;
+      reading = c.self.invariant.reading;
+      room = omega (arith, ap (λ (x : List OpenRequest). length x) was, c.self.invariant.room, c.put_reply.ensures.spare);
+      answers = answered_answer None (session_inside b) (session_inside t) o reply (λ bad. absurd cc) c.self.invariant.answers spells now;
+    }

@@ -1,0 +1,44 @@
+use Rattle.std.proofs.Common.{◌≡◌, ◌++◌, ◌∷◌, [], ◌∙◌, ℕ, List, Option, Some, ap, sym, subst, refl, append_assoc, arith, length}
+use Rattle.cap_session.specs.Session.{OpenRequest, open_payload}
+use Rattle.cap_session.specs.Asked.{PayloadLog}
+use Rattle.cap_session.specs.Payloads.{asked_payloads, refused_payloads}
+use Rattle.cap_session.specs.Kept.{answered_in, open_of, SpellsRequest, IsHeadOf, HasRoom}
+use Rattle.cap_session.proofs.ReadingAhead.{fewer}
+use Rattle.cap_session.proofs.batch.Batch.suspend.Goals as goal
+
+pub from_parts-requires : goal.from_parts-requires
+from_parts-requires c =
+    let b = c.self.inside in
+    let o = c.in-Some.first in
+    let was = rw c.in-Some.is at c.pop_front.ensures.items in
+    let later = c.pop_front.new.self.items in (
+      answered_in b.answered.items ++ o.payload ∷ [],
+      record {
+        all = c.self.invariant.all ∙ ap (λ (x : List OpenRequest). answered_in b.answered.items ++ (asked_payloads x ++ refused_payloads b.refused)) was
+            ∙ sym (append_assoc (answered_in b.answered.items) (o.payload ∷ []) (asked_payloads later ++ refused_payloads b.refused));
+        requests = rw (sym c.self.view_is, was) at c.requires;
+        few = fewer o later b.asked.items was c.self.invariant.few;
+        reading = c.self.invariant.reading;
+      },
+    )
+
+pub invariant_of-result : goal.invariant_of-result
+unfolding from_parts-requires
+invariant_of-result c =
+    let b = c.self.inside in
+    let o = c.in-Some.first in
+    let has = c.parts-opened.ensures in
+    let head = c.parts-opened.result.0 in
+    let is : open_of (Some head) c.parts-opened.result.1.items ≡ Some (record { payload = has.payload.items; call_id = head.call_id; request = o.request }) = ap (λ (x : PayloadLog). open_of (Some head) x) has.one in
+    record {
+      lost = [];
+      given = c.from_parts.ensures.given (answered_in b.answered.items ++ o.payload ∷ []) (from_parts-requires c.before).1
+          ∙ ap (λ (x : List ℕ). answered_in b.answered.items ++ x ∷ []) has.payload_is ∙ ap (λ (x : Option OpenRequest). answered_in b.answered.items ++ (open_payload x ++ [])) (sym is);
+      reading = c.from_parts.ensures.reading;
+      none_lost = λ _. (refl, c.from_parts.ensures.fresh);
+      spells = subst SpellsRequest (sym is) (rw (← has.payload_is, ← has.call_id) has.reads);
+      head = subst (λ (x : Option OpenRequest). IsHeadOf x (Some head)) (sym is) (refl, has.kind);
+      room = subst (λ (x : Option OpenRequest). HasRoom x b.unsent.spare) (sym is) (omega (arith, ap (λ (x : List OpenRequest). length x) (rw c.in-Some.is at c.pop_front.ensures.items), c.self.invariant.room));
+      answers = c.self.invariant.answers;
+      none_open = λ x. absurd cc;
+    }

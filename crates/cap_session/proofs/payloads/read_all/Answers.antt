@@ -1,0 +1,22 @@
+use Rattle.std.proofs.Common.{◌≡◌, ◌++◌, ◌∷◌, [], List, Ok, ap, ap₂, ◌∙◌, length, length-append, arith}
+use Rattle.cap_model.specs.declared.request.Request.{Request}
+use Rattle.cap_frames.specs.History.{after_gift}
+use Rattle.cap_session.specs.Asked.{PayloadLog, ReadResult, first_open}
+use Rattle.cap_session.specs.Session.{OpenRequest}
+use Rattle.cap_session.proofs.ReadingAhead.{reads_more}
+use Rattle.cap_session.proofs.payloads.read_all.Goals as goal
+
+pub loop-alloc-preserved : goal.loop-alloc-preserved
+loop-alloc-preserved c =
+    let p = c.in-Ok-Some.payload in
+    let gift : c.next.new.self ≡ after_gift c.loop-alloc.framer p.items = rw c.in-Ok-Some.field-0-is at c.in-Ok-Some.ensures.frame in
+    let is : c.read_request-read.result ≡ Ok (c.in-Ok.call_id, c.in-Ok.request) = cc (c.in-Ok.is, c.in-Ok.call_id-is, c.in-Ok.request-is) in
+    let one = c.and-opened.ensures ∙ ap₂ (λ (x : PayloadLog) (r : ReadResult). x ++ (p, r) ∷ []) c.new.ensures is in
+    let o : OpenRequest = record { payload = p.items; call_id = c.in-Ok.call_id; request = c.in-Ok.request } in
+    let made : c.new-in-Ok.result ≡ o = c.new-in-Ok.ensures ∙ ap first_open one in
+    let asked = c.push_back_reserved.ensures.items ∙ ap₂ (λ (x : List OpenRequest) (y : OpenRequest). x ++ y ∷ []) c.reserve.ensures.items made in
+    let requests = c.push_back_reserved-in-Ok.ensures.items ∙ ap (λ (x : List (Request 2)). x ++ c.in-Ok.request ∷ []) c.reserve-else-is_err.ensures.items in (
+      reads_more c.next.new.self o c.push_back_reserved.new.self.items c.push_back_reserved-in-Ok.new.self.items c.loop-alloc.invariant.0 gift asked requests,
+      omega (arith, ap (λ (x : List OpenRequest). length x) asked, length-append c.loop-alloc.asked.items (o ∷ []), c.if-len-ge-AHEAD_MAX.false, c.len.ensures, c.loop-alloc.asked.ok.0),
+      c.next.ensures.reading,
+    )

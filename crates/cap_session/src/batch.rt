@@ -1,0 +1,118 @@
+//! A session whose requests were handed out together.
+ghost use Rattle.std.specs.Prelude.{◌≡◌};
+ghost use Rattle.cap_session.specs.Batch.{MayAnswerFirst, SpellsFirst, after_first, IsFirstOf, with_first_open};
+ghost use Rattle.cap_session.specs.Payloads.{asked_requests};
+
+use crate::asked::{Asked, Refused};
+use crate::find::{Answered, put_reply};
+use crate::payloads::{Parts, Payloads};
+use crate::session::Session;
+use bytes::BytesMut;
+use cap_frames::Framer;
+use cap_model::{OwnedReply, Request};
+use http_server::Log;
+use std::alloc::Global;
+use std::collections::VecDeque;
+use std::marker::Model;
+
+/// A session whose requests were handed out together, and are answered one after the other. Contracts see the session, and the requests
+/// that are not answered yet.
+#[derive(Drop)]
+pub struct Batch {
+    pub(crate) alloc: Global,
+    pub(crate) framer: Framer,
+    pub(crate) asked: VecDeque<Asked>,
+    pub(crate) refused: Option<Refused>,
+    pub(crate) unsent: BytesMut,
+    // These exist for contracts alone.
+    pub(crate) answered: Answered,
+    pub(crate) sent: Log<BytesMut, usize>,
+}
+
+impl Model for Batch {
+    ghost use Rattle.cap_session.specs.Batch.{BatchState, batch_inside, IsBatch};
+
+    ghost Value = { BatchState };
+
+    ghost view = { batch_inside };
+
+    ghost invariant = { IsBatch };
+}
+
+impl Batch {
+    /// Answers the first request that is not answered yet with a reply that is a refusal or one of its kind. It takes no memory and cannot
+    /// fail.
+    pub fn answer(&mut self, reply: &OwnedReply<2>)
+        requires { MayAnswerFirst self.old.asked reply.now }
+        ensures answered { self.new ≡ after_first self.old.session self.old.asked reply.now }
+        ensures spells { SpellsFirst self.old.asked reply.now }
+    {
+        let Some(asked) = self.asked.pop_front() else {
+            unreachable!()
+        };
+        let (head, opened) = asked.parts();
+        put_reply(head, reply, &mut self.unsent);
+        self.answered = self.answered.and(&opened, &Log::new().and(reply, &()));
+    }
+
+    /// The session again, with the requests that are not answered yet: `next_request` gives them.
+    pub fn finish(self, requests: VecDeque<Request<2>>) -> Session
+        requires { requests.items ≡ asked_requests self.asked }
+        ensures { result ≡ self.session }
+    {
+        let Batch {
+            alloc,
+            framer,
+            asked,
+            refused,
+            unsent,
+            answered,
+            sent,
+        } = self;
+        let parts = Parts {
+            alloc,
+            framer,
+            asked,
+            requests,
+            refused,
+        };
+        Session::resting(parts, unsent, answered, sent)
+    }
+
+    /// The session again, with the first request that is not answered yet as its open request, whatever became of it, and with the
+    /// others: `next_request` gives these.
+    pub fn suspend(self, requests: VecDeque<Request<2>>) -> Session
+        requires { IsFirstOf self.asked requests.items }
+        ensures { result ≡ with_first_open self.session self.asked }
+    {
+        let Batch {
+            alloc,
+            framer,
+            mut asked,
+            refused,
+            unsent,
+            answered,
+            sent,
+        } = self;
+        let Some(first) = asked.pop_front() else {
+            unreachable!()
+        };
+        let (head, opened) = first.parts();
+        let parts = Parts {
+            alloc,
+            framer,
+            asked,
+            requests,
+            refused,
+        };
+        Session {
+            payloads: Payloads::from_parts(parts),
+            unsent,
+            head: Some(head),
+            ended: None,
+            opened,
+            answered,
+            sent,
+        }
+    }
+}

@@ -1,0 +1,9 @@
+use Rattle.std.proofs.Common.{Some, refl, ap}
+use Rattle.cap_session.specs.Counted.{state_of, inner_of}
+use Rattle.cap_session.specs.Session.{SessionState}
+use Rattle.cap_workers.specs.declared.sessions.EndCause.TheVariants as ends
+use Rattle.cap_workers.proofs.Streams.{reads_none}
+use Rattle.cap_workers.proofs.sessions.go_on.Goals as goal
+
+pub returns-in-Fault-clause-read : goal.returns-in-Fault-clause-read
+returns-in-Fault-clause-read g c = reads_none (Some ends.WriteFault) (state_of c.args.reader.now) (g.R.Read.remaining (inner_of c.args.reader.now)) c.args.session.fed c.write_out.new.self.fed refl (ap (λ (t : SessionState). t.fed) c.in-Fault.ensures.session)
