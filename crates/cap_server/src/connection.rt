@@ -2,12 +2,13 @@
 ghost use Rattle.std.specs.Prelude.{◌≡◌, None};
 ghost use Rattle.cap_workers.specs.Sessions.{pending_request};
 
+use crate::uninterrupted::Uninterrupted;
 use cap_model::Request;
 use cap_session::{Counted, Session};
 use cap_shared::{Naming, Seat, Shared};
 use cap_workers::{EndCause, SessionEnd, serve_session};
 use std::alloc::Global;
-use std::io::Read;
+use std::io::{self, ErrorKind, Read};
 use std::net::{Shutdown, TcpStream};
 use std::sync::Wait;
 use std::time::Duration;
@@ -77,13 +78,27 @@ impl Connection {
         for _ in rt.forever() {
             match connection.serve_once(rt, shared, seat) {
                 Served::Quiet(quiet) => {
-                    if shared.is_full(rt) {
+                    if quiet.rest(rt, shared) {
                         return Some(quiet);
                     }
                     connection = quiet;
                 }
                 Served::Sealed(sealed) => return Some(sealed),
                 Served::Over => return None,
+            }
+        }
+        unreachable!()
+    }
+
+    /// Waits until something comes, or until the journal is full, and returns whether it is. What has come is left to be read.
+    fn rest<J: Naming, H: Wait>(&self, rt: &H, shared: &Shared<J>) -> bool {
+        let mut byte = [0u8; 1];
+        for _ in rt.forever() {
+            if shared.is_full(rt) {
+                return true;
+            }
+            if !is_quiet(&self.stream.peek(&mut byte)) {
+                return false;
             }
         }
         unreachable!()
@@ -101,8 +116,8 @@ impl Connection {
             session,
             pending,
         } = self;
-        let mut reader = Counted::new(&stream);
-        let mut writer = Counted::new(&stream);
+        let mut reader = Counted::new(Uninterrupted::new(&stream));
+        let mut writer = Counted::new(Uninterrupted::new(&stream));
         let SessionEnd {
             session,
             sent: _,
@@ -126,6 +141,17 @@ impl Connection {
             }
             _ => Served::Over,
         }
+    }
+}
+
+/// Whether a look at what has come found nothing in time, or was interrupted.
+fn is_quiet(look: &io::Result<usize>) -> bool {
+    match look {
+        Ok(_) => false,
+        Err(error) => matches!(
+            error.kind(),
+            ErrorKind::WouldBlock | ErrorKind::TimedOut | ErrorKind::Interrupted
+        ),
     }
 }
 

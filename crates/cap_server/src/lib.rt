@@ -9,5 +9,7 @@ mod rest;
 mod scheduling;
 mod serving;
 mod site;
+mod uninterrupted;
 
 pub use serving::{Sizes, serve_on};
+pub use uninterrupted::Uninterrupted;

@@ -8,6 +8,8 @@ mod gates;
 #[cfg(test)]
 mod hostile;
 #[cfg(test)]
+mod interrupted;
+#[cfg(test)]
 mod scheduling;
 #[cfg(test)]
 mod serving;
