@@ -4,6 +4,7 @@
 //!     load info PORT CONNECTIONS WINDOW REQUESTS    keeps WINDOW ClusterInfos in flight on each connection, REQUESTS in all on each
 //!     load cluster PORT NODES APPS QUEUES SECONDS   a cluster in which containers are asked for, granted and ended all the time, over 9 connections
 //!     load quiet PORT CONNECTIONS NODES SECONDS PID connections to the process PID that say nothing, once the first has registered the nodes
+//!     load stopped PORT CONNECTIONS PID             calls on each connection before and after the process PID is stopped and continues
 //!
 //! `info` takes as an answer a reply with success, or the request itself as echo_run writes it back. `cluster` submits its applications in turn to the
 //! queues root.q1, root.q2 and so on, on a server that has just begun.
@@ -12,6 +13,7 @@ use std::env;
 use std::fs;
 use std::io::{self, BufReader, Read, Write};
 use std::net::{TcpListener, TcpStream};
+use std::process::Command;
 use std::sync::atomic::{AtomicBool, AtomicU64, Ordering::SeqCst};
 use std::sync::{Barrier, Mutex};
 use std::thread;
@@ -62,6 +64,7 @@ fn main() -> Result<()> {
         (Some("quiet"), &[port, connections, nodes, seconds, pid]) => {
             quiet(port, connections, nodes, seconds as u64, pid)?
         }
+        (Some("stopped"), &[port, connections, pid]) => stopped(port, connections, pid)?,
         _ => return Err("the words are those of one line at the head of load.rs".into()),
     }
     Ok(())
@@ -253,6 +256,29 @@ fn ask(
         }
     }
     Ok(times)
+}
+
+/// Stops a process while its connections are quiet, lets it continue, and sees that each of them is still answered.
+fn stopped(port: usize, connections: usize, pid: usize) -> Result<()> {
+    let mut quiet = (0..connections)
+        .map(|_| Connection::open(port))
+        .collect::<io::Result<Vec<Connection>>>()?;
+    for connection in &mut quiet {
+        connection.call(CLUSTER_INFO, &[])?;
+    }
+    for signal in ["-STOP", "-CONT"] {
+        thread::sleep(PERIOD);
+        let kill = Command::new("kill").arg(signal).arg(pid.to_string()).status()?;
+        if !kill.success() {
+            return Err(format!("kill {signal} {pid} failed").into());
+        }
+    }
+    thread::sleep(PERIOD);
+    for connection in &mut quiet {
+        connection.call(CLUSTER_INFO, &[])?;
+    }
+    println!("{connections} connections are answered after a stop");
+    Ok(())
 }
 
 /// The time that the processors have spent for a process, in hundredths of a second.

@@ -1,15 +1,16 @@
 #!/usr/bin/env bash
 # The daemon on the loopback. First ClusterInfos over 1, 16 and 128 connections with 16 in flight on each: how many a second `capsched serve` answers,
-# beside how many frames a second `echo_run` writes back as they came, the best of three runs of each; fails where the daemon makes less than half of
-# what echo_run makes. Then a cluster of 512 nodes, 64 leaf queues and 256 applications, in which masters ask and nodes end all that runs on them every
+# beside how many frames a second `echo_run` writes back as they came, the median of five runs of each, in turn; fails where the daemon makes less than
+# half of what echo_run makes. Then a cluster of 512 nodes, 64 leaf queues and 256 applications, in which masters ask and nodes end all that runs on them every
 # 100 ms: grants a second by 1, 2 and 4 workers, without a committer (lanes=0) and with lanes of so many places (1 to 6 count as 7) to one, and how long a ClusterInfo takes
 # meanwhile; fails where its 99th percentile with 4 workers and 64 places is above 60 ms. Last how much of a core the daemon takes while nobody says
-# anything, with 512 nodes: fails where one worker with 16 connections takes 1 % or more, or 8 workers with 128 take 5 % or more. A number as the
-# argument is for how many seconds each cluster is measured, 10 without. Figures depend on the machine, and on what else runs there. Needs rustc for the
-# load.
+# anything, with 512 nodes: fails where one worker with 16 connections takes 1 % or more, or 8 workers with 128 take 5 % or more. And whether all
+# connections are still answered after the daemon was stopped and continued. A number as the argument is for how many seconds each cluster is measured,
+# 10 without. Figures depend on the machine, and on what else runs there. Needs rustc for the load.
 . "$(dirname "${BASH_SOURCE[0]}")/common.sh"
 seconds=${1:-10}
-requests=480000
+requests=1920000
+runs=5
 server=
 trap '[ -z "$server" ] || kill "$server" 2>/dev/null || true; rm -rf "$work"' EXIT
 build_capsched
@@ -40,29 +41,32 @@ load() {
 # figure WORDS: the number before these words
 figure() { sed -n "s/^\([0-9]*\) $1.*/\1/p" "$work/loaded"; }
 
-# best_rate CONNECTIONS SERVER..: `rate` is the most requests a second in three runs, and `slowest` the 99th percentile there, in microseconds
-best_rate() {
-  rate=0
-  for _ in 1 2 3; do
-    port=$("$work/load" port)
-    "${@:2}"
-    load info "$port" "$1" 16 $((requests / $1))
-    if [ "$(figure 'requests a second')" -gt "$rate" ]; then
-      rate=$(figure 'requests a second') slowest=$(figure 'microseconds at the 99th')
-    fi
-  done
+# run_once FILE CONNECTIONS SERVER..: adds how many requests a second were answered in a run to the file, and the 99th percentile, in microseconds
+run_once() {
+  port=$("$work/load" port)
+  "${@:3}"
+  load info "$port" "$2" 16 $((requests / $2))
+  echo "$(figure 'requests a second') $(figure 'microseconds at the 99th')" >>"$1"
+}
+
+# median NAME: `rate` and `slowest` of the run in the middle, which it prints with that name
+median() {
+  read -r rate slowest < <(sort -n "$work/$1" | sed -n "$(((runs + 1) / 2))p")
+  echo "connections=$connections $1: $rate requests a second"
+  echo "connections=$connections $1: $slowest us at the 99th percentile"
 }
 
 broken=0
 cp "$top/examples/serve.conf" "$work/config"
 for connections in 1 16 128; do
-  best_rate "$connections" echo_back "$connections"
+  rm -f "$work/echo_run" "$work/capsched"
+  for _ in $(seq "$runs"); do
+    run_once "$work/echo_run" "$connections" echo_back "$connections"
+    run_once "$work/capsched" "$connections" serve 1 "$connections" 64
+  done
+  median echo_run
   peer=$rate
-  echo "connections=$connections echo_run: $rate requests a second"
-  echo "connections=$connections echo_run: $slowest us at the 99th percentile"
-  best_rate "$connections" serve 1 "$connections" 64
-  echo "connections=$connections capsched: $rate requests a second"
-  echo "connections=$connections capsched: $slowest us at the 99th percentile"
+  median capsched
   ratio "$rate" "$peer" 2 || broken=1
 done
 
@@ -96,4 +100,9 @@ for run in '1 16 10' '8 128 50'; do
   echo "workers=$workers connections=$connections: $taken thousandths of a core while nobody says anything"
   [ "$taken" -lt "$most" ] || { echo "that is not under $most thousandths" >&2; broken=1; }
 done
+port=$("$work/load" port)
+cp "$top/examples/serve.conf" "$work/config"
+serve 1 16 64
+load stopped "$port" 16 "$server"
+cat "$work/loaded"
 exit "$broken"
