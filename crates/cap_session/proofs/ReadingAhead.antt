@@ -12,10 +12,11 @@ use Rattle.cap_messages.specs.declared.fault.MessageFault.TheVariants.{Bad, NoMe
 use Rattle.cap_messages.specs.Spelling.{IsRequest, IsNoRequest}
 use Rattle.cap_session.specs.Asked.{ReadResult, PayloadLog, IsReadFrom, IsOpened, HasParts}
 use Rattle.cap_session.specs.Session.{OpenRequest}
-use Rattle.cap_session.specs.Payloads.{asked_payloads, asked_requests, refused_payloads, payloads_ahead, history_in, IsReadAhead, ReadsAhead}
+use Rattle.cap_session.specs.Ahead.{asked_payloads, asked_requests, refused_payloads, payloads_ahead, history_of, HasGiven}
+use Rattle.cap_session.specs.Payloads.{ReadsAhead}
+use Rattle.cap_session.specs.declared.payloads.Ahead.{Ahead}
 use Rattle.cap_session.specs.declared.asked.Head.{Head}
 use Rattle.cap_session.specs.declared.payloads.TheConstants.{AHEAD_MAX}
-use Rattle.cap_session.specs.declared.payloads.Payloads.TheInside.{Inside}
 
 take_first : (xs ys : List (List ℕ)) → take (length xs) (xs ++ ys) ≡ xs
 take_first [] ys = refl
@@ -27,18 +28,18 @@ all_but all given ahead is =
     ap (λ (n : ℕ). take n all) long ∙ ap (λ (x : List (List ℕ)). take (length given) x) is ∙ take_first given ahead
 
 -- what callers see as given
-pub given_is : (s : Inside) (kept : IsReadAhead s) → (history_in s).given ≡ kept.given
-given_is s kept = all_but s.framer.given kept.given (payloads_ahead s) kept.all
+pub given_is : (a : Ahead) (given : List (List ℕ)) → HasGiven given a → (history_of a).given ≡ given
+given_is a given has = all_but a.framer.given given (payloads_ahead a) has.all
 
 -- what was given and what was read ahead are the first payloads of the stream
-pub reads_on : (s : Inside) → IsReadAhead s → IsReading (history_in s)
-reads_on s kept =
-    let coming = kept.reading.0 in (
-      payloads_ahead s ++ coming,
-      kept.reading.1,
-      subst (λ (x : List (List ℕ)). IsStream s.framer.fed x kept.reading.1)
-          (ap (λ (x : List (List ℕ)). x ++ coming) kept.all ∙ append_assoc kept.given (payloads_ahead s) coming ∙ ap (λ (x : List (List ℕ)). x ++ (payloads_ahead s ++ coming)) (sym (given_is s kept)))
-          kept.reading.2,
+pub reads_on : (a : Ahead) (given : List (List ℕ)) → HasGiven given a → IsReading (history_of a)
+reads_on a given has =
+    let coming = has.reading.0 in (
+      payloads_ahead a ++ coming,
+      has.reading.1,
+      subst (λ (x : List (List ℕ)). IsStream a.framer.fed x has.reading.1)
+          (ap (λ (x : List (List ℕ)). x ++ coming) has.all ∙ append_assoc given (payloads_ahead a) coming ∙ ap (λ (x : List (List ℕ)). x ++ (payloads_ahead a ++ coming)) (sym (given_is a given has)))
+          has.reading.2,
     )
 
 -- a piece changes nothing that was given
@@ -49,24 +50,19 @@ feed_given h k piece (Err e) ok err = ap (λ (x : History). x.given) err
 -- ---- what is given
 
 -- one more payload was given
-pub gave : (s t : Inside) (p : Filled) (ks : IsReadAhead s) (kt : IsReadAhead t) → t.framer.fed ≡ s.framer.fed → kt.given ≡ ks.given ++ p.items ∷ [] → history_in t ≡ after_gift (history_in s) p.items
-gave s t p ks kt fed more =
-    let given : (history_in t).given ≡ (history_in s).given ++ p.items ∷ [] = given_is t kt ∙ more ∙ ap (λ (x : List (List ℕ)). x ++ p.items ∷ []) (sym (given_is s ks)) in
-    ap₂ (λ (f : List ℕ) (g : List (List ℕ)). record { fed = f; given = g; is_spent = false }) fed given
-
-pub fewer : (first : OpenRequest) (later asked : List OpenRequest) → asked ≡ first ∷ later → length asked ≤ AHEAD_MAX → length later ≤ AHEAD_MAX
-fewer first later asked is few = omega (arith, ap (λ (x : List OpenRequest). length x) is, few)
+pub gave : (a b : Ahead) (given now : List (List ℕ)) (payload : List ℕ) → HasGiven given a → HasGiven now b → b.framer.fed ≡ a.framer.fed → now ≡ given ++ payload ∷ [] → history_of b ≡ after_gift (history_of a) payload
+gave a b given now payload had has fed more =
+    let all : (history_of b).given ≡ (history_of a).given ++ payload ∷ [] = given_is b now has ∙ more ∙ ap (λ (x : List (List ℕ)). x ++ payload ∷ []) (sym (given_is a given had)) in
+    ap₂ (λ (f : List ℕ) (g : List (List ℕ)). record { fed = f; given = g; is_spent = false }) fed all
 
 -- the first request that was read ahead is given
-abbrev pub takes_asked : (s t : Inside) (first : OpenRequest) → IsReadAhead s → s.asked.items ≡ first ∷ t.asked.items → t.framer ≡ s.framer → t.refused ≡ s.refused → t.requests.items ≡ asked_requests t.asked.items → IsReadAhead t
-takes_asked s t first kept was f r q = record {
-  given = kept.given ++ first.payload ∷ [];
-  all = ap (λ (h : History). h.given) f ∙ kept.all ∙ ap (λ (x : List OpenRequest). kept.given ++ (asked_payloads x ++ refused_payloads s.refused)) was
-      ∙ sym (append_assoc kept.given (first.payload ∷ []) (asked_payloads t.asked.items ++ refused_payloads s.refused))
-      ∙ ap (λ (x : Option (List ℕ)). (kept.given ++ first.payload ∷ []) ++ (asked_payloads t.asked.items ++ refused_payloads x)) (sym r);
-  requests = q;
-  few = fewer first t.asked.items s.asked.items was kept.few;
-  reading = subst IsReading (sym f) kept.reading;
+pub takes_asked : (a b : Ahead) (given : List (List ℕ)) (first : OpenRequest) → HasGiven given a → a.asked.items ≡ first ∷ b.asked.items → b.framer ≡ a.framer → b.refused ≡ a.refused → HasGiven (given ++ first.payload ∷ []) b
+takes_asked a b given first has was f r = record {
+  all = ap (λ (h : History). h.given) f ∙ has.all ∙ ap (λ (x : List OpenRequest). given ++ (asked_payloads x ++ refused_payloads a.refused)) was
+      ∙ sym (append_assoc given (first.payload ∷ []) (asked_payloads b.asked.items ++ refused_payloads a.refused))
+      ∙ ap (λ (x : Option (List ℕ)). (given ++ first.payload ∷ []) ++ (asked_payloads b.asked.items ++ refused_payloads x)) (sym r);
+  few = omega (arith, ap (λ (x : List OpenRequest). length x) was, has.few);
+  reading = subst IsReading (sym f) has.reading;
 }
 
 -- a request that was read ahead spells what was read
@@ -81,28 +77,24 @@ opens_asked o head opened q has same = (
 )
 
 -- what is no request is given
-abbrev pub takes_refused : (s t : Inside) (payload : List ℕ) → IsReadAhead s → s.asked.items ≡ [] → t.asked.items ≡ [] → s.refused ≡ Some payload → t.refused ≡ None → t.framer ≡ s.framer → t.requests.items ≡ s.requests.items → IsReadAhead t
-takes_refused s t payload kept none still was now f q = record {
-  given = kept.given ++ payload ∷ [];
-  all = ap (λ (h : History). h.given) f ∙ kept.all ∙ ap₂ (λ (x : List OpenRequest) (y : Option (List ℕ)). kept.given ++ (asked_payloads x ++ refused_payloads y)) none was
-      ∙ sym (append-nil (kept.given ++ payload ∷ [])) ∙ ap₂ (λ (x : List OpenRequest) (y : Option (List ℕ)). (kept.given ++ payload ∷ []) ++ (asked_payloads x ++ refused_payloads y)) (sym still) (sym now);
-  requests = q ∙ kept.requests ∙ ap asked_requests (none ∙ sym still);
-  few = subst (λ (x : List OpenRequest). length x ≤ AHEAD_MAX) (none ∙ sym still) kept.few;
-  reading = subst IsReading (sym f) kept.reading;
+pub takes_refused : (a b : Ahead) (given : List (List ℕ)) (payload : List ℕ) → HasGiven given a → a.asked.items ≡ [] → b.asked.items ≡ [] → a.refused ≡ Some payload → b.refused ≡ None → b.framer ≡ a.framer → HasGiven (given ++ payload ∷ []) b
+takes_refused a b given payload has none still was now f = record {
+  all = ap (λ (h : History). h.given) f ∙ has.all ∙ ap₂ (λ (x : List OpenRequest) (y : Option (List ℕ)). given ++ (asked_payloads x ++ refused_payloads y)) none was
+      ∙ sym (append-nil (given ++ payload ∷ [])) ∙ ap₂ (λ (x : List OpenRequest) (y : Option (List ℕ)). (given ++ payload ∷ []) ++ (asked_payloads x ++ refused_payloads y)) (sym still) (sym now);
+  few = subst (λ (x : List OpenRequest). length x ≤ AHEAD_MAX) (none ∙ sym still) has.few;
+  reading = subst IsReading (sym f) has.reading;
 }
 
 -- nothing was read ahead
-pub none_ahead : (s : Inside) (kept : IsReadAhead s) → s.asked.items ≡ [] → s.refused ≡ None → s.framer.given ≡ kept.given
-none_ahead s kept none not = kept.all ∙ ap₂ (λ (x : List OpenRequest) (y : Option (List ℕ)). kept.given ++ (asked_payloads x ++ refused_payloads y)) none not ∙ append-nil kept.given
+pub none_ahead : (a : Ahead) (given : List (List ℕ)) → HasGiven given a → a.asked.items ≡ [] → a.refused ≡ None → a.framer.given ≡ given
+none_ahead a given has none not = has.all ∙ ap₂ (λ (x : List OpenRequest) (y : Option (List ℕ)). given ++ (asked_payloads x ++ refused_payloads y)) none not ∙ append-nil given
 
 -- what comes next is given
-abbrev pub takes_next : (s t : Inside) (p : Filled) → IsReadAhead s → s.asked.items ≡ [] → t.asked.items ≡ [] → s.refused ≡ None → t.refused ≡ None → t.framer ≡ after_gift s.framer p.items → t.requests.items ≡ s.requests.items → IsReading t.framer → IsReadAhead t
-takes_next s t p kept none still not yet f q reading = record {
-  given = kept.given ++ p.items ∷ [];
-  all = ap (λ (h : History). h.given) f ∙ ap (λ (x : List (List ℕ)). x ++ p.items ∷ []) (none_ahead s kept none not)
-      ∙ sym (append-nil (kept.given ++ p.items ∷ [])) ∙ ap₂ (λ (x : List OpenRequest) (y : Option (List ℕ)). (kept.given ++ p.items ∷ []) ++ (asked_payloads x ++ refused_payloads y)) (sym still) (sym yet);
-  requests = q ∙ kept.requests ∙ ap asked_requests (none ∙ sym still);
-  few = subst (λ (x : List OpenRequest). length x ≤ AHEAD_MAX) (none ∙ sym still) kept.few;
+pub takes_next : (a b : Ahead) (given : List (List ℕ)) (payload : List ℕ) → HasGiven given a → a.asked.items ≡ [] → b.asked.items ≡ [] → a.refused ≡ None → b.refused ≡ None → b.framer ≡ after_gift a.framer payload → IsReading b.framer → HasGiven (given ++ payload ∷ []) b
+takes_next a b given payload has none still not yet f reading = record {
+  all = ap (λ (h : History). h.given) f ∙ ap (λ (x : List (List ℕ)). x ++ payload ∷ []) (none_ahead a given has none not)
+      ∙ sym (append-nil (given ++ payload ∷ [])) ∙ ap₂ (λ (x : List OpenRequest) (y : Option (List ℕ)). (given ++ payload ∷ []) ++ (asked_payloads x ++ refused_payloads y)) (sym still) (sym yet);
+  few = subst (λ (x : List OpenRequest). length x ≤ AHEAD_MAX) (none ∙ sym still) has.few;
   reading = reading;
 }
 
@@ -112,24 +104,24 @@ at_fault true h r is bad found again = let other = again is in absurd cc
 at_fault false h r is bad found again = (found is).1 cc
 
 -- nothing was read ahead and nothing came
-pub same_given : (s t : Inside) → IsReadAhead s → s.asked.items ≡ [] → t.asked.items ≡ [] → s.refused ≡ None → t.refused ≡ None → t.framer.fed ≡ s.framer.fed → t.framer.given ≡ s.framer.given → history_in t ≡ history_in s
-same_given s t kept none still not yet fed given =
-    let ahead : payloads_ahead t ≡ payloads_ahead s = ap₂ (λ (x : List OpenRequest) (y : Option (List ℕ)). asked_payloads x ++ refused_payloads y) (still ∙ sym none) (yet ∙ sym not) in
+pub same_given : (a b : Ahead) → a.asked.items ≡ [] → b.asked.items ≡ [] → a.refused ≡ None → b.refused ≡ None → b.framer.fed ≡ a.framer.fed → b.framer.given ≡ a.framer.given → history_of b ≡ history_of a
+same_given a b none still not yet fed given =
+    let ahead : payloads_ahead b ≡ payloads_ahead a = ap₂ (λ (x : List OpenRequest) (y : Option (List ℕ)). asked_payloads x ++ refused_payloads y) (still ∙ sym none) (yet ∙ sym not) in
     ap₂ (λ (f : List ℕ) (g : List (List ℕ)). record { fed = f; given = g; is_spent = false }) fed (ap₂ (λ (x y : List (List ℕ)). take (length x - length y) x) given ahead)
 
 at_rest : (spent : Bool) (h : History) (r : Result (Option Filled) FrameFault) → h.is_spent ≡ spent → r ≡ Ok None → (h.is_spent ≡ false → (IsAtRest h ↔ (r ≡ Ok None))) → (h.is_spent ≡ true → IsErrOf r frame_faults.NoMemory) → IsAtRest h
 at_rest true h r is over found again = let other = again is in absurd cc
 at_rest false h r is over found again = (found is).1 over
 
-pub finds_rest : (s : Inside) (r : Result (Option Filled) FrameFault) → IsReadAhead s → s.asked.items ≡ [] → s.refused ≡ None → r ≡ Ok None → (s.framer.is_spent ≡ false → (IsAtRest s.framer ↔ (r ≡ Ok None))) → (s.framer.is_spent ≡ true → IsErrOf r frame_faults.NoMemory) → IsAtRest (history_in s)
-finds_rest s r kept none not over found again =
-    let at = at_rest s.framer.is_spent s.framer r refl over found again in
-    (at.0, subst (λ (x : List (List ℕ)). IsStream s.framer.fed x (rest at.0)) (none_ahead s kept none not ∙ sym (given_is s kept)) at.1)
+pub finds_rest : (a : Ahead) (given : List (List ℕ)) (r : Result (Option Filled) FrameFault) → HasGiven given a → a.asked.items ≡ [] → a.refused ≡ None → r ≡ Ok None → (a.framer.is_spent ≡ false → (IsAtRest a.framer ↔ (r ≡ Ok None))) → (a.framer.is_spent ≡ true → IsErrOf r frame_faults.NoMemory) → IsAtRest (history_of a)
+finds_rest a given r has none not over found again =
+    let at = at_rest a.framer.is_spent a.framer r refl over found again in
+    (at.0, subst (λ (x : List (List ℕ)). IsStream a.framer.fed x (rest at.0)) (none_ahead a given has none not ∙ sym (given_is a given has)) at.1)
 
-pub finds_fault : (s : Inside) (r : Result (Option Filled) FrameFault) → IsReadAhead s → s.asked.items ≡ [] → s.refused ≡ None → r ≡ Err BadLength → (s.framer.is_spent ≡ false → (IsAtFault s.framer ↔ IsErrOf r BadLength)) → (s.framer.is_spent ≡ true → IsErrOf r frame_faults.NoMemory) → IsAtFault (history_in s)
-finds_fault s r kept none not bad found again =
-    let at = at_fault s.framer.is_spent s.framer r refl bad found again in
-    (at.0, subst (λ (x : List (List ℕ)). IsStream s.framer.fed x (fault at.0)) (none_ahead s kept none not ∙ sym (given_is s kept)) at.1)
+pub finds_fault : (a : Ahead) (given : List (List ℕ)) (r : Result (Option Filled) FrameFault) → HasGiven given a → a.asked.items ≡ [] → a.refused ≡ None → r ≡ Err BadLength → (a.framer.is_spent ≡ false → (IsAtFault a.framer ↔ IsErrOf r BadLength)) → (a.framer.is_spent ≡ true → IsErrOf r frame_faults.NoMemory) → IsAtFault (history_of a)
+finds_fault a given r has none not bad found again =
+    let at = at_fault a.framer.is_spent a.framer r refl bad found again in
+    (at.0, subst (λ (x : List (List ℕ)). IsStream a.framer.fed x (fault at.0)) (none_ahead a given has none not ∙ sym (given_is a given has)) at.1)
 
 -- ---- what is read
 

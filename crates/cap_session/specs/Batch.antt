@@ -2,14 +2,12 @@
 use Rattle.std.specs.Prelude.{◌≡◌, ℕ, ◌*◌, ◌≤◌, ◌++◌, ◌∷◌, List, [], Some, length}
 use Rattle.cap_model.specs.declared.request.Request.{Request}
 use Rattle.cap_model.specs.News.{Reply}
-use Rattle.cap_frames.specs.History.{IsReading}
 use Rattle.cap_messages.specs.Spelling.{IsOfKind, kind_of}
 use Rattle.cap_session.specs.Answers.{Answers}
 use Rattle.cap_session.specs.Session.{SessionState, OpenRequest, SpellsAnswer, with_answer}
-use Rattle.cap_session.specs.Payloads.{asked_payloads, asked_requests, refused_payloads}
+use Rattle.cap_session.specs.Ahead.{asked_requests, HasGiven}
 use Rattle.cap_session.specs.Kept.{answered_in, calls_of, sent_in, resting}
 use Rattle.cap_session.specs.declared.find.TheConstants.{FRAME_ROOM}
-use Rattle.cap_session.specs.declared.payloads.TheConstants.{AHEAD_MAX}
 use Rattle.cap_session.specs.declared.batch.Batch.TheInside.{Inside}
 
 -- the session, and its requests that were handed out and are not answered yet
@@ -18,17 +16,15 @@ pub record BatchState : Type 0 where
   pub asked : List OpenRequest
 
 abbrev pub session_inside : Inside → SessionState
-session_inside b = resting b.framer.fed b.answered.items b.sent.items b.unsent.items
+session_inside b = resting b.ahead.framer.fed b.answered.items b.sent.items b.unsent.items
 
 abbrev pub batch_inside : Inside → BatchState
-batch_inside b = record { session = session_inside b; asked = b.asked.items }
+batch_inside b = record { session = session_inside b; asked = b.ahead.asked.items }
 
 -- The payloads that the framer gave were answered, but for those that were read ahead, and there is room for the frame of each reply.
 pub record IsBatch (b : Inside) : Type 0 where
-  pub all : b.framer.given ≡ answered_in b.answered.items ++ (asked_payloads b.asked.items ++ refused_payloads b.refused)
-  pub few : length b.asked.items ≤ AHEAD_MAX
-  pub reading : IsReading b.framer
-  pub room : FRAME_ROOM * length b.asked.items ≤ b.unsent.spare
+  pub has : HasGiven (answered_in b.answered.items) b.ahead
+  pub room : FRAME_ROOM * length b.ahead.asked.items ≤ b.unsent.spare
   pub answers : Answers (answered_in b.answered.items) (calls_of b.answered.items) (sent_in b.sent.items ++ b.unsent.items)
 
 -- the session with its requests, which were handed out, and a list with room for their replies

@@ -1,5 +1,5 @@
 -- The payloads of a stream, of which some are read before they are asked for.
-use Rattle.std.specs.Prelude.{◌≡◌, ℕ, ◌-◌, ◌≤◌, ◌++◌, ◌∷◌, List, [], Option, Some, None, Result, Ok, Err, false, length, map, take}
+use Rattle.std.specs.Prelude.{◌≡◌, ℕ, ◌++◌, List, Option, Some, None, Result, Ok, Err, false}
 use Rattle.bytes.specs.Filled.{Filled}
 use Rattle.http_server.specs.declared.log.Log.{Log}
 use Rattle.cap_model.specs.declared.request.Request.{Request}
@@ -8,34 +8,17 @@ use Rattle.cap_frames.specs.declared.fault.FrameFault.TheVariants as frame_fault
 use Rattle.cap_frames.specs.History.{History, IsReading, IsAtRest, IsAtFault, after_gift}
 use Rattle.cap_session.specs.Asked.{ReadResult, IsOpened}
 use Rattle.cap_session.specs.Session.{OpenRequest}
-use Rattle.cap_session.specs.declared.payloads.TheConstants.{AHEAD_MAX}
+use Rattle.cap_session.specs.Ahead.{asked_payloads, asked_requests, refused_payloads, history_of, HasGiven, HasRequests}
+use Rattle.cap_session.specs.declared.payloads.Ahead.{Ahead}
 use Rattle.cap_session.specs.declared.payloads.Payloads.TheInside.{Inside}
 
--- the payloads of these requests, and the requests
-abbrev pub asked_payloads : List OpenRequest → List (List ℕ)
-asked_payloads asked = map (λ o. o.payload) asked
-
-abbrev pub asked_requests : List OpenRequest → List (Request 2)
-asked_requests asked = map (λ o. o.request) asked
-
-abbrev pub refused_payloads : Option (List ℕ) → List (List ℕ)
-refused_payloads None = []
-refused_payloads (Some payload) = payload ∷ []
-
--- the payloads that were read ahead
-abbrev pub payloads_ahead : Inside → List (List ℕ)
-payloads_ahead s = asked_payloads s.asked.items ++ refused_payloads s.refused
-
--- what callers see: it gave what the framer did, but for what was read ahead
 abbrev pub history_in : Inside → History
-history_in s = record { fed = s.framer.fed; given = take (length s.framer.given - length (payloads_ahead s)) s.framer.given; is_spent = false }
+history_in s = history_of s.ahead
 
 pub record IsReadAhead (s : Inside) : Type 0 where
   pub given : List (List ℕ)
-  pub all : s.framer.given ≡ given ++ payloads_ahead s
-  pub requests : s.requests.items ≡ asked_requests s.asked.items
-  pub few : length s.asked.items ≤ AHEAD_MAX
-  pub reading : IsReading s.framer
+  pub has : HasGiven given s.ahead
+  pub requests : HasRequests s.ahead s.requests.items
 
 -- what comes next in a stream
 abbrev pub GivesNext : History → History → Result (Option (Log Filled ReadResult × ReadResult)) FrameFault → Type 0
@@ -51,3 +34,17 @@ pub record ReadsAhead (h k : History) (old new : List OpenRequest) (had has : Li
   pub requests : has ≡ had ++ asked_requests more
   pub fed : k.fed ≡ h.fed
   pub given : k.given ≡ h.given ++ (asked_payloads more ++ refused_payloads refused)
+
+-- these are its parts
+pub record IsParted (h : History) (a : Ahead) (asked : List (Request 2)) : Type 0 where
+  pub fed : h.fed ≡ a.framer.fed
+  pub given : HasGiven h.given a
+  pub requests : HasRequests a asked
+  pub fresh : h.is_spent ≡ false
+
+-- they are of these parts
+pub record IsOfParts (h : History) (a : Ahead) : Type 0 where
+  pub fed : h.fed ≡ a.framer.fed
+  pub given : (given : List (List ℕ)) → HasGiven given a → h.given ≡ given
+  pub fresh : h.is_spent ≡ false
+  pub reading : IsReading h

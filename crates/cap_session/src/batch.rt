@@ -1,17 +1,14 @@
 //! A session whose requests were handed out together.
 ghost use Rattle.std.specs.Prelude.{◌≡◌};
 ghost use Rattle.cap_session.specs.Batch.{MayAnswerFirst, SpellsFirst, after_first, IsFirstOf, with_first_open};
-ghost use Rattle.cap_session.specs.Payloads.{asked_requests};
+ghost use Rattle.cap_session.specs.Ahead.{asked_requests};
 
-use crate::asked::{Asked, Refused};
 use crate::find::{Answered, put_reply};
-use crate::payloads::{Parts, Payloads};
+use crate::payloads::{Ahead, Payloads};
 use crate::session::Session;
 use bytes::BytesMut;
-use cap_frames::Framer;
 use cap_model::{OwnedReply, Request};
 use http_server::Log;
-use std::alloc::Global;
 use std::collections::VecDeque;
 use std::marker::Model;
 
@@ -19,10 +16,7 @@ use std::marker::Model;
 /// that are not answered yet.
 #[derive(Drop)]
 pub struct Batch {
-    pub(crate) alloc: Global,
-    pub(crate) framer: Framer,
-    pub(crate) asked: VecDeque<Asked>,
-    pub(crate) refused: Option<Refused>,
+    pub(crate) ahead: Ahead,
     pub(crate) unsent: BytesMut,
     // These exist for contracts alone.
     pub(crate) answered: Answered,
@@ -47,7 +41,7 @@ impl Batch {
         ensures answered { self.new ≡ after_first self.old.session self.old.asked reply.now }
         ensures spells { SpellsFirst self.old.asked reply.now }
     {
-        let Some(asked) = self.asked.pop_front() else {
+        let Some(asked) = self.ahead.asked.pop_front() else {
             unreachable!()
         };
         let (head, opened) = asked.parts();
@@ -61,22 +55,12 @@ impl Batch {
         ensures { result ≡ self.session }
     {
         let Batch {
-            alloc,
-            framer,
-            asked,
-            refused,
+            ahead,
             unsent,
             answered,
             sent,
         } = self;
-        let parts = Parts {
-            alloc,
-            framer,
-            asked,
-            requests,
-            refused,
-        };
-        Session::resting(parts, unsent, answered, sent)
+        Session::resting(ahead, requests, unsent, answered, sent)
     }
 
     /// The session again, with the first request that is not answered yet as its open request, whatever became of it, and with the
@@ -86,27 +70,17 @@ impl Batch {
         ensures { result ≡ with_first_open self.session self.asked }
     {
         let Batch {
-            alloc,
-            framer,
-            mut asked,
-            refused,
+            mut ahead,
             unsent,
             answered,
             sent,
         } = self;
-        let Some(first) = asked.pop_front() else {
+        let Some(first) = ahead.asked.pop_front() else {
             unreachable!()
         };
         let (head, opened) = first.parts();
-        let parts = Parts {
-            alloc,
-            framer,
-            asked,
-            requests,
-            refused,
-        };
         Session {
-            payloads: Payloads::from_parts(parts),
+            payloads: Payloads::from_parts(ahead, requests),
             unsent,
             head: Some(head),
             ended: None,

@@ -1,8 +1,8 @@
 //! The payloads of a stream, which may be read before they are asked for.
 ghost use Rattle.std.specs.Prelude.{◌≡◌, ◌≤◌, ℕ, List, IfOk, OnOk, OnErr, length, false, []};
 ghost use Rattle.cap_frames.specs.History.{IsReading, after_feed};
-ghost use Rattle.cap_session.specs.Payloads.{GivesNext, ReadsAhead};
-ghost use Rattle.cap_session.specs.Parts.{HasGiven, IsParted, IsOfParts};
+ghost use Rattle.cap_session.specs.Ahead.{HasGiven, HasRequests};
+ghost use Rattle.cap_session.specs.Payloads.{GivesNext, ReadsAhead, IsParted, IsOfParts};
 
 use crate::asked::{Asked, Head, ReadPayload, ReadResult, Refused};
 use cap_frames::{FrameFault, Framer};
@@ -16,14 +16,14 @@ use std::marker::Model;
 /// How many requests are read ahead at most.
 pub(crate) const AHEAD_MAX: usize = 64;
 
-/// The parts of the payloads of a stream: the framer, and what was read ahead.
+/// A stream, and what was read ahead of it, but for the requests themselves, which may be handed out together.
 #[derive(Drop)]
-pub(crate) struct Parts {
+pub(crate) struct Ahead {
     pub(crate) alloc: Global,
     pub(crate) framer: Framer,
-    // Requests, with what is kept of their payloads, and what comes after them, if it is no request.
+    /// What is kept of the payloads that are requests.
     pub(crate) asked: VecDeque<Asked>,
-    pub(crate) requests: VecDeque<Request<2>>,
+    /// What comes after them, if it is no request.
     pub(crate) refused: Option<Refused>,
 }
 
@@ -31,12 +31,9 @@ pub(crate) struct Parts {
 /// that is never spent.
 #[derive(Drop)]
 pub(crate) struct Payloads {
-    alloc: Global,
-    framer: Framer,
-    // What was read ahead: requests, with what is kept of their payloads, and what comes after them, if it is no request.
-    asked: VecDeque<Asked>,
+    ahead: Ahead,
+    // The requests that were read ahead.
     requests: VecDeque<Request<2>>,
-    refused: Option<Refused>,
 }
 
 impl Model for Payloads {
@@ -59,13 +56,14 @@ impl Payloads {
         let Ok(framer) = Framer::new(alloc) else {
             return Err(NoMemory);
         };
-        Ok(Payloads {
+        let ahead = Ahead {
             alloc,
             framer,
             asked: VecDeque::new(alloc),
-            requests: VecDeque::new(alloc),
             refused: None,
-        })
+        };
+        let requests = VecDeque::new(alloc);
+        Ok(Payloads { ahead, requests })
     }
 
     /// Adds the next piece of the stream. If an allocation fails nothing changes.
@@ -74,7 +72,7 @@ impl Payloads {
         ensures err { OnErr result (self.new ≡ self.old) }
         ensures reading { IsReading self.new }
     {
-        self.framer.feed(piece).map_err(|_| NoMemory)
+        self.ahead.framer.feed(piece).map_err(|_| NoMemory)
     }
 
     /// The next payload, with what was read from it, or `None` until all of it came. `BadLength` where a length comes that no frame has.
@@ -82,23 +80,23 @@ impl Payloads {
         ensures gives { GivesNext self.old self.new result }
         ensures reading { IsReading self.new }
     {
-        if let Some(asked) = self.asked.pop_front() {
+        if let Some(asked) = self.ahead.asked.pop_front() {
             let Some(request) = self.requests.pop_front() else {
                 unreachable!()
             };
             let (head, opened) = asked.parts();
             return Ok(Some((opened, Ok((head.call_id, request)))));
         }
-        if let Some(refused) = self.refused.take() {
+        if let Some(refused) = self.ahead.refused.take() {
             return Ok(Some(refused.parts()));
         }
-        let payload = match self.framer.next() {
+        let payload = match self.ahead.framer.next() {
             Ok(Some(payload)) => payload,
             Ok(None) => return Ok(None),
             Err(FrameFault::BadLength) => return Err(FrameFault::BadLength),
             Err(FrameFault::NoMemory) => return Err(FrameFault::NoMemory),
         };
-        let read = read_request(self.alloc, payload.as_slice());
+        let read = read_request(self.ahead.alloc, payload.as_slice());
         let opened = Log::new().and(&payload, &read);
         Ok(Some((opened, read)))
     }
@@ -107,58 +105,32 @@ impl Payloads {
     pub(crate) fn read_ahead(&mut self)
         ensures { self.new ≡ self.old }
     {
-        if self.refused.is_some() {
+        if self.ahead.refused.is_some() {
             return;
         }
-        self.refused = read_all(
-            self.alloc,
-            &mut self.framer,
-            &mut self.asked,
+        self.ahead.refused = read_all(
+            self.ahead.alloc,
+            &mut self.ahead.framer,
+            &mut self.ahead.asked,
             &mut self.requests,
         );
     }
-}
 
-impl Payloads {
-    /// Its parts.
-    pub(crate) fn into_parts(self) -> Parts
-        ensures { IsParted self result }
+    /// Its parts, with the requests that were read ahead.
+    pub(crate) fn into_parts(self) -> (Ahead, VecDeque<Request<2>>)
+        ensures { IsParted self result.0 result.1.items }
     {
-        let Payloads {
-            alloc,
-            framer,
-            asked,
-            requests,
-            refused,
-        } = self;
-        Parts {
-            alloc,
-            framer,
-            asked,
-            requests,
-            refused,
-        }
+        let Payloads { ahead, requests } = self;
+        (ahead, requests)
     }
 
     /// The payloads of these parts, of which the framer gave all but those that were read ahead.
-    pub(crate) fn from_parts(parts: Parts) -> Payloads
-        requires { (given : List (List ℕ)) × HasGiven given parts }
-        ensures { IsOfParts result parts }
+    pub(crate) fn from_parts(ahead: Ahead, requests: VecDeque<Request<2>>) -> Payloads
+        requires given { (given : List (List ℕ)) × HasGiven given ahead }
+        requires requests { HasRequests ahead requests.items }
+        ensures { IsOfParts result ahead }
     {
-        let Parts {
-            alloc,
-            framer,
-            asked,
-            requests,
-            refused,
-        } = parts;
-        Payloads {
-            alloc,
-            framer,
-            asked,
-            requests,
-            refused,
-        }
+        Payloads { ahead, requests }
     }
 }
 

@@ -5,14 +5,14 @@ ghost use Rattle.cap_session.specs.Counted.{state_of, inner_of, CanCount, after_
 ghost use Rattle.cap_session.specs.Answers.{Answers};
 ghost use Rattle.cap_session.specs.Batch.{HandsOut};
 ghost use Rattle.cap_session.specs.Kept.{answered_in, calls_of, sent_in, resting};
-ghost use Rattle.cap_session.specs.Parts.{HasGiven};
+ghost use Rattle.cap_session.specs.Ahead.{HasGiven, HasRequests};
 ghost use Rattle.cap_session.specs.Session.{new_session, FeedGives, NextGives, MayAnswer, after_answer, SpellsAnswer, after_sent, IsSession, bytes_unanswered};
 
 use crate::asked::{Head, ReadPayload};
 use crate::batch::Batch;
 use crate::counted::{Counted, Sent};
 use crate::find::{Answered, FRAME_ROOM, Found, find, put_reply};
-use crate::payloads::{Parts, Payloads};
+use crate::payloads::{Ahead, Payloads};
 use bytes::BytesMut;
 use cap_model::{NoMemory, OwnedReply, Request};
 use http_server::Log;
@@ -141,26 +141,16 @@ impl Session {
             answered,
             sent,
         } = self;
-        let parts = payloads.into_parts();
-        let count = parts.asked.len();
+        let (ahead, requests) = payloads.into_parts();
+        let count = ahead.asked.len();
         if count == 0 || unsent.reserve(count * FRAME_ROOM).is_err() {
-            return Err(Session::resting(parts, unsent, answered, sent));
+            return Err(Session::resting(ahead, requests, unsent, answered, sent));
         }
-        let Ok(replies) = Vec::with_capacity(parts.alloc, count) else {
-            return Err(Session::resting(parts, unsent, answered, sent));
+        let Ok(replies) = Vec::with_capacity(ahead.alloc, count) else {
+            return Err(Session::resting(ahead, requests, unsent, answered, sent));
         };
-        let Parts {
-            alloc,
-            framer,
-            asked,
-            requests,
-            refused,
-        } = parts;
         let batch = Batch {
-            alloc,
-            framer,
-            asked,
-            refused,
+            ahead,
             unsent,
             answered,
             sent,
@@ -170,18 +160,20 @@ impl Session {
 
     /// A session that has not ended and of which no request is open, of these parts.
     pub(crate) fn resting(
-        parts: Parts,
+        ahead: Ahead,
+        requests: VecDeque<Request<2>>,
         unsent: BytesMut,
         answered: Answered,
         sent: Log<BytesMut, usize>,
     ) -> Session
-        requires given { HasGiven (answered_in answered.items) parts }
+        requires given { HasGiven (answered_in answered.items) ahead }
+        requires requests { HasRequests ahead requests.items }
         requires answers { Answers (answered_in answered.items) (calls_of answered.items)
             (sent_in sent.items ++ unsent.items) }
-        ensures { result ≡ resting parts.framer.fed answered.items sent.items unsent.items }
+        ensures { result ≡ resting ahead.framer.fed answered.items sent.items unsent.items }
     {
         Session {
-            payloads: Payloads::from_parts(parts),
+            payloads: Payloads::from_parts(ahead, requests),
             unsent,
             head: None,
             ended: None,

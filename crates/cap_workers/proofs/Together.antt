@@ -7,7 +7,7 @@ use Rattle.cap_model.specs.News.{Reply}
 use Rattle.cap_messages.specs.Spelling.{IsOfKind, kind_of}
 use Rattle.cap_session.specs.Answers.{Call}
 use Rattle.cap_session.specs.Batch.{BatchState, MayAnswerFirst, SpellsFirst, after_first, IsFirstOf, with_first_open}
-use Rattle.cap_session.specs.Payloads.{asked_requests}
+use Rattle.cap_session.specs.Ahead.{asked_requests}
 use Rattle.cap_session.specs.Session.{SessionState, OpenRequest, Continues, SpellsAnswer, all_answers, with_answer}
 use Rattle.cap_session.proofs.Continuing.{continues_none, continues_then, continues_answer}
 use Rattle.cap_shared.specs.Calls.{HasMore}

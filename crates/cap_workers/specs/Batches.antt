@@ -5,7 +5,7 @@ use Rattle.cap_model.specs.News.{Reply}
 use Rattle.cap_messages.specs.Spelling.{IsOfKind, kind_of}
 use Rattle.cap_session.specs.Answers.{Call}
 use Rattle.cap_session.specs.Batch.{BatchState}
-use Rattle.cap_session.specs.Payloads.{asked_requests}
+use Rattle.cap_session.specs.Ahead.{asked_requests}
 use Rattle.cap_session.specs.Session.{SessionState, OpenRequest, Continues}
 use Rattle.cap_shared.specs.Calls.{HasMore, IsSealedCall}
 use Rattle.cap_shared.specs.declared.entry.Entry.{Entry}

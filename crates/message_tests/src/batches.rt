@@ -1,5 +1,5 @@
 ghost use Rattle.std.specs.Prelude.{◌≡◌, None};
-ghost use Rattle.cap_session.specs.Payloads.{asked_requests};
+ghost use Rattle.cap_session.specs.Ahead.{asked_requests};
 
 use cap_model::{Refusal, ReplyWith, Request};
 use cap_session::{Batch, Fed, Next, Session};

@@ -3,7 +3,7 @@ use Rattle.cap_model.specs.declared.request.Request.{Request}
 use Rattle.cap_model.specs.declared.reply.ReplyWith.TheVariants as reply
 use Rattle.cap_model.specs.declared.refusal.Refusal.TheVariants as refusal
 use Rattle.cap_session.specs.Batch.{with_first_open}
-use Rattle.cap_session.specs.Payloads.{asked_requests}
+use Rattle.cap_session.specs.Ahead.{asked_requests}
 use Rattle.cap_session.specs.Session.{SessionState, OpenRequest, MayAnswer}
 use Rattle.message_tests.proofs.batches.answers_suspended.Goals as goal
 

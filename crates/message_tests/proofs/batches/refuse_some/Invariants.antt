@@ -1,5 +1,5 @@
 use Rattle.std.proofs.Common.{◌≡◌}
-use Rattle.cap_session.specs.Payloads.{asked_requests}
+use Rattle.cap_session.specs.Ahead.{asked_requests}
 use Rattle.message_tests.proofs.batches.refuse_some.Given as goal
 
 -- the requests that are left are those of the batch

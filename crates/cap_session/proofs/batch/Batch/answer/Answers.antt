@@ -1,22 +1,22 @@
-use Rattle.std.proofs.Common.{◌≡◌, ◌++◌, ◌∷◌, [], ◌∙◌, ℕ, List, Some, None, ap, ap₂, sym, append_assoc, length, arith}
+use Rattle.std.proofs.Common.{◌≡◌, ◌++◌, ◌∷◌, [], ◌∙◌, ℕ, List, Some, None, ap, ap₂, sym, subst, refl, length, arith}
 use Rattle.cap_model.specs.News.{Reply}
 use Rattle.cap_frames.specs.Stream.{frame_of}
 use Rattle.cap_session.specs.Answers.{Call}
 use Rattle.cap_session.specs.Session.{OpenRequest, SpellsAnswer, answer_bytes, with_answer}
 use Rattle.cap_session.specs.Asked.{payloads_in}
-use Rattle.cap_session.specs.Payloads.{asked_payloads, refused_payloads}
+use Rattle.cap_session.specs.Ahead.{HasGiven}
 use Rattle.cap_session.specs.Kept.{answered_in, calls_in, calls_of}
 use Rattle.cap_session.specs.Batch.{session_inside}
 use Rattle.cap_session.specs.declared.batch.Batch.TheInside.{Inside}
 use Rattle.cap_session.proofs.Answering.{answered_answer}
 use Rattle.cap_session.proofs.Logs.{answered_more, calls_more}
-use Rattle.cap_session.proofs.ReadingAhead.{fewer}
+use Rattle.cap_session.proofs.ReadingAhead.{takes_asked}
 use Rattle.cap_session.proofs.batch.Batch.answer.Goals as goal
 
 pub invariant_of-self : goal.invariant_of-self
 invariant_of-self c =
     let b = c.self.inside in
-    let t : Inside = record b { asked = c.pop_front.new.self; unsent = c.put_reply.new.unsent; answered = c.and-self-inside.result } in
+    let t : Inside = record b { ahead = record b.ahead { asked = c.pop_front.new.self }; unsent = c.put_reply.new.unsent; answered = c.and-self-inside.result } in
     let o = c.in-Some.asked in
     let has = c.parts-opened.ensures in
     let opened = c.parts-opened.result.1 in
@@ -31,11 +31,7 @@ invariant_of-self c =
     let unsent : t.unsent.items ≡ b.unsent.items ++ frame_of (answer_bytes o reply) = rw (has.call_id, ← has.kind) c.put_reply.ensures.appends in
     let now : session_inside t ≡ with_answer (session_inside b) (Some o) reply = cc in
     record {
-      all = c.self.invariant.all ∙ ap (λ (x : List OpenRequest). answered_in b.answered.items ++ (asked_payloads x ++ refused_payloads b.refused)) was
-          ∙ sym (append_assoc (answered_in b.answered.items) (o.payload ∷ []) (asked_payloads t.asked.items ++ refused_payloads b.refused))
-          ∙ ap (λ (x : List (List ℕ)). x ++ (asked_payloads t.asked.items ++ refused_payloads b.refused)) (sym answered);
-      few = fewer o t.asked.items b.asked.items was c.self.invariant.few;
-      reading = c.self.invariant.reading;
+      has = subst (λ (x : List (List ℕ)). HasGiven x t.ahead) (sym answered) (takes_asked b.ahead t.ahead (answered_in b.answered.items) o c.self.invariant.has was refl refl);
       room = omega (arith, ap (λ (x : List OpenRequest). length x) was, c.self.invariant.room, c.put_reply.ensures.spare);
       answers = answered_answer None (session_inside b) (session_inside t) o reply (λ bad. absurd cc) c.self.invariant.answers spells now;
     }

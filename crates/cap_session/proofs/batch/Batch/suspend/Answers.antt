@@ -1,29 +1,22 @@
-use Rattle.std.proofs.Common.{◌≡◌, ◌++◌, ◌∷◌, [], ◌∙◌, ℕ, List, Option, Some, ap, sym, subst, refl, append_assoc, arith, length}
+use Rattle.std.proofs.Common.{◌≡◌, ◌++◌, ◌∷◌, [], ◌∙◌, ℕ, List, Option, Some, ap, sym, subst, refl, arith, length}
 use Rattle.cap_session.specs.Session.{OpenRequest, open_payload}
 use Rattle.cap_session.specs.Asked.{PayloadLog}
-use Rattle.cap_session.specs.Payloads.{asked_payloads, refused_payloads}
 use Rattle.cap_session.specs.Kept.{answered_in, open_of, SpellsRequest, IsHeadOf, HasRoom}
-use Rattle.cap_session.proofs.ReadingAhead.{fewer}
+use Rattle.cap_session.proofs.ReadingAhead.{takes_asked}
 use Rattle.cap_session.proofs.batch.Batch.suspend.Goals as goal
 
-pub from_parts-requires : goal.from_parts-requires
-from_parts-requires c =
+pub from_parts-requires-clause-given : goal.from_parts-requires-clause-given
+from_parts-requires-clause-given c =
     let b = c.self.inside in
     let o = c.in-Some.first in
-    let was = rw c.in-Some.is at c.pop_front.ensures.items in
-    let later = c.pop_front.new.self.items in (
-      answered_in b.answered.items ++ o.payload ∷ [],
-      record {
-        all = c.self.invariant.all ∙ ap (λ (x : List OpenRequest). answered_in b.answered.items ++ (asked_payloads x ++ refused_payloads b.refused)) was
-            ∙ sym (append_assoc (answered_in b.answered.items) (o.payload ∷ []) (asked_payloads later ++ refused_payloads b.refused));
-        requests = rw (sym c.self.view_is, was) at c.requires;
-        few = fewer o later b.asked.items was c.self.invariant.few;
-        reading = c.self.invariant.reading;
-      },
-    )
+    let given = answered_in b.answered.items in
+    (given ++ o.payload ∷ [], takes_asked b.ahead (record b.ahead { asked = c.pop_front.new.self }) given o c.self.invariant.has (rw c.in-Some.is at c.pop_front.ensures.items) refl refl)
+
+pub from_parts-requires-clause-requests : goal.from_parts-requires-clause-requests
+from_parts-requires-clause-requests c = rw (sym c.self.view_is, rw c.in-Some.is at c.pop_front.ensures.items) at c.requires
 
 pub invariant_of-result : goal.invariant_of-result
-unfolding from_parts-requires
+unfolding from_parts-requires-clause-given
 invariant_of-result c =
     let b = c.self.inside in
     let o = c.in-Some.first in
@@ -32,7 +25,7 @@ invariant_of-result c =
     let is : open_of (Some head) c.parts-opened.result.1.items ≡ Some (record { payload = has.payload.items; call_id = head.call_id; request = o.request }) = ap (λ (x : PayloadLog). open_of (Some head) x) has.one in
     record {
       lost = [];
-      given = c.from_parts.ensures.given (answered_in b.answered.items ++ o.payload ∷ []) (from_parts-requires c.before).1
+      given = c.from_parts.ensures.given (answered_in b.answered.items ++ o.payload ∷ []) (from_parts-requires-clause-given c.before).1
           ∙ ap (λ (x : List ℕ). answered_in b.answered.items ++ x ∷ []) has.payload_is ∙ ap (λ (x : Option OpenRequest). answered_in b.answered.items ++ (open_payload x ++ [])) (sym is);
       reading = c.from_parts.ensures.reading;
       none_lost = λ _. (refl, c.from_parts.ensures.fresh);

@@ -1,7 +1,7 @@
 use Rattle.std.proofs.Common.{◌++◌, ◌∙◌, ◌≤◌, List, [], ap, sym, subst, length, arith}
 use Rattle.cap_frames.specs.History.{History, IsReading}
 use Rattle.cap_session.specs.Session.{OpenRequest}
-use Rattle.cap_session.specs.Payloads.{asked_payloads, asked_requests}
+use Rattle.cap_session.specs.Ahead.{asked_payloads, asked_requests}
 use Rattle.cap_session.specs.declared.payloads.TheConstants.{AHEAD_MAX}
 use Rattle.cap_session.proofs.ReadingAhead.{nothing_read}
 use Rattle.cap_session.proofs.payloads.Payloads.new.Goals as goal
@@ -9,8 +9,10 @@ use Rattle.cap_session.proofs.payloads.Payloads.new.Goals as goal
 pub invariant_of-result : goal.invariant_of-result
 invariant_of-result c = record {
   given = [];
-  all = ap (λ (h : History). h.given) c.in-Ok.ensures ∙ ap (λ (x : List OpenRequest). asked_payloads x ++ []) (sym c.new-2.ensures.items);
-  requests = c.new-3.ensures.items ∙ ap asked_requests (sym c.new-2.ensures.items);
-  few = subst (λ (x : List OpenRequest). length x ≤ AHEAD_MAX) (sym c.new-2.ensures.items) (omega (arith));
-  reading = subst IsReading (sym c.in-Ok.ensures) nothing_read;
+  has = record {
+    all = ap (λ (h : History). h.given) c.in-Ok.ensures ∙ ap (λ (x : List OpenRequest). asked_payloads x ++ []) (sym c.new-2.ensures.items);
+    few = subst (λ (x : List OpenRequest). length x ≤ AHEAD_MAX) (sym c.new-2.ensures.items) (omega (arith));
+    reading = subst IsReading (sym c.in-Ok.ensures) nothing_read;
+  };
+  requests = c.new-requests.ensures.items ∙ ap asked_requests (sym c.new-2.ensures.items);
 }
