@@ -19,3 +19,4 @@ pub mod Limiting
 pub mod Granting
 pub mod Granted
 pub mod Keeping
+pub mod Fitting

@@ -87,63 +87,6 @@ module _ (u v w : ℕ → ℕ) (r : Rounds u v w) (n : ℕ) (few : n ≤ resourc
       let e = r.eights (w (u (u (8 + amounts) + maximum) + amounts) + 4) in
       omega (arith, a, m, b, c, d, e)
 
-  abbrev last_reply : ℕ
-  last_reply = u (0 + u (w (w (152 + amounts) + 4) + 16))
-
-  abbrev one_node : ℕ
-  one_node = u (w (last_reply + amounts) + 4)
-
-  abbrev containers : ℕ
-  containers = u (80 + u (40 + amounts))
-
-  containers_few : containers ≤ 10000
-  containers_few =
-      let a = amounts_few in
-      let b = r.eights (40 + amounts) in
-      let c = r.eights (80 + u (40 + amounts)) in
-      omega (arith, a, b, c)
-
-  abbrev nodes : ℕ
-  nodes = u (u (u (u (0 + u (120 + one_node)) + containers) + containers) + amounts)
-
-  nodes_few : nodes ≤ 60000
-  nodes_few =
-      let a = amounts_few in
-      let b = r.fours (152 + amounts) in
-      let c = r.fours (w (152 + amounts) + 4) in
-      let d = r.eights (w (w (152 + amounts) + 4) + 16) in
-      let e = r.eights (0 + u (w (w (152 + amounts) + 4) + 16)) in
-      let f = r.fours (last_reply + amounts) in
-      let i = r.eights (w (last_reply + amounts) + 4) in
-      let j = r.eights (120 + one_node) in
-      let k = r.eights (0 + u (120 + one_node)) in
-      let x = containers_few in
-      let l = r.eights (u (0 + u (120 + one_node)) + containers) in
-      let m = r.eights (u (u (0 + u (120 + one_node)) + containers) + containers) in
-      let n = r.eights (u (u (u (0 + u (120 + one_node)) + containers) + containers) + amounts) in
-      omega (arith, a, b, c, d, e, f, i, j, k, x, l, m, n)
-
-  nodes_are_small : nodes < 9223372036854775808
-  nodes_are_small = let a = nodes_few in omega (arith, a)
-
-  abbrev limits : ℕ
-  limits = u (u (u (0 + amounts) + amounts) + 8)
-
-  abbrev cluster : ℕ
-  cluster = u (u (u (8 + limits) + 120) + nodes)
-
-  cluster_is_small : cluster < 9223372036854775808
-  cluster_is_small =
-      let a = amounts_few in
-      let n = nodes_few in
-      let b = r.eights (0 + amounts) in
-      let c = r.eights (u (0 + amounts) + amounts) in
-      let d = r.eights (u (u (0 + amounts) + amounts) + 8) in
-      let e = r.eights (8 + limits) in
-      let f = r.eights (u (8 + limits) + 120) in
-      let i = r.eights (u (u (8 + limits) + 120) + nodes) in
-      omega (arith, a, n, b, c, d, e, f, i)
-
 abbrev pub up8 : ℕ → ℕ
 up8 = prog.Memory.up 8
 
@@ -155,9 +98,3 @@ tree_fits n few = tree_is_small up8 (prog.Memory.up 1) (prog.Memory.up 4) up_rou
 
 pub report_fits : (n : ℕ) (few : n ≤ resources_max) → report up8 (prog.Memory.up 1) (prog.Memory.up 4) up_rounds n few < 9223372036854775808
 report_fits n few = report_is_small up8 (prog.Memory.up 1) (prog.Memory.up 4) up_rounds n few
-
-pub nodes_fit : (n : ℕ) (few : n ≤ resources_max) → nodes up8 (prog.Memory.up 1) (prog.Memory.up 4) up_rounds n few < 9223372036854775808
-nodes_fit n few = nodes_are_small up8 (prog.Memory.up 1) (prog.Memory.up 4) up_rounds n few
-
-pub cluster_fits : (n : ℕ) (few : n ≤ resources_max) → cluster up8 (prog.Memory.up 1) (prog.Memory.up 4) up_rounds n few < 9223372036854775808
-cluster_fits n few = cluster_is_small up8 (prog.Memory.up 1) (prog.Memory.up 4) up_rounds n few

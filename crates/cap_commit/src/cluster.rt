@@ -38,12 +38,22 @@ use std::marker::Model;
 
 /// The cluster of K resources: the tree of its queues, its limits, its applications, and its nodes with their containers. Contracts
 /// see it as the flat cluster, and beside it the rows of the tree and the accounts of the applications.
-#[derive(Drop)]
 pub struct Cluster<const K: usize> {
     pub(crate) tree: Box<QueueTree<K, Global>>,
     limits: Limits<K>,
     pub(crate) apps: Apps<K>,
     pub(crate) nodes: Nodes<K>,
+}
+
+impl<const K: usize> Drop for Cluster<K> {
+    fn drop(self) {
+        let Cluster {
+            tree: _,
+            limits: _,
+            apps: _,
+            nodes: _,
+        } = self;
+    }
 }
 
 impl<const K: usize> Model for Cluster<K> {

@@ -3,6 +3,8 @@ ghost use Rattle.cap_vector.specs.Vector.{amount_max};
 ghost use Rattle.cap_model.specs.Limits.{applications_max, queues_max, resources_max};
 ghost use Rattle.cap_config.specs.Bounds.{are_bounded, most_of};
 ghost use Rattle.cap_model.specs.Listing.{IsListing};
+ghost use Rattle.cap_model.specs.Texts.{is_text};
+ghost use Rattle.cap_config.specs.Queues.{child};
 ghost use Rattle.cap_config.specs.Tests.{cluster_entry, number_or, whole_fault};
 ghost use Rattle.cap_config.specs.Index.{IsIndex};
 ghost use Rattle.cap_config.specs.Rows.{row_of, rows_under, settings_of};
@@ -13,7 +15,7 @@ use crate::key::ROOT;
 use crate::queues::{LEVELS_MAX, factor, guaranteed, is_running, maximum, names_below, number_or};
 use crate::second_pass::cluster_entry;
 use crate::setting::Setting;
-use cap_model::PathText;
+use cap_model::{PathText, ShortText};
 use cap_vector::Resource;
 use std::alloc::{AllocError, Global};
 use std::marker::Model;
@@ -221,13 +223,22 @@ fn add_queues(
     }
     queues.push(row_of(index, path))?;
     for name in names_below(index, path.as_bytes()) {
-        let child = child_bytes(alloc, path.as_bytes(), name.as_bytes())?;
-        let Some(child) = PathText::new(&child) else {
-            unreachable!()
-        };
+        let child = child_path(alloc, &path, name)?;
         add_queues(alloc, index, child, levels - 1, queues)?;
     }
     Ok(())
+}
+
+/// The path of the queue of this name under a queue.
+fn child_path(alloc: Global, path: &PathText, name: &ShortText) -> Result<PathText, AllocError>
+    requires { is_text 255 (child path.now name.now) ≡ true }
+    ensures { IfOk result (λ below. below ≡ child path.now name.now) }
+{
+    let child = child_bytes(alloc, path.as_bytes(), name.as_bytes())?;
+    let Some(child) = PathText::new(&child) else {
+        unreachable!()
+    };
+    Ok(child)
 }
 
 #[tactic(auto, unfolding(crate::specs::Rows::row_of))]

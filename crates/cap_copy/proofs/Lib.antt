@@ -4,3 +4,4 @@ pub mod Limiting
 pub mod Serving
 pub mod Sights
 pub mod Steps
+pub mod Fitting

@@ -231,3 +231,11 @@ module _ (K : ℕ) (rows : List Row) (registered : List HeldApp) (order : List �
         get_or_from_slice_get (limits_in queues users of) i (limit_at queues (get_or users (get_or of i 0) no_user)) no_limit
         (slice_get-map (λ j. limit_at queues (get_or users j no_user)) of i ∙ ap (option_map (λ j. limit_at queues (get_or users j no_user))) (slice_get-get_or of i 0 (omega (arith, lt, long))))
         ∙ sym (get_or_from_slice_get (map (limit_of K rows) registered) i (limit_at queues (get_or users (get_or of i 0) no_user)) no_limit (is_set i inside).1))
+
+-- the queues on the way of the application at an index are there
+pub way_of : (queues : List QueueUse) (users : List StoredUser) (of : List ℕ) (limits : List Limit) → AreStored queues users of → limits_in queues users of ≡ limits → (k : ℕ) → k < length limits → (i : ℕ) (u v : StoredUser) → i ≡ get_or of k i → v ≡ get_or users i v → u ≡ v → (u.start ≤ u.end) × (u.end ≤ length queues)
+way_of queues users of limits stored same k below i u v at is seen =
+    let n = ap length same in
+    let m = length-map of (λ j. limit_at queues (get_or users j no_user)) in
+    let there = subst (λ j. j < length users) (sym at) (stored.within k i (omega (arith, below, n, m))) in
+    subst (λ (w : StoredUser). (w.start ≤ w.end) × (w.end ≤ length queues)) (sym (seen ∙ is)) (stored.ways i v there)

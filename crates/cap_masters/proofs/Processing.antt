@@ -1,6 +1,6 @@
 -- An allocate that is processed, and its answer.
 use Rattle.std.proofs.Common.{◌≡◌, ℕ, ◌+◌, ◌-◌, ◌<◌, ◌≤◌, Bool, true, false, List, [], ◌∷◌, ◌++◌, get_or, length, take, refl, sym, ◌∙◌, ap, subst, inl, arith, inr}
-use Rattle.std.specs.Prelude.{Option, Some, None, IsSome, IfSome, not, ◌==◌, ◌&&◌, is_some, is_none, filter, option_map, option_and_then, nat_lt, if◌then◌else◌, ◌||◌}
+use Rattle.std.specs.Prelude.{Option, Some, None, IsSome, IfSome, not, ◌==◌, ◌&&◌, is_none, filter, option_map, option_and_then, if◌then◌else◌}
 use Rattle.std.specs.List.{fold, list_any}
 use Rattle.std.proofs.lemmas.List.{take_more}
 use Rattle.std.proofs.lemmas.List.Sums.{fold-append}

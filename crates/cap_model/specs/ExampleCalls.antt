@@ -78,13 +78,14 @@ ReleasedOnce =
 abbrev pub allocated_four : Flat 2
 allocated_four = with_app 1 (λ app. record app { response = 4 }) small
 
--- the next id is processed; the same again gets the kept reply and changes nothing; an older one, and one before the first, is refused
+-- the next id is processed; the same again gets the kept reply, and the one after it is the next as before; an older one, and one before
+-- the first, is refused
 abbrev pub ResponseIds : Type 0
 ResponseIds =
     let fifth = after_request allocated_four (asks_of 1 4 []) in
     (reply_to allocated_four (asks_of 1 4 []) ≡ told_nothing 5 0)
     × (reply_to fifth (asks_of 1 4 (ask_anywhere (key 1 0) 1 (mb_and_vcores 9000 1) ∷ [])) ≡ told_nothing 5 0)
-    × (after_request fifth (asks_of 1 4 (ask_anywhere (key 1 0) 1 (mb_and_vcores 1024 1) ∷ [])) ≡ fifth)
+    × (reply_to (after_request fifth (asks_of 1 4 (ask_anywhere (key 1 0) 1 (mb_and_vcores 1024 1) ∷ []))) (asks_of 1 5 []) ≡ told_nothing 6 0)
     × (reply_to fifth (asks_of 1 2 []) ≡ Reply.Refused Refusal.BadResponseId)
     × (reply_to fifth (asks_of 1 6 []) ≡ Reply.Refused Refusal.BadResponseId)
     × (reply_to small (asks_of 1 2147483647 []) ≡ Reply.Refused Refusal.BadResponseId)

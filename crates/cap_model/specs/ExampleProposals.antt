@@ -1,9 +1,9 @@
 -- Worked examples: proposals that are made, admitted and rejected.
-use Rattle.std.specs.Prelude.{◌≡◌, true, false, not, [], ◌∷◌, Some, None, filter, bytes_eq, codes}
+use Rattle.std.specs.Prelude.{◌≡◌, ℕ, true, false, not, [], ◌∷◌, Some, None, filter, bytes_eq, codes}
 use Rattle.cap_model.specs.Settings.{Settings}
 use Rattle.cap_model.specs.declared.request.Request.{Request}
 use Rattle.cap_model.specs.declared.reply.ReplyWith.TheVariants as Reply
-use Rattle.cap_model.specs.Flat.{Flat, opened_cluster}
+use Rattle.cap_model.specs.Flat.{Flat, Reservation, opened_cluster}
 use Rattle.cap_model.specs.Uses.{queue_use}
 use Rattle.cap_model.specs.Sight.{sight_of}
 use Rattle.cap_model.specs.Admission.{reason_of}
@@ -101,13 +101,14 @@ SmallerAskDropsNewest =
     × (queue_use fewer (codes "root.a") ≡ mb_and_vcores 7168 3)
     × (queue_use fewer (codes "root") ≡ mb_and_vcores 7168 3)
 
--- the ask of another resource or another place drops both
+-- the ask of another resource or another place drops both; one that is rounded to the same resource drops none
 abbrev pub ChangedAskDropsAll : Type 0
 ChangedAskDropsAll =
     let larger = after_request two_reservations (asks_of 1 1 (ask_anywhere (key 3 0) 2 (mb_and_vcores 3073 1) ∷ [])) in
     let placed = after_request two_reservations (asks_of 1 1 (record { key = key 3 0; count = 2; resource = mb_and_vcores 3072 1; place = codes "n1" } ∷ [])) in
     let same = after_request two_reservations (asks_of 1 1 (ask_anywhere (key 3 0) 2 (mb_and_vcores 3000 1) ∷ [])) in
-    (larger.nodes.reserved ≡ []) × (placed.nodes.reserved ≡ []) × (same.nodes.reserved ≡ two_reservations.nodes.reserved)
+    let on : ℕ → Reservation = λ node. record { app = 1; key = key 3 0; node = node; resource = mb_and_vcores 3072 1 } in
+    (larger.nodes.reserved ≡ []) × (placed.nodes.reserved ≡ []) × (same.nodes.reserved ≡ on 1 ∷ on 2 ∷ [])
 
 -- application 2 holds two containers of (1024, 1) and asks for a third: the user would pass (2048, 8)
 abbrev pub UserLimit : Type 0

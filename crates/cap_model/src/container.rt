@@ -6,7 +6,7 @@ use cap_vector::Resource;
 use std::marker::Model;
 
 /// A live container.
-#[derive(Clone, Copy, Debug)]
+#[derive(Clone, Copy)]
 pub struct Container<const K: usize> {
     /// Its number.
     pub number: u64,
@@ -81,7 +81,7 @@ impl<const K: usize> Container<K> {
 }
 
 /// Room that a node keeps for an ask that does not fit there at present.
-#[derive(Clone, Copy, Debug)]
+#[derive(Clone, Copy)]
 pub struct Reservation<const K: usize> {
     /// The number of the application.
     pub app: u64,

@@ -6,7 +6,7 @@ use std::alloc::Global;
 use std::marker::Model;
 
 /// The items that a request brings, in their order: at most `MAX`. Contracts see it as their list.
-#[derive(Debug, Drop)]
+#[derive(Drop)]
 pub struct List<T, const MAX: usize> {
     items: Vec<T>,
 }

@@ -5,10 +5,11 @@ use crate::refusal::Refusal;
 use crate::replies::{AllocateNumbers, AllocateReply, AllocateView, HeartbeatReply};
 use crate::report::{ClusterReport, QueueReport};
 use cap_vector::Resource;
+use std::alloc::AllocError;
 
 /// The answer to a request: a refusal, or what the call of that name gives. `A` is what an Allocate is answered: its numbers, or
 /// its grants and ends with them, lent or owned.
-#[derive(Clone, Copy, Debug, PartialEq, Eq, Drop)]
+#[derive(Copy, Drop)]
 pub enum ReplyWith<const K: usize, A> {
     Refused(Refusal),
     Submit {
@@ -43,6 +44,18 @@ pub enum ReplyWith<const K: usize, A> {
     ClusterInfo {
         report: ClusterReport<K>,
     },
+}
+
+impl<const K: usize, A: Copy> Clone for ReplyWith<K, A> {
+    ghost use Rattle.std.specs.Prelude.{◌≡◌, ⊤};
+
+    ghost is_clone = { λ reply copy. copy ≡ reply };
+
+    ghost is_infallible = { λ _. ⊤ };
+
+    fn clone(&self) -> Result<ReplyWith<K, A>, AllocError> {
+        Ok(*self)
+    }
 }
 
 impl<const K: usize, A> ReplyWith<K, A> {

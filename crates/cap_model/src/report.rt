@@ -1,7 +1,7 @@
 use cap_vector::{Resource, Sum};
 
 /// What an operator sees of a queue.
-#[derive(Clone, Copy, Debug, PartialEq, Eq)]
+#[derive(Clone, Copy)]
 pub struct QueueReport<const K: usize> {
     /// Whether it and every queue above it are RUNNING.
     pub running: bool,
@@ -18,7 +18,7 @@ pub struct QueueReport<const K: usize> {
 }
 
 /// What an operator sees of the cluster.
-#[derive(Clone, Copy, Debug, PartialEq, Eq)]
+#[derive(Clone, Copy)]
 pub struct ClusterReport<const K: usize> {
     /// How many nodes are present.
     pub nodes: u32,

@@ -7,7 +7,7 @@ use cap_vector::Resource;
 use std::alloc::Global;
 
 /// A call of an application master, a node manager or an operator.
-#[derive(Debug, Drop)]
+#[derive(Drop)]
 pub enum Request<const K: usize> {
     /// An application enters a leaf queue for a user.
     Submit {

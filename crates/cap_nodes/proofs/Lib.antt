@@ -8,3 +8,4 @@ pub mod Ties
 pub mod Changes
 pub mod Walked
 pub mod Reserved
+pub mod Sizes

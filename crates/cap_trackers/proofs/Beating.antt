@@ -1,6 +1,6 @@
 -- A heartbeat that is not refused.
-use Rattle.std.proofs.Common.{◌≡◌, ℕ, ◌+◌, ◌-◌, Bool, true, false, List, [], ◌∷◌, length, map, Option, Some, None, refl, sym, ◌∙◌, ap, subst, arith, inl, inr}
-use Rattle.std.specs.Prelude.{nat_lt, is_some, IsSome, cond, not, filter, find, count_by, ◌==◌, ◌&&◌, if◌then◌else◌, unwrap_or, option_and_then, ◌||◌}
+use Rattle.std.proofs.Common.{◌≡◌, ℕ, ◌+◌, ◌-◌, Bool, true, false, List, [], ◌∷◌, length, map, Option, Some, None, refl, sym, ◌∙◌, ap, subst, arith}
+use Rattle.std.specs.Prelude.{cond, not, filter, find, count_by, ◌==◌, ◌&&◌, if◌then◌else◌, unwrap_or, option_and_then, ◌||◌}
 use Rattle.std.proofs.lemmas.Bool.Decides.{nat_tests}
 use Rattle.std.proofs.lemmas.List.Sums.{length-filter}
 use Rattle.std.proofs.lemmas.List.Filters.{length-filter_both}
@@ -18,7 +18,7 @@ use Rattle.cap_model.specs.Heartbeat.{heartbeat_refusal, is_repeated_heartbeat, 
 use Rattle.cap_model.specs.EngineLaws.{HasDistinctNumbers}
 use Rattle.cap_model.specs.Replies.{reply_to, after_request}
 use Rattle.cap_model.proofs.lists.Members.{IsIn, found}
-use Rattle.cap_model.proofs.lists.Numbered.{rising_kept, found_by_number, find_changed}
+use Rattle.cap_model.proofs.lists.Numbered.{rising_kept, found_by_number}
 use Rattle.cap_model.proofs.lists.Filters.{filter_same, filter_twice, filter_whole, map_same}
 use Rattle.cap_model.proofs.numbers.Balance.{among_itself}
 use Rattle.cap_model.proofs.ending.NamedEnds.{is_named, count_named, among_named}

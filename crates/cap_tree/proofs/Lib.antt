@@ -14,6 +14,7 @@ pub mod RowPaths
 pub mod Service
 pub mod ServiceRows
 pub mod Served
+pub mod Sizes
 pub mod Spots
 pub mod UserCopies
 pub mod Users

@@ -475,6 +475,18 @@ module _ (list : List Waiter) (parts : List (List Waiter)) (are : AreParts list 
         by true e = here s (eqb-true s n e)
         by false e = there s (let l = length-set parts n part in omega (arith, lt, l)) (λ same. let u = eq-eqb s n same in absurd (cc (e, u)))
 
+-- the first step of one that waits is to one of so many children
+pub begins_below : (count : ℕ) (list : List Waiter) → All (λ w. BeginsWithin count w.steps) list → (i : ℕ) (w : Waiter) → i < length list → w ≡ get_or list i w → (steps : List ℕ) → steps ≡ w.steps → 1 ≤ length steps → get_or steps 0 0 < count
+begins_below count list all i w lt is steps same some =
+    first (subst (λ (v : Waiter). BeginsWithin count v.steps) (sym is) (all i w lt))
+  where
+    of_some : (p : List ℕ) → 1 ≤ length p → BeginsWithin count p → get_or p 0 0 < count
+    of_some [] l h = absurd (omega arith)
+    of_some (s ∷ p) l h = h
+
+    first : BeginsWithin count w.steps → get_or steps 0 0 < count
+    first h = of_some steps some (subst (BeginsWithin count) (sym same) h)
+
 pub none_dealt : (parts : List (List Waiter)) → All (λ part. part ≡ []) parts → AreParts [] parts
 none_dealt parts all s lt = ap (map (lifted s)) (all s [] lt)
 

@@ -1,9 +1,11 @@
-use Rattle.std.proofs.Common.{◌≡◌, ◌++◌, ◌<◌, length, get_or, refl, sym, ap, ◌∙◌, map}
+use Rattle.std.proofs.lemmas.List.{take_all}
+use Rattle.cap_copy.proofs.Fitting.{seen_ask_by_nodes}
+use Rattle.std.proofs.Common.{◌≡◌, ◌++◌, ◌<◌, length, get_or, refl, sym, ap, ◌∙◌, map, arith}
 use Rattle.std.specs.Prelude.{Some, option_map}
 use Rattle.std.specs.List.{slice_get}
 use Rattle.std.proofs.lemmas.Option.{slice_get-get_or, slice_get-map, slice_get_read}
 use Rattle.cap_asks.specs.Held.{HeldApp}
-use Rattle.cap_copy.specs.Entries.{asks_of}
+use Rattle.cap_copy.specs.Entries.{asks_of, ask_entries}
 use Rattle.cap_copy.proofs.Steps.{asks_more}
 use Rattle.cap_copy.proofs.asks.seen_asks.Goals as goal
 
@@ -18,3 +20,13 @@ loop-index-preserved g c =
     c.in-Ok-add_asks.ensures
     ∙ (λ j. c.loop-index.invariant j ++ asks_of c.args.nodes.now i ((c.app.ensures j).app))
     ∙ sym (asks_more c.args.nodes.now (map (λ (r : HeldApp). r.app) c.args.registered.now) c.args.order.now k i held.app (slice_get-get_or c.args.order.now k 0 c.loop-index-test.true) at)
+
+pub bounds-registered-index : goal.bounds-registered-index
+bounds-registered-index g c = c.requires.within c.loop-index.index-index 0 c.loop-index-test.true
+
+pub add_asks-requires : goal.add_asks-requires
+add_asks-requires g c = (search seen_ask_by_nodes, (omega arith, (search)))
+
+pub returns-clause-entries : goal.returns-clause-entries
+returns-clause-entries g c =
+    c.loop-index.invariant ∙ ap (ask_entries c.args.nodes.now (map (λ r. r.app) c.args.registered.now)) (take_all c.loop-index.index-index c.args.order.now c.loop-index-test.false)

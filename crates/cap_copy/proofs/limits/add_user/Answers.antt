@@ -1,3 +1,4 @@
+use Rattle.cap_tree.proofs.Sizes.{queue_fits}
 use Rattle.std.proofs.Common.{◌≡◌, ◌++◌, ◌∷◌, ◌≤◌, ◌-◌, [], ap, drop, append_assoc, sym, subst, ◌∙◌, map, take, length, arith}
 use Rattle.std.specs.Prelude.{Some}
 use Rattle.std.specs.List.{slice_get}
@@ -43,3 +44,9 @@ returns g c =
       guaranteed = c.guaranteed.ensures i;
       used = (c.user_use.ensures ∙ ap (λ u. use_of g.row.K (user_row u leaf.users)) c.user.ensures) i;
     })
+
+pub of-requires : goal.of-requires
+of-requires g c = search queue_fits
+
+pub factor-requires : goal.factor-requires
+factor-requires g c = search queue_fits

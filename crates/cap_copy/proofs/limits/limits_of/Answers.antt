@@ -1,4 +1,5 @@
-use Rattle.std.proofs.Common.{rules, ◌≡◌, ◌+◌, ◌-◌, get_or, length, set, subst, arith}
+use Rattle.cap_copy.proofs.Fitting.{seen_queue_of_few, seen_user_of_few}
+use Rattle.std.proofs.Common.{◌≡◌, ◌+◌, ◌-◌, get_or, length, set, subst, arith}
 use Rattle.cap_copy.proofs.Limiting.{AreSet, all_are, all_stored, last_stays, none_set, seen_more}
 use Rattle.cap_copy.proofs.limits.limits_of.Goals as goal
 
@@ -10,7 +11,7 @@ loop-i-init g c =
     }
 
 pub see_user-requires : goal.see_user-requires
-see_user-requires g c = (search rules, (search rules, (search rules, (search rules, (c.requires.placed, (c.requires.each.within, (c.loop-i-test.true, c.loop-i.invariant.last)))))))
+see_user-requires g c = (seen_queue_of_few _ c.requires.resources, (seen_user_of_few _ c.requires.resources, ((search), ((search), (c.requires.placed, (c.requires.each.within, (c.loop-i-test.true, c.loop-i.invariant.last)))))))
 
 pub index_mut-requires : goal.index_mut-requires
 index_mut-requires g c =

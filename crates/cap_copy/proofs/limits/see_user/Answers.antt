@@ -28,3 +28,9 @@ returns-in-Ok g c =
     let held = c.index-registered-order.result in
     let here = slice_get_read registered (length registered) (get_or order i 0) held refl (c.requires.within i 0 c.requires.inside) c.index-registered-order.is in
     seen_added g.row.K c.args.tree.now registered order i c.args.queues.now.items c.add_user.new.queues.items c.args.users.now.items c.add_user.new.users.items c.app-app.result.now (here ∙ ap (λ (h : HeldApp). Some h) (sym c.app-app.ensures)) c.in-Ok.ensures
+
+pub bounds-registered-order-then-i-gt0 : goal.bounds-registered-order-then-i-gt0
+bounds-registered-order-then-i-gt0 g c = let lt = c.requires.inside in c.requires.within (c.args.i - 1) 0 (omega (arith, lt))
+
+pub bounds-registered-order : goal.bounds-registered-order
+bounds-registered-order g c = c.requires.within c.args.i 0 c.requires.inside

@@ -1,4 +1,7 @@
-use Rattle.std.proofs.Common.{◌≡◌, ◌++◌, ◌∷◌, [], ap, sym, ◌∙◌, arith}
+use Rattle.std.proofs.lemmas.List.{take_all}
+use Rattle.cap_copy.proofs.Fitting.{reservation_by_nodes}
+use Rattle.cap_nodes.proofs.Sizes.{node_fits, amounts_fit}
+use Rattle.std.proofs.Common.{◌≡◌, ◌++◌, ◌∷◌, [], ap, sym, ◌∙◌, arith, map}
 use Rattle.std.specs.Prelude.{find, ◌==◌}
 use Rattle.cap_nodes.specs.Tables.{free_on}
 use Rattle.cap_copy.specs.Taking.{node_seen}
@@ -19,3 +22,39 @@ loop-index-preserved g c =
       count = omega arith;
       room = omega arith;
     }
+
+pub count-index-end-requires : goal.count-index-end-requires
+count-index-end-requires g c = search
+
+pub count-requires : goal.count-requires
+count-requires g c = search
+
+pub total-requires : goal.total-requires
+total-requires g c = search (node_fits, amounts_fit)
+
+pub rack-requires : goal.rack-requires
+rack-requires g c = search node_fits
+
+pub host-requires : goal.host-requires
+host-requires g c = search node_fits
+
+pub number-requires-in-loop-index : goal.number-requires-in-loop-index
+number-requires-in-loop-index g c = search node_fits
+
+pub number-requires : goal.number-requires
+number-requires g c = search node_fits
+
+pub nth-node-requires : goal.nth-node-requires
+nth-node-requires g c = let t = c.loop-index-test.true in let n = c.count-index-end.ensures.value in ((search), (search node_fits, omega (arith, t, n)))
+
+pub free_at-requires : goal.free_at-requires
+free_at-requires g c = let t = c.loop-index-test.true in let n = c.count-index-end.ensures.value in ((search), (search amounts_fit, omega (arith, t, n)))
+
+pub reservation_on-requires : goal.reservation_on-requires
+reservation_on-requires g c = search reservation_by_nodes
+
+pub returns-clause-entries : goal.returns-clause-entries
+returns-clause-entries g c =
+    let f = c.loop-index-test.false in
+    let n = c.count-index-end.ensures.value in
+    c.loop-index.invariant.entries ∙ ap (map (node_seen g.row.K c.args.nodes.now)) (take_all c.loop-index.index c.args.nodes.now.present (omega (arith, f, n)))

@@ -1,4 +1,6 @@
-use Rattle.std.proofs.Common.{◌≡◌, ◌+◌, ◌-◌, ◌/◌, ◌<◌, true, false, ap, sym, ◌∙◌, get_or, arith, length}
+use Rattle.std.specs.declared.cmp.Ordering.TheVariants.{Less}
+use Rattle.std.specs.List.{AllWithin}
+use Rattle.std.proofs.Common.{◌≡◌, ◌+◌, ◌-◌, ◌/◌, ◌<◌, true, false, ap, sym, ◌∙◌, get_or, arith, length, ◌≤◌, subst}
 use Rattle.std.specs.Ordering.{is_lt}
 use Rattle.std.specs.Cmp.Lexicographic.{options_total}
 use Rattle.std.proofs.lemmas.Cmp.{on_total}
@@ -41,3 +43,23 @@ loop-low-preserved g c =
     below_middle cmp (on_total (λ s. first (kid_at kids s)) (options_total g.met.T.Served.total)) c.args.child c.args.kids.now (rising_of cmp c.args.kids.now c.requires.ranked)
     c.loop-low.low c.loop-low.high middle other c.loop-low.invariant (omega arith) (omega arith) (get_or_default c.args.kids.now middle 0 other inside)
     (λ t. let same_child = c.requires.apart other c.args.child there c.requires.child others own t in absurd (omega (arith, same_child, earlier))) not_less
+
+pub bounds-children-kids : goal.bounds-children-kids
+bounds-children-kids g c =
+    let within = c.loop-low.invariant.within in
+    let earlier = c.requires.earlier (c.loop-low.low + (c.loop-low.high - c.loop-low.low) / 2) 0 (let t = c.loop-low-test.true in omega (arith, within, t)) in
+    let l = c.requires.child in
+    omega (arith, earlier, l)
+
+pub offset_bounds-children-kids : goal.offset_bounds-children-kids
+offset_bounds-children-kids g c = let below = bounds-children-kids g c in omega (arith, below)
+
+pub returns-clause-place : goal.returns-clause-place
+returns-clause-place g c =
+    let between = c.loop-low.invariant in
+    let met : c.loop-low.high ≡ c.loop-low.low = (let t = c.loop-low-test.false in let e = between.ends in omega (arith, t, e)) in
+    record {
+      within = subst (λ n. n ≤ length c.args.kids.now) met between.within;
+      before = between.before;
+      after = subst (λ n. AllWithin (λ y. kid_cmp g.T.Served.order c.args.children.now c.args.child y ≡ Less) c.args.kids.now n (length c.args.kids.now)) met between.after;
+    }

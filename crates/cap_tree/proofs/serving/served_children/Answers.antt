@@ -1,3 +1,4 @@
+use Rattle.std.specs.List.{All}
 use Rattle.std.proofs.Common.{◌≡◌, ◌+◌, ◌<◌, [], sym, subst, ◌∙◌, arith, length}
 use Rattle.std.proofs.lemmas.List.{get_or_default}
 use Rattle.cap_tree.specs.Ranking.{IsPlace, IsRanked}
@@ -27,3 +28,9 @@ pub returns : goal.returns
 returns g c =
     let all : c.loop-child.child ≡ length c.args.children.now = (let f = c.loop-child-test.false in let e = c.loop-child.auto.child-end in omega (arith, f, e)) in
     subst (λ n. AreKids g.T.Served.order g.T.Held.name c.args.children.now c.args.parts.now n c.loop-child.kids.items) all c.loop-child.invariant
+
+pub place_among-place-requires-clause-earlier : goal.place_among-place-requires-clause-earlier
+place_among-place-requires-clause-earlier g c = subst (All (λ s. s < c.loop-child.child)) (sym c.deref.ensures.value) c.loop-child.invariant.within
+
+pub place_among-place-requires-clause-apart : goal.place_among-place-requires-clause-apart
+place_among-place-requires-clause-apart g c = c.requires.apart

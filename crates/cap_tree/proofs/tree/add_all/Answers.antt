@@ -1,5 +1,6 @@
-use Rattle.std.proofs.Common.{rules, ◌∙◌, ap, arith, subst, ◌-◌, ◌≡◌}
-use Rattle.std.proofs.lemmas.List.{drop_all}
+use Rattle.cap_tree.specs.Rows.{queues_of}
+use Rattle.std.proofs.Common.{rules, ◌∙◌, ap, arith, subst, ◌-◌, ◌≡◌, ◌++◌}
+use Rattle.std.proofs.lemmas.List.{drop_all, take_all}
 use Rattle.cap_model.specs.Bounds.{depth}
 use Rattle.cap_tree.specs.Growth.{IsGrowing}
 use Rattle.cap_tree.proofs.Growing.{grow_next, next_level, unused_stored, unused_own, grown_few}
@@ -40,7 +41,7 @@ pub returns-in-Err-add-clause-queues : goal.returns-in-Err-add-clause-queues
 returns-in-Err-add-clause-queues g c = search rules
 
 pub new-requires : goal.new-requires
-new-requires g c = (search rules, (search rules, c.path-path.ensures))
+new-requires g c = ((search), ((search), c.path-path.ensures))
 
 pub add-requires-clause-own : goal.add-requires-clause-own
 add-requires-clause-own g c m = unused_own g.row.K c.in-Ok.queue m c.in-Ok.ensures.1
@@ -50,3 +51,13 @@ returns-clause-grown g c = subst (IsGrowing g.row.K c.loop-row.root) (drop_all c
 
 pub add-requires-clause-few : goal.add-requires-clause-few
 add-requires-clause-few g c = let n = grown_few c.loop-row.root c.args.root.now c.args.rows.now c.loop-row.row-index c.loop-row.invariant.queues c.requires.few in omega (arith, n)
+
+pub returns-clause-queues : goal.returns-clause-queues
+returns-clause-queues g c =
+    c.loop-row.invariant.queues ∙ ap (λ rows. queues_of c.args.root.now ++ rows) (take_all c.loop-row.row-index c.args.rows.now (omega arith))
+
+pub add-requires-room-T-Held : goal.add-requires-room-T-Held
+add-requires-room-T-Held g c κs within = search
+
+pub add-requires-room-T-Destruct : goal.add-requires-room-T-Destruct
+add-requires-room-T-Destruct g c κs within = search

@@ -1,3 +1,7 @@
+use Rattle.cap_commit.specs.Held.{Held, flat_of}
+use Rattle.cap_model.proofs.calls.Registering.{may_enter}
+use Rattle.cap_model.specs.Flat.{AppTable}
+use Rattle.cap_commit.proofs.Fitting.{apps_fit}
 use Rattle.std.proofs.Common.{ap, ◌∙◌, map, arith}
 use Rattle.cap_model.specs.Submit.{add_app}
 use Rattle.cap_tree.specs.Rows.{queues_of, entered_row}
@@ -40,3 +44,15 @@ returns-clause-ok g c =
 
 pub invariant_of-self : goal.invariant_of-self
 invariant_of-self g c = held_same _ c.self.invariant c.reserve.new.self c.in-Err.ensures.table c.in-Err.ensures.accounts
+
+pub submit-requires : goal.submit-requires
+submit-requires g c =
+    let x = c.self.inside in
+    let may = may_enter (flat_of (record { rows = x.tree.value; limits = x.limits; apps = x.apps; nodes = x.nodes })) c.args.path.now (rw (← c.self.view_is) at c.requires.free) in
+    (search apps_fit, rw c.in-Ok.ensures.table may.numbered)
+
+pub unreachable-requires : goal.unreachable-requires
+unreachable-requires g c = let ok = c.in_default.ensures.succeeds c.in-Ok.ensures.ok in cc
+
+pub returns-clause-number : goal.returns-clause-number
+returns-clause-number g c = c.in-Ok-submit.ensures.number ∙ ap (λ (t : AppTable). t.next) c.in-Ok.ensures.table ∙ ap (λ (y : Held g.row.K). y.flat.apps.next) c.self.view_is

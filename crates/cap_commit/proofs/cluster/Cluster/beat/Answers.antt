@@ -1,12 +1,12 @@
+use Rattle.cap_commit.proofs.Fitting.{nodes_in_cluster}
 use Rattle.std.proofs.Common.{ap, refl}
 use Rattle.cap_model.specs.Flat.{NodeTable}
 use Rattle.cap_commit.proofs.Holding.{held_nodes}
-use Rattle.cap_commit.proofs.Sizes.{nodes_fit}
 use Rattle.cap_commit.proofs.Reserved.{reserved_changed}
 use Rattle.cap_commit.proofs.cluster.Cluster.beat.Goals as goal
 
 pub beat-requires : goal.beat-requires
-beat-requires g c = (nodes_fit _ c.self.invariant.resources, rw (← c.self.view_is) at c.requires)
+beat-requires g c = (search nodes_in_cluster, rw (← c.self.view_is) at c.requires)
 
 pub invariant_of-self : goal.invariant_of-self
 invariant_of-self g c =

@@ -1,3 +1,4 @@
+use Rattle.cap_commit.proofs.Fitting.{nodes_in_cluster}
 use Rattle.std.proofs.Common.{ap, sym, subst, ◌∙◌}
 use Rattle.std.specs.Prelude.{IsSome, filter, ◌==◌, ◌≡◌, []}
 use Rattle.cap_model.specs.Flat.{Flat, NodeTable, Reservation, containers_on, node_at}
@@ -5,7 +6,6 @@ use Rattle.cap_model.specs.NodeGone.{remove_node}
 use Rattle.cap_commit.specs.Held.{Held, Parts, flat_of}
 use Rattle.cap_commit.proofs.Dropping.{none_stay}
 use Rattle.cap_commit.proofs.Holding.{held_nodes}
-use Rattle.cap_commit.proofs.Sizes.{nodes_fit}
 use Rattle.cap_commit.proofs.Reserved.{reserved_gone}
 use Rattle.cap_commit.proofs.cluster.Cluster.drop_node.Goals as goal
 
@@ -13,7 +13,7 @@ pub gone-requires : goal.gone-requires
 gone-requires g c =
     let here : IsSome (node_at c.unreserve_node.new.self.flat c.args.number) = subst (λ (x : Flat g.row.K). IsSome (node_at x c.args.number)) (sym c.unreserve_node.ensures.flat) c.requires.present in
     let none : containers_on c.unreserve_node.new.self.flat.nodes c.args.number ≡ [] = subst (λ (x : Flat g.row.K). containers_on x.nodes c.args.number ≡ []) (sym c.unreserve_node.ensures.flat) c.requires.empty in
-    (nodes_fit _ c.self.invariant.resources, (rw (← c.self.view_is) at here, rw (← c.self.view_is) at none))
+    (search nodes_in_cluster, (rw (← c.self.view_is) at here, rw (← c.self.view_is) at none))
 
 pub invariant_of-self : goal.invariant_of-self
 invariant_of-self g c =
@@ -31,3 +31,6 @@ returns-clause-flat g c =
 
 pub returns-clause-accounts : goal.returns-clause-accounts
 returns-clause-accounts g c = ap (λ (h : Held g.row.K). h.accounts) c.self.view_is ∙ c.unreserve_node.ensures.accounts
+
+pub unreserve_node-requires : goal.unreserve_node-requires
+unreserve_node-requires g c = search

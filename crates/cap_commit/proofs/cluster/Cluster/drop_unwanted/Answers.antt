@@ -1,3 +1,4 @@
+use Rattle.cap_commit.proofs.Fitting.{nodes_in_cluster}
 use Rattle.std.proofs.Common.{ap, ◌∙◌}
 use Rattle.std.specs.Option.{option_map_or}
 use Rattle.cap_model.specs.Asking.{keep_first, reservations_left}
@@ -12,3 +13,12 @@ returns-clause-flat g c =
     let ask = c.args.ask.now in
     let left = c.reservations_left-left.ensures ∙ ap (λ (h : Held g.row.K). option_map_or (λ app. reservations_left app ask) (app_in h.flat.apps n) 0) c.self.view_is in
     c.keep_first.ensures.flat ∙ (λ i. with_reserved (keep_first (is_for n (c.key.ensures i)) (left i) start.nodes.reserved) start)
+
+pub keep_first-requires : goal.keep_first-requires
+keep_first-requires g c = search
+
+pub reservation_count-requires : goal.reservation_count-requires
+reservation_count-requires g c = search nodes_in_cluster
+
+pub key-requires : goal.key-requires
+key-requires g c = search

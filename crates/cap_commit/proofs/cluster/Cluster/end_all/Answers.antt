@@ -1,8 +1,8 @@
+use Rattle.cap_commit.proofs.Fitting.{container_in_cluster}
 use Rattle.std.proofs.Common.{sym, ◌∙◌, arith}
 use Rattle.cap_commit.specs.Owners.{owns}
 use Rattle.cap_model.proofs.ending.EndsInOrder.{none_pass}
 use Rattle.cap_commit.proofs.EndsLeft.{none_ended, first_found, fewer_left, few_ended, one_ended, all_ended}
-use Rattle.cap_commit.proofs.Sizes.{cluster_fits}
 use Rattle.cap_commit.proofs.cluster.Cluster.end_all.Goals as goal
 
 pub loop-container-init : goal.loop-container-init
@@ -13,7 +13,7 @@ end-requires g c =
     let now = c.loop-container in
     let kinds = c.first_of.ensures.resources in
     let first = sym c.first_of.ensures.first ∙ c.in-Some.is in
-    (cluster_fits _ kinds, (omega (arith, kinds), first_found c.args.cause (owns c.args.owner) c.args.self.now.flat now.self.flat now.ended now.invariant c.first_of.ensures.numbers c.first_of.ensures.few c.in-Some.container first))
+    ((search), (omega (arith, kinds), first_found c.args.cause (owns c.args.owner) c.args.self.now.flat now.self.flat now.ended now.invariant c.first_of.ensures.numbers c.first_of.ensures.few c.in-Some.container first))
 
 pub overflow_add-ended : goal.overflow_add-ended
 overflow_add-ended g c =
@@ -47,3 +47,6 @@ returns-clause-ended g c =
 
 pub returns-clause-none : goal.returns-clause-none
 returns-clause-none g c = none_pass (owns c.args.owner) c.loop-container.self.flat.nodes.live (sym c.first_of.ensures.first ∙ c.in_default.is)
+
+pub first_of-requires : goal.first_of-requires
+first_of-requires g c = search container_in_cluster

@@ -1,9 +1,9 @@
+use Rattle.cap_commit.proofs.Fitting.{nodes_in_cluster, container_in_cluster}
 use Rattle.std.specs.Prelude.{◌==◌, find, IfSome, Some, ◌≡◌}
 use Rattle.std.proofs.Common.{ap, arith, get_or, subst, sym, ◌∙◌}
 use Rattle.cap_model.specs.EngineLaws.{HasDistinctNumbers}
 use Rattle.cap_commit.specs.Held.{Held}
 use Rattle.cap_commit.specs.Owners.{owns}
-use Rattle.cap_commit.proofs.Sizes.{cluster_fits}
 use Rattle.cap_commit.proofs.EndsLeft.{none_yet, one_named, none_there, other_there, all_named}
 use Rattle.cap_commit.proofs.cluster.Cluster.end_named.Goals.{in-Some, in_default, in_default-via-in-Some+else-has, in_default-via-in_default}
 use Rattle.cap_commit.proofs.cluster.Cluster.end_named.Goals as goal
@@ -40,7 +40,7 @@ end-requires g c =
     let one = c.in-Some.container in
     let here = ap (λ (h : Held g.row.K). h.flat.nodes.live) c.self.view_is in
     let own = subst (λ o. IfSome o (λ d. find (λ x. x.number == d.number) c.self.inside.nodes.live ≡ Some d)) c.in-Some.is c.container.ensures.own in
-    (cluster_fits _ k, (omega (arith, k), sym (ap (find (λ d. d.number == one.number)) here) ∙ own))
+    ((search), (omega (arith, k), sym (ap (find (λ d. d.number == one.number)) here) ∙ own))
 
 pub overflow_add-ignored : goal.overflow_add-ignored
 overflow_add-ignored g c =
@@ -58,3 +58,9 @@ returns-clause-ignored g c =
     let now = c.loop-number in
     let all = (all_named c.args.cause (owns c.args.owner) c.args.self.now.flat c.args.numbers.now now.self.flat now.ignored now.number-index now.invariant (omega arith)).1 in
     omega (arith, all)
+
+pub container-requires : goal.container-requires
+container-requires g c = search (nodes_in_cluster, container_in_cluster)
+
+pub has-requires : goal.has-requires
+has-requires g c = search container_in_cluster

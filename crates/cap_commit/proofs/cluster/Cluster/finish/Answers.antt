@@ -63,3 +63,9 @@ returns-clause-finished g c =
     let dropped = ap (λ (h : Held g.row.K). h.flat) c.self.view_is ∙ c.unreserve_app.ensures.flat in
     finished_is Released c.args.self.now.flat ended _ c.args.number c.end_all-ended.ensures.ended
     (with_table p c.leave.new.self c.finish.new.self _ settings c.finish.ensures.table ∙ ap (λ (f : Flat g.row.K). record f { apps = remove_app c.args.number f.apps }) dropped)
+
+pub unreserve_app-requires : goal.unreserve_app-requires
+unreserve_app-requires g c = search
+
+pub end_all-ended-requires : goal.end_all-ended-requires
+end_all-ended-requires g c = search

@@ -1,3 +1,4 @@
+use Rattle.cap_commit.proofs.Fitting.{nodes_in_cluster}
 use Rattle.std.proofs.Common.{ap, arith, sym, ◌∙◌}
 use Rattle.std.specs.Prelude.{◌==◌, find}
 use Rattle.cap_model.specs.Flat.{Container}
@@ -21,3 +22,18 @@ returns-in-Node-clause-first g c =
     ∙ first_above (λ (d : Container). d.node == c.in-Node.node) 1 here.live here.next_container (omega arith) c.self.invariant.numbers
     ∙ ap (λ o. find (owns o) here.live) (sym c.in-Node.is)
     ∙ ap (λ (h : Held g.row.K). find (owns c.args.owner) h.flat.nodes.live) c.self.view_is
+
+pub next_of_app-requires : goal.next_of_app-requires
+next_of_app-requires g c = search nodes_in_cluster
+
+pub next_on_node-requires : goal.next_on_node-requires
+next_on_node-requires g c = search nodes_in_cluster
+
+pub returns-in-Node-clause-few : goal.returns-in-Node-clause-few
+returns-in-Node-clause-few g c = rw (← c.self.view_is) c.self.invariant.few_live
+
+pub returns-in-Application-clause-few : goal.returns-in-Application-clause-few
+returns-in-Application-clause-few g c = rw (← c.self.view_is) c.self.invariant.few_live
+
+pub returns-in-Node-clause-resources : goal.returns-in-Node-clause-resources
+returns-in-Node-clause-resources g c = c.self.invariant.resources

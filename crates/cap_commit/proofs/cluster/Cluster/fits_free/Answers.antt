@@ -1,3 +1,4 @@
+use Rattle.cap_commit.proofs.Fitting.{nodes_in_cluster, node_in_cluster, amounts_in_cluster}
 use Rattle.std.proofs.Common.{sym, ap, ◌∙◌, cond, false}
 use Rattle.std.specs.Prelude.{is_some}
 use Rattle.cap_model.specs.Amounts.{fits}
@@ -19,3 +20,18 @@ returns-in-None g c =
     let nodes = c.self.inside.nodes in
     let t = free_seen _ c.self.invariant p in
     rw (← c.self.view_is) (ap (λ b. cond b (fits p.resource (free_on g.row.K nodes p.node)) false) (ap is_some (rw c.node.ensures at c.in-None.ensures.found)) ∙ sym t)
+
+pub node-requires-2 : goal.node-requires-2
+node-requires-2 g c = search (nodes_in_cluster, node_in_cluster)
+
+pub resource-requires : goal.resource-requires
+resource-requires g c = search amounts_in_cluster
+
+pub node-requires-in-Some : goal.node-requires-in-Some
+node-requires-in-Some g c = search
+
+pub fits-requires : goal.fits-requires
+fits-requires g c = search amounts_in_cluster
+
+pub node-requires : goal.node-requires
+node-requires g c = search

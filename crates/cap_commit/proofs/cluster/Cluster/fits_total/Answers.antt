@@ -1,3 +1,4 @@
+use Rattle.cap_commit.proofs.Fitting.{nodes_in_cluster, node_in_cluster, amounts_in_cluster}
 use Rattle.std.proofs.Common.{sym, ap, ◌∙◌}
 use Rattle.cap_model.specs.Cascade.{holds_of}
 use Rattle.cap_model.specs.Amounts.{fits}
@@ -15,3 +16,15 @@ pub returns-in-None : goal.returns-in-None
 returns-in-None g c =
     let t = total_seen _ c.self.invariant c.args.proposal.now in
     rw (← c.self.view_is) (ap (holds_of (λ (node : ClusterNode). fits c.args.proposal.now.resource node.total)) (rw c.node.ensures at c.in-None.ensures.found) ∙ sym t)
+
+pub node-requires-2 : goal.node-requires-2
+node-requires-2 g c = search (nodes_in_cluster, node_in_cluster)
+
+pub total-requires : goal.total-requires
+total-requires g c = search (node_in_cluster, amounts_in_cluster)
+
+pub resource-requires : goal.resource-requires
+resource-requires g c = search amounts_in_cluster
+
+pub fits-requires : goal.fits-requires
+fits-requires g c = search amounts_in_cluster

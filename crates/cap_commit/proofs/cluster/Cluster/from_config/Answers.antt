@@ -1,3 +1,4 @@
+use Rattle.cap_commit.proofs.Fitting.{nodes_in_cluster}
 use Rattle.std.proofs.Common.{ap, arith}
 use Rattle.cap_model.specs.Flat.{AppTable, NodeTable}
 use Rattle.cap_commit.proofs.Holding.{held_opened}
@@ -19,3 +20,9 @@ invariant_of-result g c =
     rw (c.in-Ok-new.ensures.ok)
     (held_opened _ (ap (λ (t : AppTable). t.active) c.new-2.ensures.table) c.new-2.ensures.accounts (ap (λ (t : NodeTable). t.live) c.new-3.ensures) (ap (λ (t : NodeTable). t.reserved) c.new-3.ensures) (omega (arith, first))
     c.in-Ok.ensures.unused c.application_limit-application_limit.ensures.few c.application_limit-application_limit.ensures.resources)
+
+pub new-requires-3 : goal.new-requires-3
+new-requires-3 g c = search nodes_in_cluster
+
+pub application_limit-application_limit-requires : goal.application_limit-application_limit-requires
+application_limit-application_limit-requires g c = search

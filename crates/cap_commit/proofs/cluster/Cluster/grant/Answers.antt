@@ -1,3 +1,4 @@
+use Rattle.cap_commit.proofs.Fitting.{nodes_in_cluster, node_in_cluster, amounts_in_cluster, grant_in_cluster}
 use Rattle.std.proofs.Common.{sym, ap, subst, ◌∙◌, arith, length, map, None, [], ◌∷◌, ◌++◌}
 use Rattle.std.specs.Prelude.{◌≡◌, ◌==◌, find, filter, not, option_map, unwrap_or}
 use Rattle.std.proofs.lemmas.List.Sums.{count_by-le-length}
@@ -9,21 +10,21 @@ use Rattle.cap_tree.specs.Count.{use_alone}
 use Rattle.cap_tree.specs.Rows.{applied_row, queues_of}
 use Rattle.cap_tree.specs.Spot.{path_at}
 use Rattle.cap_asks.specs.Apps.{UsesRoom}
-use Rattle.cap_commit.specs.Held.{Held}
+use Rattle.cap_commit.specs.Held.{Held, flat_of}
 use Rattle.cap_commit.specs.Admission.{taken_back}
 use Rattle.cap_commit.proofs.Granting.{its_app, its_node, its_room, few_live_yet, numbers_are_left}
 use Rattle.cap_nodes.specs.Tables.{IsSound}
-use Rattle.cap_commit.proofs.Granted.{found_again, granted_is, held_granted, kind_is, may_take_back, nodes_with, room_stays, root_stays}
+use Rattle.cap_commit.proofs.Granted.{found_again, granted_is, held_granted, kind_is, may_take_back, nodes_with, room_stays, root_stays, app_again}
 use Rattle.cap_commit.proofs.Holding.{placed_at, position_is}
 use Rattle.cap_commit.proofs.Moving.{moved_settings}
-use Rattle.cap_commit.proofs.Sizes.{cluster_fits, nodes_fit, tree_fits}
+use Rattle.cap_commit.proofs.Sizes.{tree_fits}
 use Rattle.cap_commit.proofs.cluster.Cluster.grant.Goals as goal
 
 pub returns-clause-proposed : goal.returns-clause-proposed
 returns-clause-proposed g c = λ i. record { kind = kind_is c.args.proposal.now.kind c.requires.kind i; app = c.app-app.ensures i; key = c.key-key.ensures i; node = c.node-node.ensures i; resource = c.resource-resource.ensures.value i }
 
 pub room_for_grant-requires : goal.room_for_grant-requires
-room_for_grant-requires g c = (cluster_fits _ c.taken_back-old.ensures.resources, rw c.app-app.ensures (its_app c.args.self.now.flat c.args.proposal.now c.requires.passes))
+room_for_grant-requires g c = ((search), rw c.app-app.ensures (its_app c.args.self.now.flat c.args.proposal.now c.requires.passes))
 
 pub place-requires : goal.place-requires
 place-requires g c =
@@ -32,7 +33,7 @@ place-requires g c =
     let same = ap (λ (y : Held g.row.K). y.flat) c.self.view_is ∙ c.room_for_grant.ensures.flat in
     let passes = subst (λ (f : Flat g.row.K). reason_of (sight_of f) q ≡ None) (sym same) c.requires.passes in
     let kinds = c.self.invariant.resources in (
-      nodes_fit _ c.self.invariant.resources,
+      search nodes_in_cluster,
       (
         omega (arith, kinds),
         (
@@ -152,3 +153,40 @@ returns-clause-ok g c =
     let told = c.new-grant.ensures ∙ (λ i. record { container = c.in-Ok-place.ensures.ok.0 i; key = c.key-key.ensures i; node = c.node-node.ensures i; host = host i; resource = c.resource-resource.ensures.value i }) in
     let is = granted_is _ c.self.invariant q passes c.requires.kind a owner (omega (arith, few, long)) count c.take_one.new.self c.add_grant.new.self c.new-grant.result take add same_room room c.apply.new.self settings told in
     rw nodes (is ∙ (λ i. after_grant (same i) (record { number = sym c.in-Ok-place.ensures.ok.0 i; app = sym c.app-app.ensures i; key = sym c.key-key.ensures i; node = sym c.node-node.ensures i; resource = sym c.resource-resource.ensures.value i })))
+
+pub taken_back-old-requires : goal.taken_back-old-requires
+taken_back-old-requires g c = search amounts_in_cluster
+
+pub resource-resource-requires : goal.resource-resource-requires
+resource-resource-requires g c = search amounts_in_cluster
+
+pub host-requires : goal.host-requires
+host-requires g c = search node_in_cluster
+
+pub key-key-requires : goal.key-key-requires
+key-key-requires g c = search
+
+pub node-node-requires : goal.node-node-requires
+node-node-requires g c = search
+
+pub app-app-requires : goal.app-app-requires
+app-app-requires g c = search
+
+pub node-requires : goal.node-requires
+node-requires g c = search (nodes_in_cluster, node_in_cluster)
+
+pub returns-clause-number : goal.returns-clause-number
+returns-clause-number g c =
+    c.in-Ok-place.ensures.ok.0 ∙ ap (λ (y : Held g.row.K). y.flat.nodes.next_container) c.self.view_is ∙ ap (λ (f : Flat g.row.K). f.nodes.next_container) c.room_for_grant.ensures.flat
+
+pub new-grant-requires : goal.new-grant-requires
+new-grant-requires g c = search (amounts_in_cluster, grant_in_cluster)
+
+pub unreachable-requires-in_default-app : goal.unreachable-requires-in_default-app
+unreachable-requires-in_default-app g c =
+    let q = c.args.proposal.now in
+    let x = c.self.inside in
+    let same = ap (λ (y : Held g.row.K). y.flat) c.self.view_is ∙ c.room_for_grant.ensures.flat in
+    let passes = subst (λ (f : Flat g.row.K). reason_of (sight_of f) q ≡ None) (sym same) c.requires.passes in
+    let there = its_app (flat_of (record { rows = x.tree.value; limits = x.limits; apps = x.apps; nodes = x.nodes })) q passes in
+    app_again x.apps.table.active c.app-app.result q.app c.app-app.ensures c.in_default-app.ensures.found there

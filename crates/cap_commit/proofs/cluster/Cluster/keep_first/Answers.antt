@@ -1,9 +1,9 @@
+use Rattle.cap_commit.proofs.Fitting.{nodes_in_cluster, reservation_in_cluster}
 use Rattle.std.proofs.Common.{ap, sym, ◌∙◌, arith}
 use Rattle.std.specs.Prelude.{filter}
 use Rattle.std.specs.List.{slice_get}
 use Rattle.cap_model.specs.Flat.{NodeTable, is_for}
 use Rattle.cap_commit.proofs.Dropping.{none_dropped, one_dropped, all_dropped, fewer_left, passes_found}
-use Rattle.cap_commit.proofs.Sizes.{cluster_fits}
 use Rattle.cap_commit.proofs.cluster.Cluster.keep_first.Goals as goal
 
 pub loop-reservation-init : goal.loop-reservation-init
@@ -14,7 +14,7 @@ unreserve-requires g c =
     let test = is_for c.args.number c.args.key.now in
     let kinds = c.nodes.ensures.resources in
     let here = ap (λ (t : NodeTable). slice_get (filter test t.reserved) c.args.most) (sym c.nodes.ensures.value) ∙ sym c.reservation_for.ensures ∙ c.in-Some.is in
-    (cluster_fits _ kinds, (omega (arith, kinds), passes_found test c.args.most c.loop-reservation.self.flat.nodes.reserved c.in-Some.reservation c.nodes.ensures.apart here))
+    ((search), (omega (arith, kinds), passes_found test c.args.most c.loop-reservation.self.flat.nodes.reserved c.in-Some.reservation c.nodes.ensures.apart here))
 
 pub loop-reservation-smaller : goal.loop-reservation-smaller
 loop-reservation-smaller g c =
@@ -38,3 +38,9 @@ returns-clause-flat g c =
 
 pub returns-clause-accounts : goal.returns-clause-accounts
 returns-clause-accounts g c = c.loop-reservation.invariant.accounts
+
+pub nodes-requires : goal.nodes-requires
+nodes-requires g c = search nodes_in_cluster
+
+pub reservation_for-requires : goal.reservation_for-requires
+reservation_for-requires g c = search (nodes_in_cluster, reservation_in_cluster)

@@ -1,3 +1,4 @@
+use Rattle.cap_commit.proofs.Fitting.{amounts_in_cluster}
 use Rattle.std.proofs.Common.{sym, ◌∙◌, subst, None, Some, arith}
 use Rattle.cap_tree.specs.Rows.{IsAt}
 use Rattle.cap_tree.specs.declared.limits.OverLimit.TheVariants.{Maximum, User}
@@ -47,3 +48,9 @@ returns-in-Err-User g c =
     rw (← c.self.view_is)
     (sym (limit_is _ c.self.invariant c.args.proposal.now app c.position.result.now.items c.user.result.now c.taken_back-old.result c.resource.result c.deref-tree.result.now (Some User) at (rw (← c.self.view_is) at c.requires.seen)
     c.user.ensures (rw (← c.self.view_is) at c.taken_back-old.ensures.value) c.resource.ensures.value c.deref-tree.ensures c.in-Err-User.ensures.rows (rw c.in-Err-User.field-0-is at c.in-Err-User.ensures.err)))
+
+pub taken_back-old-requires : goal.taken_back-old-requires
+taken_back-old-requires g c = search amounts_in_cluster
+
+pub resource-requires : goal.resource-requires
+resource-requires g c = search amounts_in_cluster

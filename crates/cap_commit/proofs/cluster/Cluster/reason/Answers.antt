@@ -1,3 +1,4 @@
+use Rattle.cap_commit.proofs.Fitting.{ask_in_cluster, app_fits}
 use Rattle.std.proofs.Common.{sym, ◌∙◌}
 use Rattle.cap_model.specs.Sight.{sight_of, app_sight}
 use Rattle.cap_commit.proofs.Limiting.{by_place, by_limit, by_size}
@@ -17,3 +18,12 @@ pub returns : goal.returns
 returns g c =
     let seen = sym (rw c.app.ensures at c.in-Some.ensures.seen) in
     c.size_reason.ensures ∙ sym (by_size (sight_of c.args.self.now.flat) c.args.proposal.now (app_sight c.in-Some.app.now.app) seen (sym c.in_default-place_reason.ensures) (sym c.in_default-limit_reason.ensures))
+
+pub size_reason-requires : goal.size_reason-requires
+size_reason-requires g c = search
+
+pub registered-requires : goal.registered-requires
+registered-requires g c = search app_fits
+
+pub ask-requires : goal.ask-requires
+ask-requires g c = search (app_fits, ask_in_cluster)

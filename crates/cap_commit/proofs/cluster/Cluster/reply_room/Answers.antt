@@ -1,3 +1,4 @@
+use Rattle.cap_commit.proofs.Fitting.{apps_fit}
 use Rattle.std.proofs.Common.{◌≡◌, ◌∙◌, ap, sym, length}
 use Rattle.std.specs.Prelude.{Some}
 use Rattle.std.proofs.lemmas.Result.{IfOk-weaker}
@@ -28,3 +29,6 @@ returns-in-Some-clause-most g c =
     IfOk-weaker c.reply_room.result _ (λ (room : NewsRoom). room ≡ reports_most c.args.self.now.flat c.args.request.now)
     (λ room most. most_of c.args.self.now.flat c.in-Allocate.app c.in-Allocate.response c.in-Allocate.asks c.in-Allocate.releases c.apps.result.now.table (Some c.in-Some.app.now.app) room c.args.request.now c.in-Allocate.is c.apps.ensures.table (sym c.in-Some.ensures.found)
     (most ∙ ap (λ rs. news_most c.in-Some.app.now.app c.in-Allocate.response (length rs)) c.as_slice.ensures.value)) c.reply_room.ensures
+
+pub apps-requires : goal.apps-requires
+apps-requires g c = search apps_fit

@@ -1,6 +1,6 @@
 use Rattle.std.proofs.Common.{sym}
 use Rattle.cap_commit.proofs.Reporting.{is_there, seen_few, reported}
-use Rattle.cap_commit.proofs.Sizes.{queue_fits, report_fits}
+use Rattle.cap_commit.proofs.Sizes.{queue_fits, report_fits, tree_fits}
 use Rattle.cap_commit.proofs.cluster.Cluster.report.Goals as goal
 
 pub report_of-requires : goal.report_of-requires
@@ -29,3 +29,6 @@ returns-in-Parent-clause-report g c =
     rw (← c.self.view_is)
     (reported _ c.args.path.now c.in-Parent.position.items (rw (c.deref-tree.ensures) at c.find.ensures.rows) (rw (c.deref-tree.ensures) at c.in-Parent.ensures.found.0) c.self.invariant c.row-in-Parent.result.now _ _ c.report_of-in-Parent.result (rw (c.deref-tree.ensures) at c.row-in-Parent.ensures) (rw (c.deref-tree.ensures) at c.running-running-in-Parent.ensures)
     (rw (c.deref-tree.ensures) at c.in-Parent.ensures.found.1) c.report_of-in-Parent.ensures)
+
+pub find-requires : goal.find-requires
+find-requires g c = tree_fits _ c.self.invariant.resources

@@ -1,3 +1,4 @@
+use Rattle.cap_commit.proofs.Fitting.{nodes_in_cluster, amounts_in_cluster}
 use Rattle.std.proofs.Common.{sym, ap, subst, ◌∙◌, arith, map}
 use Rattle.std.specs.Prelude.{◌==◌, find}
 use Rattle.cap_model.specs.Flat.{App}
@@ -72,3 +73,12 @@ unreachable-requires g c =
     let passes = rw (← c.self.view_is) at c.requires.passes in
     let there = its_app (flat_of (record { rows = x.tree.value; limits = x.limits; apps = x.apps; nodes = x.nodes })) q passes in
     app_again x.apps.table.active c.app-app.result q.app c.app-app.ensures c.in_default.ensures.found there
+
+pub reserve-requires : goal.reserve-requires
+reserve-requires g c = search (nodes_in_cluster, amounts_in_cluster)
+
+pub zero-old-requires : goal.zero-old-requires
+zero-old-requires g c = search amounts_in_cluster
+
+pub resource-resource-requires : goal.resource-resource-requires
+resource-resource-requires g c = search amounts_in_cluster

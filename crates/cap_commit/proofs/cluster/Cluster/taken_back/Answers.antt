@@ -1,3 +1,4 @@
+use Rattle.cap_commit.proofs.Fitting.{amounts_in_cluster, reservation_in_cluster}
 use Rattle.std.proofs.Common.{subst, sym, arith}
 use Rattle.std.proofs.lemmas.List.{length-replicate}
 use Rattle.cap_vector.specs.Vector.{IsResource}
@@ -9,3 +10,18 @@ returns-in-None-clause-vector g c = subst (IsResource g.row.K) (sym c.zero.ensur
 
 pub returns-in-Some-clause-vector : goal.returns-in-Some-clause-vector
 returns-in-Some-clause-vector g c = subst (IsResource g.row.K) (sym c.resource.ensures.value) c.resource.ensures.vector
+
+pub zero-requires : goal.zero-requires
+zero-requires g c = search amounts_in_cluster
+
+pub own_reservation-requires : goal.own_reservation-requires
+own_reservation-requires g c = search reservation_in_cluster
+
+pub resource-requires : goal.resource-requires
+resource-requires g c = search reservation_in_cluster
+
+pub returns-in-Some-clause-resources : goal.returns-in-Some-clause-resources
+returns-in-Some-clause-resources g c = c.own_reservation.ensures.resources
+
+pub returns-in-None-clause-resources : goal.returns-in-None-clause-resources
+returns-in-None-clause-resources g c = c.own_reservation.ensures.resources

@@ -1,4 +1,5 @@
-use Rattle.std.proofs.Common.{sym, subst}
+use Rattle.cap_commit.proofs.Fitting.{container_in_cluster, reservation_in_cluster}
+use Rattle.std.proofs.Common.{sym, subst, ◌∙◌}
 use Rattle.cap_model.specs.Sight.{sight_of}
 use Rattle.cap_model.specs.Admission.{IsAdmissible}
 use Rattle.cap_model.proofs.choice.Reasons.{rejected_exactly}
@@ -21,3 +22,15 @@ returns-in-Ok-reserve-clause-ok g c =
 
 pub returns-in-Err-reserve-clause-admissible : goal.returns-in-Err-reserve-clause-admissible
 returns-in-Err-reserve-clause-admissible g c = (rejected_exactly g.row.K (sight_of c.args.self.now.flat) c.args.proposal).0 (sym c.in_default.ensures)
+
+pub reason-requires : goal.reason-requires
+reason-requires g c = search
+
+pub is_grant-requires : goal.is_grant-requires
+is_grant-requires g c = search
+
+pub grant-requires : goal.grant-requires
+grant-requires g c = ((search), ((search), (search container_in_cluster, (sym c.is_grant.ensures ∙ c.if-is_grant.true, sym c.reason.ensures ∙ c.in_default.is))))
+
+pub reserve-requires : goal.reserve-requires
+reserve-requires g c = ((search), ((search), (search reservation_in_cluster, (sym c.is_grant.ensures ∙ c.if-is_grant.false, sym c.reason.ensures ∙ c.in_default.is))))

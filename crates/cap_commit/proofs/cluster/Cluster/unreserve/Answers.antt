@@ -1,3 +1,4 @@
+use Rattle.cap_commit.proofs.Fitting.{amounts_in_cluster}
 use Rattle.std.proofs.Common.{ap, sym, ◌∙◌, map, arith}
 use Rattle.std.specs.Prelude.{filter}
 use Rattle.cap_model.specs.Flat.{with_reserved}
@@ -62,3 +63,12 @@ returns-clause-flat g c =
     let left = (λ i. filter (is_elsewhere (c.node.ensures i)) x.nodes.reserved) ∙ sym place.gone in
     let dropped = dropped_is _ c.self.invariant place.index one place.below place.at c.give_back.new.self c.unreserve_on.new.self settings (c.unreserve_on.ensures ∙ ap (λ rs. record x.nodes { reserved = rs }) left) in
     rw (← c.self.view_is) (dropped ∙ ap (λ rs. with_reserved rs (flat_of (record { rows = x.tree.value; limits = x.limits; apps = x.apps; nodes = x.nodes }))) place.gone)
+
+pub resource-requires : goal.resource-requires
+resource-requires g c = search amounts_in_cluster
+
+pub node-requires : goal.node-requires
+node-requires g c = search
+
+pub app-requires : goal.app-requires
+app-requires g c = search

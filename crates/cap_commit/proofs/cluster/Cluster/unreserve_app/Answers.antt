@@ -1,8 +1,8 @@
+use Rattle.cap_commit.proofs.Fitting.{nodes_in_cluster, reservation_in_cluster}
 use Rattle.std.proofs.Common.{ap, sym, ◌∙◌, arith}
 use Rattle.std.specs.Prelude.{find, ◌==◌}
 use Rattle.cap_model.specs.Flat.{NodeTable, Reservation, with_reserved}
 use Rattle.cap_commit.proofs.Dropping.{none_dropped, one_dropped, all_dropped, fewer_left, passes_found, first_passes, keep_none}
-use Rattle.cap_commit.proofs.Sizes.{cluster_fits}
 use Rattle.cap_commit.proofs.cluster.Cluster.unreserve_app.Goals as goal
 
 pub loop-reservation-init : goal.loop-reservation-init
@@ -13,7 +13,7 @@ unreserve-requires g c =
     let test = λ (r : Reservation). r.app == c.args.number in
     let kinds = c.nodes.ensures.resources in
     let here = sym (first_passes test c.loop-reservation.self.flat.nodes.reserved) ∙ ap (λ (t : NodeTable). find test t.reserved) (sym c.nodes.ensures.value) ∙ sym c.reservation_of_app.ensures ∙ c.in-Some.is in
-    (cluster_fits _ kinds, (omega (arith, kinds), passes_found test 0 c.loop-reservation.self.flat.nodes.reserved c.in-Some.reservation c.nodes.ensures.apart here))
+    ((search), (omega (arith, kinds), passes_found test 0 c.loop-reservation.self.flat.nodes.reserved c.in-Some.reservation c.nodes.ensures.apart here))
 
 pub loop-reservation-smaller : goal.loop-reservation-smaller
 loop-reservation-smaller g c =
@@ -37,3 +37,9 @@ returns-clause-flat g c =
 
 pub returns-clause-accounts : goal.returns-clause-accounts
 returns-clause-accounts g c = c.loop-reservation.invariant.accounts
+
+pub nodes-requires : goal.nodes-requires
+nodes-requires g c = search nodes_in_cluster
+
+pub reservation_of_app-requires : goal.reservation_of_app-requires
+reservation_of_app-requires g c = search (nodes_in_cluster, reservation_in_cluster)

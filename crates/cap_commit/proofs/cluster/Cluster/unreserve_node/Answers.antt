@@ -1,16 +1,16 @@
+use Rattle.cap_commit.proofs.Fitting.{nodes_in_cluster, reservation_in_cluster}
 use Rattle.std.proofs.Common.{ap, sym, ◌∙◌, arith}
 use Rattle.std.specs.Prelude.{filter}
 use Rattle.cap_model.specs.Flat.{with_reserved}
 use Rattle.cap_nodes.proofs.Reserved.{is_elsewhere, all_elsewhere}
 use Rattle.cap_commit.specs.Held.{Parts, flat_of}
 use Rattle.cap_commit.proofs.Dropping.{same_node, found_again}
-use Rattle.cap_commit.proofs.Sizes.{cluster_fits}
 use Rattle.cap_commit.proofs.cluster.Cluster.unreserve_node.Goals as goal
 
 pub unreserve-requires : goal.unreserve-requires
 unreserve-requires g c =
     let kinds = c.self.invariant.resources in
-    (cluster_fits _ kinds, (omega (arith, kinds), rw (← c.self.view_is) (found_again c.args.number c.self.inside.nodes.reserved c.in-Some.reservation (sym c.reservation_on.ensures ∙ c.in-Some.is))))
+    ((search), (omega (arith, kinds), rw (← c.self.view_is) (found_again c.args.number c.self.inside.nodes.reserved c.in-Some.reservation (sym c.reservation_on.ensures ∙ c.in-Some.is))))
 
 pub returns-in-Some-clause-flat : goal.returns-in-Some-clause-flat
 returns-in-Some-clause-flat g c =
@@ -23,3 +23,6 @@ returns-in_default-clause-flat g c =
     let x = c.self.inside in
     let p : Parts g.row.K = record { rows = x.tree.value; limits = x.limits; apps = x.apps; nodes = x.nodes } in
     rw (← c.self.view_is) (sym (ap (λ rs. with_reserved rs (flat_of p)) (all_elsewhere c.args.number x.nodes.reserved (sym c.in_default.is ∙ c.reservation_on.ensures))))
+
+pub reservation_on-requires : goal.reservation_on-requires
+reservation_on-requires g c = search (nodes_in_cluster, reservation_in_cluster)

@@ -1,3 +1,4 @@
+use Rattle.cap_commit.proofs.Fitting.{apps_fit}
 use Rattle.std.proofs.Common.{arith}
 use Rattle.cap_model.specs.Allocate.{kept_reply}
 use Rattle.cap_commit.proofs.Viewing.{viewed, not_numbers}
@@ -11,3 +12,6 @@ other-requires g c = let kinds = c.apps-apps.ensures.resources in (omega (arith,
 
 pub returns-in_default : goal.returns-in_default
 returns-in_default g c = c.other.ensures (λ n. kept_reply c.args.self.now.flat n.app)
+
+pub apps-apps-requires : goal.apps-apps-requires
+apps-apps-requires g c = search apps_fit

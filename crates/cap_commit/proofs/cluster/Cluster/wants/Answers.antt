@@ -1,3 +1,4 @@
+use Rattle.cap_commit.proofs.Fitting.{nodes_in_cluster}
 use Rattle.std.proofs.Common.{sym}
 use Rattle.cap_commit.proofs.Seen.{wants_seen}
 use Rattle.cap_commit.proofs.cluster.Cluster.wants.Goals as goal
@@ -6,3 +7,15 @@ pub returns : goal.returns
 returns g c =
     rw (← c.self.view_is, c.count.ensures, c.reserved_for.ensures.count, c.app.ensures, c.key.ensures)
     (sym (wants_seen _ c.self.invariant c.reserved_for.ensures.rising c.args.proposal.now c.args.ask.now (rw (← c.self.view_is) at c.requires)))
+
+pub reserved_for-requires : goal.reserved_for-requires
+reserved_for-requires g c = search nodes_in_cluster
+
+pub count-requires : goal.count-requires
+count-requires g c = search
+
+pub app-requires : goal.app-requires
+app-requires g c = search
+
+pub key-requires : goal.key-requires
+key-requires g c = search

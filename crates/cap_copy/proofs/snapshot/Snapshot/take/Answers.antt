@@ -1,3 +1,4 @@
+use Rattle.cap_copy.proofs.Fitting.{nodes_of_few, seen_node_of_few}
 use Rattle.std.proofs.Common.{rules, ◌<◌, ◌≤◌, ◌++◌, ◌∷◌, [], List, ℕ, ap, length, map, subst, sym, ◌∙◌}
 use Rattle.std.specs.List.{All}
 use Rattle.cap_model.specs.Limits.{applications_max}
@@ -114,3 +115,12 @@ invariant_of-result g c =
       accounts_are = c.in-Ok.ensures.accounts;
       served = subst (λ ps. IsServiceOrder rows ps order) same c.in-Ok-service_order.ensures.order;
     }))
+
+pub live_count-requires : goal.live_count-requires
+live_count-requires g c = nodes_of_few _ c.requires.resources
+
+pub next_container-requires : goal.next_container-requires
+next_container-requires g c = nodes_of_few _ c.requires.resources
+
+pub seen_nodes-requires : goal.seen_nodes-requires
+seen_nodes-requires g c = (nodes_of_few _ c.requires.resources, seen_node_of_few _ c.requires.resources)

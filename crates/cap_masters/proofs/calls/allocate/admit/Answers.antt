@@ -1,3 +1,4 @@
+use Rattle.cap_commit.proofs.Fitting.{apps_fit, app_fits}
 use Rattle.std.proofs.Common.{true, false, refl, sym, ◌∙◌, ap, not}
 use Rattle.std.specs.Prelude.{option_and_then}
 use Rattle.cap_model.specs.Flat.{App}
@@ -59,3 +60,12 @@ returns-clause-repeated g c =
     let app = c.in-Some.app.now.app in
     let there = app_shown c.args.cluster.now.flat c.apps.result.now.table c.args.app app c.apps.ensures.table c.in-Some.ensures.found in
     c.in_default-repeated.ensures ∙ sym (ap (option_and_then (λ (a : App). repeated_numbers a c.args.response)) there)
+
+pub apps-requires : goal.apps-requires
+apps-requires g c = search apps_fit
+
+pub has_too_large-requires : goal.has_too_large-requires
+has_too_large-requires g c = search
+
+pub has_too_many_keys-requires : goal.has_too_many_keys-requires
+has_too_many_keys-requires g c = search app_fits

@@ -1,13 +1,12 @@
-use Rattle.std.proofs.Common.{ap, subst, sym, ◌∙◌, arith}
+use Rattle.std.proofs.Common.{ap, subst, sym, ◌∙◌}
 use Rattle.cap_model.specs.Reporting.{HasNumbers, full_reply}
 use Rattle.cap_masters.proofs.Processing.{fresh_at, fresh_is, repeated_is, answered, repeated_same, fresh_processed, no_memory}
 use Rattle.cap_masters.proofs.calls.allocate.allocate.Goals as goal
 
 pub process-requires : goal.process-requires
 process-requires g c =
-    let kinds = c.admit.ensures.resources in
     let fresh = fresh_is c.args.cluster.now.flat c.args.app c.args.response (sym c.in_default.is ∙ c.in-Ok.ensures.repeated) in
-    (omega (arith, kinds), (omega (arith, kinds), fresh_at c.args.cluster.now.flat c.args.app c.args.response c.args.asks.now (rw (c.as_slice.ensures.value) at c.in-Ok.ensures.ok) fresh))
+    ((search), ((search), fresh_at c.args.cluster.now.flat c.args.app c.args.response c.args.asks.now (rw (c.as_slice.ensures.value) at c.in-Ok.ensures.ok) fresh))
 
 pub returns-in-Some-clause-replies : goal.returns-in-Some-clause-replies
 returns-in-Some-clause-replies g c =
@@ -37,3 +36,6 @@ returns-in-Some-clause-numbers g c =
 
 pub returns-in-Ok-process-clause-numbers : goal.returns-in-Ok-process-clause-numbers
 returns-in-Ok-process-clause-numbers g c = subst (HasNumbers c.process.new.cluster.flat) (sym c.reply_of-in-Ok-process.ensures) c.in-Ok-process.ensures.told
+
+pub admit-requires : goal.admit-requires
+admit-requires g c = search

@@ -1,3 +1,8 @@
+use Rattle.cap_model.specs.Allocate.{is_too_large}
+use Rattle.std.proofs.lemmas.List.{drop_all}
+use Rattle.std.specs.List.{list_any}
+use Rattle.std.proofs.Common.{◌∙◌, ap, sym}
+use Rattle.cap_commit.proofs.Fitting.{ask_in_cluster, amounts_in_cluster, limits_in_cluster}
 use Rattle.cap_masters.proofs.TooLarge.{here, not_here, large, fitting, none_wanted}
 use Rattle.cap_masters.proofs.calls.allocate.has_too_large.Goals as goal
 use Rattle.cap_masters.proofs.calls.allocate.has_too_large.Goals.{else-count-gt0-via-then-count-gt0+else-not-fits, else-count-gt0-via-else-count-gt0}
@@ -14,3 +19,18 @@ loop-ask-preserved g c =
       | else-count-gt0-via-then-count-gt0+else-not-fits w ↦ fitting c.args.cluster.now.flat c.ask-item.result w.fits.result w.resource.result c.settings.result.now.maximum_allocation w.resource.ensures c.settings.ensures.maximum w.fits.ensures w.if-not-fits.false
       | else-count-gt0-via-else-count-gt0 w ↦ none_wanted c.args.cluster.now.flat c.ask-item.result c.count.result c.count.ensures w.if-count-gt0.false
     ])
+
+pub fits-requires : goal.fits-requires
+fits-requires g c = search amounts_in_cluster
+
+pub resource-requires : goal.resource-requires
+resource-requires g c = search amounts_in_cluster
+
+pub count-requires : goal.count-requires
+count-requires g c = search ask_in_cluster
+
+pub settings-requires : goal.settings-requires
+settings-requires g c = search limits_in_cluster
+
+pub returns : goal.returns
+returns g c = sym (c.loop-ask.invariant ∙ ap (list_any (is_too_large c.args.cluster.now.flat)) (drop_all c.loop-ask.ask-index c.args.asks.now c.loop-ask-test.false))

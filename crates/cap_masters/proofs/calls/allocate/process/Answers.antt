@@ -15,3 +15,9 @@ returns-clause-told g c =
     let ended = rw (c.as_slice-3.ensures.value) at c.end_named-ignored.ensures.ended in
     let at = ended_at c.args.cluster.now.flat c.put_asks.new.cluster.flat c.end_named-ignored.new.self.flat c.args.app c.args.response c.args.asks.now c.args.releases.now c.requires put ended in
     c.tell.ensures.reply (is_there c.end_named-ignored.new.self.flat c.args.app c.args.response at)
+
+pub tell-requires : goal.tell-requires
+tell-requires g c = search
+
+pub end_named-ignored-requires : goal.end_named-ignored-requires
+end_named-ignored-requires g c = ((search), c.as_slice-3.ensures.few)

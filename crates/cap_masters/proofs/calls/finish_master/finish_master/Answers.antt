@@ -1,8 +1,10 @@
-use Rattle.std.proofs.Common.{arith, sym, ◌∙◌}
+use Rattle.std.proofs.Common.{sym, ◌∙◌}
 use Rattle.cap_masters.proofs.Refused.{finish_there}
 use Rattle.cap_masters.proofs.calls.finish_master.finish_master.Goals as goal
 
 pub finish-requires : goal.finish-requires
 finish-requires g c =
-    let kinds = c.refusal.ensures.resources in
-    (omega (arith, kinds), finish_there c.args.cluster.now.flat c.args.app (sym c.refusal.ensures.refusal ∙ c.in-None.is))
+    ((search), finish_there c.args.cluster.now.flat c.args.app (sym c.refusal.ensures.refusal ∙ c.in-None.is))
+
+pub refusal-requires : goal.refusal-requires
+refusal-requires g c = search

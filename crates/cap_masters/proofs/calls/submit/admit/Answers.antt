@@ -1,3 +1,5 @@
+use Rattle.cap_commit.proofs.Sizes.{tree_fits}
+use Rattle.cap_commit.proofs.Fitting.{limits_in_cluster, apps_fit}
 use Rattle.std.proofs.Common.{ap, sym, ◌∙◌, length, arith}
 use Rattle.cap_model.specs.Flat.{AppTable}
 use Rattle.cap_tree.specs.Rows.{queues_of}
@@ -46,3 +48,15 @@ returns-clause-ok g c =
     let next = c.next.ensures ∙ ap (λ (t : AppTable). t.next) c.apps-2.ensures.table in
     let left = c.if-next-ge-NUMBER_END.false in
     rw c.as_bytes.ensures.value at (is_free c.args.cluster.now.flat rows c.as_bytes.result.now c.in-Leaf.position.items queues c.in-Leaf.ensures.found.0 c.in-Leaf.ensures.found.1 (sym c.running.ensures ∙ c.if-not-running.false) (omega (arith, count, limit, room)) (omega (arith, next, left)))
+
+pub settings-requires : goal.settings-requires
+settings-requires g c = search limits_in_cluster
+
+pub apps-requires : goal.apps-requires
+apps-requires g c = search apps_fit
+
+pub apps-requires-2 : goal.apps-requires-2
+apps-requires-2 g c = search apps_fit
+
+pub find-requires : goal.find-requires
+find-requires g c = tree_fits _ c.tree-tree.ensures.resources

@@ -1,4 +1,5 @@
-use Rattle.std.proofs.Common.{map, ◌∙◌, ap, sym, List, refl, arith}
+use Rattle.cap_nodes.proofs.Sizes.{present_fits}
+use Rattle.std.proofs.Common.{map, ◌∙◌, ap, sym, List, refl}
 use Rattle.cap_nodes.specs.Loads.{beaten_load, reservation_of}
 use Rattle.cap_model.specs.Flat.{ClusterNode, NodeTable}
 use Rattle.cap_nodes.proofs.Changes.{load_of_node, is_at, with_beat, nodes_beaten, totals_beaten, kept_shown, rising_changed}
@@ -7,7 +8,7 @@ use Rattle.cap_nodes.proofs.nodes.Nodes.beat.Goals as goal
 pub beat-requires : goal.beat-requires
 beat-requires g c =
     let at = load_of_node c.self.inside.present.loads c.args.number (rw (← c.self.view_is) at c.requires) in
-    (omega arith, is_at c.self.inside.present.loads c.args.number at.load at.at)
+    (search present_fits, is_at c.self.inside.present.loads c.args.number at.load at.at)
 
 pub invariant_of-self : goal.invariant_of-self
 invariant_of-self g c =

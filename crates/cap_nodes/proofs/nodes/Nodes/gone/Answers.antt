@@ -1,3 +1,4 @@
+use Rattle.cap_nodes.proofs.Sizes.{present_fits, load_fits, node_fits, amounts_fit}
 use Rattle.std.proofs.Common.{map, ◌≡◌, ◌∙◌, [], ap, sym, List, length, not, arith}
 use Rattle.std.specs.Prelude.{filter, ◌==◌}
 use Rattle.cap_vector.specs.Vector.{less, amount_max}
@@ -16,7 +17,7 @@ pub minus-self-inside-requires : goal.minus-self-inside-requires
 minus-self-inside-requires g c =
     let long : length c.in-Some.load.now.node.total ≡ g.row.K = rw c.node.ensures at c.total.ensures.vector.count in
     let fits = total_fits g.row.K c.self.inside.present.next c.args.number c.self.inside.present.loads c.in-Some.load.now c.in-Some.ensures.rising (sym c.in-Some.ensures.found) (omega (arith, long)) in
-    (omega arith, (omega arith, rw (c.total.ensures.value, c.node.ensures, c.self.invariant.1) fits))
+    (search amounts_fit, (search amounts_fit, rw (c.total.ensures.value, c.node.ensures, c.self.invariant.1) fits))
 
 pub invariant_of-self : goal.invariant_of-self
 invariant_of-self g c =
@@ -36,3 +37,15 @@ returns g c =
     rw (← c.self.view_is, c.remove.ensures)
     (ap (λ (ns : List ClusterNode). let t : NodeTable = record { present = ns; live = c.self.inside.live.containers; reserved = map reservation_of c.self.inside.reserved.containers; next_node = c.self.inside.present.next; next_container = c.self.inside.live.next } in t)
     (nodes_kept c.args.number c.self.inside.present.loads))
+
+pub remove-requires : goal.remove-requires
+remove-requires g c = search present_fits
+
+pub total-requires : goal.total-requires
+total-requires g c = search (node_fits, amounts_fit)
+
+pub node-requires : goal.node-requires
+node-requires g c = search (load_fits, node_fits)
+
+pub get-requires : goal.get-requires
+get-requires g c = search (present_fits, load_fits)

@@ -1,3 +1,4 @@
+use Rattle.cap_nodes.proofs.Sizes.{present_fits, containers_fit, amounts_fit}
 use Rattle.std.proofs.Common.{map, ◌∙◌, ◌≤◌, ap, sym, List, refl, length, arith, not}
 use Rattle.std.specs.Prelude.{filter, ◌==◌}
 use Rattle.cap_model.specs.Flat.{ClusterNode, Container, NodeTable}
@@ -14,9 +15,9 @@ lift-requires g c =
     let home = home_of g.row.K c.self.inside.present.loads c.self.inside.live.containers c.self.invariant.0 c.args.container.now.number c.args.container.now there in
     let at = at_of c.self.inside.present.loads c.args.container.now.node home in
     let short : length c.args.container.now.resource ≤ g.row.K = omega (arith, c.resource.ensures.vector.count) in (
-      omega arith,
+      search present_fits,
       (
-        omega arith,
+        search amounts_fit,
         rw (c.node.ensures, c.resource.ensures.value)
             (home, if_found (HasOne c.args.container.now.resource) _ at.load at.at (has_it g.row.K c.self.inside.present.loads c.self.inside.live.containers c.self.invariant.0 c.self.inside.live.next c.args.container.now.number c.args.container.now at.load c.remove.ensures.rising there at.at short)),
       ),
@@ -40,3 +41,9 @@ returns g c =
     rw (← c.self.view_is, c.lift.ensures.less, c.remove.ensures.left, c.number.ensures, c.node.ensures, c.resource.ensures.value)
     (ap (λ ns. tables ns (filter (λ x. not (x.number == c.args.container.now.number)) c.self.inside.live.containers)) (same_nodes c.args.container.now.node (held_less c.args.container.now.resource) here.loads (λ p. refl))
     ∙ ap (tables (nodes_of here.loads)) (one_completed c.args.container.now c.self.inside.live.containers))
+
+pub remove-requires : goal.remove-requires
+remove-requires g c = search containers_fit
+
+pub resource-requires : goal.resource-requires
+resource-requires g c = search amounts_fit

@@ -1,3 +1,4 @@
+use Rattle.cap_nodes.proofs.Sizes.{present_fits, containers_fit, amounts_fit}
 use Rattle.std.proofs.Common.{[], sym, arith}
 use Rattle.cap_vector.specs.Vector.{amount_max}
 use Rattle.cap_model.proofs.uses.NodeTotals.{totals-none}
@@ -9,3 +10,15 @@ pub invariant_of-result : goal.invariant_of-result
 invariant_of-result g c =
     let tied : AreTied g.row.K [] [] = record { ties = tt; homes = tt } in
     rw (c.new.ensures, c.new-2.ensures, c.zero.ensures) (tied, sym (totals-none g.row.K), omega arith, zeros_within amount_max g.row.K)
+
+pub new-requires : goal.new-requires
+new-requires g c = search present_fits
+
+pub new-requires-2 : goal.new-requires-2
+new-requires-2 g c = search containers_fit
+
+pub new-requires-3 : goal.new-requires-3
+new-requires-3 g c = search containers_fit
+
+pub zero-requires : goal.zero-requires
+zero-requires g c = search amounts_fit

@@ -1,3 +1,4 @@
+use Rattle.cap_nodes.proofs.Sizes.{present_fits, load_fits}
 use Rattle.std.proofs.Common.{sym}
 use Rattle.cap_nodes.proofs.Changes.{homes_all, node_of_load, node_of_none, held_all, rising_nodes}
 use Rattle.cap_nodes.proofs.nodes.Nodes.node.Goals as goal
@@ -31,3 +32,9 @@ returns-in-None-clause-homes g c = rw (← c.self.view_is) (homes_all g.row.K c.
 
 pub returns-in-None-clause-totals : goal.returns-in-None-clause-totals
 returns-in-None-clause-totals g c = rw (← c.self.view_is, ← c.self.invariant.1) c.self.invariant.3
+
+pub node-requires : goal.node-requires
+node-requires g c = search load_fits
+
+pub get-requires : goal.get-requires
+get-requires g c = search (present_fits, load_fits)

@@ -1,4 +1,5 @@
-use Rattle.std.proofs.Common.{map, ◌≡◌, ◌∙◌, ◌+◌, ◌++◌, ◌∷◌, [], ap, sym, List, refl, length, arith}
+use Rattle.cap_nodes.proofs.Sizes.{present_fits, containers_fit, amounts_fit}
+use Rattle.std.proofs.Common.{map, ◌≡◌, ◌∙◌, ◌+◌, ◌++◌, ◌∷◌, [], ap, sym, List, refl, length}
 use Rattle.cap_vector.specs.Vector.{plus, less, Fits}
 use Rattle.cap_model.specs.Flat.{ClusterNode, Container, NodeTable}
 use Rattle.cap_model.specs.RegisterNode.{sum_of_totals}
@@ -13,9 +14,9 @@ hold-requires g c =
     let at = load_of_node c.self.inside.present.loads c.args.node (rw (← c.self.view_is) at c.requires.present) in
     let tie = (tie_of g.row.K c.self.inside.present.loads c.self.inside.live.containers c.self.invariant.0 c.args.node at.load at.at).0 in
     let room : Fits c.args.resource.now (less at.load.node.total at.load.held) = rw (free_is g.row.K c.self.inside.present.loads c.self.inside.live.containers c.self.invariant.0 c.args.node at.load at.at) (rw (← c.self.view_is) at c.requires.room) in (
-      omega arith,
+      search present_fits,
       (
-        omega arith,
+        search amounts_fit,
         (
           is_at c.self.inside.present.loads c.args.node at.load at.at,
           if_found (CanHold c.args.resource.now) _ at.load at.at (has_room g.row.K c.self.inside.live.containers c.args.resource.now at.load tie room (rw (← c.self.view_is) at c.requires.few)),
@@ -44,3 +45,6 @@ returns-clause-ok g c =
       ap (λ (ns : List ClusterNode). let t : NodeTable = record { present = ns; live = c.self.inside.live.containers ++ container ∷ []; reserved = map reservation_of c.self.inside.reserved.containers; next_node = c.self.inside.present.next; next_container = c.self.inside.live.next + 1 } in t)
           (same_nodes c.args.node (held_more c.args.resource.now) c.self.inside.present.loads (λ p. refl)),
     )
+
+pub push-requires : goal.push-requires
+push-requires g c = (search containers_fit, ((search), (rw (← c.self.view_is) at c.requires.few, rw (← c.self.view_is) at c.requires.numbered)))

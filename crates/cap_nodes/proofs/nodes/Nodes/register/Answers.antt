@@ -1,7 +1,9 @@
+use Rattle.std.proofs.lemmas.List.{length-map}
+use Rattle.cap_nodes.proofs.Sizes.{present_fits}
 use Rattle.std.proofs.Common.{◌≡◌, ◌∙◌, ap, sym, refl, None, length, arith}
 use Rattle.cap_vector.specs.Vector.{plus, zeros, IsWithin, amount_max}
 use Rattle.cap_vector.proofs.AmountLemmas.{amount-plus}
-use Rattle.cap_model.specs.Flat.{ClusterNode}
+use Rattle.cap_model.specs.Flat.{ClusterNode, NodeTable}
 use Rattle.cap_model.specs.RegisterNode.{sum_of_totals}
 use Rattle.cap_model.proofs.uses.NodeTotals.{totals-push}
 use Rattle.cap_model.proofs.lists.Numbered.{rising_more}
@@ -22,3 +24,12 @@ invariant_of-self-2 g c =
       rising_more (λ (p : Load). p.node.number) 1 c.self.inside.present.loads load c.self.inside.present.next refl c.self.invariant.2,
       λ k. rw (c.in-Some.ensures.some, c.self.invariant.1) (within k),
     )
+
+pub checked_add-requires : goal.checked_add-requires
+checked_add-requires g c = search
+
+pub push-requires : goal.push-requires
+push-requires g c =
+    let count = ap (λ (t : NodeTable). length t.present) c.self.view_is in
+    let nodes = length-map c.self.inside.present.loads (λ p. p.node) in
+    (search present_fits, ((search), (omega (arith, count, nodes, c.requires.few), rw (← c.self.view_is) at c.requires.numbered)))

@@ -1,3 +1,4 @@
+use Rattle.cap_nodes.proofs.Sizes.{containers_fit, container_fits}
 use Rattle.std.proofs.Common.{◌∙◌, ap, sym}
 use Rattle.std.specs.Prelude.{option_map}
 use Rattle.cap_nodes.specs.Loads.{reservation_of}
@@ -11,3 +12,9 @@ returns-in_default g c =
 pub returns : goal.returns
 returns g c =
     rw (← c.self.view_is, c.reservation_of.ensures) (ap (option_map reservation_of) (sym c.in-Some.is ∙ c.nth_for.ensures) ∙ sym (kept_at c.args.app c.args.key.now c.args.older c.self.inside.reserved.containers))
+
+pub reservation_of-requires : goal.reservation_of-requires
+reservation_of-requires g c = search container_fits
+
+pub nth_for-requires : goal.nth_for-requires
+nth_for-requires g c = search (containers_fit, container_fits)

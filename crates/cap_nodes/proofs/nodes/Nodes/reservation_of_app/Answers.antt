@@ -1,3 +1,4 @@
+use Rattle.cap_nodes.proofs.Sizes.{containers_fit, container_fits}
 use Rattle.std.proofs.Common.{◌∙◌, sym, Some, None}
 use Rattle.std.specs.Prelude.{◌==◌}
 use Rattle.cap_model.specs.Flat.{Reservation}
@@ -13,3 +14,9 @@ pub returns : goal.returns
 returns g c =
     rw (← c.self.view_is, c.reservation_of.ensures)
     (first_kept (λ (r : Reservation). r.app == c.args.app) c.self.inside.reserved.containers c.self.inside.reserved.next c.next_of_app.ensures.rising (Some c.in-Some.container) (sym c.in-Some.is ∙ c.next_of_app.ensures.found))
+
+pub reservation_of-requires : goal.reservation_of-requires
+reservation_of-requires g c = search container_fits
+
+pub next_of_app-requires : goal.next_of_app-requires
+next_of_app-requires g c = search (containers_fit, container_fits)

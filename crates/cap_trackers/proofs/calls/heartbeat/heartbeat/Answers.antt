@@ -1,4 +1,5 @@
-use Rattle.std.proofs.Common.{◌∙◌, sym, ap, arith, subst, refl, true, false}
+use Rattle.cap_commit.proofs.Fitting.{nodes_in_cluster, node_in_cluster}
+use Rattle.std.proofs.Common.{◌∙◌, sym, ap, subst, refl, true, false}
 use Rattle.std.specs.Prelude.{if◌then◌else◌, map, option_and_then}
 use Rattle.cap_model.specs.Bounds.{IsRising}
 use Rattle.cap_model.specs.Flat.{ClusterNode, NodeTable}
@@ -16,9 +17,8 @@ returns-then-is_bad_id-clause-replies g c =
 
 pub beat-reply-requires : goal.beat-reply-requires
 beat-reply-requires g c =
-    let kinds = c.nodes.ensures.resources in
     let there = node_shown c.args.cluster.now.flat c.nodes.result.now c.args.node c.in-Some.found.now c.nodes.ensures.value c.in-Some.ensures.found in
-    (omega (arith, kinds), rw (c.end_named-ignored.ensures.ended, there) refl)
+    ((search), rw (c.end_named-ignored.ensures.ended, there) refl)
 
 pub returns-in-Some-repeated-clause-replies : goal.returns-in-Some-repeated-clause-replies
 returns-in-Some-repeated-clause-replies g c =
@@ -44,3 +44,18 @@ returns-clause-replies g c =
     (rw c.as_slice.ensures.value at c.end_named-ignored.ensures.ignored)
     c.beat-reply.ensures.flat
     ∙ ap (λ b. if b then old else after_processed_heartbeat old c.args.node c.args.response c.args.ended.now) (sym fresh))
+
+pub nodes-requires : goal.nodes-requires
+nodes-requires g c = search nodes_in_cluster
+
+pub node-requires : goal.node-requires
+node-requires g c = search (nodes_in_cluster, node_in_cluster)
+
+pub is_bad_id-requires : goal.is_bad_id-requires
+is_bad_id-requires g c = search node_in_cluster
+
+pub repeated-requires : goal.repeated-requires
+repeated-requires g c = search node_in_cluster
+
+pub end_named-ignored-requires : goal.end_named-ignored-requires
+end_named-ignored-requires g c = ((search), c.as_slice.ensures.few)

@@ -1,3 +1,4 @@
+use Rattle.cap_commit.proofs.Fitting.{nodes_in_cluster, amounts_in_cluster}
 use Rattle.std.proofs.Common.{ap, length, ◌∙◌}
 use Rattle.std.specs.Prelude.{bytes_eq, nat_le}
 use Rattle.std.specs.List.{list_any}
@@ -20,3 +21,24 @@ returns g c =
     (ap (λ n. nat_le nodes_max n) (c.count.ensures.value ∙ ap (λ (t : NodeTable). length t.present) is))
     c.is_zero.ensures
     (ap (λ n. nat_le _ n) (c.next_node.ensures ∙ ap (λ (t : NodeTable). t.next_node) is))
+
+pub nodes-nodes-requires : goal.nodes-nodes-requires
+nodes-nodes-requires g c = search nodes_in_cluster
+
+pub is_host_taken-requires : goal.is_host_taken-requires
+is_host_taken-requires g c = search nodes_in_cluster
+
+pub total-requires : goal.total-requires
+total-requires g c = search nodes_in_cluster
+
+pub checked_add-requires : goal.checked_add-requires
+checked_add-requires g c = search
+
+pub count-requires : goal.count-requires
+count-requires g c = search nodes_in_cluster
+
+pub is_zero-requires : goal.is_zero-requires
+is_zero-requires g c = search amounts_in_cluster
+
+pub next_node-requires : goal.next_node-requires
+next_node-requires g c = search nodes_in_cluster

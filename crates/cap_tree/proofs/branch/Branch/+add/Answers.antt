@@ -1,9 +1,9 @@
-use Rattle.std.proofs.Common.{rules, arith, ◌≡◌, ◌≤◌, ◌-◌, length, refl}
+use Rattle.std.proofs.Common.{rules, arith, ◌≡◌, ◌≤◌, ◌-◌, length, refl, ◌∙◌, ap, set}
 use Rattle.std.specs.Vec.{vec_len}
-use Rattle.std.proofs.lemmas.Result.{on_ok_weaker}
-use Rattle.std.proofs.lemmas.List.{length-set}
+use Rattle.std.proofs.lemmas.Result.{on_ok_weaker, on_err_weaker}
+use Rattle.std.proofs.lemmas.List.{length-set, set-get_or}
 use Rattle.std.proofs.lemmas.List.Elements.{All-set}
-use Rattle.cap_tree.specs.Spot.{first_of}
+use Rattle.cap_tree.specs.Spot.{first_of, spots}
 use Rattle.cap_tree.proofs.Spots.{sum-set_child}
 use Rattle.cap_tree.proofs.Adding.{added_below}
 use Rattle.cap_tree.proofs.branch.Branch.+add.Goals as goal
@@ -54,3 +54,11 @@ returns-then-levels-eq0-clause-kept g t c = search rules
 
 pub returns-then-levels-eq0-clause-filled : goal.returns-then-levels-eq0-clause-filled
 returns-then-levels-eq0-clause-filled g t c = search rules
+
+pub returns-in-Some-clause-err : goal.returns-in-Some-clause-err
+returns-in-Some-clause-err g t c =
+    let kids = c.self.inside.children.items in
+    let n = vec_len c.self.inside.children - 1 in
+    on_err_weaker c.add.result
+    (λ same. ap (λ k. spots g.T.Held.name c.self.inside.item k) (ap (set kids n) (same ∙ c.in-Some.ensures.value) ∙ set-get_or kids n c.in-Some.last.now) ∙ c.self.view_is)
+    c.add.ensures.err

@@ -1,8 +1,10 @@
-use Rattle.std.proofs.Common.{rules, ap, arith, get_or, drop, ◌≤◌, ◌-◌, take, length, subst, sym}
+use Rattle.cap_tree.proofs.branch.Branch.+change.Goals.{In-Err}
+use Rattle.cap_tree.specs.Branch.{IsBranch}
+use Rattle.std.proofs.Common.{ℕ, rules, ap, arith, get_or, drop, ◌≤◌, ◌-◌, take, length, subst, sym, ◌∙◌, ◌≡◌, set}
 use Rattle.std.proofs.lemmas.Result.{on_ok_weaker}
-use Rattle.std.proofs.lemmas.List.{length-map, length-set}
+use Rattle.std.proofs.lemmas.List.{length-map, length-set, set-get_or}
 use Rattle.std.proofs.lemmas.List.Elements.{All-set, All-get_or}
-use Rattle.cap_tree.specs.Spot.{HoldsOfItem, first_of, change_along}
+use Rattle.cap_tree.specs.Spot.{HoldsOfItem, first_of, change_along, spots}
 use Rattle.cap_tree.proofs.Spots.{as_in_child, changed_at_root, in_child, changed_in_child, child-le-sum, sum-set_child}
 use Rattle.cap_tree.proofs.Rooms.{room_in_child}
 use Rattle.cap_tree.proofs.branch.Branch.+change.Goals as goal
@@ -104,12 +106,6 @@ returns-in-Err-clause-grows g t c =
     let same = as_in_child g.T.Held.name c.self.inside.item c.self.inside.children.items c.args.self.now c.args.steps.now c.index_mut-child.result.now c.self.view_is c.in-len1-up.len_at_least into.within c.index_mut-child.ensures.value in
     subst (HoldsOfItem (g.C.Change.grows c.args.change.now)) (sym same) c.in-Err.ensures.grows
 
-pub change_at-requires-clause-within : goal.change_at-requires-clause-within
-change_at-requires-clause-within g t c = search rules
-
-pub change_above-requires-clause-within : goal.change_above-requires-clause-within
-change_above-requires-clause-within g t c = search rules
-
 pub returns-in-Err-clause-changed : goal.returns-in-Err-clause-changed
 returns-in-Err-clause-changed g t c = search rules
 
@@ -124,3 +120,22 @@ returns-in-Ok-clause-grows g t c = search rules
 
 pub returns-in-Ok-clause-moved : goal.returns-in-Ok-clause-moved
 returns-in-Ok-clause-moved g t c m = rw (← c.self.view_is, c.change_above.ensures) (g.met.C.Change.stored_above c.args.change.now c.self.inside.item m)
+
+-- a child that is not changed leaves the children as they were
+same_kids : (g : _) (t : ℕ) (c : In-Err g t) → set c.self.inside.children.items (get_or c.args.steps.now 0 0) c.change.new.self ≡ c.self.inside.children.items
+same_kids g t c =
+    let kids = c.self.inside.children.items in
+    let i = get_or c.args.steps.now 0 0 in
+    ap (set kids i) (c.in-Err.ensures.unchanged ∙ c.index_mut-child.ensures.value) ∙ set-get_or kids i c.index_mut-child.result.now
+
+pub invariant_of-self-in-Err : goal.invariant_of-self-in-Err
+invariant_of-self-in-Err g t c = subst (IsBranch g.T.Held.stored g.T.Held.own c.self.inside.item) (sym (same_kids g t c)) c.self.invariant
+
+pub returns-in-Err-clause-unchanged : goal.returns-in-Err-clause-unchanged
+returns-in-Err-clause-unchanged g t c = ap (spots g.T.Held.name c.self.inside.item) (same_kids g t c) ∙ c.self.view_is
+
+pub change_at-requires-clause-within : goal.change_at-requires-clause-within
+change_at-requires-clause-within g t c = rw (← c.self.view_is) at c.requires.within
+
+pub change_above-requires-clause-within : goal.change_above-requires-clause-within
+change_above-requires-clause-within g t c = rw (← c.self.view_is) at c.requires.within

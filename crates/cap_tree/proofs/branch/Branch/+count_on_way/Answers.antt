@@ -1,4 +1,4 @@
-use Rattle.std.proofs.Common.{rules, arith, ◌∙◌, ◌+◌, ◌-◌, ap, get_or, take, drop, length}
+use Rattle.std.proofs.Common.{rules, arith, ◌∙◌, ◌-◌, ap, get_or, take, drop, length}
 use Rattle.cap_tree.specs.Service.{items_along}
 use Rattle.cap_tree.proofs.Spots.{in_child, steps-empty, steps-is}
 use Rattle.cap_tree.proofs.Service.{items_at_root, items_in_child}

@@ -1,4 +1,4 @@
-use Rattle.std.proofs.Common.{rules, arith, ◌≡◌, ◌+◌, ◌<◌, ◌≤◌, [], refl, ap, sym, subst, ◌∙◌, get_or, length}
+use Rattle.std.proofs.Common.{rules, arith, ◌≡◌, ◌<◌, ◌≤◌, [], refl, ap, sym, subst, ◌∙◌, get_or, length}
 use Rattle.std.specs.List.{All}
 use Rattle.std.proofs.lemmas.List.{get_or_default}
 use Rattle.cap_tree.specs.Serving.{AreKids, AreParts, AreRanked, AreServed, index_cmp}

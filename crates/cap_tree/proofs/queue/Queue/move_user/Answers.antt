@@ -8,9 +8,9 @@ use Rattle.cap_tree.proofs.queue.Queue.move_user.Goals as goal
 pub moved-count-requires : goal.moved-count-requires
 moved-count-requires g c =
     let all = count_le_all g.row.K c.args.user.now c.args.self.now.users in (
-      search rules,
+      (search),
       (
-        search rules,
+        (search),
         (
           subst (IsPart c.args.old.now) (sym c.user.ensures) c.requires.fits,
           subst (MayMove c.args.old.now c.args.new.now) (sym c.user.ensures) (λ m. room_in_child _ _ _ _ _ (omega (arith, all m, c.requires.sums m)) (c.requires.within m)),
@@ -22,9 +22,9 @@ pub move_below-requires : goal.move_below-requires
 move_below-requires g c =
     let all = count_le_all g.row.K c.args.user.now c.args.self.now.users in
     let same = sym (ap queue_count c.in-Ok.ensures.ok) in (
-      search rules,
+      (search),
       (
-        search rules,
+        (search),
         (
           subst (IsPart c.args.old.now) same (λ m. omega (arith, all m, c.requires.sums m, c.requires.fits m)),
           subst (MayMove c.args.old.now c.args.new.now) same c.requires.within,
@@ -33,10 +33,10 @@ move_below-requires g c =
     )
 
 pub user-requires : goal.user-requires
-user-requires g c = search rules
+user-requires g c = search
 
 pub set_user-requires : goal.set_user-requires
-set_user-requires g c = search rules
+set_user-requires g c = search
 
 pub returns-in-Err-clause-ok : goal.returns-in-Err-clause-ok
 returns-in-Err-clause-ok g c = search rules

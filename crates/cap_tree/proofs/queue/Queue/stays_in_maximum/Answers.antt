@@ -10,3 +10,6 @@ returns g c =
     let after = amounts_exchanged c.args.old.now c.args.new.now in
     fits_once c.fits_exchanged.result (after c.used.result) c.in-Some.maximum c.fits_exchanged.ensures
     ∙ (λ i. fits_maximum (sym c.in-Some.is i) (after (c.used.ensures i))) ∙ ap (λ (q : Queue). fits_maximum q.maximum (after c.args.self.now.used)) c.self.view_is
+
+pub used-requires : goal.used-requires
+used-requires g c = search

@@ -1,5 +1,6 @@
-use Rattle.std.proofs.Common.{rules, false, true}
+use Rattle.std.proofs.Common.{rules, arith, false, true}
 use Rattle.cap_tree.proofs.Within.{over_maximum, over_user}
+use Rattle.cap_tree.proofs.Sizes.{queue_fits}
 use Rattle.cap_tree.proofs.tree.QueueTree.accept.Goals as goal
 
 pub as_slice-requires : goal.as_slice-requires
@@ -29,7 +30,7 @@ pub returns-in-Some-clause-ok : goal.returns-in-Some-clause-ok
 returns-in-Some-clause-ok g c = search rules
 
 pub stays_in_user_limit-requires : goal.stays_in_user_limit-requires
-stays_in_user_limit-requires g c = (search rules, (search rules, (search rules, c.requires)))
+stays_in_user_limit-requires g c = ((search), ((search), ((search), c.requires)))
 
 pub returns-then-not-stays_in_user_limit-clause-ok : goal.returns-then-not-stays_in_user_limit-clause-ok
 returns-then-not-stays_in_user_limit-clause-ok g c = search rules
@@ -38,16 +39,16 @@ pub returns-clause-err : goal.returns-clause-err
 returns-clause-err g c = search rules
 
 pub first_failing-requires-room-T-Held : goal.first_failing-requires-room-T-Held
-first_failing-requires-room-T-Held g c κs within = search rules
+first_failing-requires-room-T-Held g c κs within = search queue_fits
 
 pub first_failing-requires-room-T-Destruct : goal.first_failing-requires-room-T-Destruct
-first_failing-requires-room-T-Destruct g c κs within = search rules
+first_failing-requires-room-T-Destruct g c κs within = search queue_fits
 
 pub first_failing-requires-room-C-Test : goal.first_failing-requires-room-C-Test
-first_failing-requires-room-C-Test g c κs within = search rules
+first_failing-requires-room-C-Test g c κs within = omega arith
 
 pub first_failing-requires-room-C-Test-2 : goal.first_failing-requires-room-C-Test-2
-first_failing-requires-room-C-Test-2 g c κs within = search rules
+first_failing-requires-room-C-Test-2 g c κs within = search queue_fits
 
 pub returns-in-Some-clause-rows : goal.returns-in-Some-clause-rows
 returns-in-Some-clause-rows g c = rw (← c.self.view_is) c.self.invariant.rows_are

@@ -1,9 +1,10 @@
-use Rattle.std.proofs.Common.{rules, sym, subst}
+use Rattle.std.proofs.Common.{sym, subst}
 use Rattle.cap_tree.specs.Count.{Count, IsPart}
 use Rattle.cap_tree.specs.Queue.{MayGive, count_in}
 use Rattle.cap_tree.specs.Rows.{HasRoomAtRoot, user_row_at}
 use Rattle.cap_tree.proofs.Callers.{giving_part, there_holds}
 use Rattle.cap_tree.proofs.Within.{room_applying}
+use Rattle.cap_tree.proofs.Sizes.{count_fits, move_fits}
 use Rattle.cap_tree.proofs.tree.QueueTree.apply.Goals as goal
 
 pub change-requires : goal.change-requires
@@ -13,7 +14,13 @@ change-requires g c =
     let position = there_holds c.args.user.now c.args.path.now.items rows (MayGive c.args.old.now) (λ h. h) c.requires.may in
     let fits = subst (λ (part : Count). IsPart part (count_in g.row.K row)) (sym c.use_alone.ensures) (giving_part g.row.K c.args.old.now row c.requires.may) in
     let within : HasRoomAtRoot c.use_alone.result c.use_alone-2.result rows = rw (c.use_alone.ensures, c.use_alone-2.ensures) (room_applying c.args.old.now c.args.new.now rows c.requires.within) in
-    (search rules, (search rules, (search rules, (position, (fits, within)))))
+    ((search), ((search), (search move_fits, (position, (fits, within)))))
 
 pub unreachable-requires : goal.unreachable-requires
 unreachable-requires g c = subst (MayGive c.args.old.now) c.in_default.ensures.absent c.requires.may
+
+pub use_alone-requires : goal.use_alone-requires
+use_alone-requires g c = ((search), search count_fits)
+
+pub use_alone-requires-2 : goal.use_alone-requires-2
+use_alone-requires-2 g c = ((search), search count_fits)

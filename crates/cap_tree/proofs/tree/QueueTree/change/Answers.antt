@@ -5,6 +5,7 @@ use Rattle.cap_tree.specs.Rows.{AreRows}
 use Rattle.cap_tree.proofs.Callers.{row_holds, holds_of_row}
 use Rattle.cap_tree.proofs.Listings.{rows_kept}
 use Rattle.cap_tree.proofs.RowPaths.{changed_rows}
+use Rattle.cap_tree.proofs.Sizes.{queue_fits}
 use Rattle.cap_tree.proofs.tree.QueueTree.change.Goals as goal
 
 pub change-requires-clause-can : goal.change-requires-clause-can
@@ -54,13 +55,13 @@ pub returns-clause-absent : goal.returns-clause-absent
 returns-clause-absent g c = search rules
 
 pub change-requires-room-T-Held : goal.change-requires-room-T-Held
-change-requires-room-T-Held g c κs within = search rules
+change-requires-room-T-Held g c κs within = search queue_fits
 
 pub change-requires-room-T-Destruct : goal.change-requires-room-T-Destruct
-change-requires-room-T-Destruct g c κs within = search rules
+change-requires-room-T-Destruct g c κs within = search queue_fits
 
 pub change-requires-room-C-Change : goal.change-requires-room-C-Change
 change-requires-room-C-Change g c κs within = search rules
 
 pub change-requires-room-C-Change-2 : goal.change-requires-room-C-Change-2
-change-requires-room-C-Change-2 g c κs within = search rules
+change-requires-room-C-Change-2 g c κs within = search queue_fits

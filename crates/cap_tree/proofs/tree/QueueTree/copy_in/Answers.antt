@@ -1,6 +1,7 @@
 use Rattle.std.proofs.Common.{◌∙◌, sym, subst}
 use Rattle.cap_tree.specs.Rows.{AreRows}
 use Rattle.cap_tree.proofs.Copies.{made-itself}
+use Rattle.cap_tree.proofs.Sizes.{path_fits, queue_fits}
 use Rattle.cap_tree.proofs.tree.QueueTree.copy_in.Goals as goal
 
 pub invariant_of-result : goal.invariant_of-result
@@ -11,3 +12,24 @@ invariant_of-result g c = record {
 
 pub returns-in-Ok : goal.returns-in-Ok
 returns-in-Ok g c = c.in-Ok.ensures ∙ made-itself c.self.inside.root ∙ c.self.view_is
+
+pub copy_in-requires-room-T-Held : goal.copy_in-requires-room-T-Held
+copy_in-requires-room-T-Held g c κs within = search queue_fits
+
+pub copy_in-requires-room-T-Destruct : goal.copy_in-requires-room-T-Destruct
+copy_in-requires-room-T-Destruct g c κs within = search queue_fits
+
+pub copy_in-requires-room-T-CopyIn : goal.copy_in-requires-room-T-CopyIn
+copy_in-requires-room-T-CopyIn g c κs within = search queue_fits
+
+pub copy_in-requires-room-U-Destruct : goal.copy_in-requires-room-U-Destruct
+copy_in-requires-room-U-Destruct g c κs within = search queue_fits
+
+pub copy_in-requires-room-U-Held : goal.copy_in-requires-room-U-Held
+copy_in-requires-room-U-Held g c κs within = search queue_fits
+
+pub copy_in-requires-room-T-CopyIn-2 : goal.copy_in-requires-room-T-CopyIn-2
+copy_in-requires-room-T-CopyIn-2 g c κs within = search queue_fits
+
+pub new-requires : goal.new-requires
+new-requires g c = search path_fits

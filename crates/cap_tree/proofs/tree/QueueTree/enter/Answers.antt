@@ -1,8 +1,9 @@
-use Rattle.std.proofs.Common.{rules, sym, subst}
+use Rattle.std.proofs.Common.{sym, subst}
 use Rattle.cap_tree.specs.Count.{Count, IsPart}
 use Rattle.cap_tree.specs.Queue.{count_in}
 use Rattle.cap_tree.specs.Rows.{HasRoomAtRoot, user_row_at}
 use Rattle.cap_tree.proofs.Callers.{entering_part, room_entering}
+use Rattle.cap_tree.proofs.Sizes.{count_fits, move_fits}
 use Rattle.cap_tree.proofs.tree.QueueTree.enter.Goals as goal
 
 pub change-requires : goal.change-requires
@@ -12,4 +13,10 @@ change-requires g c =
     let position = c.requires.position in
     let fits = subst (λ (part : Count). IsPart part (count_in g.row.K row)) (sym c.zero.ensures) (entering_part g.row.K row) in
     let within : HasRoomAtRoot c.zero.result c.app.result rows = rw (c.zero.ensures, c.app.ensures) (room_entering g.row.K rows c.requires.few) in
-    (search rules, (search rules, (search rules, (position, (fits, within)))))
+    ((search), ((search), (search move_fits, (position, (fits, within)))))
+
+pub zero-requires : goal.zero-requires
+zero-requires g c = search count_fits
+
+pub app-requires : goal.app-requires
+app-requires g c = search count_fits

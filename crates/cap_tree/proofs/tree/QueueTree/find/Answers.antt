@@ -1,10 +1,11 @@
-use Rattle.std.proofs.Common.{rules, ◌∙◌, sym, ap}
+use Rattle.std.proofs.Common.{◌∙◌, sym, ap}
 use Rattle.cap_tree.specs.Finding.{is_parent}
 use Rattle.cap_tree.proofs.Finding.{found_at, children_at, missing}
+use Rattle.cap_tree.proofs.Sizes.{path_fits, queue_fits}
 use Rattle.cap_tree.proofs.tree.QueueTree.find.Goals as goal
 
 pub find-requires : goal.find-requires
-find-requires g c = (search rules, (c.self.invariant.rows_are.short, record { empty = c.new-position.ensures.items; room = c.new-position.ensures.capacity }))
+find-requires g c = (search path_fits, (c.self.invariant.rows_are.short, record { empty = c.new-position.ensures.items; room = c.new-position.ensures.capacity }))
 
 pub returns-in-None-clause-found : goal.returns-in-None-clause-found
 returns-in-None-clause-found g c = rw (← c.self.view_is) (missing c.self.inside.root c.args.path.now c.in-None.ensures.is)
@@ -22,10 +23,10 @@ returns-in-Some-Parent-clause-found g c =
     rw (← c.self.view_is) (found_at c.self.inside.root c.args.path.now _ a f.is, children_at c.self.inside.root c.args.path.now _ a f.is ∙ sym f.below ∙ ap is_parent c.in-Some-Parent.field-0-is)
 
 pub allocator-requires : goal.allocator-requires
-allocator-requires g c = search rules
+allocator-requires g c = search path_fits
 
 pub new-position-requires : goal.new-position-requires
-new-position-requires g c = search rules
+new-position-requires g c = search path_fits
 
 pub returns-in-None-clause-rows : goal.returns-in-None-clause-rows
 returns-in-None-clause-rows g c = rw (← c.self.view_is) c.self.invariant.rows_are
@@ -37,7 +38,7 @@ pub returns-in-Some-Parent-clause-rows : goal.returns-in-Some-Parent-clause-rows
 returns-in-Some-Parent-clause-rows g c = rw (← c.self.view_is) c.self.invariant.rows_are
 
 pub find-requires-room-T-Held : goal.find-requires-room-T-Held
-find-requires-room-T-Held g c κs within = search rules
+find-requires-room-T-Held g c κs within = search queue_fits
 
 pub find-requires-room-T-Destruct : goal.find-requires-room-T-Destruct
-find-requires-room-T-Destruct g c κs within = search rules
+find-requires-room-T-Destruct g c κs within = search queue_fits

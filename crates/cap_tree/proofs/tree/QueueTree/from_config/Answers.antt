@@ -1,3 +1,4 @@
+use Rattle.cap_tree.proofs.Sizes.{row_fits}
 use Rattle.std.proofs.Common.{rules, arith, ◌∙◌, ◌≡◌, ◌∷◌, ◌++◌, ◌-◌, ap, refl, sym, subst, take, drop, length}
 use Rattle.cap_model.specs.Listing.{IsListing}
 use Rattle.cap_tree.specs.Growth.{IsGrowing}
@@ -9,7 +10,7 @@ pub unreachable-requires : goal.unreachable-requires
 unreachable-requires g c = none_listed c.queues.result.now c.in_default.len_below (subst IsListing (sym c.queues.ensures.rows) c.queues.ensures.listing)
 
 pub new-requires : goal.new-requires
-new-requires g c = (search rules, (c.requires.queue, c.path.ensures))
+new-requires g c = (search row_fits, (c.requires.queue, c.path.ensures))
 
 pub leaf-root-requires : goal.leaf-root-requires
 leaf-root-requires g c m = unused_stored g.row.K c.in-Ok.queue m c.in-Ok.ensures.1 ∙ sym (unused_own g.row.K c.in-Ok.queue m c.in-Ok.ensures.1)
@@ -23,8 +24,8 @@ add_all-requires g c =
     let few = c.queues.ensures.few in
     let all = ap length e in
     let root = ap length c.leaf-root.ensures in (
-      search rules,
-      (search rules, (subst (λ r. IsGrowing g.row.K r others) (sym c.leaf-root.ensures) s.growing, omega (arith, few, all, root))),
+      (search),
+      (search row_fits, (subst (λ r. IsGrowing g.row.K r others) (sym c.leaf-root.ensures) s.growing, omega (arith, few, all, root))),
     )
 
 pub same-root : goal.same-root
@@ -52,12 +53,6 @@ returns-clause-queues g c =
     let s = start g.row.K qs others c.first-item.result c.in-Ok.queue e l c.in-Ok.ensures.0 c.in-Ok.ensures.1 in
     c.in-Ok-add_all.ensures.queues ∙ ap (λ r. queues_of r ++ others) c.leaf-root.ensures ∙ ap (λ x. x ++ others) s.queues ∙ sym e ∙ c.queues.ensures.rows
 
-pub queues-requires : goal.queues-requires
-queues-requires g c = search rules
-
-pub path-requires : goal.path-requires
-path-requires g c = search rules
-
 pub returns-in-Err-clause-queues : goal.returns-in-Err-clause-queues
 returns-in-Err-clause-queues g c = search rules
 
@@ -69,3 +64,21 @@ returns-in-Err-add_all-clause-queues g c = search rules
 
 pub returns-in-Err-add_all-clause-unused : goal.returns-in-Err-add_all-clause-unused
 returns-in-Err-add_all-clause-unused g c = search rules
+
+pub leaf-root-requires-room-T-Held : goal.leaf-root-requires-room-T-Held
+leaf-root-requires-room-T-Held g c κs within = search
+
+pub drop-root-inside-requires-in-Err-add_all-5-room-T-Destruct-2 : goal.drop-root-inside-requires-in-Err-add_all-5-room-T-Destruct-2
+drop-root-inside-requires-in-Err-add_all-5-room-T-Destruct-2 g c κs within = search
+
+pub drop-root-inside-requires-in-Err-add_all-5-room-T-Destruct : goal.drop-root-inside-requires-in-Err-add_all-5-room-T-Destruct
+drop-root-inside-requires-in-Err-add_all-5-room-T-Destruct g c κs within = search
+
+pub leaf-root-requires-room-T-Destruct : goal.leaf-root-requires-room-T-Destruct
+leaf-root-requires-room-T-Destruct g c κs within = search
+
+pub queues-requires : goal.queues-requires
+queues-requires g c = search row_fits
+
+pub path-requires : goal.path-requires
+path-requires g c = search row_fits

@@ -1,8 +1,9 @@
-use Rattle.std.proofs.Common.{rules, sym, subst}
+use Rattle.std.proofs.Common.{sym, subst}
 use Rattle.cap_tree.specs.Count.{Count, IsPart}
 use Rattle.cap_tree.specs.Queue.{MayLeave, count_in}
 use Rattle.cap_tree.specs.Rows.{HasRoomAtRoot, user_row_at}
 use Rattle.cap_tree.proofs.Callers.{leaving_part, room_falling, there_holds}
+use Rattle.cap_tree.proofs.Sizes.{count_fits, move_fits}
 use Rattle.cap_tree.proofs.tree.QueueTree.leave.Goals as goal
 
 pub change-requires : goal.change-requires
@@ -12,7 +13,13 @@ change-requires g c =
     let position = there_holds c.args.user.now c.args.path.now.items rows (MayLeave) (λ h. h) c.requires in
     let fits = subst (λ (part : Count). IsPart part (count_in g.row.K row)) (sym c.app.ensures) (leaving_part g.row.K row c.requires) in
     let within = subst (λ (part : Count). HasRoomAtRoot c.app.result part rows) (sym c.zero.ensures) (room_falling g.row.K c.app.result rows) in
-    (search rules, (search rules, (search rules, (position, (fits, within)))))
+    ((search), ((search), (search move_fits, (position, (fits, within)))))
 
 pub unreachable-requires : goal.unreachable-requires
 unreachable-requires g c = subst (MayLeave) c.in_default.ensures.absent c.requires
+
+pub zero-requires : goal.zero-requires
+zero-requires g c = search count_fits
+
+pub app-requires : goal.app-requires
+app-requires g c = search count_fits

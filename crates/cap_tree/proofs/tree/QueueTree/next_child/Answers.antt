@@ -1,4 +1,5 @@
 use Rattle.cap_tree.proofs.ServiceRows.{next_rows}
+use Rattle.cap_tree.proofs.Sizes.{queue_fits}
 use Rattle.cap_tree.proofs.tree.QueueTree.next_child.Goals as goal
 
 pub returns : goal.returns
@@ -8,3 +9,15 @@ returns g c =
 
 pub next_child-requires-clause-after : goal.next_child-requires-clause-after
 next_child-requires-clause-after g c = rw (← c.self.view_is, ← c.as_slice.ensures) at c.requires.after
+
+pub next_child-requires-room-T-Destruct : goal.next_child-requires-room-T-Destruct
+next_child-requires-room-T-Destruct g c κs within = search queue_fits
+
+pub next_child-requires-room-T-Held : goal.next_child-requires-room-T-Held
+next_child-requires-room-T-Held g c κs within = search queue_fits
+
+pub next_child-requires-room-T-Served : goal.next_child-requires-room-T-Served
+next_child-requires-room-T-Served g c κs within = search queue_fits
+
+pub next_child-requires-clause-position : goal.next_child-requires-clause-position
+next_child-requires-clause-position g c = rw (← c.self.view_is, ← c.as_slice.ensures) at c.requires.position

@@ -1,4 +1,5 @@
 use Rattle.std.proofs.Common.{rules}
+use Rattle.cap_tree.proofs.Sizes.{queue_fits}
 use Rattle.cap_tree.proofs.tree.QueueTree.row.Goals as goal
 
 pub as_slice-requires : goal.as_slice-requires
@@ -11,7 +12,7 @@ pub returns : goal.returns
 returns g c = rw (← c.self.view_is, ← c.as_slice.ensures) c.get.ensures
 
 pub get-requires-room-T-Held : goal.get-requires-room-T-Held
-get-requires-room-T-Held g c κs within = search rules
+get-requires-room-T-Held g c κs within = search queue_fits
 
 pub get-requires-room-T-Destruct : goal.get-requires-room-T-Destruct
-get-requires-room-T-Destruct g c κs within = search rules
+get-requires-room-T-Destruct g c κs within = search queue_fits

@@ -1,6 +1,7 @@
 use Rattle.std.proofs.Common.{rules, ◌≡◌, ◌∙◌, Bool, true, false, ap, sym}
 use Rattle.std.specs.Prelude.{is_some, not}
 use Rattle.cap_tree.proofs.RowPaths.{running_rows}
+use Rattle.cap_tree.proofs.Sizes.{queue_fits}
 use Rattle.cap_tree.proofs.tree.QueueTree.running.Goals as goal
 
 turned : (b c : Bool) → b ≡ not c → c ≡ not b
@@ -20,10 +21,10 @@ pub first_failing-requires : goal.first_failing-requires
 first_failing-requires g c = rw (← c.self.view_is, ← c.as_slice.ensures) at c.requires
 
 pub first_failing-requires-room-T-Held : goal.first_failing-requires-room-T-Held
-first_failing-requires-room-T-Held g c κs within = search rules
+first_failing-requires-room-T-Held g c κs within = search queue_fits
 
 pub first_failing-requires-room-T-Destruct : goal.first_failing-requires-room-T-Destruct
-first_failing-requires-room-T-Destruct g c κs within = search rules
+first_failing-requires-room-T-Destruct g c κs within = search queue_fits
 
 pub first_failing-requires-room-C-Test : goal.first_failing-requires-room-C-Test
-first_failing-requires-room-C-Test g c κs within = search rules
+first_failing-requires-room-C-Test g c κs within = search queue_fits

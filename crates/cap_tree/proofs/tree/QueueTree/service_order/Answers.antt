@@ -7,6 +7,7 @@ use Rattle.cap_tree.specs.ServiceOrder.{IsServiceOrder}
 use Rattle.cap_tree.specs.Spot.{IsPosition}
 use Rattle.cap_tree.proofs.ServiceRows.{rows_once}
 use Rattle.cap_tree.proofs.Served.{in_service_order, numbered_rising}
+use Rattle.cap_tree.proofs.Sizes.{queue_fits}
 use Rattle.cap_tree.proofs.tree.QueueTree.service_order.Goals as goal
 
 pub serve-requires-clause-placed : goal.serve-requires-clause-placed
@@ -28,3 +29,12 @@ returns-in-Ok-serve-clause-order g c =
 
 pub returns-in-Ok-serve-clause-rows : goal.returns-in-Ok-serve-clause-rows
 returns-in-Ok-serve-clause-rows g c = rw (← c.self.view_is) c.self.invariant.rows_are
+
+pub serve-requires-room-T-Served : goal.serve-requires-room-T-Served
+serve-requires-room-T-Served g c κs within = search queue_fits
+
+pub serve-requires-room-T-Held : goal.serve-requires-room-T-Held
+serve-requires-room-T-Held g c κs within = search queue_fits
+
+pub serve-requires-room-T-Destruct : goal.serve-requires-room-T-Destruct
+serve-requires-room-T-Destruct g c κs within = search queue_fits

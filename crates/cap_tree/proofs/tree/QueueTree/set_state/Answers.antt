@@ -5,6 +5,7 @@ use Rattle.cap_tree.specs.Spot.{path_at, IsPosition}
 use Rattle.cap_tree.proofs.Callers.{never_grows}
 use Rattle.cap_tree.proofs.Listings.{state_rows, state_kept}
 use Rattle.cap_tree.proofs.RowPaths.{changed_rows}
+use Rattle.cap_tree.proofs.Sizes.{queue_fits}
 use Rattle.cap_tree.proofs.tree.QueueTree.set_state.Goals as goal
 
 pub invariant_of-self : goal.invariant_of-self
@@ -37,10 +38,10 @@ pub change-requires-clause-within : goal.change-requires-clause-within
 change-requires-clause-within g c m = inl (omega arith)
 
 pub change-requires-room-T-Held : goal.change-requires-room-T-Held
-change-requires-room-T-Held g c κs within = search rules
+change-requires-room-T-Held g c κs within = search queue_fits
 
 pub change-requires-room-T-Destruct : goal.change-requires-room-T-Destruct
-change-requires-room-T-Destruct g c κs within = search rules
+change-requires-room-T-Destruct g c κs within = search queue_fits
 
 pub change-requires-room-C-Change : goal.change-requires-room-C-Change
-change-requires-room-C-Change g c κs within = search rules
+change-requires-room-C-Change g c κs within = search queue_fits

@@ -2,6 +2,7 @@ use Rattle.std.proofs.Common.{rules, ◌≡◌, ◌∙◌, Some, ap, sym}
 use Rattle.cap_model.specs.Cascade.{holds_of}
 use Rattle.cap_tree.specs.Queue.{stays_in_user_limit}
 use Rattle.cap_tree.specs.Spot.{item_at}
+use Rattle.cap_tree.proofs.Sizes.{queue_fits}
 use Rattle.cap_tree.proofs.tree.QueueTree.stays_in_user_limit.Goals as goal
 
 pub as_slice-requires : goal.as_slice-requires
@@ -11,7 +12,7 @@ pub get-leaf-requires : goal.get-leaf-requires
 get-leaf-requires g c = rw (← c.self.view_is, ← c.as_slice.ensures) at c.requires
 
 pub stays_in_user_limit-requires : goal.stays_in_user_limit-requires
-stays_in_user_limit-requires g c = search rules
+stays_in_user_limit-requires g c = search queue_fits
 
 pub returns : goal.returns
 returns g c =
@@ -19,7 +20,7 @@ returns g c =
     c.stays_in_user_limit.ensures ∙ sym (ap (holds_of (stays_in_user_limit g.row.K c.args.user.now c.args.old.now c.args.new.now)) found)
 
 pub get-leaf-requires-room-T-Held : goal.get-leaf-requires-room-T-Held
-get-leaf-requires-room-T-Held g c κs within = search rules
+get-leaf-requires-room-T-Held g c κs within = search queue_fits
 
 pub get-leaf-requires-room-T-Destruct : goal.get-leaf-requires-room-T-Destruct
-get-leaf-requires-room-T-Destruct g c κs within = search rules
+get-leaf-requires-room-T-Destruct g c κs within = search queue_fits

@@ -1,6 +1,7 @@
 use Rattle.std.proofs.Common.{rules, ◌∙◌, [], ap, sym}
 use Rattle.std.specs.Option.{option_map_or}
 use Rattle.cap_tree.specs.Queue.{Queue}
+use Rattle.cap_tree.proofs.Sizes.{queue_fits}
 use Rattle.cap_tree.proofs.tree.QueueTree.use_of.Goals as goal
 
 pub as_slice-requires : goal.as_slice-requires
@@ -10,13 +11,13 @@ pub get-requires : goal.get-requires
 get-requires g c = rw (← c.self.view_is, ← c.as_slice.ensures) at c.requires
 
 pub used-requires : goal.used-requires
-used-requires g c = search rules
+used-requires g c = search queue_fits
 
 pub returns : goal.returns
 returns g c = rw (← c.self.view_is, ← c.as_slice.ensures) (c.used.ensures ∙ sym (ap (λ o. option_map_or (λ (q : Queue). q.used) o []) c.get.ensures))
 
 pub get-requires-room-T-Held : goal.get-requires-room-T-Held
-get-requires-room-T-Held g c κs within = search rules
+get-requires-room-T-Held g c κs within = search queue_fits
 
 pub get-requires-room-T-Destruct : goal.get-requires-room-T-Destruct
-get-requires-room-T-Destruct g c κs within = search rules
+get-requires-room-T-Destruct g c κs within = search queue_fits

@@ -1,16 +1,17 @@
-use Rattle.std.proofs.Common.{◌∙◌, [], ap, sym, rules}
+use Rattle.std.proofs.Common.{◌∙◌, [], ap, sym}
 use Rattle.std.specs.Option.{option_map_or}
 use Rattle.cap_tree.specs.Queue.{Queue}
+use Rattle.cap_tree.proofs.Sizes.{queue_fits}
 use Rattle.cap_tree.proofs.tree.QueueTree.used.Goals as goal
 
 pub returns : goal.returns
 returns g c = rw (← c.self.view_is) (c.used.ensures ∙ sym (ap (λ o. option_map_or (λ (q : Queue). q.used) o []) c.item.ensures))
 
 pub used-requires : goal.used-requires
-used-requires g c = search rules
+used-requires g c = search queue_fits
 
 pub item-requires-room-T-Held : goal.item-requires-room-T-Held
-item-requires-room-T-Held g c κs within = search rules
+item-requires-room-T-Held g c κs within = search queue_fits
 
 pub item-requires-room-T-Destruct : goal.item-requires-room-T-Destruct
-item-requires-room-T-Destruct g c κs within = search rules
+item-requires-room-T-Destruct g c κs within = search queue_fits

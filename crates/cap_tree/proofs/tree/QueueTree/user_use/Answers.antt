@@ -2,6 +2,7 @@ use Rattle.std.proofs.Common.{rules, ◌≡◌, ◌∙◌, Some, None, ap, sym}
 use Rattle.std.specs.Option.{option_map_or}
 use Rattle.cap_tree.specs.Queue.{Queue, use_of, user_row}
 use Rattle.cap_tree.specs.Spot.{item_at}
+use Rattle.cap_tree.proofs.Sizes.{queue_fits}
 use Rattle.cap_tree.proofs.tree.QueueTree.user_use.Goals as goal
 
 pub as_slice-requires : goal.as_slice-requires
@@ -11,7 +12,7 @@ pub get-requires : goal.get-requires
 get-requires g c = rw (← c.self.view_is, ← c.as_slice.ensures) at c.requires
 
 pub user_use-requires : goal.user_use-requires
-user_use-requires g c = search rules
+user_use-requires g c = search queue_fits
 
 pub returns : goal.returns
 returns g c =
@@ -19,7 +20,7 @@ returns g c =
     c.user_use.ensures ∙ sym (ap (λ o. use_of g.row.K (option_map_or (λ (q : Queue). user_row c.args.user.now q.users) o None)) found)
 
 pub get-requires-room-T-Held : goal.get-requires-room-T-Held
-get-requires-room-T-Held g c κs within = search rules
+get-requires-room-T-Held g c κs within = search queue_fits
 
 pub get-requires-room-T-Destruct : goal.get-requires-room-T-Destruct
-get-requires-room-T-Destruct g c κs within = search rules
+get-requires-room-T-Destruct g c κs within = search queue_fits

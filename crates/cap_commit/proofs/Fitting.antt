@@ -1,0 +1,48 @@
+-- The parts of a cluster are no larger than memory, as the cluster is.
+use Rattle.std.proofs.Common.{ℕ, [], ◌∷◌, arith}
+use Rattle.std.specs.Borrow.{RattleType}
+use Rattle.std.specs.Mem.{FitsInMemory}
+use denote.Param.{layout, number, param}
+use Rattle.cap_vector.specs.contracts.vector.Amounts as amounts
+use Rattle.cap_model.specs.contracts.ask.Ask as ask
+use Rattle.cap_model.specs.contracts.container.Container as container
+use Rattle.cap_model.specs.contracts.container.Reservation as reservation
+use Rattle.cap_model.specs.contracts.news.Grant as grant
+use Rattle.cap_asks.specs.contracts.app.App as app
+use Rattle.cap_asks.specs.contracts.apps.Apps as apps
+use Rattle.cap_nodes.specs.contracts.node.Node as node
+use Rattle.cap_nodes.specs.contracts.nodes.Nodes as nodes
+use Rattle.cap_tree.proofs.Sizes.{part_fits}
+use Rattle.cap_commit.specs.contracts.cluster.Cluster as cluster
+use Rattle.cap_commit.specs.contracts.limits.Limits as limits
+
+pub limits_in_cluster : (K : RattleType) → FitsInMemory (cluster.the_row K) → FitsInMemory (limits.the_row K)
+limits_in_cluster K = part_fits (layout (cluster.the_row K)) (1 ∷ [])
+
+pub nodes_in_cluster : (K : RattleType) → FitsInMemory (cluster.the_row K) → FitsInMemory (nodes.the_row K)
+nodes_in_cluster K = part_fits (layout (cluster.the_row K)) (3 ∷ [])
+
+pub container_in_cluster : (K : RattleType) → FitsInMemory (cluster.the_row K) → FitsInMemory (container.the_row K)
+container_in_cluster K = part_fits (layout (cluster.the_row K)) (3 ∷ 1 ∷ 4 ∷ [])
+
+pub node_in_cluster : (K : RattleType) → FitsInMemory (cluster.the_row K) → FitsInMemory (node.the_row K)
+node_in_cluster K = part_fits (layout (cluster.the_row K)) (3 ∷ 0 ∷ 2 ∷ 0 ∷ [])
+
+pub amounts_in_cluster : (K MAX : RattleType) → FitsInMemory (cluster.the_row K) → FitsInMemory (amounts.the_row K MAX)
+amounts_in_cluster K MAX = part_fits (layout (cluster.the_row K)) (1 ∷ 0 ∷ [])
+
+pub reservation_in_cluster : (n : ℕ) → FitsInMemory (cluster.the_row (param 0 (number n))) → FitsInMemory (reservation.the_row (param 0 (number n)))
+reservation_in_cluster n fits = let whole = container_in_cluster (param 0 (number n)) fits in omega (arith, whole)
+
+pub ask_in_cluster : (n : ℕ) → FitsInMemory (cluster.the_row (param 0 (number n))) → FitsInMemory (ask.the_row (param 0 (number n)))
+ask_in_cluster n fits = let whole = limits_in_cluster (param 0 (number n)) fits in omega (arith, whole)
+
+pub grant_in_cluster : (n : ℕ) → FitsInMemory (cluster.the_row (param 0 (number n))) → FitsInMemory (grant.the_row (param 0 (number n)))
+grant_in_cluster n fits = let whole = limits_in_cluster (param 0 (number n)) fits in omega (arith, whole)
+
+-- the table of applications and an application have few bytes for any number of kinds of resource
+pub apps_fit : (K : RattleType) → FitsInMemory (apps.the_row K)
+apps_fit K = omega arith
+
+pub app_fits : (K : RattleType) → FitsInMemory (app.the_row K)
+app_fits K = omega arith

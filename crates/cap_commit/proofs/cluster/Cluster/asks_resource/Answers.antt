@@ -1,0 +1,8 @@
+use Rattle.cap_commit.proofs.Fitting.{amounts_in_cluster}
+use Rattle.cap_commit.proofs.cluster.Cluster.asks_resource.Goals as goal
+
+pub resource-requires : goal.resource-requires
+resource-requires g c = search amounts_in_cluster
+
+pub resource-requires-2 : goal.resource-requires-2
+resource-requires-2 g c = search amounts_in_cluster

@@ -1,0 +1,8 @@
+use Rattle.cap_tree.proofs.Sizes.{amounts_in_queue}
+use Rattle.cap_copy.proofs.limits.SeenQueue.of.Goals as goal
+
+pub used-requires : goal.used-requires
+used-requires g c = search amounts_in_queue
+
+pub maximum-requires : goal.maximum-requires
+maximum-requires g c = search amounts_in_queue

@@ -1,0 +1,6 @@
+use Rattle.cap_tree.specs.Queue.{Queue}
+use Rattle.std.proofs.Common.{◌∙◌, ap}
+use Rattle.cap_tree.proofs.queue.Queue.active.Goals as goal
+
+pub returns : goal.returns
+returns g c = (λ i. (c.self-inside.view_is i).count.active) ∙ ap (λ (q : Queue). q.active) c.self.view_is

@@ -1,0 +1,37 @@
+use Rattle.cap_tree.proofs.Sizes.{shares_in_queue}
+use Rattle.cap_vector.specs.Fullness.{shares_cmp}
+use Rattle.std.specs.Cmp.Lexicographic.{slice_cmp}
+use Rattle.std.specs.declared.cmp.Ordering.TheVariants.{Less, Equal, Greater}
+use Rattle.std.specs.declared.cmp.Ordering.{Ordering}
+use Rattle.std.specs.Ordering.{is_ne, nat_cmp, ordering_then}
+use Rattle.std.proofs.Common.{◌≡◌, ◌∙◌, true, false, ap, sym, refl}
+use Rattle.cap_tree.proofs.queue.QueueServed.cmp_served.Goals as goal
+
+-- where two orders follow each other, the first decides if it tells them apart, and the second otherwise
+told_apart : (a b : Ordering) → is_ne a ≡ true → a ≡ ordering_then a b
+told_apart Less b e = refl
+told_apart Equal b e = absurd (cc e)
+told_apart Greater b e = refl
+
+alike : (a b : Ordering) → is_ne a ≡ false → b ≡ ordering_then a b
+alike Less b e = absurd (cc e)
+alike Equal b e = refl
+alike Greater b e = absurd (cc e)
+
+pub returns-then-is_ne : goal.returns-then-is_ne
+returns-then-is_ne g c =
+    let by_name = slice_cmp nat_cmp c.self.inside.name.items c.other.inside.name.items in
+    let by_shares = c.cmp_shares-order.ensures ∙ (λ i. shares_cmp (c.self.invariant i) (c.other.invariant i)) in
+    rw (← c.self.view_is, ← c.other.view_is)
+    (told_apart c.cmp_shares-order.result by_name (sym c.is_ne.ensures ∙ c.if-is_ne.true) ∙ ap (λ o. ordering_then o by_name) by_shares)
+
+pub returns : goal.returns
+returns g c =
+    let by_name = slice_cmp nat_cmp c.self.inside.name.items c.other.inside.name.items in
+    let by_shares = c.cmp_shares-order.ensures ∙ (λ i. shares_cmp (c.self.invariant i) (c.other.invariant i)) in
+    rw (← c.self.view_is, ← c.other.view_is)
+    (c.cmp.ensures ∙ (λ i. slice_cmp nat_cmp (c.as_slice.ensures.value i) (c.as_slice-2.ensures.value i))
+    ∙ alike c.cmp_shares-order.result by_name (sym c.is_ne.ensures ∙ c.if-is_ne.false) ∙ ap (λ o. ordering_then o by_name) by_shares)
+
+pub cmp_shares-order-requires : goal.cmp_shares-order-requires
+cmp_shares-order-requires g c = search shares_in_queue
