@@ -7,5 +7,5 @@ mod streams;
 mod texts;
 mod words;
 
-pub use cap_daemon::Counted;
+pub use cap_session::Counted;
 pub use words::run;

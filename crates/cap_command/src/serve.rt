@@ -1,15 +1,15 @@
 //! The command `serve`: its words, its settings file and its port.
-ghost use Rattle.std.specs.Prelude.{◌≡◌, ◌<◌, ◌≤◌, IfSome};
+ghost use Rattle.std.specs.Prelude.{◌≡◌, ◌<◌, ◌≤◌, Err, IfSome, IfErr, OnOk};
 ghost use Rattle.cap_session.specs.Counted.{state_of, CanCount};
 
 use crate::texts::{complain, print};
-use cap_config::{ConfigFault, ConfigFaultKind, read_config};
-use cap_daemon::Counted;
+use cap_config::{Config, ConfigFault, ConfigFaultKind, read_config};
 use cap_server::{Sizes, serve_on};
+use cap_session::Counted;
 use cap_workers::Tally;
 use clap::builder::ValueParser;
-use clap::{Arg, ArgAction, ArgMatches, Command, Error};
-use std::alloc::Global;
+use clap::{Arg, ArgAction, ArgMatches, Command};
+use std::alloc::{AllocError, Global};
 use std::fs;
 use std::io::{self, Write};
 use std::net::{Net, TcpListener, TcpStream};
@@ -33,30 +33,28 @@ struct Words<'a> {
 }
 
 /// The command and its words.
-pub(crate) fn serve_command<'a>(alloc: Global) -> Result<Command<'a>, Error> {
-    Ok(
-        Command::new(alloc, "serve")
-            .about("Serves connections on a port of 127.0.0.1, and schedules, until all have ended")
-            .arg(number(alloc, "port", 1, 65535, "The port").required(true))?
-            .arg(number(alloc, "workers", 1, 8, "How many threads schedule").required(true))?
-            .arg(text(alloc, "config", "The file of property lines").required(true))?
-            .arg(number(
-                alloc,
-                "connections",
-                1,
-                128,
-                "How many connections are accepted",
-            )
-            .required(true))?
-            .arg(number(
-                alloc,
-                "lanes",
-                0,
-                1024,
-                "How many proposals wait for the committer; 0: each worker commits its own",
-            )
-            .default_value(LANES))?,
-    )
+pub(crate) fn serve_command<'a>(alloc: Global) -> Result<Command<'a>, AllocError> {
+    Command::new(alloc, "serve")
+        .about("Serves connections on a port of 127.0.0.1, and schedules, until all have ended")
+        .arg(number(alloc, "port", 1, 65535, "The port").required(true))?
+        .arg(number(alloc, "workers", 1, 8, "How many threads schedule").required(true))?
+        .arg(text(alloc, "config", "The file of property lines").required(true))?
+        .arg(number(
+            alloc,
+            "connections",
+            1,
+            128,
+            "How many connections are accepted",
+        )
+        .required(true))?
+        .arg(number(
+            alloc,
+            "lanes",
+            0,
+            1024,
+            "How many proposals wait for the committer; 0: each worker commits its own",
+        )
+        .default_value(LANES))
 }
 
 /// A word that is a number within bounds.
@@ -110,24 +108,68 @@ pub(crate) fn serve<
     ensures status { result < 4 }
     ensures failed { (state_of writer.old).failures < (state_of writer.new).failures → result ≡ 1 }
 {
-    let alloc = rt.alloc();
     let Some(words) = read_words(matches) else {
         return 2;
     };
-    let text = match fs::read(rt, words.config) {
+    match read_settings(rt, words.config, writer, complaint) {
+        Ok(config) => serve_settings(rt, &words, &config, writer, complaint),
+        Err(status) => status,
+    }
+}
+
+/// The settings of a file. The error is the exit status.
+fn read_settings<H: Files + AllocGlobal, W: Write>(
+    rt: &H,
+    path: &str,
+    writer: &mut Counted<W>,
+    complaint: &mut String,
+) -> Result<Config<2>, u8>
+    requires writer { CanCount (state_of writer.old) }
+    ensures status { IfErr result (λ status. status < 4) }
+    ensures failed { (state_of writer.old).failures < (state_of writer.new).failures
+        → result ≡ Err 1 }
+    ensures same { OnOk result (state_of writer.new ≡ state_of writer.old) }
+{
+    let alloc = rt.alloc();
+    let text = match fs::read(rt, path) {
         Ok(text) => text,
-        Err(error) => return refuse(alloc, "settings file", Some(error), complaint),
+        Err(error) => return Err(refuse(alloc, "settings file", Some(error), complaint)),
     };
-    let config = match read_config(alloc, &text) {
-        Ok(config) => config,
-        Err(fault) => return refuse_settings(alloc, &text, &fault, writer, complaint),
-    };
+    match read_config(alloc, &text) {
+        Ok(config) => Ok(config),
+        Err(fault) => Err(refuse_settings(alloc, &text, &fault, writer, complaint)),
+    }
+}
+
+/// Serves connections over a cluster with the queues of these settings. The result is the exit status.
+fn serve_settings<
+    H: Net<Listener = TcpListener, Stream = TcpStream>
+        + Threads
+        + Wait
+        + Clock
+        + AllocGlobal
+        + Sync,
+    W: Write,
+>(
+    rt: &H,
+    words: &Words<'_>,
+    config: &Config<2>,
+    writer: &mut Counted<W>,
+    complaint: &mut String,
+) -> u8
+    requires lanes { IfSome words.now.sizes.lanes (λ n. (0 < n) × (n ≤ 1024)) }
+    requires journal { (1 ≤ words.now.sizes.journal) × (words.now.sizes.journal ≤ 1000000) }
+    requires writer { CanCount (state_of writer.old) }
+    ensures status { result < 4 }
+    ensures failed { (state_of writer.old).failures < (state_of writer.new).failures → result ≡ 1 }
+{
+    let alloc = rt.alloc();
     let listener = match TcpListener::bind(rt, ("127.0.0.1", words.port)) {
         Ok(listener) => listener,
         Err(error) => return refuse(alloc, "listener", Some(error), complaint),
     };
     let tally = Tally::new();
-    let status = serve_on(rt, alloc, &listener, &words.sizes, &config, &tally, writer);
+    let status = serve_on(rt, alloc, &listener, &words.sizes, config, &tally, writer);
     report(alloc, &tally, complaint);
     if status == 1 && writer.failures() == 0 {
         return refuse(alloc, "listener", None, complaint);

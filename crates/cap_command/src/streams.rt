@@ -1,6 +1,6 @@
 //! Words for a stream that failed.
 
-use cap_daemon::Counted;
+use cap_session::Counted;
 use std::alloc::{AllocError, Global};
 use std::io::{Read, Write};
 

@@ -4,8 +4,8 @@ ghost use Rattle.cap_session.specs.Counted.{state_of, CanCount};
 
 use crate::input::read_all;
 use cap_config::{ConfigFault, ConfigFaultKind, read_config};
-use cap_daemon::{Counted, write_out};
 use cap_explain::explain;
+use cap_session::{Counted, write_out};
 use cap_words::{describe, queue_table};
 use std::alloc::Global;
 use std::io::{Read, Write};

@@ -4,7 +4,8 @@ ghost use Rattle.cap_session.specs.Counted.{state_of, CanCount};
 use crate::serve::{serve, serve_command};
 use crate::streams::explain_streams;
 use crate::texts::{check_settings, explain_lines, print};
-use cap_daemon::{Counted, replay_with_words};
+use cap_daemon::replay_with_words;
+use cap_session::Counted;
 use clap::error::ErrorKind;
 use clap::{Command, Error};
 use std::alloc::{AllocError, Global};
@@ -65,25 +66,48 @@ pub fn run<
 }
 
 /// The command line of the program.
-fn command_line<'a>(alloc: Global) -> Result<Command<'a>, Error> {
-    let replay = Command::new(alloc, "replay").about(
+fn command_line<'a>(alloc: Global) -> Result<Command<'a>, AllocError> {
+    let command = program(alloc).subcommand(replay_command(alloc))?;
+    let command = with_serve(alloc, command)?;
+    command
+        .subcommand(check_command(alloc))?
+        .subcommand(explain_command(alloc))
+}
+
+/// The program, with none of its commands yet.
+fn program<'a>(alloc: Global) -> Command<'a> {
+    Command::new(alloc, "capsched")
+        .version("0.1.0")
+        .about("The allocation engine of a YARN cluster: a proved Capacity Scheduler")
+        .subcommand_required(true)
+}
+
+/// Adds the command `serve`.
+fn with_serve<'a>(alloc: Global, command: Command<'a>) -> Result<Command<'a>, AllocError> {
+    match serve_command(alloc) {
+        Ok(serve) => command.subcommand(serve),
+        Err(error) => Err(error),
+    }
+}
+
+/// The command `replay`.
+fn replay_command<'a>(alloc: Global) -> Command<'a> {
+    Command::new(alloc, "replay").about(
         "Plays a script of connections from standard input, and prints what they are answered",
-    );
-    let check = Command::new(alloc, "check").about(
+    )
+}
+
+/// The command `check`.
+fn check_command<'a>(alloc: Global) -> Command<'a> {
+    Command::new(alloc, "check").about(
         "Reads property lines from standard input, and prints a table of their queues",
-    );
-    let explain = Command::new(alloc, "explain").about(
+    )
+}
+
+/// The command `explain`.
+fn explain_command<'a>(alloc: Global) -> Command<'a> {
+    Command::new(alloc, "explain").about(
         "Reads a script or what replay printed from standard input, and puts words under its lines",
-    );
-    Ok(
-        Command::new(alloc, "capsched")
-            .version("0.1.0")
-            .about("The allocation engine of a YARN cluster: a proved Capacity Scheduler")
-            .subcommand_required(true)
-            .subcommand(replay)?
-            .subcommand(serve_command(alloc)?)?
-            .subcommand(check)?
-            .subcommand(explain)?,
     )
 }
 

@@ -1,5 +1,5 @@
 -- Streams whose failed calls are counted.
-use Rattle.std.specs.Prelude.{◌≡◌, ◌⊎◌, ℕ, ◌+◌, ◌^◌, ◌<◌, ◌++◌, List, Option, Result, Err, is_err, if◌then◌else◌}
+use Rattle.std.specs.Prelude.{◌≡◌, ◌⊎◌, ℕ, ◌+◌, ◌^◌, ◌<◌, ◌++◌, List, Option, Result, Err}
 use Rattle.std.specs.Io.KnownBytes.{Consumes, IsAtEnd}
 use Rattle.cap_session.specs.declared.counted.Counted.{Counted}
 use Rattle.cap_session.specs.Counted.{StreamState, CanCount, state_of, inner_of}
@@ -55,12 +55,6 @@ input_failures _ = 0
 abbrev pub output_failures : {X : Type 0} → Result X Stop → ℕ
 output_failures (Err Output) = 1
 output_failures _ = 0
-
--- a failed write is counted, and nothing else
-pub record CountsWrite {X E : Type 0} (r : Result X E) (old new : StreamState) : Type 0 where
-  pub failures : new.failures ≡ (if is_err r then old.failures + 1 else old.failures)
-  pub quiets : new.quiets ≡ old.quiets
-  pub ends : new.ends ≡ old.ends
 
 -- where no write has failed, more may be counted
 abbrev pub MayWrite : {X : Type 0} → Result X Stop → StreamState → Type 0

@@ -3,7 +3,6 @@
 
 mod command;
 mod expected;
-mod output;
 mod player;
 mod print;
 mod report;
@@ -14,5 +13,4 @@ mod stop;
 mod words;
 
 pub use cap_session::Counted;
-pub use output::write_out;
 pub use player::{replay, replay_with_words};

@@ -2,10 +2,9 @@ ghost use Rattle.std.specs.Prelude.{◌≡◌, ◌≢◌, ◌↔◌, ◌<◌, �
 ghost use Rattle.cap_session.specs.Counted.{state_of, CanCount};
 ghost use Rattle.cap_daemon.specs.Streams.{input_failures, output_failures, MayWrite, IsRefused};
 
-use crate::output::write_out;
 use crate::script::Script;
 use crate::stop::Stop;
-use cap_session::Counted;
+use cap_session::{Counted, write_out};
 use std::io::Write;
 
 /// Prints why a script was played no further, and says the exit status.

@@ -7,23 +7,21 @@ ghost use Rattle.cap_daemon.specs.Script.{IsPiece};
 ghost use Rattle.cap_daemon.specs.Settings.{with_line};
 ghost use Rattle.cap_daemon.specs.World.{Performs, Begins, FailsToBegin, MakesStep};
 ghost use Rattle.cap_daemon.specs.Progress.{PlaysLine, MayNotFollow, FailsAtStep};
-ghost use Rattle.cap_session.specs.Counted.{state_of, CanCount};
-ghost use Rattle.cap_daemon.specs.Streams.{IsOfScript, CountsWrite};
+ghost use Rattle.cap_session.specs.Counted.{state_of, CanCount, CountsWrite};
+ghost use Rattle.cap_daemon.specs.Streams.{IsOfScript};
 
 use crate::command::{Command, command_of};
 use crate::expected::Expected;
-use crate::output::write_out;
 use crate::print::{print_choice, print_fault, print_frames, print_number, print_verdict};
 use crate::simulation::Simulation;
 use crate::stop::Stop;
 use cap_config::ConfigFault;
-use cap_session::Counted;
+use cap_session::{Counted, write_out};
 use cap_world::{Did, Step};
 use std::alloc::{AllocError, Global};
 use std::io::Write;
 
 /// A script that is being played: its settings and its world, and what was printed and is not written out yet.
-#[derive(Drop)]
 pub(crate) struct Script {
     simulation: Simulation,
     lines: u64,
@@ -32,6 +30,18 @@ pub(crate) struct Script {
     // Room for the bytes of a piece, kept from line to line.
     room: Vec<u8>,
     printed: Vec<u8>,
+}
+
+impl Drop for Script {
+    fn drop(self) {
+        let Script {
+            simulation: _,
+            lines: _,
+            expected: _,
+            room: _,
+            printed: _,
+        } = self;
+    }
 }
 
 impl Script {

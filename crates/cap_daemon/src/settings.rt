@@ -19,10 +19,15 @@ use std::marker::Model;
 const DEFAULT: &[u8] = b"yarn.scheduler.capacity.root.queues=default";
 
 /// The property lines of a script so far, joined by line feeds. Contracts see their text, and none where there is no such line.
-#[derive(Drop)]
 pub(crate) struct Settings {
     alloc: Global,
     text: Option<Vec<u8>>,
+}
+
+impl Drop for Settings {
+    fn drop(self) {
+        let Settings { alloc: _, text: _ } = self;
+    }
 }
 
 impl Model for Settings {

@@ -12,12 +12,21 @@ use cap_world::{Did, Step, World};
 use std::alloc::{AllocError, Global};
 
 /// The settings of a script, and the world of its steps once they were read.
-#[derive(Drop)]
 pub(crate) struct Simulation {
     settings: Settings,
     world: Option<World>,
     // The events of one step, printed by nobody.
     events: Vec<Event<2>>,
+}
+
+impl Drop for Simulation {
+    fn drop(self) {
+        let Simulation {
+            settings: _,
+            world: _,
+            events: _,
+        } = self;
+    }
 }
 
 impl Simulation {

@@ -1,6 +1,7 @@
 //! Serving a connection.
-ghost use Rattle.std.specs.Prelude.{◌≡◌, None};
-ghost use Rattle.cap_workers.specs.Sessions.{pending_request};
+ghost use Rattle.std.specs.Prelude.{◌≡◌, None, IfSome};
+ghost use Rattle.cap_session.specs.Session.{new_session};
+ghost use Rattle.cap_workers.specs.Sessions.{pending_request, IsServed};
 
 use crate::uninterrupted::Uninterrupted;
 use cap_model::Request;
@@ -23,13 +24,22 @@ const WRITE_WAITS: u64 = 5;
 const DRAIN_READS: u32 = 64;
 
 /// A connection that is served: its stream, its session, and the session's open request, if it has one.
-#[derive(Drop)]
 pub(crate) struct Connection {
     stream: TcpStream,
     session: Session,
     pending: Option<Request<2>>,
     ghost goes_on: { session.ended ≡ None },
     ghost open: { pending ≡ pending_request session.open_request },
+}
+
+impl Drop for Connection {
+    fn drop(self) {
+        let Connection {
+            stream: _,
+            session: _,
+            pending: _,
+        } = self;
+    }
 }
 
 /// What came of serving a connection once.
@@ -46,20 +56,7 @@ enum Served {
 impl Connection {
     /// A connection that was accepted. `None` if its stream can't be set up, or if an allocation fails.
     pub(crate) fn new(alloc: Global, stream: TcpStream) -> Option<Connection> {
-        if stream.set_nodelay(true).is_err() {
-            return None;
-        }
-        let reads = Some(Duration::from_millis(READ_WAITS));
-        if stream.set_read_timeout(reads).is_err() {
-            return None;
-        }
-        let writes = Some(Duration::from_secs(WRITE_WAITS));
-        if stream.set_write_timeout(writes).is_err() {
-            return None;
-        }
-        let Ok(session) = Session::open(alloc) else {
-            return None;
-        };
+        let session = session_over(alloc, &stream)?;
         Some(Connection {
             stream,
             session,
@@ -116,14 +113,12 @@ impl Connection {
             session,
             pending,
         } = self;
-        let mut reader = Counted::new(Uninterrupted::new(&stream));
-        let mut writer = Counted::new(Uninterrupted::new(&stream));
         let SessionEnd {
             session,
             sent: _,
             unsent: _,
             cause,
-        } = serve_session(rt, shared, seat, session, pending, &mut reader, &mut writer);
+        } = serve_stream(rt, shared, seat, session, pending, &stream);
         match cause {
             EndCause::Quiet => Served::Quiet(Connection {
                 stream,
@@ -142,6 +137,36 @@ impl Connection {
             _ => Served::Over,
         }
     }
+}
+
+/// A session for a stream, which is set up for it. `None` if it can't be set up, or if an allocation fails.
+fn session_over(alloc: Global, stream: &TcpStream) -> Option<Session>
+    ensures { IfSome result (λ session. session ≡ new_session) }
+{
+    stream.set_nodelay(true).ok()?;
+    let reads = Duration::from_millis(READ_WAITS);
+    stream.set_read_timeout(Some(reads)).ok()?;
+    let writes = Duration::from_secs(WRITE_WAITS);
+    stream.set_write_timeout(Some(writes)).ok()?;
+    Session::open(alloc).ok()
+}
+
+/// Serves a session over a stream, as `serve_session` does.
+fn serve_stream<J: Naming, H: Wait>(
+    rt: &H,
+    shared: &Shared<J>,
+    seat: &mut Seat<J>,
+    session: Session,
+    pending: Option<Request<2>>,
+    stream: &TcpStream,
+) -> SessionEnd
+    requires goes_on { session.ended ≡ None }
+    requires pending { pending ≡ pending_request session.open_request }
+    ensures { IsServed J.limit session result.session seat.old seat.new result.cause }
+{
+    let mut reader = Counted::new(Uninterrupted::new(stream));
+    let mut writer = Counted::new(Uninterrupted::new(stream));
+    serve_session(rt, shared, seat, session, pending, &mut reader, &mut writer)
 }
 
 /// Whether a look at what has come found nothing in time, or was interrupted.

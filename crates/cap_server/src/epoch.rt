@@ -1,5 +1,5 @@
 //! An epoch: all jobs over one shared cluster, until its journal is full or all connections have ended.
-ghost use Rattle.std.specs.Prelude.{◌≡◌, ◌≤◌, ◌<◌, IfOk};
+ghost use Rattle.std.specs.Prelude.{◌≡◌, ◌≤◌, ◌<◌, length, IfOk};
 ghost use Rattle.std.specs.Option.{ForSome};
 ghost use Rattle.cap_server.specs.Epochs.{LeadsTo};
 
@@ -7,7 +7,7 @@ use crate::job::{Job, Left, Seated, Tool};
 use crate::site::Site;
 use cap_commit::Cluster;
 use cap_model::NoMemory;
-use cap_shared::{Blank, Entry, Naming, Seat, SeatReport, Shared};
+use cap_shared::{Blank, Closed, Naming, Seat, Shared};
 use cap_workers::{Committer, Gate, Putter, lanes};
 use std::alloc::Global;
 use std::marker::Brand;
@@ -15,19 +15,55 @@ use std::sync::Wait;
 use std::thread::{Threads, map_vec};
 use std::time::Clock;
 
-/// What is left of an epoch: the cluster, the jobs for the next, and how many entries its journal had.
-#[derive(Drop)]
+/// What an epoch begins with, and what is left of it: the cluster, the jobs, and how many entries its journal had.
 pub(crate) struct Past {
     pub cluster: Cluster<2>,
     pub jobs: Vec<Job>,
     pub entries: usize,
 }
 
+impl Drop for Past {
+    fn drop(self) {
+        let Past {
+            cluster: _,
+            jobs: _,
+            entries: _,
+        } = self;
+    }
+}
+
+impl Past {
+    /// Whether a connection has not ended.
+    pub(crate) fn is_open(&self) -> bool {
+        self.jobs.iter().any(Job::is_open)
+    }
+
+    /// Its cluster and its jobs.
+    fn into_parts(self) -> (Cluster<2>, Vec<Job>)
+        ensures { result.0.flat ≡ self.cluster.flat }
+    {
+        let Past {
+            cluster,
+            jobs,
+            entries: _,
+        } = self;
+        (cluster, jobs)
+    }
+}
+
 /// The tools of an epoch: both ends of the lanes, or nothing.
-#[derive(Drop)]
 struct Tools {
     committer: Option<Committer>,
     putters: Vec<Putter>,
+}
+
+impl Drop for Tools {
+    fn drop(self) {
+        let Tools {
+            committer: _,
+            putters: _,
+        } = self;
+    }
 }
 
 impl Tools {
@@ -91,26 +127,38 @@ fn places_for(capacity: usize) -> usize
     capacity
 }
 
-/// An epoch over a cluster, with a seat for each job, a thread each: its journal leads from this cluster to the one that is left. If an
-/// allocation fails the cluster is given up.
+/// An epoch over the cluster that the last one left, with a seat for each job, a thread each: its journal leads from this cluster to the one
+/// that is left. If an allocation fails the cluster is given up.
 pub(crate) fn epoch<H: Threads + Wait + Clock + Sync, G: Gate + Sync>(
     rt: &H,
     alloc: Global,
-    cluster: Cluster<2>,
+    past: Past,
     site: &Site<'_, G>,
-    jobs: Vec<Job>,
 ) -> Result<Past, NoMemory>
-    ensures { IfOk result (λ past.
-        LeadsTo site.now.limit cluster.flat past.entries past.cluster.flat) }
+    ensures { IfOk result (λ next.
+        LeadsTo site.now.limit past.cluster.flat next.entries next.cluster.flat) }
 {
-    let (seats, limit) = (jobs.len(), site.limit);
-    if seats == 0 || seats > 256 {
+    site.rest.open(rt);
+    match name(alloc, past.jobs.len()) {
+        Ok((blank, count)) => {
+            let (cluster, jobs) = past.into_parts();
+            named_epoch::<Brand, H, G>(rt, alloc, blank, count, cluster, jobs, site)
+        }
+        Err(NoMemory) => Err(NoMemory),
+    }
+}
+
+/// What names an epoch with a seat for each of so many jobs, and the number of its seats. An error means that an allocation failed.
+fn name(alloc: Global, jobs: usize) -> Result<(Blank, u32), NoMemory>
+    ensures seats { IfOk result (λ named. named.0.1 ≡ named.1) }
+    ensures few { IfOk result (λ named. (1 ≤ named.1) × (named.1 ≤ 256)) }
+{
+    if jobs == 0 || jobs > 256 {
         return Err(NoMemory);
     }
-    site.rest.open(rt);
-    let count = seats as u32;
+    let count = jobs as u32;
     let blank = Blank::new(alloc, count)?;
-    named_epoch::<Brand, H, G>(rt, alloc, blank, cluster, limit, count, site, jobs)
+    Ok((blank, count))
 }
 
 /// The same under a name.
@@ -118,52 +166,95 @@ fn named_epoch<J: Naming + Send + Sync, H: Threads + Wait + Clock + Sync, G: Gat
     rt: &H,
     alloc: Global,
     blank: Blank,
-    cluster: Cluster<2>,
-    limit: usize,
     count: u32,
-    site: &Site<'_, G>,
+    cluster: Cluster<2>,
     jobs: Vec<Job>,
+    site: &Site<'_, G>,
 ) -> Result<Past, NoMemory>
     requires named { blank.0 ≡ J.table }
     requires opening { cluster.flat ≡ J.opening }
-    requires limit { limit ≡ J.limit }
+    requires limit { site.now.limit ≡ J.limit }
     requires seats { blank.1 ≡ J.seats }
     requires count { count ≡ J.seats }
     requires some { (1 ≤ J.limit) × (J.limit ≤ 1000000) }
     requires few { (1 ≤ J.seats) × (J.seats ≤ 256) }
-    ensures { IfOk result (λ past. LeadsTo limit cluster.flat past.entries past.cluster.flat) }
+    ensures { IfOk result (λ next.
+        LeadsTo site.now.limit cluster.flat next.entries next.cluster.flat) }
 {
-    let (shared, seats) = Shared::<J>::open(alloc, blank, cluster, limit)?;
-    let (Ok(mut next), Ok(mut back)) = (
-        Vec::with_capacity(alloc, jobs.len()),
-        Vec::with_capacity(alloc, jobs.len()),
+    let (shared, seats) = Shared::<J>::open(alloc, blank, cluster, site.limit)?;
+    match work_all(rt, alloc, &shared, site, count, jobs, seats) {
+        Ok((jobs, seats)) => Ok(past_of(shared.close(seats), jobs)),
+        Err(NoMemory) => Err(NoMemory),
+    }
+}
+
+/// Does the jobs, each with a seat in a thread of its own. What is left to do comes back, with all seats. An error means that an allocation
+/// failed.
+fn work_all<J: Naming + Send + Sync, H: Threads + Wait + Clock + Sync, G: Gate + Sync>(
+    rt: &H,
+    alloc: Global,
+    shared: &Shared<J>,
+    site: &Site<'_, G>,
+    count: u32,
+    jobs: Vec<Job>,
+    seats: Vec<Seat<J>>,
+) -> Result<(Vec<Job>, Vec<Seat<J>>), NoMemory>
+    requires { count ≡ J.seats }
+    ensures { IfOk result (λ left. length left.1.items ≡ J.seats) }
+{
+    let seated = seat_all(rt, alloc, site.lanes, jobs, seats)?;
+    match map_vec(rt, seated, &|one| one.work(rt, alloc, shared, site)) {
+        Ok(left) => unseat_all(alloc, count, left),
+        Err(_) => Err(NoMemory),
+    }
+}
+
+/// The jobs and their seats, apart. If an allocation fails, or if there are not so many seats, there are none.
+fn unseat_all<J: Naming>(
+    alloc: Global,
+    count: u32,
+    seated: Vec<Seated<J>>,
+) -> Result<(Vec<Job>, Vec<Seat<J>>), NoMemory>
+    ensures { IfOk result (λ left. length left.1.items ≡ count) }
+{
+    let (Ok(mut jobs), Ok(mut seats)) = (
+        Vec::with_capacity(alloc, seated.len()),
+        Vec::with_capacity(alloc, seated.len()),
     ) else {
         return Err(NoMemory);
     };
-    let seated = seat_all(rt, alloc, site.lanes, jobs, seats)?;
-    let lent = &shared;
-    let Ok(left) = map_vec(rt, seated, &|one| one.work(rt, alloc, lent, site)) else {
-        return Err(NoMemory);
-    };
-    for (job, seat) in left {
-        if next.push(job).is_err() || back.push(seat).is_err() {
+    for one in seated {
+        let (job, seat) = one.into_parts();
+        if jobs.push(job).is_err() || seats.push(seat).is_err() {
             return Err(NoMemory);
         }
     }
-    if back.len() != count as usize {
+    if seats.len() != count as usize {
         return Err(NoMemory);
     }
-    let closed = shared.close(back);
-    Ok(Past {
-        cluster: closed.cluster,
-        entries: closed.journal.len(),
-        jobs: hand_over(next, closed.journal, closed.seats),
-    })
+    Ok((jobs, seats))
+}
+
+/// What a closed epoch leaves for the next.
+fn past_of(closed: Closed, jobs: Vec<Job>) -> Past
+    ensures cluster { result.cluster.flat ≡ closed.cluster.flat }
+    ensures entries { result.entries ≡ length closed.journal.items }
+{
+    let Closed {
+        cluster,
+        journal,
+        seats,
+    } = closed;
+    Past {
+        cluster,
+        entries: journal.len(),
+        jobs: hand_over(jobs, Left { journal, seats }),
+    }
 }
 
 /// The jobs for the next epoch, of which the one that clears has what is left of this one.
-fn hand_over(mut jobs: Vec<Job>, journal: Vec<Entry>, seats: Vec<SeatReport>) -> Vec<Job> {
-    let mut left = Some(Left { journal, seats });
+fn hand_over(mut jobs: Vec<Job>, left: Left) -> Vec<Job> {
+    let mut left = Some(left);
     for job in jobs.iter_mut() {
         if let Job::Clearing(held) = job {
             *held = left.take();

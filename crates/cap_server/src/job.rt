@@ -10,10 +10,18 @@ use std::sync::Wait;
 use std::time::Clock;
 
 /// What is left of a closed epoch beside its cluster.
-#[derive(Drop)]
 pub(crate) struct Left {
     pub journal: Vec<Entry>,
     pub seats: Vec<SeatReport>,
+}
+
+impl Drop for Left {
+    fn drop(self) {
+        let Left {
+            journal: _,
+            seats: _,
+        } = self;
+    }
 }
 
 /// What a thread does, from epoch to epoch.
@@ -69,6 +77,12 @@ impl<J: Naming> Drop for Seated<J> {
 }
 
 impl<J: Naming> Seated<J> {
+    /// The job and the seat.
+    pub(crate) fn into_parts(self) -> (Job, Seat<J>) {
+        let Seated { job, tool: _, seat } = self;
+        (job, seat)
+    }
+
     /// Does the job in an epoch, and gives back the seat, with what is left to do in the next. If the epoch ends, those that rest are
     /// woken.
     pub(crate) fn work<H: Wait + Clock, G: Gate>(
@@ -77,7 +91,7 @@ impl<J: Naming> Seated<J> {
         alloc: Global,
         shared: &Shared<J>,
         site: &Site<'_, G>,
-    ) -> (Job, Seat<J>) {
+    ) -> Seated<J> {
         let Seated {
             job,
             tool,
@@ -99,7 +113,11 @@ impl<J: Naming> Seated<J> {
         if site.is_over() || shared.is_full(rt) {
             site.rest.close(rt);
         }
-        (left, seat)
+        Seated {
+            job: left,
+            tool: Tool::Bare,
+            seat,
+        }
     }
 }
 
@@ -132,7 +150,9 @@ fn commit_with<J: Naming, H: Wait, G: Gate>(
     tool: Tool,
 ) -> Job {
     match tool {
-        Tool::Lanes(committer) => commit_all(rt, shared, seat, site.gate, committer),
+        Tool::Lanes(mut committer) => {
+            commit_all(rt, shared, seat, site.gate, &mut committer);
+        }
         Tool::Lane(_putter) => {}
         Tool::Bare => {}
     }

@@ -168,7 +168,7 @@ pub(crate) fn commit_all<J: Naming, H: Wait, G: Gate>(
     shared: &Shared<J>,
     seat: &mut Seat<J>,
     gate: &G,
-    mut committer: Committer,
+    committer: &mut Committer,
 ) {
     for _ in rt.forever() {
         let Some((worker, proposal)) = committer.take(rt) else {

@@ -1,18 +1,17 @@
 //! The daemon's run: its epochs, and what it prints.
-ghost use Rattle.std.specs.Prelude.{◌≡◌, ◌<◌, ◌≤◌, IfSome};
+ghost use Rattle.std.specs.Prelude.{◌≡◌, ◌<◌, ◌≤◌, Err, IfSome, IfErr, OnOk};
 ghost use Rattle.cap_session.specs.Counted.{state_of, CanCount};
 
-use crate::epoch::epoch;
+use crate::epoch::{Past, epoch};
 use crate::job::Job;
 use crate::site::Site;
 use cap_commit::Cluster;
 use cap_config::Config;
-use cap_daemon::{Counted, write_out};
 use cap_model::NoMemory;
+use cap_session::{Counted, write_out};
 use cap_workers::{Gate, Worker};
-use std::alloc::Global;
+use std::alloc::{AllocError, Global};
 use std::io::Write;
-use std::iter::once;
 use std::net::TcpListener;
 use std::sync::Wait;
 use std::thread::Threads;
@@ -62,20 +61,54 @@ pub fn serve_on<H: Threads + Wait + Clock + Sync, G: Gate + Sync, W: Write>(
     ensures status { result < 4 }
     ensures failed { (state_of writer.old).failures < (state_of writer.new).failures → result ≡ 1 }
 {
-    let Ok((cluster, jobs)) = begin(alloc, config, sizes) else {
+    let Ok(past) = begin(alloc, config, sizes) else {
         return no_memory(writer);
     };
+    match announce(alloc, listener, writer) {
+        Ok(()) => serve_all(rt, alloc, &Site::new(listener, gate, sizes), past, writer),
+        Err(status) => status,
+    }
+}
+
+/// Prints the port of the listener. The error is the exit status.
+fn announce<W: Write>(
+    alloc: Global,
+    listener: &TcpListener,
+    writer: &mut Counted<W>,
+) -> Result<(), u8>
+    requires { CanCount (state_of writer.old) }
+    ensures status { IfErr result (λ status. status < 4) }
+    ensures failed { (state_of writer.old).failures < (state_of writer.new).failures
+        → result ≡ Err 1 }
+    ensures same { OnOk result
+        ((state_of writer.new).failures ≡ (state_of writer.old).failures) }
+    ensures more { OnOk result (CanCount (state_of writer.new)) }
+{
     let Some(port) = port_of(listener) else {
-        return 1;
+        return Err(1);
     };
     let Ok(listening) = format!(in alloc; "listening {port}\n") else {
-        return no_memory(writer);
+        return Err(no_memory(writer));
     };
-    if write_out(writer, listening.as_bytes()).is_err() {
-        return 1;
+    match write_out(writer, listening.as_bytes()) {
+        Ok(()) => Ok(()),
+        Err(_) => Err(1),
     }
-    let site = Site::new(listener, gate, sizes);
-    let Ok(Totals { epochs, entries }) = run_epochs(rt, alloc, &site, cluster, jobs) else {
+}
+
+/// Serves until all connections have ended, and prints how many epochs and entries there were. The result is the exit status.
+fn serve_all<H: Threads + Wait + Clock + Sync, G: Gate + Sync, W: Write>(
+    rt: &H,
+    alloc: Global,
+    site: &Site<'_, G>,
+    past: Past,
+    writer: &mut Counted<W>,
+) -> u8
+    requires { CanCount (state_of writer.old) }
+    ensures status { result < 4 }
+    ensures failed { (state_of writer.old).failures < (state_of writer.new).failures → result ≡ 1 }
+{
+    let Ok(Totals { epochs, entries }) = run_epochs(rt, alloc, site, past) else {
         return no_memory(writer);
     };
     let Ok(closed) = format!(in alloc; "closed epochs={epochs} entries={entries}\n") else {
@@ -111,24 +144,43 @@ fn port_of(listener: &TcpListener) -> Option<u16> {
 }
 
 /// The cluster of the settings, and the jobs of all threads. An error means that an allocation failed.
-fn begin(
-    alloc: Global,
-    config: &Config<2>,
-    sizes: &Sizes,
-) -> Result<(Cluster<2>, Vec<Job>), NoMemory> {
-    let cluster = Cluster::from_config(alloc, config)?;
+fn begin(alloc: Global, config: &Config<2>, sizes: &Sizes) -> Result<Past, NoMemory> {
+    let jobs = jobs_of(alloc, sizes)?;
+    Ok(Past {
+        cluster: Cluster::from_config(alloc, config)?,
+        jobs,
+        entries: 0,
+    })
+}
+
+/// The jobs of all threads. An error means that an allocation failed.
+fn jobs_of(alloc: Global, sizes: &Sizes) -> Result<Vec<Job>, NoMemory> {
     let mut jobs = Vec::new(alloc);
-    let committers = if sizes.lanes.is_some() { 1 } else { 0 };
-    let connections = (0..sizes.connections).map(|_| Job::Awaiting);
-    let workers = (0..sizes.workers).map(|number| Job::Scheduling(Worker::new(number)));
-    let committer = (0..committers).map(|_| Job::Committing);
-    let clearing = once(Job::Clearing(None));
-    for job in connections.chain(workers).chain(committer).chain(clearing) {
-        if jobs.push(job).is_err() {
-            return Err(NoMemory);
-        }
+    match add_jobs(&mut jobs, sizes) {
+        Ok(()) => Ok(jobs),
+        Err(_) => Err(NoMemory),
     }
-    Ok((cluster, jobs))
+}
+
+/// Adds the jobs of all threads.
+fn add_jobs(jobs: &mut Vec<Job>, sizes: &Sizes) -> Result<(), AllocError> {
+    for _ in 0..sizes.connections {
+        jobs.push(Job::Awaiting)?;
+    }
+    add_workers(jobs, sizes.workers)?;
+    if sizes.lanes.is_some() {
+        jobs.push(Job::Committing)?;
+    }
+    jobs.push(Job::Clearing(None))?;
+    Ok(())
+}
+
+/// Adds the jobs of so many workers.
+fn add_workers(jobs: &mut Vec<Job>, count: u32) -> Result<(), AllocError> {
+    for number in 0..count {
+        jobs.push(Job::Scheduling(Worker::new(number)))?;
+    }
+    Ok(())
 }
 
 /// Lets the memory that an epoch frees be kept for the next. glibc's malloc takes a block above a threshold anew from the system, and gives
@@ -144,22 +196,19 @@ fn run_epochs<H: Threads + Wait + Clock + Sync, G: Gate + Sync>(
     rt: &H,
     alloc: Global,
     site: &Site<'_, G>,
-    cluster: Cluster<2>,
-    jobs: Vec<Job>,
+    past: Past,
 ) -> Result<Totals, NoMemory> {
     keep_memory(alloc);
-    let (mut cluster, mut jobs) = (cluster, jobs);
+    let mut past = past;
     let mut totals = Totals {
         epochs: 0,
         entries: 0,
     };
     for _ in rt.forever() {
-        let past = epoch(rt, alloc, cluster, site, jobs)?;
+        past = epoch(rt, alloc, past, site)?;
         totals.epochs = totals.epochs.saturating_add(1);
         totals.entries = totals.entries.saturating_add(past.entries as u64);
-        cluster = past.cluster;
-        jobs = past.jobs;
-        if !jobs.iter().any(Job::is_open) {
+        if !past.is_open() {
             return Ok(totals);
         }
     }

@@ -1,5 +1,5 @@
 -- What is seen of a reader or a writer whose failures are counted.
-use Rattle.std.specs.Prelude.{◌≡◌, ℕ, ◌+◌, ◌<◌, ◌≤◌, ◌++◌, List, [], take, length, map, Option, Result, Ok, Err, ◌==◌, if◌then◌else◌}
+use Rattle.std.specs.Prelude.{◌≡◌, ℕ, ◌+◌, ◌<◌, ◌≤◌, ◌++◌, List, [], take, length, map, Option, Result, Ok, Err, is_err, ◌==◌, if◌then◌else◌}
 use Rattle.std.specs.IoError.{error_kind}
 use Rattle.std.specs.declared.io.Error.{Error}
 use Rattle.std.specs.declared.io.ErrorKind.{ErrorKind}
@@ -85,6 +85,12 @@ after_writes s bytes (sents.Fault n) = one_failure (record s { taken = s.taken +
 abbrev pub after_flush : {X E : Type 0} → StreamState → Result X E → StreamState
 after_flush s (Ok x) = s
 after_flush s (Err e) = one_failure s
+
+-- a failed write is counted, and nothing else
+pub record CountsWrite {X E : Type 0} (r : Result X E) (old new : StreamState) : Type 0 where
+  pub failures : new.failures ≡ (if is_err r then old.failures + 1 else old.failures)
+  pub quiets : new.quiets ≡ old.quiets
+  pub ends : new.ends ≡ old.ends
 
 -- what a read gave, and what it did to the bytes that the reader has left, where those are known
 abbrev pub Gives : Option (List ℕ) → Option (List ℕ) → List ℕ → Got → Type 0

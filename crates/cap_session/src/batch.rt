@@ -14,13 +14,23 @@ use std::marker::Model;
 
 /// A session whose requests were handed out together, and are answered one after the other. Contracts see the session, and the requests
 /// that are not answered yet.
-#[derive(Drop)]
 pub struct Batch {
     pub(crate) ahead: Ahead,
     pub(crate) unsent: BytesMut,
     // These exist for contracts alone.
     pub(crate) answered: Answered,
     pub(crate) sent: Log<BytesMut, usize>,
+}
+
+impl Drop for Batch {
+    fn drop(self) {
+        let Batch {
+            ahead: _,
+            unsent: _,
+            answered: _,
+            sent: _,
+        } = self;
+    }
 }
 
 impl Model for Batch {

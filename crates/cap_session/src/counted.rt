@@ -1,7 +1,7 @@
 //! Readers and writers whose failures are counted.
-ghost use Rattle.std.specs.Prelude.{◌≡◌, ◌<◌, ◌++◌, length, take};
+ghost use Rattle.std.specs.Prelude.{◌≡◌, ◌<◌, ◌++◌, length, take, OnOk};
 ghost use Rattle.std.specs.Io.KnownBytes.{Appends, Keeps};
-ghost use Rattle.cap_session.specs.Counted.{state_of, inner_of, new_stream, bytes_in, CanCount, after_read, after_write, after_writes, after_flush, one_failure, Gives, Takes, sent_count, IsSentCount, got_of, put_of};
+ghost use Rattle.cap_session.specs.Counted.{state_of, inner_of, new_stream, bytes_in, CanCount, after_read, after_write, after_writes, after_flush, one_failure, CountsWrite, Gives, Takes, sent_count, IsSentCount, got_of, put_of};
 
 use http_server::Log;
 use std::io;
@@ -202,6 +202,20 @@ impl<W: Write> Counted<W> {
                 Err(StreamFailed)
             }
         }
+    }
+}
+
+/// Writes all the bytes and flushes. An error means that one of the two failed, which the writer counts as one failure; a beginning
+/// of the bytes may have been written.
+pub fn write_out<W: Write>(writer: &mut Counted<W>, bytes: &[u8]) -> Result<(), StreamFailed>
+    requires { CanCount (state_of writer.old) }
+    ensures counts { CountsWrite result (state_of writer.old) (state_of writer.new) }
+    ensures bytes { OnOk result (Appends
+        (W.contents (inner_of writer.old)) (W.contents (inner_of writer.new)) bytes.now) }
+{
+    match writer.write_all(bytes) {
+        Sent::All(_) => writer.flush(),
+        Sent::Fault { .. } => Err(StreamFailed),
     }
 }
 

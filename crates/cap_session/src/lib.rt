@@ -10,5 +10,5 @@ mod session;
 
 pub use batch::Batch;
 pub use cap_model::{NoMemory, OwnedReply, Request};
-pub use counted::{Counted, Got, Put, Sent, StreamFailed};
+pub use counted::{Counted, Got, Put, Sent, StreamFailed, write_out};
 pub use session::{Cause, Fed, Next, Session};

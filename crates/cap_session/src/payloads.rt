@@ -17,7 +17,6 @@ use std::marker::Model;
 pub(crate) const AHEAD_MAX: usize = 64;
 
 /// A stream, and what was read ahead of it, but for the requests themselves, which may be handed out together.
-#[derive(Drop)]
 pub(crate) struct Ahead {
     pub(crate) alloc: Global,
     pub(crate) framer: Framer,
@@ -27,13 +26,32 @@ pub(crate) struct Ahead {
     pub(crate) refused: Option<Refused>,
 }
 
+impl Drop for Ahead {
+    fn drop(self) {
+        let Ahead {
+            alloc: _,
+            framer: _,
+            asked: _,
+            refused: _,
+        } = self;
+    }
+}
+
 /// Takes a stream in pieces, and gives its payloads, with what was read from each. Contracts see it as a framer that gave the same, and
 /// that is never spent.
-#[derive(Drop)]
 pub(crate) struct Payloads {
     ahead: Ahead,
     // The requests that were read ahead.
     requests: VecDeque<Request<2>>,
+}
+
+impl Drop for Payloads {
+    fn drop(self) {
+        let Payloads {
+            ahead: _,
+            requests: _,
+        } = self;
+    }
 }
 
 impl Model for Payloads {

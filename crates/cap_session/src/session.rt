@@ -42,7 +42,7 @@ pub enum Fed {
 }
 
 /// What comes next.
-#[derive(Debug, Drop)]
+#[derive(Drop)]
 pub enum Next {
     /// A request, which is open until it is answered.
     Request(Request<2>),
@@ -54,7 +54,6 @@ pub enum Next {
 
 /// One connection. Contracts see the bytes that it was fed, the payloads that it answered, the request that is open, its calls
 /// (each a request with its reply), the bytes of its answers, written out or not yet, and why it has ended.
-#[derive(Drop)]
 pub struct Session {
     pub(crate) payloads: Payloads,
     pub(crate) unsent: BytesMut,
@@ -65,6 +64,20 @@ pub struct Session {
     pub(crate) opened: ReadPayload,
     pub(crate) answered: Answered,
     pub(crate) sent: Log<BytesMut, usize>,
+}
+
+impl Drop for Session {
+    fn drop(self) {
+        let Session {
+            payloads: _,
+            unsent: _,
+            head: _,
+            ended: _,
+            opened: _,
+            answered: _,
+            sent: _,
+        } = self;
+    }
 }
 
 impl Model for Session {

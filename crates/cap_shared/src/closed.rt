@@ -6,10 +6,18 @@ use cap_commit::Cluster;
 use std::marker::Model;
 
 /// A seat of a closed epoch: its number, and its receipts in order.
-#[derive(Drop)]
 pub struct SeatReport {
     number: u32,
     receipts: Vec<Receipt>,
+}
+
+impl Drop for SeatReport {
+    fn drop(self) {
+        let SeatReport {
+            number: _,
+            receipts: _,
+        } = self;
+    }
 }
 
 impl Model for SeatReport {

@@ -27,9 +27,14 @@ pub enum EventForm {
 }
 
 /// An event whose request is kept in little space. Contracts see the event.
-#[derive(Drop)]
 pub struct CompactEvent {
     form: EventForm,
+}
+
+impl Drop for CompactEvent {
+    fn drop(self) {
+        let CompactEvent { form: _ } = self;
+    }
 }
 
 impl Model for CompactEvent {

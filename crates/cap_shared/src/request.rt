@@ -35,9 +35,14 @@ pub enum RequestForm {
 }
 
 /// A request, in at most 80 bytes and what its lists and texts take. Contracts see the request.
-#[derive(Drop)]
 pub struct CompactRequest {
     form: RequestForm,
+}
+
+impl Drop for CompactRequest {
+    fn drop(self) {
+        let CompactRequest { form: _ } = self;
+    }
 }
 
 impl Model for CompactRequest {

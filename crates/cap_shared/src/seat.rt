@@ -1,6 +1,8 @@
 //! A seat, and what names an epoch.
 ghost use Rattle.std.specs.Prelude.{◌≡◌, ◌<◌};
 ghost use Rattle.cap_shared.specs.Journal.{receipts_in, Rises, NotesHold};
+ghost use Rattle.cap_shared.specs.Parts.{IsSeat};
+ghost use Rattle.cap_shared.specs.Rule.{sitting_of};
 
 use crate::entry::Receipt;
 use crate::passes::Pass;
@@ -35,12 +37,22 @@ impl Naming for Brand {
 }
 
 /// What one thread calls with. Contracts see its number, and all that it was answered, in order.
-#[derive(Drop)]
 pub struct Seat<J: Naming> {
     pub(crate) number: u32,
     pub(crate) receipts: Vec<Receipt>,
     pub(crate) pass: Pass,
     pub(crate) of: PhantomData<J>,
+}
+
+impl<J: Naming> Drop for Seat<J> {
+    fn drop(self) {
+        let Seat {
+            number: _,
+            receipts: _,
+            pass: _,
+            of: _,
+        } = self;
+    }
 }
 
 impl<J: Naming> Model for Seat<J> {
@@ -72,5 +84,20 @@ impl<J: Naming> Seat<J> {
         ensures notes { NotesHold J.opening J.limit self.now.past }
     {
         self.receipts.as_slice()
+    }
+
+    /// Its number, its receipts and its pass.
+    pub(crate) fn into_parts(self) -> (u32, Vec<Receipt>, Pass)
+        ensures seat { IsSeat J.table J.opening J.limit J.seats result.0 result.1.items
+            result.2.table_id result.2.me }
+        ensures view { sitting_of result.2.me.0 ≡ self }
+    {
+        let Seat {
+            number,
+            receipts,
+            pass,
+            of: _,
+        } = self;
+        (number, receipts, pass)
     }
 }

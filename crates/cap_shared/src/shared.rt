@@ -1,16 +1,17 @@
 //! The cluster that threads share, with its seats.
-ghost use Rattle.std.specs.Prelude.{◌≡◌, ℕ, ◌<◌, ◌≤◌, [], length, map, vec_capacity, IfOk, OnErr, MatchResult};
+ghost use Rattle.std.specs.Prelude.{◌≡◌, ℕ, ◌<◌, ◌≤◌, [], length, map, vec_capacity, IfOk, OnOk, OnErr, MatchResult};
 ghost use Rattle.cap_shared.specs.Calls.{CallsOk, CallsBack, CallMisses, CommitAnswers, CommitsBack, CopyIs};
 ghost use Rattle.cap_shared.specs.Journal.{Replays, TagsBelow, AllHonest};
 ghost use Rattle.cap_shared.specs.Parts.{report_of};
-ghost use Rattle.cap_shared.specs.Rule.{fresh, AllFit, times};
+ghost use Rattle.cap_shared.specs.Rule.{first_view, fresh, keeper, AllFit, times};
 
 use crate::blank::Blank;
 use crate::closed::{Closed, SeatReport};
 use crate::desk::Desk;
+use crate::entry::Entry;
 use crate::faults::{CallFault, CommitFault, Fault};
 use crate::history::{Mark, View};
-use crate::passes::Word;
+use crate::passes::{Pass, Word};
 use crate::rule::{Compares, Handover, JournalRule};
 use crate::seat::{Naming, Seat};
 use atomic_table::Table;
@@ -27,7 +28,6 @@ use std::thread::yield_now;
 const LOOKS: u32 = 100;
 
 /// A cluster under a lock, its journal, and the word that ties both to the seats. Threads share it by reference, each with a seat.
-#[derive(Drop)]
 pub struct Shared<J: Naming> {
     alloc: Global,
     table: Table<Mark, View, u64, JournalRule, Global>,
@@ -39,14 +39,34 @@ pub struct Shared<J: Naming> {
     ghost roomy: { J.seats ≤ vec_capacity room },
 }
 
+impl<J: Naming> Drop for Shared<J> {
+    fn drop(self) {
+        let Shared {
+            alloc: _,
+            table: _,
+            desk: _,
+            room: _,
+        } = self;
+    }
+}
+
 /// A cluster that one thread holds for some calls. All others wait until it is dropped.
-#[derive(Drop)]
 pub struct Held<'a, J: Naming> {
     alloc: Global,
     word: &'a Word,
     desk: MutexGuard<'a, Desk<J>>,
     ghost named: { word.now.table_id ≡ J.table },
     ghost some: { 0 < word.now.table_id.words },
+}
+
+impl<'a, J: Naming> Drop for Held<'a, J> {
+    fn drop(self) {
+        let Held {
+            alloc: _,
+            word: _,
+            desk: _,
+        } = self;
+    }
 }
 
 impl<'a, J: Naming> Held<'a, J> {
@@ -167,28 +187,10 @@ impl<J: Naming> Shared<J> {
             mut pass,
             seats: count,
         } = blank;
-        let Ok(journal) = Vec::with_capacity(alloc, limit) else {
+        let made = rooms(alloc, &table.shared, &mut pass, limit, count);
+        let Ok((journal, room, seats)) = made else {
             return Err(NoMemory);
         };
-        let Ok(room) = Vec::with_capacity(alloc, count as usize) else {
-            return Err(NoMemory);
-        };
-        let Ok(mut seats) = Vec::with_capacity(alloc, count as usize) else {
-            return Err(NoMemory);
-        };
-        let share = limit / count as usize;
-        for number in 0..count {
-            let Ok(receipts) = Vec::with_capacity(alloc, share) else {
-                return Err(NoMemory);
-            };
-            let own = table.shared.split_seat::<Handover>(&mut pass);
-            seats.push_reserved(Seat {
-                number,
-                receipts,
-                pass: own,
-                of: PhantomData,
-            });
-        }
         let desk = Desk {
             cluster,
             journal,
@@ -233,12 +235,7 @@ impl<J: Naming> Shared<J> {
             of: _,
         } = desk.into_inner();
         for seat in seats {
-            let Seat {
-                number,
-                receipts,
-                pass: own,
-                of: _,
-            } = seat;
+            let (number, receipts, own) = seat.into_parts();
             table.shared.join_seat::<Handover>(&mut pass, own);
             room.push_reserved(SeatReport::new(number, receipts));
         }
@@ -249,4 +246,50 @@ impl<J: Naming> Shared<J> {
             seats: room,
         }
     }
+}
+
+/// Room for a journal and for the reports of so many seats, and the seats, whose sittings the pass hands out. If an allocation fails there
+/// are none.
+fn rooms<J: Naming>(
+    alloc: Global,
+    word: &Word,
+    pass: &mut Pass,
+    limit: usize,
+    count: u32,
+) -> Result<(Vec<Entry>, Vec<SeatReport>, Vec<Seat<J>>), NoMemory>
+    requires word { (word.now.table_id ≡ J.table) × (0 < word.now.table_id.words) }
+    requires pass { (pass.old.table_id ≡ J.table) × (pass.old.me ≡ (first_view J.seats, [])) }
+    requires count { count ≡ J.seats }
+    requires some { (1 ≤ J.limit) × (J.limit ≤ 1000000) }
+    requires few { (1 ≤ J.seats) × (J.seats ≤ 256) }
+    requires limit { limit ≡ J.limit }
+    ensures journal { IfOk result (λ r. (r.0.items ≡ []) × (limit ≤ vec_capacity r.0)) }
+    ensures reports { IfOk result (λ r. (r.1.items ≡ []) × (J.seats ≤ vec_capacity r.1)) }
+    ensures seats { IfOk result (λ r. r.2.items ≡ fresh 0 J.seats) }
+    ensures pass { OnOk result (pass.new.table_id ≡ J.table) }
+    ensures keeps { OnOk result (pass.new.me ≡ (keeper [], [])) }
+{
+    let Ok(journal) = Vec::with_capacity(alloc, limit) else {
+        return Err(NoMemory);
+    };
+    let Ok(reports) = Vec::with_capacity(alloc, count as usize) else {
+        return Err(NoMemory);
+    };
+    let Ok(mut seats) = Vec::with_capacity(alloc, count as usize) else {
+        return Err(NoMemory);
+    };
+    let share = limit / count as usize;
+    for number in 0..count {
+        let Ok(receipts) = Vec::with_capacity(alloc, share) else {
+            return Err(NoMemory);
+        };
+        let own = word.split_seat::<Handover>(pass);
+        seats.push_reserved(Seat {
+            number,
+            receipts,
+            pass: own,
+            of: PhantomData,
+        });
+    }
+    Ok((journal, reports, seats))
 }

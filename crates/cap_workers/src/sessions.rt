@@ -13,7 +13,7 @@ use std::io::{Read, Write};
 use std::sync::Wait;
 
 /// Why serving a session ended.
-#[derive(Debug, Drop)]
+#[derive(Drop)]
 pub enum EndCause {
     /// The input has ended, and all requests were answered.
     InputEnded,

@@ -22,10 +22,18 @@ pub enum Standing {
 }
 
 /// One connection. Contracts see its state, and its session, of which nothing is ever written out.
-#[derive(Drop)]
 pub(crate) struct Connection {
     standing: Standing,
     session: Session,
+}
+
+impl Drop for Connection {
+    fn drop(self) {
+        let Connection {
+            standing: _,
+            session: _,
+        } = self;
+    }
 }
 
 impl Model for Connection {

@@ -14,7 +14,6 @@ use std::marker::Model;
 /// Connections and workers over one cluster. Contracts see its opening cluster, its events, the cluster now, each connection ever
 /// opened with the bytes that it took and was answered, and each worker that ever copied the cluster with its snapshot, its
 /// proposal and its last verdict.
-#[derive(Drop)]
 pub struct World {
     alloc: Global,
     cluster: Cluster<2>,
@@ -23,6 +22,19 @@ pub struct World {
     // These two exist for contracts alone.
     opening: Log<Cluster<2>, usize>,
     events: Log<Vec<Event<2>>, usize>,
+}
+
+impl Drop for World {
+    fn drop(self) {
+        let World {
+            alloc: _,
+            cluster: _,
+            connections: _,
+            workers: _,
+            opening: _,
+            events: _,
+        } = self;
+    }
 }
 
 impl Model for World {

@@ -2,7 +2,7 @@ use Rattle.std.proofs.Common.{◌≡◌, ◌++◌, ◌∷◌, [], ◌∙◌, ℕ
 use Rattle.std.proofs.lemmas.List.{nil_from_length}
 use Rattle.cap_model.specs.declared.request.Request.{Request}
 use Rattle.cap_frames.specs.declared.fault.FrameFault.{FrameFault}
-use Rattle.cap_frames.specs.History.{History, IsAtRest, IsAtFault, after_gift}
+use Rattle.cap_frames.specs.History.{History, IsReading, IsAtRest, IsAtFault, after_gift}
 use Rattle.cap_session.specs.Ahead.{asked_requests}
 use Rattle.cap_session.proofs.ReadingAhead.{reads_on, gave, takes_asked, opens_asked, takes_refused, takes_next, same_given, finds_rest, finds_fault, opens}
 use Rattle.cap_session.proofs.payloads.Payloads.next.Goals as goal
@@ -65,6 +65,9 @@ returns-in-Ok-None-clause-gives c =
     let at = finds_rest c.self.inside.ahead c.self.invariant.given c.next.result c.self.invariant.has (c.in_default.ensures.items ∙ empty) none over c.next.ensures.rest c.next.ensures.again in
     (same_given c.self.inside.ahead (record c.self.inside.ahead { framer = c.next.new.self; asked = c.pop_front.new.self; refused = c.take.new.self }) (c.in_default.ensures.items ∙ empty) empty none c.take.ensures.after (ap (λ (h : History). h.fed) same) (ap (λ (h : History). h.given) same) ∙ c.self.view_is, subst IsAtRest c.self.view_is at)
 
+pub returns-in-Ok-None-clause-reading : goal.returns-in-Ok-None-clause-reading
+returns-in-Ok-None-clause-reading c = subst IsReading (sym (returns-in-Ok-None-clause-gives c).0) (subst IsReading c.self.view_is (reads_on c.self.inside.ahead c.self.invariant.given c.self.invariant.has))
+
 pub returns-in-Err-BadLength-clause-gives : goal.returns-in-Err-BadLength-clause-gives
 returns-in-Err-BadLength-clause-gives c =
     let empty = nil_from_length c.pop_front.new.self.items (cc (c.pop_front.new.self.ok.0, c.in_default.ensures.cases.1)) in
@@ -72,6 +75,9 @@ returns-in-Err-BadLength-clause-gives c =
     let same = c.in-Err-BadLength.ensures.err in
     let at = finds_fault c.self.inside.ahead c.self.invariant.given c.next.result c.self.invariant.has (c.in_default.ensures.items ∙ empty) none (c.in-Err-BadLength.is ∙ ap (λ (e : FrameFault). Err e) c.in-Err-BadLength.field-0-is) c.next.ensures.fault c.next.ensures.again in
     (same_given c.self.inside.ahead (record c.self.inside.ahead { framer = c.next.new.self; asked = c.pop_front.new.self; refused = c.take.new.self }) (c.in_default.ensures.items ∙ empty) empty none c.take.ensures.after same.0 same.1 ∙ c.self.view_is, subst IsAtFault c.self.view_is at)
+
+pub returns-in-Err-BadLength-clause-reading : goal.returns-in-Err-BadLength-clause-reading
+returns-in-Err-BadLength-clause-reading c = subst IsReading (sym (returns-in-Err-BadLength-clause-gives c).0) (subst IsReading c.self.view_is (reads_on c.self.inside.ahead c.self.invariant.given c.self.invariant.has))
 
 pub invariant_of-self-2 : goal.invariant_of-self-2
 invariant_of-self-2 c =

@@ -1,4 +1,4 @@
-use Rattle.std.proofs.Common.{refl, ◌∙◌, ap, subst, Some}
+use Rattle.std.proofs.Common.{refl, ◌∙◌, ap, subst, inr, Some}
 use Rattle.cap_session.specs.Session.{SessionState, NextGives, IsSession}
 use Rattle.cap_session.specs.Kept.{IsKept, state_inside}
 use Rattle.cap_session.specs.declared.session.Session.TheInside.{Inside}
@@ -39,6 +39,12 @@ invariant_of-self-in-Rest c =
 pub invariant_of-self-in-BadLength : goal.invariant_of-self-in-BadLength
 invariant_of-self-in-BadLength c =
     (faults c.self.inside (record c.self.inside { payloads = c.find.new.payloads; unsent = c.find.new.unsent; answered = c.find.new.answered; ended = Some causes.BadLength }) c.self.invariant c.in_default.is (ap (λ (s : SessionState). s.open_request) c.self.view_is ∙ c.requires) c.in-BadLength.ensures refl refl refl refl).0
+
+pub returns-in-BadLength-clause-gives : goal.returns-in-BadLength-clause-gives
+returns-in-BadLength-clause-gives c =
+    let t : Inside = record c.self.inside { payloads = c.find.new.payloads; unsent = c.find.new.unsent; answered = c.find.new.answered; ended = Some causes.BadLength } in
+    let f = faults c.self.inside t c.self.invariant c.in_default.is (ap (λ (s : SessionState). s.open_request) c.self.view_is ∙ c.requires) c.in-BadLength.ensures refl refl refl refl in
+    subst (λ (s : SessionState). NextGives s (state_inside t) (nexts.Ended causes.BadLength)) c.self.view_is (inr (c.in_default.is, f.1))
 
 pub invariant_of-self-in-NoMemory : goal.invariant_of-self-in-NoMemory
 invariant_of-self-in-NoMemory c =

@@ -16,7 +16,7 @@ use Rattle.cap_shared.proofs.shared.Shared.close.Goals as goal
 pub join_seat-requires : goal.join_seat-requires
 join_seat-requires g c =
     let i = c.loop-seat.invariant in
-    (i.same ∙ sym c.args.self.named, c.seat.invariant.same ∙ sym c.args.self.named, ap (λ (m : Me Mark View). m.1) c.seat.invariant.sits, c.args.self.word, joins 0 _ _ _ _)
+    (i.same ∙ sym c.args.self.named, c.into_parts-number.ensures.seat.same ∙ sym c.args.self.named, ap (λ (m : Me Mark View). m.1) c.into_parts-number.ensures.seat.sits, c.args.self.word, joins 0 _ _ _ _)
 
 pub push_reserved-requires : goal.push_reserved-requires
 push_reserved-requires g c =
@@ -34,16 +34,16 @@ loop-seat-preserved g c =
     let ys = c.loop-seat.yielded in
     let log = c.cluster.inside.journal.items in
     let s = c.in-Some.seat in
-    let own = c.seat.invariant.sits ∙ ap (λ (t : Sitting). (sitter t, [])) c.seat.view_is in
-    let made : c.new.result ≡ report_of s = c.new.ensures ∙ ap (λ (n : ℕ). record { number = n; receipts = c.seat.inside.receipts.items }) c.seat.invariant.number_is ∙ ap (λ (rs : List Receipt). record { number = (sitting_of c.seat.inside.pass.me.0).seat; receipts = rs }) c.seat.invariant.receipts_are ∙ ap report_of c.seat.view_is in
+    let own = c.into_parts-number.ensures.seat.sits ∙ ap (λ (t : Sitting). (sitter t, [])) c.into_parts-number.ensures.view in
+    let made : c.new.result ≡ report_of s = c.new.ensures ∙ ap (λ (n : ℕ). record { number = n; receipts = c.into_parts-number.result.1.items }) c.into_parts-number.ensures.seat.number_is ∙ ap (λ (rs : List Receipt). record { number = (sitting_of c.into_parts-number.result.2.me.0).seat; receipts = rs }) c.into_parts-number.ensures.seat.receipts_are ∙ ap report_of c.into_parts-number.ensures.view in
     record {
       same = c.join_seat.ensures.0 ∙ i.same;
-      me = c.join_seat.ensures.2 ∙ ap (λ (m : Me Mark View). (with_guest m.0 c.seat.inside.pass.me.0, m.1)) i.me ∙ ap (λ (m : Me Mark View). (with_guest (view_of true log ys) m.0, [])) own;
+      me = c.join_seat.ensures.2 ∙ ap (λ (m : Me Mark View). (with_guest m.0 c.into_parts-number.result.2.me.0, m.1)) i.me ∙ ap (λ (m : Me Mark View). (with_guest (view_of true log ys) m.0, [])) own;
       all = append_assoc ys (s ∷ []) c.next.new.self.rest.items ∙ ap (λ r. ys ++ r) (sym c.in-Some.ensures.steps.0) ∙ i.all;
       reports = c.push_reserved.ensures.items ∙ ap (λ rs. rs ++ c.new.result ∷ []) i.reports ∙ ap (λ r. map report_of ys ++ r ∷ []) made ∙ sym (map-append report_of ys (s ∷ []));
       honest = honest-push g.J.Naming.opening g.J.Naming.limit ys s i.honest
-          (subst (λ (t : Sitting). Rises 0 t.past) c.seat.view_is c.seat.invariant.rises)
-          (subst (λ (t : Sitting). NotesHold g.J.Naming.opening g.J.Naming.limit t.past) c.seat.view_is c.seat.invariant.notes);
+          (subst (λ (t : Sitting). Rises 0 t.past) c.into_parts-number.ensures.view c.into_parts-number.ensures.seat.rises)
+          (subst (λ (t : Sitting). NotesHold g.J.Naming.opening g.J.Naming.limit t.past) c.into_parts-number.ensures.view c.into_parts-number.ensures.seat.notes);
       room = omega (arith, c.push_reserved.ensures.capacity);
     }
 

@@ -1,6 +1,6 @@
 use Rattle.std.proofs.Common.{◌≡◌, ◌-◌, ◌≤◌, [], true, vec_capacity}
 use Rattle.cap_shared.specs.Rule.{view_of, fresh}
-use Rattle.cap_shared.proofs.shared.Shared.open.Given as goal
+use Rattle.cap_shared.proofs.shared.rooms.Given as goal
 
 -- the seats so far, and the pass sits for the others
 abbrev pub invariant-loop-number : goal.invariant-loop-number

@@ -1,7 +1,7 @@
 use denote.Param.Send.{sendable}
 use Rattle.std.proofs.Crossing.{crosses}
 use Rattle.cap_shared.proofs.Crossing.{Shared-sync}
-use Rattle.cap_server.proofs.epoch.named_epoch.Goals as goal
+use Rattle.cap_server.proofs.epoch.work_all.Goals as goal
 
 pub map_vec-requires-sync-F : goal.map_vec-requires-sync-F
 map_vec-requires-sync-F g c κs within =
