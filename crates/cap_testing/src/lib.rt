@@ -6,6 +6,6 @@ mod settings;
 mod spelling;
 mod table;
 
-pub use settings::{NESTED_QUEUES, TWO_QUEUES, cluster};
+pub use settings::{NESTED_QUEUES, TWO_QUEUES, cluster, cluster_after, make_call};
 pub use spelling::{Call, WantedContainers, frame};
 pub use table::first;

@@ -1,5 +1,8 @@
+use crate::spelling::{Call, frame};
 use cap_commit::Cluster;
 use cap_config::read_config;
+use cap_messages::{dispatch, read_request};
+use cap_model::ReplyWith;
 use std::alloc::Global;
 
 /// Two leaf queues: `a` may grow from (4096, 4) to (16384, 16), where a user has four times its capacity; `b` has (2048, 8).
@@ -24,4 +27,31 @@ yarn.scheduler.capacity.maximum-applications=2
 pub fn cluster(alloc: Global, lines: &[u8]) -> Option<Cluster<2>> {
     let config = read_config(alloc, lines).ok()?;
     Cluster::from_config(alloc, &config).ok()
+}
+
+/// The cluster that these property lines open, once these calls were made. `None` if the lines have a fault, a call is no request or is
+/// refused, or an allocation fails.
+pub fn cluster_after(alloc: Global, lines: &[u8], calls: &[Call<'_>]) -> Option<Cluster<2>> {
+    let mut cluster = cluster(alloc, lines)?;
+    match make_calls(alloc, &mut cluster, calls) {
+        Some(()) => Some(cluster),
+        None => None,
+    }
+}
+
+fn make_calls(alloc: Global, cluster: &mut Cluster<2>, calls: &[Call<'_>]) -> Option<()> {
+    for call in calls {
+        make_call(alloc, cluster, call)?;
+    }
+    Some(())
+}
+
+/// Makes a call. `None` if it is no request or is refused, or an allocation fails.
+pub fn make_call(alloc: Global, cluster: &mut Cluster<2>, call: &Call<'_>) -> Option<()> {
+    let bytes = frame(alloc, 1, call).ok()?;
+    let (_, request) = read_request(alloc, bytes.get(4..)?).ok()?;
+    match dispatch(alloc, cluster, &request) {
+        ReplyWith::Refused(_) => None,
+        _ => Some(()),
+    }
 }

@@ -1,8 +1,6 @@
-use cap_commit::{Cluster, Found, Proposal, ProposalKind, Reason, Reply, Verdict};
-use cap_masters::{allocate, register_master, submit};
-use cap_model::{Ask, Asks, Key, List, Numbers, PathText, ShortText};
-use cap_testing::{TWO_QUEUES, cluster};
-use cap_trackers::{node_gone, register_node};
+use cap_commit::{Cluster, Proposal, ProposalKind, Reason, Verdict};
+use cap_model::Key;
+use cap_testing::{Call, WantedContainers, cluster_after, make_call};
 use cap_vector::Resource;
 use std::alloc::Global;
 
@@ -14,227 +12,177 @@ yarn.scheduler.capacity.root.a.user-limit-factor=4
 yarn.scheduler.capacity.root.b.capacity=[memory=2048,vcores=8]
 ";
 
-/// An ask of an application for one container: application, priority, resource, place.
-const ASKS: [(u64, u32, [u64; 2], &str); 6] = [
-    (1, 1, [1024, 1], "*"),
-    (1, 2, [3072, 1], "*"),
-    (1, 3, [1024, 1], "n2"),
-    (2, 1, [3072, 1], "*"),
-    (2, 2, [2048, 1], "/r2"),
-    (2, 3, [1024, 1], "n1"),
+/// One container wanted anywhere.
+const ONE: WantedContainers<'static> = WantedContainers {
+    priority: 1,
+    request: 0,
+    count: 1,
+    resource: [1024, 1],
+    place: b"*",
+};
+
+const ASKS_OF_1: &[WantedContainers<'static>] = &[
+    ONE,
+    WantedContainers {
+        priority: 2,
+        resource: [3072, 1],
+        ..ONE
+    },
+    WantedContainers {
+        priority: 3,
+        place: b"n2",
+        ..ONE
+    },
 ];
 
-pub(crate) fn key(priority: u32) -> Key {
-    Key {
-        priority,
-        request: 0,
-    }
-}
-
-pub(crate) fn enter(cluster: &mut Cluster<2>, path: &str, user: &str) -> Option<()> {
-    let path = PathText::new(path.as_bytes())?;
-    let user = ShortText::new(user.as_bytes())?;
-    let _reply = submit(cluster, &path, &user);
-    Some(())
-}
-
-pub(crate) fn join(
-    cluster: &mut Cluster<2>,
-    host: &str,
-    rack: &str,
-    total: [u64; 2],
-) -> Option<()> {
-    let host = ShortText::new(host.as_bytes())?;
-    let rack = ShortText::new(rack.as_bytes())?;
-    let _reply = register_node(cluster, &host, &rack, &Resource::new(total)?);
-    Some(())
-}
-
-fn one_ask(alloc: Global, priority: u32, resource: [u64; 2], place: &str) -> Option<Asks<2>> {
-    let resource = Resource::new(resource)?;
-    let place = ShortText::new(place.as_bytes())?;
-    let mut asks = Vec::new(alloc);
-    asks.push(Ask::new(&key(priority), 1, &resource, &place))
-        .ok()?;
-    Some(List::of(asks))
-}
-
-/// An allocate of an application with these asks, under the response id that it was given last.
-fn call(alloc: Global, cluster: &mut Cluster<2>, app: u64, asks: &Asks<2>) -> Option<()> {
-    let response = cluster.apps().app(app)?.response();
-    let releases: Numbers = List::of(Vec::new(alloc));
-    let _reply = allocate(cluster, app, response, asks, &releases);
-    Some(())
-}
-
-fn ask(alloc: Global, cluster: &mut Cluster<2>, app: u64) -> Option<()> {
-    let _reply = register_master(cluster, app);
-    for (owner, priority, resource, place) in ASKS {
-        if owner == app {
-            let asks = one_ask(alloc, priority, resource, place)?;
-            call(alloc, cluster, app, &asks)?;
-        }
-    }
-    Some(())
-}
+const ASKS_OF_2: &[WantedContainers<'static>] = &[
+    WantedContainers {
+        resource: [3072, 1],
+        ..ONE
+    },
+    WantedContainers {
+        priority: 2,
+        resource: [2048, 1],
+        place: b"/r2",
+        ..ONE
+    },
+    WantedContainers {
+        priority: 3,
+        place: b"n1",
+        ..ONE
+    },
+];
 
 /// Application 1 in `root.a` and application 2 in `root.b` with their asks, application 3 without a master, and two nodes, of
 /// (8192, 8) on the rack `/r1` and of (1024, 1) on `/r2`.
-fn add_asks(alloc: Global, cluster: &mut Cluster<2>) -> Option<()> {
-    enter(cluster, "root.a", "u1")?;
-    enter(cluster, "root.b", "u2")?;
-    enter(cluster, "root.a", "u3")?;
-    ask(alloc, cluster, 1)?;
-    ask(alloc, cluster, 2)?;
-    join(cluster, "n1", "/r1", [8192, 8])?;
-    join(cluster, "n2", "/r2", [1024, 1])
+const CALLS: [Call<'static>; 9] = [
+    Call::Submit(b"root.a", b"u1"),
+    Call::Submit(b"root.b", b"u2"),
+    Call::Submit(b"root.a", b"u3"),
+    Call::RegisterMaster(1),
+    Call::Allocate(1, 0, ASKS_OF_1, &[]),
+    Call::RegisterMaster(2),
+    Call::Allocate(2, 0, ASKS_OF_2, &[]),
+    Call::RegisterNode(b"n1", b"/r1", [8192, 8]),
+    Call::RegisterNode(b"n2", b"/r2", [1024, 1]),
+];
+
+/// A proposal for the ask of an application and priority on a node.
+fn proposal(kind: ProposalKind, of: (u64, u32, u64), resource: [u64; 2]) -> Option<Proposal<2>> {
+    let (app, priority, node) = of;
+    Some(Proposal {
+        kind,
+        app,
+        key: Key {
+            priority,
+            request: 0,
+        },
+        node,
+        resource: Resource::new(resource)?,
+    })
 }
 
-/// Why a proposal for an ask of this priority on this node is rejected, if it is.
+/// Why a proposal is rejected, if it is.
 fn reason(
     alloc: Global,
     kind: ProposalKind,
     of: (u64, u32, u64),
     resource: [u64; 2],
 ) -> Option<Option<Reason>> {
-    let (app, priority, node) = of;
-    let proposal = Proposal {
-        kind,
-        app,
-        key: key(priority),
-        node,
-        resource: Resource::new(resource)?,
-    };
-    let mut cluster = cluster(alloc, QUEUES)?;
-    reason_in(alloc, &mut cluster, &proposal)
+    let proposal = proposal(kind, of, resource)?;
+    let cluster = cluster_after(alloc, QUEUES, &CALLS)?;
+    Some(cluster.reason(&proposal))
 }
 
-fn reason_in(
-    alloc: Global,
-    cluster: &mut Cluster<2>,
-    proposal: &Proposal<2>,
-) -> Option<Option<Reason>> {
-    add_asks(alloc, cluster)?;
-    Some(cluster.reason(proposal))
-}
+const GRANT: ProposalKind = ProposalKind::Grant;
+
+const RESERVE: ProposalKind = ProposalKind::Reserve;
+
+/// A proposal for the ask of an application and priority on a node, and why it is rejected, if it is.
+const REASONS: [(ProposalKind, (u64, u32, u64), [u64; 2], Option<Reason>); 19] = [
+    (GRANT, (1, 1, 1), [1024, 1], None),
+    (GRANT, (1, 1, 2), [1024, 1], None),
+    (GRANT, (1, 3, 2), [1024, 1], None),
+    (GRANT, (3, 1, 1), [1024, 1], Some(Reason::NoApp)),
+    (GRANT, (9, 9, 9), [1, 1], Some(Reason::NoApp)),
+    (GRANT, (1, 9, 9), [1, 1], Some(Reason::NoAsk)),
+    (GRANT, (1, 1, 9), [2048, 1], Some(Reason::OtherAsk)),
+    (GRANT, (1, 1, 3), [1024, 1], Some(Reason::NoNode)),
+    (GRANT, (1, 3, 9), [1024, 1], Some(Reason::NoNode)),
+    (GRANT, (1, 3, 1), [1024, 1], Some(Reason::WrongPlace)),
+    (GRANT, (2, 2, 1), [2048, 1], Some(Reason::WrongPlace)),
+    (GRANT, (2, 2, 2), [2048, 1], Some(Reason::NoRoom)),
+    (GRANT, (1, 2, 2), [3072, 1], Some(Reason::NoRoom)),
+    (
+        GRANT,
+        (1, 2, 1),
+        [3072, 1],
+        Some(Reason::OverMaximum { level: 1 }),
+    ),
+    (GRANT, (2, 1, 1), [3072, 1], Some(Reason::OverUser)),
+    (
+        RESERVE,
+        (1, 2, 1),
+        [3072, 1],
+        Some(Reason::OverMaximum { level: 1 }),
+    ),
+    (RESERVE, (2, 1, 1), [3072, 1], Some(Reason::OverUser)),
+    (RESERVE, (1, 1, 1), [1024, 1], Some(Reason::FitsNow)),
+    (RESERVE, (2, 2, 2), [2048, 1], Some(Reason::NeverFits)),
+];
 
 #[test]
 fn proposals_are_rejected_for_the_first_reason(rt: HostRuntime) {
-    let (grant, reserve) = (ProposalKind::Grant, ProposalKind::Reserve);
-    for (kind, of, resource, answer) in [
-        (grant, (1, 1, 1), [1024, 1], None),
-        (grant, (1, 1, 2), [1024, 1], None),
-        (grant, (1, 3, 2), [1024, 1], None),
-        (grant, (3, 1, 1), [1024, 1], Some(Reason::NoApp)),
-        (grant, (9, 9, 9), [1, 1], Some(Reason::NoApp)),
-        (grant, (1, 9, 9), [1, 1], Some(Reason::NoAsk)),
-        (grant, (1, 1, 9), [2048, 1], Some(Reason::OtherAsk)),
-        (grant, (1, 1, 3), [1024, 1], Some(Reason::NoNode)),
-        (grant, (1, 3, 9), [1024, 1], Some(Reason::NoNode)),
-        (grant, (1, 3, 1), [1024, 1], Some(Reason::WrongPlace)),
-        (grant, (2, 2, 1), [2048, 1], Some(Reason::WrongPlace)),
-        (grant, (2, 2, 2), [2048, 1], Some(Reason::NoRoom)),
-        (grant, (1, 2, 2), [3072, 1], Some(Reason::NoRoom)),
-        (
-            grant,
-            (1, 2, 1),
-            [3072, 1],
-            Some(Reason::OverMaximum { level: 1 }),
-        ),
-        (grant, (2, 1, 1), [3072, 1], Some(Reason::OverUser)),
-        (
-            reserve,
-            (1, 2, 1),
-            [3072, 1],
-            Some(Reason::OverMaximum { level: 1 }),
-        ),
-        (reserve, (2, 1, 1), [3072, 1], Some(Reason::OverUser)),
-        (reserve, (1, 1, 1), [1024, 1], Some(Reason::FitsNow)),
-        (reserve, (2, 2, 2), [2048, 1], Some(Reason::NeverFits)),
-    ] {
+    for (kind, of, resource, answer) in REASONS {
         let given = reason(rt.alloc(), kind, of, resource);
         assert!(rt; given == Some(answer), "{kind:?} {of:?}");
     }
 }
 
-/// What is done to the cluster: a proposal of a kind for an ask of application and priority on a node, or the release of a container
-/// of application 1.
+/// What is done to the cluster: a proposal of a kind for an ask of application and priority on a node, or a call.
 #[derive(Clone, Copy)]
 enum Change {
     Grant(u64, u32, u64, [u64; 2]),
     Reserve(u64, u32, u64, [u64; 2]),
-    Release(u64),
+    Call(Call<'static>),
 }
 
-pub(crate) fn propose(
-    cluster: &mut Cluster<2>,
-    kind: ProposalKind,
-    of: (u64, u32, u64),
-    resource: [u64; 2],
-) -> Option<Option<Reason>> {
-    let (app, priority, node) = of;
-    let proposal = Proposal {
-        kind,
-        app,
-        key: key(priority),
-        node,
-        resource: Resource::new(resource)?,
-    };
+/// Why a proposal that was tried was rejected, if it was.
+fn tried(cluster: &mut Cluster<2>, proposal: Proposal<2>) -> Option<Option<Reason>> {
     match cluster.try_commit(proposal).ok()? {
         Verdict::Done(_) => Some(None),
         Verdict::Rejected(reason) => Some(Some(reason)),
     }
 }
 
-fn release(alloc: Global, cluster: &mut Cluster<2>, number: u64) -> Option<()> {
-    let mut numbers = Vec::new(alloc);
-    numbers.push(number).ok()?;
-    let response = cluster.apps().app(1)?.response();
-    let _reply = allocate(
-        cluster,
-        1,
-        response,
-        &List::of(Vec::new(alloc)),
-        &List::of(numbers),
-    );
-    Some(())
-}
-
 fn make(alloc: Global, cluster: &mut Cluster<2>, change: Change) -> Option<Option<Reason>> {
-    match change {
-        Change::Grant(app, priority, node, resource) => propose(
-            cluster,
-            ProposalKind::Grant,
-            (app, priority, node),
-            resource,
-        ),
-        Change::Reserve(app, priority, node, resource) => propose(
-            cluster,
-            ProposalKind::Reserve,
-            (app, priority, node),
-            resource,
-        ),
-        Change::Release(number) => {
-            release(alloc, cluster, number)?;
-            Some(None)
+    let (kind, of, resource) = match change {
+        Change::Grant(app, priority, node, resource) => {
+            (ProposalKind::Grant, (app, priority, node), resource)
         }
-    }
+        Change::Reserve(app, priority, node, resource) => {
+            (ProposalKind::Reserve, (app, priority, node), resource)
+        }
+        Change::Call(call) => {
+            make_call(alloc, cluster, &call)?;
+            return Some(None);
+        }
+    };
+    tried(cluster, proposal(kind, of, resource)?)
 }
 
 /// After these changes: why the last one was rejected, if it was; how many containers are live and how many reservations there are;
 /// and what `root.a` uses.
 fn after(alloc: Global, changes: &[Change]) -> Option<(Option<Reason>, usize, usize, [u64; 2])> {
-    let mut cluster = cluster(alloc, QUEUES)?;
+    let mut cluster = cluster_after(alloc, QUEUES, &CALLS)?;
     after_in(alloc, &mut cluster, changes)
 }
 
-/// The same of a cluster without applications.
 fn after_in(
     alloc: Global,
     cluster: &mut Cluster<2>,
     changes: &[Change],
 ) -> Option<(Option<Reason>, usize, usize, [u64; 2])> {
-    add_asks(alloc, cluster)?;
     let mut last = None;
     for change in changes {
         last = make(alloc, cluster, *change)?;
@@ -249,8 +197,9 @@ fn a_proposal_is_made_or_changes_nothing(rt: HostRuntime) {
     let small = [1024, 1];
     let first = Change::Grant(1, 1, 2, small);
     let kept = Change::Reserve(1, 3, 2, small);
+    let release = Change::Call(Call::Allocate(1, 1, &[], &[1]));
     let converted = Change::Grant(1, 3, 2, small);
-    let changes = [first, kept, Change::Release(1), converted];
+    let changes = [first, kept, release, converted];
     let many = [first, kept, converted];
     let again = [first, first];
     let twice = [first, kept, kept];
@@ -274,83 +223,4 @@ fn a_proposal_is_made_or_changes_nothing(rt: HostRuntime) {
         let given = after(rt.alloc(), made.unwrap_or(&[]));
         assert!(rt; given == Some(answer));
     }
-}
-
-/// Application 1 in `root.a` and application 2 in `root.b`, and a node of (8192, 8). The application asks for four containers of
-/// this resource.
-fn add_four(alloc: Global, cluster: &mut Cluster<2>, app: u64, resource: [u64; 2]) -> Option<()> {
-    enter(cluster, "root.a", "u1")?;
-    enter(cluster, "root.b", "u2")?;
-    join(cluster, "n1", "/r1", [8192, 8])?;
-    let mut asks = Vec::new(alloc);
-    let wanted = Ask::new(&key(1), 4, &Resource::new(resource)?, &ShortText::any());
-    asks.push(wanted).ok()?;
-    let releases: Numbers = List::of(Vec::new(alloc));
-    let _reply = register_master(cluster, app);
-    let _reply = allocate(cluster, app, 0, &List::of(asks), &releases);
-    Some(())
-}
-
-/// Why each of four grants in turn is rejected, if it is.
-fn four_grants(alloc: Global, app: u64, resource: [u64; 2]) -> Option<[Option<Reason>; 4]> {
-    let mut cluster = cluster(alloc, TWO_QUEUES)?;
-    four_grants_in(alloc, &mut cluster, app, resource)
-}
-
-/// The same of a cluster without applications.
-fn four_grants_in(
-    alloc: Global,
-    cluster: &mut Cluster<2>,
-    app: u64,
-    resource: [u64; 2],
-) -> Option<[Option<Reason>; 4]> {
-    add_four(alloc, cluster, app, resource)?;
-    let mut reasons = [None; 4];
-    for reason in &mut reasons {
-        *reason = propose(cluster, ProposalKind::Grant, (app, 1, 1), resource)?;
-    }
-    Some(reasons)
-}
-
-#[test]
-fn grants_go_on_up_to_a_limit(rt: HostRuntime) {
-    let user = Some(Reason::OverUser);
-    let room = Some(Reason::NoRoom);
-    for (app, resource, answer) in [
-        (2, [1024, 1], [None, None, user, user]),
-        (1, [4096, 4], [None, None, room, room]),
-        (1, [1024, 1], [None; 4]),
-    ] {
-        let given = four_grants(rt.alloc(), app, resource);
-        assert!(rt; given == Some(answer), "{app}");
-    }
-}
-
-/// What all use after two grants of (4096, 4) to application 1, in a queue that is STOPPED, and how many containers end with their
-/// node; and what all use then.
-fn lost_after_two(alloc: Global) -> Option<([u64; 2], u32, [u64; 2])> {
-    let mut cluster = cluster(alloc, TWO_QUEUES)?;
-    lost_after_two_in(alloc, &mut cluster)
-}
-
-/// The same of a cluster without applications.
-fn lost_after_two_in(alloc: Global, cluster: &mut Cluster<2>) -> Option<([u64; 2], u32, [u64; 2])> {
-    add_four(alloc, cluster, 1, [4096, 4])?;
-    if let Found::Leaf(position) = cluster.tree().find(b"root.a") {
-        cluster.set_state(&position, false);
-    }
-    for _ in 0..2 {
-        let _made = propose(cluster, ProposalKind::Grant, (1, 1, 1), [4096, 4])?;
-    }
-    let used = cluster.root_use().amounts();
-    let Reply::NodeGone { ended } = node_gone(cluster, 1) else {
-        return None;
-    };
-    Some((used, ended, cluster.root_use().amounts()))
-}
-
-#[test]
-fn use_goes_with_a_node(rt: HostRuntime) {
-    let given = lost_after_two(rt.alloc());
-    assert!(rt; given == Some(([8192, 8], 2, [0, 0])));
 }

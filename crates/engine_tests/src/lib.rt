@@ -1,25 +1,28 @@
-//! Tests of the engine below messages: amounts, texts and their pieces, settings, queues, applications, nodes and the cluster over them.
+//! Tests of the engine, of what neither a script nor property lines show: amounts, texts and their pieces, the words for any fault, queues, proposals that no
+//! worker makes, snapshots in an arena, frames, batches, sessions, and steps of a world.
 #![tactic(auto)]
 
 #[cfg(test)]
 mod amounts;
 #[cfg(test)]
-mod asks;
+mod arenas;
 #[cfg(test)]
-mod cluster;
+mod batches;
 #[cfg(test)]
 mod commits;
 #[cfg(test)]
-mod masters;
+mod frames;
 #[cfg(test)]
-mod nodes;
+mod messages;
 #[cfg(test)]
 mod pieces;
 #[cfg(test)]
-mod scenarios;
+mod sessions;
 #[cfg(test)]
-mod settings;
+mod steps;
 #[cfg(test)]
 mod texts;
 #[cfg(test)]
 mod tree;
+#[cfg(test)]
+mod words;

@@ -1,30 +1,47 @@
-use cap_model::{PathText, Refusal, ShortText, Text};
-use std::test::Fail;
+use cap_model::{PathText, Refusal, ShortText};
 
-#[test]
-fn texts_are_graphic_and_bounded(rt: HostRuntime) -> Result<(), Fail> {
-    let host: ShortText = Text::new(b"n1").ok_or("a host")?;
-    assert_eq!(rt; host.as_bytes(), b"n1".as_slice());
-    assert!(rt; ShortText::new(b"").is_none());
-    assert!(rt; ShortText::new(b"a b").is_none());
-    assert!(rt; ShortText::new(&[0x7f]).is_none());
-    assert!(rt; ShortText::new(b"!~").is_some());
-    assert!(rt; ShortText::new(&[b'x'; 64]).is_some());
-    assert!(rt; ShortText::new(&[b'x'; 65]).is_none());
-    assert!(rt; PathText::new(&[b'x'; 255]).is_some());
-    Ok(())
+/// Whether these bytes are a text, which then keeps them.
+fn is_text(bytes: &[u8]) -> bool {
+    match ShortText::new(bytes) {
+        Some(text) => text.as_bytes() == bytes,
+        None => false,
+    }
 }
 
 #[test]
+fn texts_are_graphic_and_bounded(rt: HostRuntime) {
+    let rows: [(&[u8], bool); 7] = [
+        (b"n1", true),
+        (b"", false),
+        (b"a b", false),
+        (&[0x7f], false),
+        (b"!~", true),
+        (&[b'x'; 64], true),
+        (&[b'x'; 65], false),
+    ];
+    for (bytes, answer) in rows {
+        assert!(rt; is_text(bytes) == answer, "{bytes:?}");
+    }
+    assert!(rt; PathText::new(&[b'x'; 255]).is_some());
+}
+
+/// Refusals and their numbers.
+const REFUSALS: [(Refusal, u8); 10] = [
+    (Refusal::UnknownQueue, 1),
+    (Refusal::NotLeaf, 2),
+    (Refusal::QueueStopped, 3),
+    (Refusal::TooManyApplications, 4),
+    (Refusal::HostTaken, 12),
+    (Refusal::TotalTooLarge, 13),
+    (Refusal::TooManyNodes, 14),
+    (Refusal::ZeroResource, 15),
+    (Refusal::NumbersSpent, 16),
+    (Refusal::NoMemory, 20),
+];
+
+#[test]
 fn refusals_have_their_numbers(rt: HostRuntime) {
-    assert_eq!(rt; Refusal::UnknownQueue.status(), 1);
-    assert_eq!(rt; Refusal::NotLeaf.status(), 2);
-    assert_eq!(rt; Refusal::QueueStopped.status(), 3);
-    assert_eq!(rt; Refusal::TooManyApplications.status(), 4);
-    assert_eq!(rt; Refusal::HostTaken.status(), 12);
-    assert_eq!(rt; Refusal::TotalTooLarge.status(), 13);
-    assert_eq!(rt; Refusal::TooManyNodes.status(), 14);
-    assert_eq!(rt; Refusal::ZeroResource.status(), 15);
-    assert_eq!(rt; Refusal::NumbersSpent.status(), 16);
-    assert_eq!(rt; Refusal::NoMemory.status(), 20);
+    for (refusal, status) in REFUSALS {
+        assert!(rt; refusal.status() == status, "{status}");
+    }
 }

@@ -9,114 +9,34 @@ use std::alloc::Global;
 
 type Tree = QueueTree<2, Global>;
 
-fn tree_of(alloc: Global, lines: &[u8]) -> Option<Tree> {
-    let config = read_config(alloc, lines).ok()?;
-    QueueTree::from_config(alloc, &config).ok()
-}
-
-fn tree(alloc: Global) -> Option<Tree> {
-    tree_of(alloc, NESTED_QUEUES)
-}
-
-/// A change of the tree, at a queue of this path where its condition holds, and nothing else where it does not.
+/// A change at a queue, made where its condition holds.
 #[derive(Clone, Copy)]
 enum Change {
-    State(&'static str, bool),
-    /// One more active application of this user.
-    Enter(&'static str, &'static str),
+    /// The queue is RUNNING or STOPPED.
+    State(bool),
+    /// One more active application of the user.
+    Enter,
     /// One less.
-    Leave(&'static str, &'static str),
+    Leave,
     /// The user gives so much back.
-    GiveBack(&'static str, &'static str, [u64; 2]),
+    GiveBack([u64; 2]),
     /// The user's use changes from the first amounts to the second.
-    Apply(&'static str, &'static str, [u64; 2], [u64; 2]),
+    Apply([u64; 2], [u64; 2]),
 }
 
-/// The child index on the way to a queue at each level, as the digits of a number after a 1.
-fn digits(steps: &[u32]) -> usize {
-    match steps {
-        [] => 1,
-        [a] => 10 + *a as usize % 10,
-        [a, b, ..] => 100 + *a as usize % 10 * 10 + *b as usize % 10,
-    }
-}
+/// A change at the queue of a path, for a user.
+type Step = (&'static str, &'static str, Change);
 
-/// Whether a queue is a leaf, and where it is.
-fn found(tree: &Tree, path: &str) -> Option<(bool, usize)> {
-    match tree.find(path.as_bytes()) {
-        Found::Leaf(position) => Some((true, digits(position.as_slice()))),
-        Found::Parent(position) => Some((false, digits(position.as_slice()))),
-        Found::Missing => None,
-    }
-}
-
-fn found_at_first(alloc: Global, path: &str) -> Option<(bool, usize)> {
-    found(&tree(alloc)?, path)
-}
-
-#[test]
-fn queues_are_found(rt: HostRuntime) {
-    for (path, answer) in [
-        ("root", Some((false, 1))),
-        ("root.a", Some((false, 10))),
-        ("root.a.y", Some((true, 101))),
-        ("root.b", Some((true, 11))),
-        ("root.c", None),
-        ("roo", None),
-        ("root.a.", None),
-        ("root.a.x.y", None),
-        ("", None),
-    ] {
-        assert!(rt; found_at_first(rt.alloc(), path) == answer, "{path}");
-    }
-}
-
-fn capacity_at(tree: &Tree, position: &Path<Global>) -> [u64; 2]
-    requires { IsPosition tree.now position.now.items }
+fn enter(tree: &mut Tree, position: &Path<Global>, user: &ShortText) -> Option<()>
+    requires { IsPosition tree.old position.now.items }
 {
-    tree.row(position).guaranteed().amounts()
-}
-
-fn capacity(tree: &Tree, path: &str) -> Option<[u64; 2]> {
-    match tree.find(path.as_bytes()) {
-        Found::Leaf(position) | Found::Parent(position) => Some(capacity_at(tree, &position)),
-        Found::Missing => None,
+    if tree.active() >= 10 {
+        return None;
     }
+    tree.enter(position, user).ok()
 }
 
-fn capacity_at_first(alloc: Global, path: &str) -> Option<[u64; 2]> {
-    capacity(&tree(alloc)?, path)
-}
-
-#[test]
-fn capacities_are_those_of_the_settings(rt: HostRuntime) {
-    assert!(rt; capacity_at_first(rt.alloc(), "root.a") == Some([4096, 4]));
-    assert!(rt; capacity_at_first(rt.alloc(), "root.a.x") == Some([0, 0]));
-}
-
-fn set_state(tree: &mut Tree, path: &str, running: bool) {
-    match tree.find(path.as_bytes()) {
-        Found::Leaf(position) | Found::Parent(position) => tree.set_state(&position, running),
-        Found::Missing => {}
-    }
-}
-
-fn enter(tree: &mut Tree, path: &str, user: &str) -> Option<()> {
-    let user = ShortText::new(user.as_bytes())?;
-    match tree.find(path.as_bytes()) {
-        Found::Leaf(position) if tree.active() < 10 => tree.enter(&position, &user).ok(),
-        _ => None,
-    }
-}
-
-/// The user's active applications in a leaf.
-fn active_at(tree: &Tree, position: &Path<Global>, user: &ShortText) -> u64
-    requires { IsPosition tree.now position.now.items }
-{
-    tree.row(position).user_active(user)
-}
-
-fn leave_at(tree: &mut Tree, position: &Path<Global>, user: &ShortText) -> Option<()>
+fn leave(tree: &mut Tree, position: &Path<Global>, user: &ShortText) -> Option<()>
     requires { IsPosition tree.old position.now.items }
 {
     let active = tree.row(position).user_active(user);
@@ -128,225 +48,286 @@ fn leave_at(tree: &mut Tree, position: &Path<Global>, user: &ShortText) -> Optio
     Some(())
 }
 
-fn leave(tree: &mut Tree, path: &str, user: &str) -> Option<()> {
-    let user = ShortText::new(user.as_bytes())?;
-    match tree.find(path.as_bytes()) {
-        Found::Leaf(position) => leave_at(tree, &position, &user),
-        _ => None,
-    }
-}
-
-fn give_back_at(
-    tree: &mut Tree,
-    position: &Path<Global>,
-    user: &ShortText,
-    r: &Resource<2>,
-) -> Option<()>
+fn give_back(tree: &mut Tree, position: &Path<Global>, user: &ShortText, r: [u64; 2]) -> Option<()>
     requires { IsPosition tree.old position.now.items }
 {
+    let r = Resource::new(r)?;
     let active = tree.row(position).user_active(user);
     let used = tree.user_use(position, user);
-    if active == 0 || !fits(r, &used) {
+    if active == 0 || !fits(&r, &used) {
         return None;
     }
-    tree.give_back(position, user, r);
+    tree.give_back(position, user, &r);
     Some(())
 }
 
-fn give_back(tree: &mut Tree, path: &str, user: &str, r: [u64; 2]) -> Option<()> {
-    let user = ShortText::new(user.as_bytes())?;
-    let r = Resource::new(r)?;
-    match tree.find(path.as_bytes()) {
-        Found::Leaf(position) => give_back_at(tree, &position, &user, &r),
-        _ => None,
-    }
-}
-
-fn apply_at(
+fn apply(
     tree: &mut Tree,
     position: &Path<Global>,
     user: &ShortText,
-    old: &Resource<2>,
-    new: &Resource<2>,
+    old: [u64; 2],
+    new: [u64; 2],
 ) -> Option<()>
     requires { IsPosition tree.old position.now.items }
 {
+    let (old, new) = (Resource::new(old)?, Resource::new(new)?);
     let active = tree.row(position).user_active(user);
     let used = tree.user_use(position, user);
     let all = tree.used();
-    if active == 0 || !fits(old, &used) || !fits(old, &all) {
+    if active == 0 || !fits(&old, &used) || !fits(&old, &all) {
         return None;
     }
-    checked_add(&minus(&all, old), new)?;
-    tree.apply(position, user, old, new);
+    checked_add(&minus(&all, &old), &new)?;
+    tree.apply(position, user, &old, &new);
     Some(())
 }
 
-fn apply(tree: &mut Tree, path: &str, user: &str, old: [u64; 2], new: [u64; 2]) -> Option<()> {
-    let user = ShortText::new(user.as_bytes())?;
-    let (old, new) = (Resource::new(old)?, Resource::new(new)?);
-    match tree.find(path.as_bytes()) {
-        Found::Leaf(position) => apply_at(tree, &position, &user, &old, &new),
-        _ => None,
-    }
-}
-
-fn make(tree: &mut Tree, change: Change) -> Option<()> {
+fn make_at(tree: &mut Tree, position: &Path<Global>, user: &ShortText, change: Change) -> Option<()>
+    requires { IsPosition tree.old position.now.items }
+{
     match change {
-        Change::State(path, running) => Some(set_state(tree, path, running)),
-        Change::Enter(path, user) => enter(tree, path, user),
-        Change::Leave(path, user) => leave(tree, path, user),
-        Change::GiveBack(path, user, r) => give_back(tree, path, user, r),
-        Change::Apply(path, user, old, new) => apply(tree, path, user, old, new),
+        Change::State(running) => Some(tree.set_state(position, running)),
+        Change::Enter => enter(tree, position, user),
+        Change::Leave => leave(tree, position, user),
+        Change::GiveBack(r) => give_back(tree, position, user, r),
+        Change::Apply(old, new) => apply(tree, position, user, old, new),
     }
 }
 
-/// The tree after these changes. `None` if the condition of one does not hold or an allocation fails.
-fn after(alloc: Global, changes: &[Change]) -> Option<Tree> {
-    let mut tree = tree(alloc)?;
-    match after_in(&mut tree, changes) {
-        Some(()) => Some(tree),
-        None => None,
-    }
-}
-
-fn after_in(tree: &mut Tree, changes: &[Change]) -> Option<()> {
-    for change in changes {
-        make(tree, *change)?;
-    }
-    Some(())
-}
-
-fn runs(tree: &Tree, path: &str) -> Option<bool> {
-    match tree.find(path.as_bytes()) {
-        Found::Leaf(position) | Found::Parent(position) => Some(tree.running(&position)),
-        Found::Missing => None,
-    }
-}
-
-fn runs_after(alloc: Global, changes: &[Change], path: &str) -> Option<bool> {
-    runs(&after(alloc, changes)?, path)
-}
-
-#[test]
-fn a_stopped_queue_stops_those_under_it(rt: HostRuntime) {
-    let changes = [
-        Change::State("root.a.y", true),
-        Change::State("root.a", false),
-    ];
-    for (made, path, answer) in [
-        (0, "root.a.y", false),
-        (1, "root.a.y", true),
-        (2, "root.a.x", false),
-        (2, "root.b", true),
-        (2, "root", true),
-    ] {
-        let given = runs_after(rt.alloc(), first(&changes, made), path);
-        assert!(rt; given == Some(answer), "{made} {path}");
-    }
-}
-
-/// Two applications of `ann` in `root.a.x` and one of `bob` in `root.b`; then those of `ann` end.
-const ANN_AND_BOB: [Change; 5] = [
-    Change::Enter("root.a.x", "ann"),
-    Change::Enter("root.b", "bob"),
-    Change::Enter("root.a.x", "ann"),
-    Change::Leave("root.a.x", "ann"),
-    Change::Leave("root.a.x", "ann"),
-];
-
-/// How many applications are active in and under a queue, and what they use.
-fn queue_counts(tree: &Tree, path: &str) -> Option<(u64, [u64; 2])> {
+fn make(tree: &mut Tree, step: Step) -> Option<()> {
+    let (path, user, change) = step;
+    let user = ShortText::new(user.as_bytes())?;
     match tree.find(path.as_bytes()) {
         Found::Leaf(position) | Found::Parent(position) => {
-            Some((
-                tree.row(&position).active(),
-                tree.use_of(&position).amounts(),
-            ))
+            make_at(tree, &position, &user, change)
         }
         Found::Missing => None,
     }
 }
 
-fn counts_after(alloc: Global, changes: &[Change], path: &str) -> Option<(u64, [u64; 2])> {
-    queue_counts(&after(alloc, changes)?, path)
-}
-
-#[test]
-fn applications_count_along_the_way(rt: HostRuntime) {
-    for (made, path, active) in [
-        (3, "root", 3),
-        (3, "root.a", 2),
-        (3, "root.a.x", 2),
-        (3, "root.a.y", 0),
-        (3, "root.b", 1),
-        (4, "root", 2),
-        (4, "root.a", 1),
-        (4, "root.a.x", 1),
-        (4, "root.b", 1),
-        (5, "root", 1),
-        (5, "root.a", 0),
-    ] {
-        let given = counts_after(rt.alloc(), first(&ANN_AND_BOB, made), path);
-        assert!(rt; given == Some((active, [0, 0])), "{made} {path}");
+fn make_all(tree: &mut Tree, steps: &[Step]) -> Option<()> {
+    for step in steps {
+        make(tree, *step)?;
     }
-    assert!(rt; counts_after(rt.alloc(), &ANN_AND_BOB, "root.c").is_none());
+    Some(())
 }
 
-/// How many applications a user has in a leaf, and what they use.
-fn user_counts(tree: &Tree, path: &str, user: &str) -> Option<(u64, [u64; 2])> {
+/// The tree of these settings after these steps. `None` if the condition of one does not hold or an allocation fails.
+fn after(alloc: Global, lines: &[u8], steps: &[Step]) -> Option<Tree> {
+    let config = read_config(alloc, lines).ok()?;
+    let mut tree = QueueTree::from_config(alloc, &config).ok()?;
+    match make_all(&mut tree, steps) {
+        Some(()) => Some(tree),
+        None => None,
+    }
+}
+
+/// All that is seen of a queue, and of a user in it.
+#[derive(Clone, Copy, PartialEq)]
+struct Seen {
+    is_leaf: bool,
+    /// The child index on the way to it at each level, as the digits of a number after a 1.
+    at: u32,
+    capacity: [u64; 2],
+    runs: bool,
+    active: u64,
+    used: [u64; 2],
+    user_active: u64,
+    user_used: [u64; 2],
+}
+
+fn digits(steps: &[u32]) -> u32 {
+    match steps {
+        [] => 1,
+        [a] => 10 + *a % 10,
+        [a, b, ..] => 100 + *a % 10 * 10 + *b % 10,
+    }
+}
+
+fn seen_at(tree: &Tree, position: &Path<Global>, user: &ShortText, is_leaf: bool) -> Seen
+    requires { IsPosition tree.now position.now.items }
+{
+    let queue = tree.row(position);
+    Seen {
+        is_leaf,
+        at: digits(position.as_slice()),
+        capacity: queue.guaranteed().amounts(),
+        runs: tree.running(position),
+        active: queue.active(),
+        used: tree.use_of(position).amounts(),
+        user_active: queue.user_active(user),
+        user_used: tree.user_use(position, user).amounts(),
+    }
+}
+
+fn shown(tree: &Tree, path: &str, user: &str) -> Option<Seen> {
     let user = ShortText::new(user.as_bytes())?;
     match tree.find(path.as_bytes()) {
-        Found::Leaf(position) => Some((
-            active_at(tree, &position, &user),
-            tree.user_use(&position, &user).amounts(),
-        )),
-        _ => None,
+        Found::Leaf(position) => Some(seen_at(tree, &position, &user, true)),
+        Found::Parent(position) => Some(seen_at(tree, &position, &user, false)),
+        Found::Missing => None,
     }
 }
 
-fn user_after(
-    alloc: Global,
-    changes: &[Change],
-    path: &str,
-    user: &str,
-) -> Option<(u64, [u64; 2])> {
-    user_counts(&after(alloc, changes)?, path, user)
+/// What is seen after these steps.
+fn seen_after(alloc: Global, lines: &[u8], steps: &[Step], path: &str, user: &str) -> Option<Seen> {
+    shown(&after(alloc, lines, steps)?, path, user)
+}
+
+/// A running queue in which nothing has happened, and others of the nested queues.
+const ROOT: Seen = Seen {
+    is_leaf: false,
+    at: 1,
+    capacity: [0, 0],
+    runs: true,
+    active: 0,
+    used: [0, 0],
+    user_active: 0,
+    user_used: [0, 0],
+};
+
+const A: Seen = Seen {
+    at: 10,
+    capacity: [4096, 4],
+    ..ROOT
+};
+
+const X: Seen = Seen {
+    is_leaf: true,
+    at: 100,
+    ..ROOT
+};
+
+const Y: Seen = Seen { at: 101, ..X };
+
+const STOPPED_X: Seen = Seen { runs: false, ..X };
+
+const STOPPED_Y: Seen = Seen { runs: false, ..Y };
+
+const B: Seen = Seen {
+    at: 11,
+    capacity: [2048, 8],
+    ..X
+};
+
+/// Paths, and what is found there.
+const FOUND: [(&str, Option<Seen>); 10] = [
+    ("root", Some(ROOT)),
+    ("root.a", Some(A)),
+    ("root.a.x", Some(X)),
+    ("root.a.y", Some(STOPPED_Y)),
+    ("root.b", Some(B)),
+    ("root.c", None),
+    ("roo", None),
+    ("root.a.", None),
+    ("root.a.x.y", None),
+    ("", None),
+];
+
+#[test]
+fn queues_are_found(rt: HostRuntime) {
+    for (path, answer) in FOUND {
+        let given = seen_after(rt.alloc(), NESTED_QUEUES, &[], path, "ann");
+        assert!(rt; given == answer, "{path}");
+    }
 }
 
 #[test]
-fn applications_count_for_their_user(rt: HostRuntime) {
-    for (made, path, user, active) in [
-        (3, "root.a.x", "ann", 2),
-        (3, "root.a.x", "bob", 0),
-        (3, "root.b", "bob", 1),
-        (3, "root.b", "ann", 0),
-        (4, "root.a.x", "ann", 1),
-        (5, "root.a.x", "ann", 0),
-        (5, "root.b", "bob", 1),
+fn a_stopped_queue_stops_those_under_it(rt: HostRuntime) {
+    let steps = [
+        ("root.a.y", "ann", Change::State(true)),
+        ("root.a", "ann", Change::State(false)),
+    ];
+    for (made, path, answer) in [
+        (0, "root.a.y", STOPPED_Y),
+        (1, "root.a.y", Y),
+        (2, "root.a.x", STOPPED_X),
+        (2, "root.b", B),
+        (2, "root", ROOT),
     ] {
-        let given = user_after(rt.alloc(), first(&ANN_AND_BOB, made), path, user);
-        assert!(rt; given == Some((active, [0, 0])), "{made} {path} {user}");
+        let given = seen_after(rt.alloc(), NESTED_QUEUES, first(&steps, made), path, "ann");
+        assert!(rt; given == Some(answer), "{made} {path}");
     }
 }
 
-/// Whether one more change can be made after the first so many of these.
-fn can(alloc: Global, made: usize, change: Change) -> Option<bool> {
-    let mut tree = after(alloc, first(&ANN_AND_BOB, made))?;
-    Some(make(&mut tree, change).is_some())
+/// Two applications of `ann` in `root.a.x` and one of `bob` in `root.b`; then those of `ann` end.
+const ANN_AND_BOB: [Step; 5] = [
+    ("root.a.x", "ann", Change::Enter),
+    ("root.b", "bob", Change::Enter),
+    ("root.a.x", "ann", Change::Enter),
+    ("root.a.x", "ann", Change::Leave),
+    ("root.a.x", "ann", Change::Leave),
+];
+
+/// How many of these are made, a queue and a user; what is seen of the queue without applications; and how many there are, and of the user.
+const ACTIVE: [(usize, &str, &str, Seen, u64, u64); 15] = [
+    (3, "root", "ann", ROOT, 3, 0),
+    (3, "root.a", "ann", A, 2, 0),
+    (3, "root.a.x", "ann", X, 2, 2),
+    (3, "root.a.x", "bob", X, 2, 0),
+    (3, "root.a.y", "ann", STOPPED_Y, 0, 0),
+    (3, "root.b", "ann", B, 1, 0),
+    (3, "root.b", "bob", B, 1, 1),
+    (4, "root", "ann", ROOT, 2, 0),
+    (4, "root.a", "ann", A, 1, 0),
+    (4, "root.a.x", "ann", X, 1, 1),
+    (4, "root.b", "bob", B, 1, 1),
+    (5, "root", "ann", ROOT, 1, 0),
+    (5, "root.a", "ann", A, 0, 0),
+    (5, "root.a.x", "ann", X, 0, 0),
+    (5, "root.b", "bob", B, 1, 1),
+];
+
+#[test]
+fn applications_count_along_the_way_and_for_their_user(rt: HostRuntime) {
+    for (made, path, user, queue, active, user_active) in ACTIVE {
+        let steps = first(&ANN_AND_BOB, made);
+        let given = seen_after(rt.alloc(), NESTED_QUEUES, steps, path, user);
+        let answer = Seen {
+            active,
+            user_active,
+            ..queue
+        };
+        assert!(rt; given == Some(answer), "{made} {path} {user}");
+    }
+}
+
+#[test]
+fn nothing_given_back_is_no_change(rt: HostRuntime) {
+    let steps = [
+        ("root.a.x", "ann", Change::Enter),
+        ("root.a.x", "ann", Change::Enter),
+        ("root.a.x", "ann", Change::GiveBack([0, 0])),
+    ];
+    for (path, queue, user_active) in [("root", ROOT, 0), ("root.a", A, 0), ("root.a.x", X, 2)] {
+        let given = seen_after(rt.alloc(), NESTED_QUEUES, &steps, path, "ann");
+        let answer = Seen {
+            active: 2,
+            user_active,
+            ..queue
+        };
+        assert!(rt; given == Some(answer), "{path}");
+    }
+}
+
+/// Whether one more step can be made after the first so many of these.
+fn can(alloc: Global, made: usize, step: Step) -> Option<bool> {
+    let mut tree = after(alloc, NESTED_QUEUES, first(&ANN_AND_BOB, made))?;
+    Some(make(&mut tree, step).is_some())
 }
 
 #[test]
 fn only_a_user_with_applications_leaves_and_gives_back(rt: HostRuntime) {
-    for (made, change, answer) in [
-        (3, Change::Leave("root.a.x", "bob"), false),
-        (3, Change::Leave("root.a.x", "ann"), true),
-        (5, Change::Leave("root.a.x", "ann"), false),
-        (3, Change::GiveBack("root.a.x", "ann", [0, 0]), true),
-        (3, Change::GiveBack("root.a.x", "ann", [1, 0]), false),
-        (3, Change::GiveBack("root.a.x", "bob", [0, 0]), false),
+    for (made, user, change, answer) in [
+        (3, "bob", Change::Leave, false),
+        (3, "ann", Change::Leave, true),
+        (5, "ann", Change::Leave, false),
+        (3, "ann", Change::GiveBack([0, 0]), true),
+        (3, "ann", Change::GiveBack([1, 0]), false),
+        (3, "bob", Change::GiveBack([0, 0]), false),
     ] {
-        assert!(rt; can(rt.alloc(), made, change) == Some(answer), "{made}");
+        let given = can(rt.alloc(), made, ("root.a.x", user, change));
+        assert!(rt; given == Some(answer), "{made} {user}");
     }
 }
 
@@ -364,78 +345,77 @@ yarn.scheduler.capacity.root.g.r.user-limit-factor=9
 ";
 
 /// Containers of `ann`: two in `root.g.q` and two in `root.b`; one in `root.g.q` grows and is given back.
-const CONTAINERS: [Change; 8] = [
-    Change::Enter("root.g.q", "ann"),
-    Change::Enter("root.b", "ann"),
-    Change::Apply("root.g.q", "ann", [0, 0], [1024, 1]),
-    Change::Apply("root.g.q", "ann", [0, 0], [1024, 1]),
-    Change::Apply("root.b", "ann", [0, 0], [1024, 1]),
-    Change::Apply("root.b", "ann", [0, 0], [1024, 1]),
-    Change::Apply("root.g.q", "ann", [1024, 1], [2048, 1]),
-    Change::GiveBack("root.g.q", "ann", [2048, 1]),
+const CONTAINERS: [Step; 8] = [
+    ("root.g.q", "ann", Change::Enter),
+    ("root.b", "ann", Change::Enter),
+    ("root.g.q", "ann", Change::Apply([0, 0], [1024, 1])),
+    ("root.g.q", "ann", Change::Apply([0, 0], [1024, 1])),
+    ("root.b", "ann", Change::Apply([0, 0], [1024, 1])),
+    ("root.b", "ann", Change::Apply([0, 0], [1024, 1])),
+    ("root.g.q", "ann", Change::Apply([1024, 1], [2048, 1])),
+    ("root.g.q", "ann", Change::GiveBack([2048, 1])),
 ];
 
-/// The tree of the limited queues after the first so many changes of containers.
-fn with_containers(alloc: Global, made: usize) -> Option<Tree> {
-    let mut tree = tree_of(alloc, LIMITED_QUEUES)?;
-    match with_containers_in(&mut tree, made) {
-        Some(()) => Some(tree),
-        None => None,
-    }
-}
+/// The limited queues, each with the applications of `ann`.
+const ALL: Seen = Seen { active: 2, ..ROOT };
 
-fn with_containers_in(tree: &mut Tree, made: usize) -> Option<()> {
-    for change in first(&CONTAINERS, made) {
-        make(tree, *change)?;
-    }
-    Some(())
-}
+const G: Seen = Seen {
+    at: 11,
+    capacity: [3072, 3],
+    active: 1,
+    ..ROOT
+};
 
-fn use_after(alloc: Global, made: usize, path: &str) -> Option<[u64; 2]> {
-    let (_, used) = queue_counts(&with_containers(alloc, made)?, path)?;
-    Some(used)
-}
+const Q: Seen = Seen {
+    at: 110,
+    capacity: [1024, 1],
+    active: 1,
+    user_active: 1,
+    ..X
+};
 
-fn user_use_after(alloc: Global, made: usize, path: &str) -> Option<[u64; 2]> {
-    let (_, used) = user_counts(&with_containers(alloc, made)?, path, "ann")?;
-    Some(used)
-}
+const R: Seen = Seen {
+    at: 111,
+    capacity: [512, 1],
+    ..X
+};
+
+const WITHOUT_MAXIMUM: Seen = Seen {
+    at: 10,
+    capacity: [2048, 8],
+    active: 1,
+    user_active: 1,
+    ..X
+};
+
+/// How many of these are made and a queue; what is seen of the queue without containers; and what is used, and by `ann`.
+const USED: [(usize, &str, Seen, [u64; 2], [u64; 2]); 13] = [
+    (2, "root", ALL, [0, 0], [0, 0]),
+    (6, "root", ALL, [4096, 4], [0, 0]),
+    (6, "root.g", G, [2048, 2], [0, 0]),
+    (6, "root.g.q", Q, [2048, 2], [2048, 2]),
+    (6, "root.g.r", R, [0, 0], [0, 0]),
+    (6, "root.b", WITHOUT_MAXIMUM, [2048, 2], [2048, 2]),
+    (7, "root", ALL, [5120, 4], [0, 0]),
+    (7, "root.g", G, [3072, 2], [0, 0]),
+    (7, "root.g.q", Q, [3072, 2], [3072, 2]),
+    (8, "root", ALL, [3072, 3], [0, 0]),
+    (8, "root.g", G, [1024, 1], [0, 0]),
+    (8, "root.g.q", Q, [1024, 1], [1024, 1]),
+    (8, "root.b", WITHOUT_MAXIMUM, [2048, 2], [2048, 2]),
+];
 
 #[test]
-fn containers_count_along_the_way(rt: HostRuntime) {
-    for (made, path, used) in [
-        (2, "root", [0, 0]),
-        (6, "root", [4096, 4]),
-        (6, "root.g", [2048, 2]),
-        (6, "root.g.q", [2048, 2]),
-        (6, "root.g.r", [0, 0]),
-        (6, "root.b", [2048, 2]),
-        (7, "root", [5120, 4]),
-        (7, "root.g", [3072, 2]),
-        (8, "root", [3072, 3]),
-        (8, "root.g", [1024, 1]),
-        (8, "root.g.q", [1024, 1]),
-        (8, "root.b", [2048, 2]),
-    ] {
-        assert!(rt;
-            use_after(rt.alloc(), made, path) == Some(used),
-            "{made} {path}"
-        );
-    }
-}
-
-#[test]
-fn containers_count_for_their_user(rt: HostRuntime) {
-    for (made, path, used) in [
-        (6, "root.g.q", [2048, 2]),
-        (7, "root.g.q", [3072, 2]),
-        (8, "root.g.q", [1024, 1]),
-        (8, "root.b", [2048, 2]),
-    ] {
-        assert!(rt;
-            user_use_after(rt.alloc(), made, path) == Some(used),
-            "{made} {path}"
-        );
+fn containers_count_along_the_way_and_for_their_user(rt: HostRuntime) {
+    for (made, path, queue, used, user_used) in USED {
+        let steps = first(&CONTAINERS, made);
+        let given = seen_after(rt.alloc(), LIMITED_QUEUES, steps, path, "ann");
+        let answer = Seen {
+            used,
+            user_used,
+            ..queue
+        };
+        assert!(rt; given == Some(answer), "{made} {path}");
     }
 }
 
@@ -455,49 +435,43 @@ fn accepted(
     old: [u64; 2],
     new: [u64; 2],
 ) -> Option<Result<(), OverLimit>> {
-    accepts(&with_containers(alloc, 6)?, path, old, new)
+    let tree = after(alloc, LIMITED_QUEUES, first(&CONTAINERS, 6))?;
+    accepts(&tree, path, old, new)
 }
 
 /// The most that a resource may have.
 const MOST: u64 = 1_099_511_627_776;
 
+const OVER_1: Result<(), OverLimit> = Err(OverLimit::Maximum { level: 1 });
+
+const OVER_2: Result<(), OverLimit> = Err(OverLimit::Maximum { level: 2 });
+
+const OVER_USER: Result<(), OverLimit> = Err(OverLimit::User);
+
+/// A leaf, a change of a use there, and whether it is accepted.
+const CHANGES: [(&str, [u64; 2], [u64; 2], Result<(), OverLimit>); 13] = [
+    // A third container of (1024, 1) fills `root.g`, and a larger one does not fit.
+    ("root.g.q", [0, 0], [1024, 1], Ok(())),
+    ("root.g.q", [0, 0], [1025, 1], OVER_1),
+    ("root.g.q", [0, 0], [1024, 2], OVER_1),
+    ("root.g.q", [1024, 1], [2048, 2], Ok(())),
+    ("root.g.q", [1024, 1], [2049, 1], OVER_1),
+    // The maximum of the leaf `r` is at level 2. The one above it is named first.
+    ("root.g.r", [0, 0], [512, 1], Ok(())),
+    ("root.g.r", [0, 0], [513, 1], OVER_2),
+    ("root.g.r", [0, 0], [513, 2], OVER_1),
+    // In `root.b` the user limit alone bounds a user.
+    ("root.b", [0, 0], [0, 1], Ok(())),
+    ("root.b", [0, 0], [1024, 1], OVER_USER),
+    ("root.b", [1024, 1], [1024, 7], Ok(())),
+    ("root.b", [1024, 1], [1024, 8], OVER_USER),
+    ("root.b", [0, 0], [MOST, MOST], OVER_USER),
+];
+
 #[test]
 fn the_first_limit_that_is_passed_is_named(rt: HostRuntime) {
-    let over = |level| Err(OverLimit::Maximum { level });
-    for (path, old, new, answer) in [
-        // A third container of (1024, 1) fills `root.g`, and a larger one does not fit.
-        ("root.g.q", [0, 0], [1024, 1], Ok(())),
-        ("root.g.q", [0, 0], [1025, 1], over(1)),
-        ("root.g.q", [0, 0], [1024, 2], over(1)),
-        ("root.g.q", [1024, 1], [2048, 2], Ok(())),
-        ("root.g.q", [1024, 1], [2049, 1], over(1)),
-        // The maximum of the leaf `r` is at level 2. The one above it is named first.
-        ("root.g.r", [0, 0], [512, 1], Ok(())),
-        ("root.g.r", [0, 0], [513, 1], over(2)),
-        ("root.g.r", [0, 0], [513, 2], over(1)),
-        // In `root.b` the user limit alone bounds a user.
-        ("root.b", [0, 0], [0, 1], Ok(())),
-        ("root.b", [0, 0], [1024, 1], Err(OverLimit::User)),
-        ("root.b", [1024, 1], [1024, 7], Ok(())),
-        ("root.b", [1024, 1], [1024, 8], Err(OverLimit::User)),
-        ("root.b", [0, 0], [MOST, MOST], Err(OverLimit::User)),
-    ] {
+    for (path, old, new, answer) in CHANGES {
         let given = accepted(rt.alloc(), path, old, new);
         assert!(rt; given == Some(answer), "{path} {new:?}");
     }
-}
-
-#[test]
-fn nothing_given_back_is_no_change(rt: HostRuntime) {
-    let changes = [
-        Change::Enter("root.a.x", "ann"),
-        Change::Enter("root.a.x", "ann"),
-        Change::GiveBack("root.a.x", "ann", [0, 0]),
-    ];
-    for path in ["root", "root.a", "root.a.x"] {
-        let given = counts_after(rt.alloc(), &changes, path);
-        assert!(rt; given == Some((2, [0, 0])), "{path}");
-    }
-    let given = user_after(rt.alloc(), &changes, "root.a.x", "ann");
-    assert!(rt; given == Some((2, [0, 0])));
 }

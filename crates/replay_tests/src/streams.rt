@@ -5,7 +5,6 @@ use std::alloc::Global;
 use std::cell::Cell;
 use std::io::{self, Read, Write};
 use std::net::{Net, TcpListener, TcpStream};
-use std::process::Abort;
 use std::rt::Files;
 use std::sync::Wait;
 use std::test::Fail;
@@ -65,39 +64,6 @@ impl Write for Paper<'_> {
     }
 }
 
-/// Plays the script and looks at what it prints and at its status.
-fn plays<R: Abort + AllocGlobal>(rt: &R, script: &str, printed: &str, status: u8) {
-    let (ended, output) = play_script(rt.alloc(), script);
-    assert_eq!(rt; ended, status, "{script}");
-    assert_eq!(rt; output.as_slice(), printed.as_bytes(), "{script}");
-}
-
-// Carriage returns, tabs and other bytes that do not show in a file.
-#[test]
-fn bytes_that_do_not_show(rt: HostRuntime) {
-    for (script, printed, status) in [
-        ("\n# a comment\r\n\r\n", "", 0),
-        ("conf\tx=1", "bad line 1\n", 2),
-        (
-            "open 007\n# fine\nopen 4294967295\nopen 2\r",
-            "opened 7\nopened 4294967295\nbad line 4\n",
-            2,
-        ),
-        (
-            "conf yarn.scheduler.capacity.root.queues=a\nconf yarn.scheduler.capacity.root.state=\u{7f}\n",
-            "config 2 1\n",
-            2,
-        ),
-        (
-            "conf yarn.scheduler.capacity.root.queues=a\r\nconf yarn.scheduler.capacity.root.state=RUNNING\r",
-            "config 2 1\n",
-            2,
-        ),
-    ] {
-        plays(&rt, script, printed, status);
-    }
-}
-
 #[test]
 fn a_long_line_is_one_line(rt: HostRuntime) -> Result<(), Fail> {
     let mut script = String::from_str(rt.alloc(), "open 1\n#")?;
@@ -105,7 +71,9 @@ fn a_long_line_is_one_line(rt: HostRuntime) -> Result<(), Fail> {
         script.push_str("fifty bytes of a comment that goes on and on so on")?;
     }
     script.push_str("\nend 1\n")?;
-    plays(&rt, script.as_str(), "opened 1\nclosed 1\n", 0);
+    let (ended, output) = play_script(rt.alloc(), script.as_str());
+    assert_eq!(rt; ended, 0);
+    assert_eq!(rt; output.as_slice(), b"opened 1\nclosed 1\n".as_slice());
     Ok(())
 }
 
@@ -164,40 +132,42 @@ fn play<
 /// Property lines without a fault.
 const QUEUES: &[u8] = b"yarn.scheduler.capacity.root.queues=a\n";
 
+/// Words, an input, whether it then fails, how much is written before that fails, and the exit status.
+const STATUSES: [(&[&str], &[u8], bool, usize, u8); 22] = [
+    (&["capsched", "replay"], b"", false, 0, 0),
+    (&["capsched", "replay"], b"open 1\n", false, 9, 0),
+    (&["capsched", "replay"], b"open 1\n", true, 9, 1),
+    (&["capsched", "replay"], b"open 1\n", false, 0, 1),
+    (&["capsched", "replay"], b"opne 1\n", false, 11, 2),
+    (&["capsched", "replay"], b"opne 1\n", false, 0, 1),
+    (
+        &["capsched", "replay"],
+        b"conf yarn.scheduler.capacity.root.queues=.\n",
+        false,
+        99,
+        2,
+    ),
+    (&["capsched", "replay", "twice"], b"open 1\n", false, 99, 2),
+    (&["capsched", "play"], b"open 1\n", false, 99, 2),
+    (&["capsched", "--replay"], b"open 1\n", false, 99, 2),
+    (&["capsched"], b"open 1\n", false, 99, 2),
+    (&["capsched", "--help"], b"open 1\n", false, 9999, 0),
+    (&["capsched", "--version"], b"open 1\n", false, 99, 0),
+    (&["capsched", "--version"], b"open 1\n", false, 0, 1),
+    (&["capsched", "check"], b"", false, 9999, 2),
+    (&["capsched", "check"], QUEUES, false, 9999, 0),
+    (&["capsched", "check"], QUEUES, true, 9999, 1),
+    (&["capsched", "check"], QUEUES, false, 0, 1),
+    (&["capsched", "explain"], b"", false, 0, 0),
+    (&["capsched", "explain"], b"open 1\n", false, 9, 0),
+    (&["capsched", "explain"], b"open 1\n", true, 9, 1),
+    (&["capsched", "explain"], b"open 1\n", false, 0, 1),
+];
+
 // Bad words and a bad script are 2, a failed read or write is 1, whatever the words were; each has words for the error stream.
 #[test]
 fn the_status_says_what_went_wrong(rt: HostRuntime) {
-    let rows: [(&[&str], &[u8], bool, usize, u8); 22] = [
-        (&["capsched", "replay"], b"", false, 0, 0),
-        (&["capsched", "replay"], b"open 1\n", false, 9, 0),
-        (&["capsched", "replay"], b"open 1\n", true, 9, 1),
-        (&["capsched", "replay"], b"open 1\n", false, 0, 1),
-        (&["capsched", "replay"], b"opne 1\n", false, 11, 2),
-        (&["capsched", "replay"], b"opne 1\n", false, 0, 1),
-        (
-            &["capsched", "replay"],
-            b"conf yarn.scheduler.capacity.root.queues=.\n",
-            false,
-            99,
-            2,
-        ),
-        (&["capsched", "replay", "twice"], b"open 1\n", false, 99, 2),
-        (&["capsched", "play"], b"open 1\n", false, 99, 2),
-        (&["capsched", "--replay"], b"open 1\n", false, 99, 2),
-        (&["capsched"], b"open 1\n", false, 99, 2),
-        (&["capsched", "--help"], b"open 1\n", false, 9999, 0),
-        (&["capsched", "--version"], b"open 1\n", false, 99, 0),
-        (&["capsched", "--version"], b"open 1\n", false, 0, 1),
-        (&["capsched", "check"], b"", false, 9999, 2),
-        (&["capsched", "check"], QUEUES, false, 9999, 0),
-        (&["capsched", "check"], QUEUES, true, 9999, 1),
-        (&["capsched", "check"], QUEUES, false, 0, 1),
-        (&["capsched", "explain"], b"", false, 0, 0),
-        (&["capsched", "explain"], b"open 1\n", false, 9, 0),
-        (&["capsched", "explain"], b"open 1\n", true, 9, 1),
-        (&["capsched", "explain"], b"open 1\n", false, 0, 1),
-    ];
-    for (words, script, fails, limit, status) in rows {
+    for (words, script, fails, limit, status) in STATUSES {
         let played = play(&rt, words, &[script], fails, limit);
         let is_shown = !played.printed.is_empty();
         let is_help = matches!(words, [_, "--help"] | [_, "--version"]);
@@ -210,110 +180,44 @@ fn the_status_says_what_went_wrong(rt: HostRuntime) {
     }
 }
 
-/// Words for a bad line after `open` or `end`.
-const CONNECTION: &str =
-    "after the space the number of a connection is expected, 0 to 4294967295\n";
-
-/// Words for a bad line after `bytes`.
-const PIECE: &str =
-    "after the space the number of a connection, a space and an even number of hexadecimal digits are expected\n";
-
-/// Words for a bad line after `copy` or `commit`.
-const WORKER: &str = "after the space the number of a worker is expected, 0 to 4294967295\n";
-
-/// Words for a bad line that begins with no word of a script.
-const WORD: &str =
-    "a line begins with # or with one of conf, open, bytes, end, copy, propose, commit and a space\n";
-
-/// Words for a bad line after `propose`.
-const START: &str =
-    "after the space the number of a worker, a space and the number of a first node are expected, each 0 to 4294967295\n";
-
-// What is expected at a bad line is left for the error stream.
-#[test]
-fn a_bad_line_has_words(rt: HostRuntime) {
-    let rows: [(&[u8], &str, &str); 11] = [
-        (b"# one\n\nopen one\n", "line 3: ", CONNECTION),
-        (b"end 4294967296", "line 1: ", CONNECTION),
-        (b"bytes 1", "line 1: ", PIECE),
-        (b"open 1\r\nbytes 1 0\r\n", "line 2: ", PIECE),
-        (b"bytes 1 0g", "line 1: ", PIECE),
-        (b"copy 00000000001", "line 1: ", WORKER),
-        (b"commit ", "line 1: ", WORKER),
-        (b"propose 1", "line 1: ", START),
-        (b"open 1\nopen\t1", "line 2: ", WORD),
-        (b"open", "line 1: ", WORD),
-        (
-            b"open 1\nconf x=1",
-            "line 2: ",
-            "a conf line is expected before all steps\n",
-        ),
-    ];
-    for (script, line, words) in rows {
-        let played = play(&rt, &["capsched", "replay"], &[script], false, 99);
-        let is_explained = played.complaint.strip_prefix(line) == Some(words);
-        assert!(rt; played.status == 2 && is_explained, "{words}");
-    }
-}
-
-// A fault of the settings is left for the error stream, with its line, its key and what is wrong; in a script its line among the
-// `conf` lines.
-#[test]
-fn a_fault_of_the_settings_has_words(rt: HostRuntime) {
-    let lines: &[u8] = b"yarn.scheduler.capacity.root.b.state=STOPPED";
-    let words =
-        "line 2: yarn.scheduler.capacity.root.b.state: root.b is not listed by the .queues line of the queue above it\n";
-    let checked = play(&rt, &["capsched", "check"], &[QUEUES, lines], false, 9999);
-    assert!(rt; (checked.status, checked.printed.len()) == (2, 0));
-    assert!(rt; checked.complaint.as_str() == words);
-    let pieces: [&[u8]; 4] = [b"conf ", QUEUES, b"\n# b\nconf ", lines];
-    let played = play(&rt, &["capsched", "replay"], &pieces, false, 9999);
-    assert!(rt; played.printed.as_slice() == b"config 2 5\n".as_slice());
-    assert!(rt; played.complaint.strip_prefix("conf ") == Some(words));
-    let rootless: &[u8] = b"conf yarn.scheduler.capacity.maximum-applications=1";
-    let played = play(&rt, &["capsched", "replay"], &[rootless], false, 9999);
-    assert!(rt;
-        played.complaint.as_str()
-            == "root needs a .queues line, and a .queues line names at least one queue\n"
-    );
-}
+/// Words, whether the input fails, how much is written before that fails, and what is said.
+const FAILURES: [(&[&str], bool, usize, &str); 5] = [
+    (
+        &["capsched", "replay"],
+        true,
+        99,
+        "standard input: other error\n",
+    ),
+    (
+        &["capsched", "replay"],
+        false,
+        0,
+        "standard output: other error\n",
+    ),
+    (
+        &["capsched", "replay"],
+        true,
+        0,
+        "standard output: other error\n",
+    ),
+    (
+        &["capsched", "explain"],
+        true,
+        99,
+        "standard input: other error\n",
+    ),
+    (
+        &["capsched", "--help"],
+        false,
+        0,
+        "standard output: other error\n",
+    ),
+];
 
 // Which stream failed, and the system's error.
 #[test]
 fn a_failed_stream_has_words(rt: HostRuntime) {
-    let rows: [(&[&str], bool, usize, &str); 5] = [
-        (
-            &["capsched", "replay"],
-            true,
-            99,
-            "standard input: other error\n",
-        ),
-        (
-            &["capsched", "replay"],
-            false,
-            0,
-            "standard output: other error\n",
-        ),
-        (
-            &["capsched", "replay"],
-            true,
-            0,
-            "standard output: other error\n",
-        ),
-        (
-            &["capsched", "explain"],
-            true,
-            99,
-            "standard input: other error\n",
-        ),
-        (
-            &["capsched", "--help"],
-            false,
-            0,
-            "standard output: other error\n",
-        ),
-    ];
-    for (words, fails, limit, said) in rows {
+    for (words, fails, limit, said) in FAILURES {
         let played = play(&rt, words, &[b"open 1\n"], fails, limit);
         assert!(rt;
             played.status == 1 && played.complaint.as_str() == said,

@@ -1,6 +1,0 @@
-use Rattle.std.proofs.Common.{◌≡◌, None}
-use Rattle.message_tests.proofs.batches.refuse_rest.Given as goal
-
--- none is open
-abbrev pub invariant-loop : goal.invariant-loop
-invariant-loop l = l.session.open_request ≡ None

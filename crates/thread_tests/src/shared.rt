@@ -1,0 +1,4 @@
+//! A cluster that threads share: what their calls are answered, and what its journal and its receipts say.
+mod audit;
+mod steps;
+mod tests;

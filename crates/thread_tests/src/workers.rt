@@ -1,0 +1,8 @@
+//! Workers, and sessions that are served from a shared cluster, over readers and writers in memory.
+mod epochs;
+mod offering;
+mod serving;
+mod sessions;
+mod streams;
+mod turning;
+mod turns;
