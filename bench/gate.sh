@@ -1,45 +1,76 @@
 #!/usr/bin/env bash
-# What the merge gate costs, in processor minutes, on a clone of the last commit: of one `rt ci`; or with `--each [CRATE..]` of each crate (or these) by
-# itself, over the crates that it stands on: what it costs to prove it, to prove and run its tests, and to try its must-fail edits, each from nothing.
+# What the merge gate costs, on a clone of the last commit: the processor seconds of one `rt ci`, over those that `cap_frames` by itself takes to be proved
+# in the same hour, since machines differ; fails where the ratio is above 250. With `--each` also a table of what each crate takes of it: its proof, the
+# proof of its tests, and its must-fail edits, as the running provers were looked at each second. `--pace` prints what `cap_frames` takes, alone.
 . "$(dirname "${BASH_SOURCE[0]}")/common.sh"
+most=250
 git clone -q "$top" "$work/clone"
 cd "$work/clone"
 
-# runs the words, with what they print in the log: `minutes` is what they took of all processors
+# runs the words, with what they print in the log: `seconds` is what they took of all processors
 spend() {
   local TIMEFORMAT='%U %S'
-  minutes=$({ time "$@" >>"$work/log" 2>&1; } 2>&1) || { tail -n 5 "$work/log" >&2; exit 1; }
-  minutes=$(awk '{ printf "%.1f", ($1 + $2) / 60 }' <<<"$minutes")
+  seconds=$({ time "$@" >>"$work/log" 2>&1; } 2>&1) || { tail -n 5 "$work/log" >&2; exit 1; }
+  seconds=$(awk '{ printf "%.0f", $1 + $2 }' <<<"$seconds")
 }
 
-# the crates, each after those that it stands on
-in_order() { awk -F: '/^[a-z]/ { for (n = split($2, on, " "); n; n--) print on[n], $1 }' crates.txt | tsort | grep -Fxf <(sed -n 's/^\([a-z_]*\):.*/\1/p' crates.txt); }
+# looks at the provers that run below the clone or in the folders of edits, each second; when it is told to end, it prints the table
+watch_each() {
+  exec python3 - "$work/clone" <<'PYTHON'
+import os, signal, sys, time
 
-# an amount of minutes where there is a reason to spend them, else a dash
-spend_if() { if "$1"; then spend "${@:2}"; else minutes=-; fi; }
-in_crate() { (cd "crates/$1" && "${@:2}"); }
-has_edits() { compgen -G "crates/$crate/must-fail/*.edit" >/dev/null; }
-has_tests() { grep -rq '#\[test\]' "crates/$crate/src"; }
-is_library() { [ -f "crates/$crate/src/lib.rt" ]; }
+clone, ticks, seen = sys.argv[1], os.sysconf("SC_CLK_TCK"), {}
+KINDS = ("proved", "tests", "edits")
 
+
+def look(process):
+    """Notes the crate that a prover works on, as what, and the processor seconds that it has taken."""
+    with open(f"/proc/{process}/cmdline", encoding="utf-8") as it:
+        words = it.read().split("\0")
+    if not words[0].endswith("/rattle") or "--crate-name" not in words:
+        return
+    folder = os.readlink(f"/proc/{process}/cwd")
+    if not folder.startswith((clone, "/tmp/rt-edit-")):
+        return
+    with open(f"/proc/{process}/stat", encoding="utf-8") as it:
+        fields = it.read().rpartition(")")[2].split()
+    kind = "tests" if "--test" in words else "proved" if folder.startswith(clone) else "edits"
+    crate = words[words.index("--crate-name") + 1]
+    seen[process, fields[19]] = crate, kind, (int(fields[11]) + int(fields[12])) / ticks
+
+
+def end(*_):
+    spent = {}
+    for crate, kind, seconds in seen.values():
+        spent.setdefault(crate, dict.fromkeys(KINDS, 0))[kind] += seconds
+    spent["all"] = {kind: sum(it[kind] for it in spent.values()) for kind in KINDS}
+    print("| Crate | proved | tests | edits |", "|---|---|---|---|", sep="\n")
+    for crate, row in sorted(spent.items(), key=lambda it: -sum(it[1].values())):
+        print(f"| `{crate}` |", " | ".join(f"{row[it]:.0f}" if row[it] else "-" for it in KINDS), "|")
+    sys.exit()
+
+
+signal.signal(signal.SIGTERM, end)
+while True:
+    for process in filter(str.isdigit, os.listdir("/proc")):
+        try:
+            look(process)
+        except OSError:
+            pass  # it has ended
+    time.sleep(1)
+PYTHON
+}
+
+spend bash -c 'cd crates/cap_frames && rt check --jobs 1'
+pace=$seconds
+echo "cap_frames by itself: $pace s of a processor"
+[ "${1:-}" != --pace ] || exit 0
+[ "${1:-}" != --each ] || { watch_each >"$work/table" & watcher=$!; }
+SECONDS=0
+spend rt ci
+wall=$SECONDS
+[ "${1:-}" != --each ] || { kill "$watcher"; wait "$watcher" || true; cat "$work/table"; }
+tail -n 1 "$work/log"
 lines=$(git ls-files '*.rt' '*.antt' | xargs cat | wc -l)
-if [ "${1:-}" = --each ]; then
-  echo "| Crate | proved | tests | edits |"
-  echo "|---|---|---|---|"
-  shift
-  crates=${*:-$(in_order)}
-  for crate in $crates; do
-    spend in_crate "$crate" rt check --only=
-    spend in_crate "$crate" rt check --jobs 1
-    proved=$minutes
-    spend_if is_library in_crate "$crate" rt lib --jobs 1
-    spend_if has_tests in_crate "$crate" rt test --jobs 1
-    tests=$minutes
-    spend_if has_edits rt must-fail "$crate"
-    echo "| \`$crate\` | $proved | $tests | $minutes |"
-  done
-else
-  spend rt ci
-  tail -n 1 "$work/log"
-  echo "processor minutes: $minutes, lines: $lines, edits: $(ls crates/*/must-fail/*.edit | wc -l)"
-fi
+echo "the gate: $seconds s of all processors, $wall s of wall; lines: $lines, edits: $(ls crates/*/must-fail/*.edit | wc -l)"
+ratio "$pace" "$seconds" "$most"
