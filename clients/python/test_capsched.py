@@ -1,0 +1,195 @@
+"""Tests of the client: its bytes against docs/FORMATS.md, and its calls against `capsched replay` and a `capsched serve` that the tests start.
+
+    python3 -m unittest discover -s clients/python
+
+The program is crates/capsched/out/capsched, or what CAPSCHED names. Where there is none, the tests that need it fail."""
+import re
+import tempfile
+import unittest
+
+from capsched import (
+    Allocate, AllocateReply, Allocations, Ask, BadReply, Cause, ClusterInfo, ClusterReport, Connection, End, Ended, FinishMaster, Grant, Heartbeat, HeartbeatReply,
+    NodeGone, QueueInfo, QueueReport, Refusal, Refused, RegisterMaster, RegisterNode, Replay, Resource, SetQueueState, Submit, frame,
+)
+from serving import PROGRAM, TOP, serve
+
+SETTINGS = ["yarn.scheduler.capacity.root.queues=default", "yarn.scheduler.capacity.root.default.capacity=[memory=4096,vcores=4]"]
+NONE, SMALL, LARGE = Resource(0, 0), Resource(1024, 1), Resource(8192, 8)
+ASKED = Ask(1, 0, 2, Resource(1000, 1))
+# the exchange of docs/FORMATS.md, by call id
+EXCHANGE = {
+    1: (RegisterNode("n1", "/r1", LARGE), 1),
+    2: (Submit("root.default", "u1"), 1),
+    3: (RegisterMaster(1), Allocations(SMALL, Resource(8192, 4))),
+    4: (Allocate(1, 0, [ASKED]), AllocateReply(1, 0, [], [])),
+    5: (Allocate(1, 1), AllocateReply(2, 0, [Grant(1, 1, 0, 1, "n1", SMALL), Grant(2, 1, 0, 1, "n1", SMALL)], [])),
+    6: (Allocate(1, 2, [], [1]), AllocateReply(3, 0, [], [End(1, Cause.Released)])),
+    7: (Heartbeat(1, 0, [2]), HeartbeatReply(1, 0, 0)),
+    9: (FinishMaster(1), 0),
+    10: (ClusterInfo(), ClusterReport(1, 0, 0, LARGE, NONE)),
+    11: (QueueInfo("root.default"), QueueReport(True, True, Resource(4096, 4), None, NONE, 0)),
+    12: (SetQueueState("root.default", False), None),
+    13: (NodeGone(1), 0),
+}
+
+
+def documented():
+    """The exchange as docs/FORMATS.md spells it: by call id the request and the reply, each with its length."""
+    with open(f"{TOP}/docs/FORMATS.md", encoding="utf-8") as it:
+        messages = it.read().split("\n## Messages\n")[1].split("\n### Bounds\n")[0]
+    found, into = {}, None
+    for line in messages.splitlines():
+        cells = [cell.strip() for cell in line.strip("|").split("|")] if line.startswith("|") else []
+        if len(cells) != 3:
+            continue
+        data = b"".join(bytes.fromhex(it) for it in re.findall(r"`([0-9a-f ]+)`", cells[2]) if len(it) % 2 == 0 or " " in it)
+        if cells[0] == "request":
+            into = found.setdefault(int.from_bytes(data[6:10], "big"), [b"", b""])
+        if into is not None and cells[0] in ("request", "reply"):
+            side = ("request", "reply").index(cells[0])
+        if into is not None and cells[0] != "Field":
+            into[side] += data
+    return found
+
+
+class Bytes(unittest.TestCase):
+    def test_requests_and_replies_are_as_documented(self):
+        found = documented()
+        self.assertEqual(sorted(found), sorted(EXCHANGE))
+        for call_id, (request, result) in EXCHANGE.items():
+            sent, answered = found[call_id]
+            self.assertEqual(frame(request.payload(call_id)).hex(), sent.hex(), request)
+            self.assertEqual(int.from_bytes(answered[:4], "big"), len(answered) - 4, request)
+            self.assertEqual(request.reply(answered[4:], call_id), result)
+
+    def test_a_refusal_has_its_number_and_name(self):
+        with self.assertRaises(Refused) as raised:
+            Submit("root.default", "u1").reply(bytes.fromhex("01010000000e03"), 14)
+        self.assertEqual((raised.exception.refusal, raised.exception.refusal.value), (Refusal.QueueStopped, 3))
+        self.assertEqual(str(raised.exception), "Submit: QueueStopped (3)")
+
+    def test_faults_answer_any_request(self):
+        for status, refusal in (("28", Refusal.BadLength), ("29", Refusal.BadRequest)):
+            with self.assertRaises(Refused) as raised:
+                ClusterInfo().reply(bytes.fromhex("010000000000" + status), 7)
+            self.assertEqual(raised.exception.refusal, refusal)
+
+    def test_other_bytes_are_no_reply(self):
+        good = "010400000009" + "00" + "00000000"
+        for bad in ("020400000009" + "0000000000", "010500000009" + "0000000000", "010400000008" + "0000000000", good[:-2], good + "00", "01040000000911", "010000000000" + "03", "01040000000903" + "00"):
+            with self.assertRaises(BadReply, msg=bad):
+                FinishMaster(1).reply(bytes.fromhex(bad), 9)
+        self.assertEqual(FinishMaster(1).reply(bytes.fromhex(good), 9), 0)
+
+    def test_what_no_field_holds_is_not_sent(self):
+        most = Ask(2**32 - 1, 2**64 - 1, 2**32 - 1, Resource(2**40, 2**40), "r" * 64)
+        self.assertEqual(len(Allocate(1, 0, [most] * 256, [1] * 1024).payload(1)), 6 + 8 + 4 + 2 + 256 * 97 + 2 + 1024 * 8)
+        bad = [
+            Submit("", "u"), Submit("r" * 256, "u"), Submit("root.a", "a b"), Submit("root.ä", "u"), Submit("root", "u" * 65), RegisterMaster(2**64), RegisterMaster(-1),
+            RegisterNode("n", "/r", Resource(2**40 + 1, 1)), RegisterNode("n", "/r", Resource(1, -1)), Allocate(1, 2**32), Allocate(1, 0, [ASKED] * 257), Heartbeat(1, 0, [1] * 1025),
+        ]
+        for request in bad:
+            with self.assertRaises(ValueError, msg=request):
+                request.payload(1)
+
+
+class Replayed(unittest.TestCase):
+    def cluster(self, settings=SETTINGS):
+        replay = Replay([PROGRAM, "replay"], settings)
+        self.addCleanup(replay.close)
+        return replay
+
+    def test_the_documented_exchange(self):
+        replay = self.cluster()
+        node, master = replay.connect(), replay.connect()
+        on_node = (RegisterNode, Heartbeat, NodeGone)
+        for call_id, (request, result) in EXCHANGE.items():
+            if call_id == 5:
+                self.assertEqual([replay.turn(0) for _ in range(3)], [["done", "0", "grant", "1"], ["done", "0", "grant", "2"], ["idle"]])
+            if call_id == 9:
+                self.assertEqual(master.allocate(1, 3).ends, [End(2, Cause.EndedOnNode)])
+            self.assertEqual((node if isinstance(request, on_node) else master).call(request), result, request)
+        with self.assertRaises(Refused) as raised:
+            master.submit("root.default", "u1")
+        self.assertEqual(raised.exception.refusal, Refusal.QueueStopped)
+
+    def test_a_proposal_in_words(self):
+        replay = self.cluster()
+        master = replay.connect()
+        replay.connect().register_node("n1", "/r1", LARGE)
+        app = master.submit("root.default", "u1")
+        master.register_master(app)
+        master.allocate(app, 0, [ASKED])
+        replay.copy(3)
+        self.assertEqual(replay.propose(3), "grant 1 1 0 1 1024 1".split())
+        self.assertEqual(replay.step("propose 4 0"), "idle")
+
+    def test_many_requests_in_flight(self):
+        connection = self.cluster().connect()
+        connection.register_node("n1", "/r1", LARGE)
+        waiting = [connection.send(ClusterInfo() if n % 2 else QueueInfo("root.default")) for n in range(3000)]
+        for n, pending in reversed(list(enumerate(waiting))):
+            self.assertIsInstance(pending.result(), ClusterReport if n % 2 else QueueReport)
+
+    def test_faults_of_the_settings_end_it(self):
+        with self.assertRaisesRegex(Ended, "config 1 2"):
+            self.cluster(["yarn.scheduler.capacity.root.acl_submit_applications=*"]).connect()
+
+
+class Served(unittest.TestCase):
+    """Against the daemon, on 127.0.0.1 alone."""
+
+    def serve(self, connections):
+        settings = tempfile.NamedTemporaryFile("w", suffix=".conf")
+        self.addCleanup(settings.close)
+        settings.write("\n".join(SETTINGS))
+        settings.flush()
+        return serve(self, settings.name, connections)
+
+    def test_a_container_from_the_ask_to_its_end(self):
+        port, daemon = self.serve(2)
+        with Connection.to_port(port, timeout=20) as node, Connection.to_port(port, timeout=20) as master:
+            number = node.register_node("n1", "/r1", LARGE)
+            app = master.submit("root.default", "ann")
+            self.assertEqual(master.register_master(app).minimum, SMALL)
+            response, grants = master.allocate(app, 0, [ASKED]).response, []
+            while len(grants) < 2:
+                reply = master.allocate(app, response)
+                response, grants = reply.response, grants + reply.grants
+            self.assertEqual([(it.container, it.node, it.host, it.resource) for it in grants], [(1, number, "n1", SMALL), (2, number, "n1", SMALL)])
+            self.assertEqual(master.queue_info("root.default").used, Resource(2048, 2))
+            self.assertEqual(node.heartbeat(number, 0, [1]), HeartbeatReply(1, 0, 1))
+            self.assertEqual(node.heartbeat(number, 0, [1]), HeartbeatReply(1, 0, 1))
+            self.assertEqual(master.allocate(app, response).ends, [End(1, Cause.EndedOnNode)])
+            self.assertEqual(master.finish_master(app), 1)
+            with self.assertRaises(Refused) as raised:
+                master.allocate(app, response)
+            self.assertEqual(raised.exception.refusal, Refusal.UnknownApplication)
+        self.assertRegex(daemon.stdout.readline(), r"^closed epochs=1 entries=\d+\n$")
+        self.assertEqual(daemon.wait(20), 0)
+
+    def test_many_requests_in_flight(self):
+        port, daemon = self.serve(1)
+        with Connection.to_port(port, timeout=20) as connection:
+            waiting = [connection.send(ClusterInfo()) for _ in range(5000)]
+            self.assertEqual({it.result() for it in waiting}, {ClusterReport(0, 0, 0, NONE, NONE)})
+        self.assertEqual(daemon.wait(20), 0)
+
+    def test_a_bad_length_ends_the_connection(self):
+        port, daemon = self.serve(1)
+        with Connection.to_port(port, timeout=20) as connection:
+            pending = connection.send(ClusterInfo())
+            connection._stream.send(bytes(4))
+            late = connection.send(ClusterInfo())
+            later = connection.send(ClusterInfo())
+            self.assertEqual(pending.result().nodes, 0)
+            with self.assertRaises(Refused) as raised:
+                late.result()
+            self.assertEqual(raised.exception.refusal, Refusal.BadLength)
+            with self.assertRaises(ConnectionError):
+                later.result()
+        self.assertEqual(daemon.wait(20), 0)
+
+
+if __name__ == "__main__":
+    unittest.main()
