@@ -26,9 +26,8 @@ use crate::limits::Limits;
 use crate::owner::Owner;
 use crate::report::report_of;
 use cap_asks::{Apps, Position};
-use cap_config::Config;
 use cap_model::{
-    Ask, Cause, End, HeartbeatReply, NoMemory, PathText, QueueReport, Reported, ShortText,
+    Ask, Cause, Config, End, HeartbeatReply, NoMemory, PathText, QueueReport, Reported, ShortText,
 };
 use cap_nodes::{Container, Nodes};
 use cap_tree::{Found, QueueTree};

@@ -1,11 +1,12 @@
 ghost use Rattle.std.specs.Prelude.{◌≡◌, IfOk, Some};
 ghost use Rattle.cap_config.specs.First.{AnswersFault, first_fault, settings_in};
 
-use crate::config::{Config, config_of};
+use crate::config::config_of;
 use crate::fault::ConfigFault;
 use crate::first_pass::read_lines;
 use crate::index::index_of;
 use crate::second_pass::check;
+use cap_model::Config;
 use std::alloc::Global;
 
 /// The settings that property lines make, or the first fault in them: first of each line in turn, and then of the whole

@@ -3,7 +3,7 @@ use crate::names::put_count;
 use crate::replies::put_answer;
 use crate::requests::put_request;
 use cap_frames::{FrameFault, Framer};
-use cap_messages::{MessageFault, read_reply, read_request};
+use cap_grammar::{MessageFault, read_reply, read_request};
 use indexmap::IndexMap;
 use std::alloc::{AllocError, Global};
 

@@ -1,5 +1,5 @@
 use crate::names::{cause_words, kind_name, put_amounts, put_count, put_key, refusal_words, shown};
-use cap_messages::Answer;
+use cap_grammar::Answer;
 use cap_model::{
     AllocateReply, ClusterReport, End, Grant, HeartbeatReply, OwnedReply, QueueReport, ReplyWith,
 };

@@ -1,5 +1,5 @@
 use crate::names::{kind_name, put_amounts, put_key, shown};
-use cap_messages::kind;
+use cap_grammar::kind;
 use cap_model::{Ask, Request};
 use std::alloc::AllocError;
 

@@ -1,5 +1,5 @@
 ghost use Rattle.cap_model.specs.Reporting.{HasNumbers, RepliesInFull, full_reply};
-ghost use Rattle.cap_messages.specs.Spelling.{IsOfKind, kind_of};
+ghost use Rattle.cap_grammar.specs.Spelling.{IsOfKind, kind_of};
 
 use cap_commit::Cluster;
 use cap_masters::{allocate, finish_master, register_master, submit};

@@ -19,6 +19,7 @@ mod reply;
 mod report;
 mod request;
 mod response_ids;
+mod settings;
 mod text;
 
 pub use ask::{Ask, Key};
@@ -37,6 +38,7 @@ pub use reply::{OwnedReply, Reply, ReplyView, ReplyWith};
 pub use report::{ClusterReport, QueueReport};
 pub use request::Request;
 pub use response_ids::{is_bad, next_response, repeats};
+pub use settings::{Config, QueueRow};
 pub use text::{PathText, ShortText, Text};
 
 /// Node, application and container numbers begin at 1 and stay below this.

@@ -3,7 +3,7 @@ use Rattle.std.proofs.Common.{◌≡◌, ℕ, List, [], ◌∷◌, ◌++◌, Opt
 use Rattle.std.proofs.lemmas.List.{take-append-drop}
 use Rattle.cap_model.specs.News.{Reply}
 use Rattle.cap_frames.specs.Stream.{frame_of, fault, IsStream}
-use Rattle.cap_messages.specs.Spelling.{IsNoRequest, fault_reply}
+use Rattle.cap_grammar.specs.Spelling.{IsNoRequest, fault_reply}
 use Rattle.cap_session.specs.Answers.{Call, Answers, nothing, replied, refused}
 use Rattle.cap_session.specs.Counted.{sent_count}
 use Rattle.cap_session.specs.Session.{SessionState, OpenRequest, SpellsAnswer, all_answers, answer_bytes, with_answer, after_sent, ended_after, AnswersBy, HasAnswered}

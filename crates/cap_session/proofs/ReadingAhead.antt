@@ -8,8 +8,8 @@ use Rattle.cap_frames.specs.declared.fault.FrameFault.{FrameFault}
 use Rattle.cap_frames.specs.declared.fault.FrameFault.TheVariants.{BadLength}
 use Rattle.cap_frames.specs.declared.fault.FrameFault.TheVariants as frame_faults
 use Rattle.cap_frames.specs.History.{History, IsReading, IsAtRest, IsAtFault, after_feed, after_gift}
-use Rattle.cap_messages.specs.declared.fault.MessageFault.TheVariants.{Bad, NoMemory}
-use Rattle.cap_messages.specs.Spelling.{IsRequest, IsNoRequest}
+use Rattle.cap_grammar.specs.declared.fault.MessageFault.TheVariants.{Bad, NoMemory}
+use Rattle.cap_grammar.specs.Spelling.{IsRequest, IsNoRequest}
 use Rattle.cap_session.specs.Asked.{ReadResult, PayloadLog, IsReadFrom, IsOpened, HasParts}
 use Rattle.cap_session.specs.Session.{OpenRequest}
 use Rattle.cap_session.specs.Ahead.{asked_payloads, asked_requests, refused_payloads, payloads_ahead, history_of, HasGiven}

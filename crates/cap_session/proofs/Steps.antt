@@ -6,8 +6,8 @@ use Rattle.cap_model.specs.declared.request.Request.{Request}
 use Rattle.cap_model.specs.News.{Reply}
 use Rattle.cap_frames.specs.Stream.{frame_of, rest, fault, IsStream}
 use Rattle.cap_frames.specs.History.{History, after_gift, IsReading, IsAtFault}
-use Rattle.cap_messages.specs.declared.fault.MessageFault.{MessageFault}
-use Rattle.cap_messages.specs.Spelling.{IsNoRequest, kind_of, fault_reply}
+use Rattle.cap_grammar.specs.declared.fault.MessageFault.{MessageFault}
+use Rattle.cap_grammar.specs.Spelling.{IsNoRequest, kind_of, fault_reply}
 use Rattle.cap_session.specs.Answers.{nothing}
 use Rattle.cap_session.specs.Session.{OpenRequest, open_payload, SpellsAnswer, FollowsStream, IsSession, EndsNow, NextGives, answer_bytes, with_answer, after_answer, AnswersBy}
 use Rattle.cap_session.specs.Kept.{AnswerLog, calls_in, answered_in, calls_of, open_of, sent_in, state_inside, SpellsRequest, IsHeadOf, IsKept, HasRoom, AnswersBad, AnswersAllBad, Finds, EndsWith}

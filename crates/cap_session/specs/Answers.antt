@@ -3,7 +3,7 @@ use Rattle.std.specs.Prelude.{◌≡◌, ℕ, List, [], ◌∷◌, ◌++◌}
 use Rattle.cap_model.specs.declared.request.Request.{Request}
 use Rattle.cap_model.specs.News.{Reply}
 use Rattle.cap_frames.specs.Stream.{frame_of, Tail, rest, fault}
-use Rattle.cap_messages.specs.Spelling.{IsRequest, IsNoRequest, IsReply, kind_of, fault_reply}
+use Rattle.cap_grammar.specs.Spelling.{IsRequest, IsNoRequest, IsReply, kind_of, fault_reply}
 
 -- a request with its reply
 pub record Call : Type 0 where

@@ -3,9 +3,9 @@ use Rattle.std.specs.Prelude.{◌≡◌, ℕ, ◌∷◌, List, [], Result, Ok, E
 use Rattle.bytes.specs.Filled.{Filled}
 use Rattle.cap_model.specs.declared.request.Request.{Request}
 use Rattle.cap_model.specs.declared.request.Request.TheVariants as requests
-use Rattle.cap_messages.specs.declared.fault.MessageFault.{MessageFault}
-use Rattle.cap_messages.specs.declared.fault.MessageFault.TheVariants as message_faults
-use Rattle.cap_messages.specs.Spelling.{IsRequest, IsNoRequest, kind_of}
+use Rattle.cap_grammar.specs.declared.fault.MessageFault.{MessageFault}
+use Rattle.cap_grammar.specs.declared.fault.MessageFault.TheVariants as message_faults
+use Rattle.cap_grammar.specs.Spelling.{IsRequest, IsNoRequest, kind_of}
 use Rattle.cap_session.specs.Session.{OpenRequest}
 use Rattle.cap_session.specs.declared.asked.Head.{Head}
 

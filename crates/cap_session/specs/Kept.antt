@@ -5,7 +5,7 @@ use Rattle.http_server.specs.declared.log.Log.{Log}
 use Rattle.cap_model.specs.News.{Reply}
 use Rattle.cap_frames.specs.Stream.{frame_of}
 use Rattle.cap_frames.specs.History.{History, IsReading, IsAtRest, IsAtFault}
-use Rattle.cap_messages.specs.Spelling.{IsRequest, kind_of, fault_reply}
+use Rattle.cap_grammar.specs.Spelling.{IsRequest, kind_of, fault_reply}
 use Rattle.cap_session.specs.Answers.{Call, Answers}
 use Rattle.cap_session.specs.Asked.{ReadResult, PayloadLog, payloads_in}
 use Rattle.cap_session.specs.Session.{SessionState, OpenRequest, open_payload, HasAnswered}

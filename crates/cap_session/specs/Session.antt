@@ -3,7 +3,7 @@ use Rattle.std.specs.Prelude.{◌≡◌, ◌⊎◌, ℕ, ◌-◌, List, [], ◌�
 use Rattle.cap_model.specs.declared.request.Request.{Request}
 use Rattle.cap_model.specs.News.{Reply}
 use Rattle.cap_frames.specs.Stream.{frame_of, frames_of, Tail, rest, fault, IsStream}
-use Rattle.cap_messages.specs.Spelling.{IsRequest, IsReply, IsOfKind, kind_of, reply_bytes, fault_reply}
+use Rattle.cap_grammar.specs.Spelling.{IsRequest, IsReply, IsOfKind, kind_of, reply_bytes, fault_reply}
 use Rattle.cap_session.specs.Counted.{sent_count}
 use Rattle.cap_session.specs.Answers.{Call, Answers, IsAnswered}
 use Rattle.cap_session.specs.declared.session.Cause.{Cause}

@@ -3,7 +3,7 @@ ghost use Rattle.std.specs.Prelude.{◌≡◌};
 ghost use Rattle.cap_session.specs.Asked.{IsAsked, IsRefused, first_open, first_payload, HasParts, HasRefused};
 
 use cap_frames::Frame;
-use cap_messages::MessageFault;
+use cap_grammar::MessageFault;
 use cap_model::Request;
 use http_server::Log;
 use std::marker::Model;

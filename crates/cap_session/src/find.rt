@@ -1,20 +1,18 @@
 //! What comes next in a stream.
 ghost use Rattle.std.specs.Prelude.{◌≡◌, ◌+◌, ◌++◌, OnOk, OnErr, false, ◌≤◌};
 ghost use Rattle.cap_frames.specs.Stream.{frame_of};
-ghost use Rattle.cap_messages.specs.Spelling.{IsOfKind, IsReply, reply_bytes, fault_reply};
+ghost use Rattle.cap_grammar.specs.Spelling.{IsKind, IsOfKind, IsReply, reply_bytes, fault_reply};
 ghost use Rattle.cap_session.specs.Kept.{Finds, EndsWith};
 
 use crate::asked::{Head, ReadPayload};
 use crate::payloads::Payloads;
 use bytes::BytesMut;
 use cap_frames::{FrameFault, close_frame, open_frame};
-use cap_messages::{FAULT_ROOM, MessageFault, REPLY_ROOM, kind, write_fault, write_reply};
+use cap_grammar::{
+    BAD_LENGTH, BAD_MESSAGE, FAULT_ROOM, MessageFault, REPLY_ROOM, kind, write_fault, write_reply,
+};
 use cap_model::{NoMemory, OwnedReply, Request};
 use http_server::Log;
-
-const BAD_LENGTH: u8 = 40;
-
-const BAD_MESSAGE: u8 = 41;
 
 /// The room that is made for the frame of a reply: its length, and what `write_reply` asks for.
 pub(crate) const FRAME_ROOM: usize = 4 + REPLY_ROOM;
@@ -90,6 +88,7 @@ fn put_fault(status: u8, unsent: &mut BytesMut) -> Result<(), NoMemory>
 
 /// Appends the frame of a reply to the request of this head. All room has been made.
 pub(crate) fn put_reply(head: Head, reply: &OwnedReply<2>, unsent: &mut BytesMut)
+    requires table { IsKind head.kind }
     requires kind { IsOfKind head.kind reply.now }
     requires room { FRAME_ROOM ≤ unsent.old.spare }
     ensures appends { unsent.new.items

@@ -6,7 +6,7 @@ ghost use Rattle.cap_session.specs.Payloads.{GivesNext, ReadsAhead, IsParted, Is
 
 use crate::asked::{Asked, Head, ReadPayload, ReadResult, Refused};
 use cap_frames::{FrameFault, Framer};
-use cap_messages::{kind, read_request};
+use cap_grammar::{kind, read_request};
 use cap_model::{NoMemory, Request};
 use http_server::Log;
 use std::alloc::Global;

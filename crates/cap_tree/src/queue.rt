@@ -7,8 +7,7 @@ ghost use Rattle.cap_tree.specs.Queue.{IsUnused, HasSettingsOf, count_in, moved_
 
 use crate::branch::{CopyIn, Held, Served};
 use crate::count::{Part, Total, moved};
-use cap_config::QueueRow;
-use cap_model::{NoMemory, PathText, ShortText};
+use cap_model::{NoMemory, PathText, QueueRow, ShortText};
 use cap_vector::{Resource, Shares, Sum, cmp_shares, fits_exchanged};
 use indexmap::IndexMap;
 use std::alloc::Allocator;

@@ -1,4 +1,3 @@
-mod Alike
 mod Serving
 mod Starving
 mod Tables

@@ -8,7 +8,7 @@ use Rattle.cap_model.specs.Flat.{Flat}
 use Rattle.cap_model.specs.Replies.{Replies}
 use Rattle.cap_model.specs.Events.{Run}
 use Rattle.cap_frames.specs.Stream.{frame_of, fault, IsBytes}
-use Rattle.cap_messages.specs.Spelling.{fault_reply}
+use Rattle.cap_grammar.specs.Spelling.{fault_reply}
 use Rattle.cap_session.specs.declared.session.Cause.{Cause}
 use Rattle.cap_session.specs.declared.session.Cause.TheVariants as causes
 use Rattle.cap_session.specs.declared.session.Fed.TheVariants as feds

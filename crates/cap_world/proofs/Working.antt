@@ -27,7 +27,7 @@ use Rattle.cap_world.specs.Working.{Copied, made_by}
 use Rattle.cap_world.specs.Steps.{Outcome}
 use Rattle.cap_world.specs.Making.{Makes}
 use Rattle.cap_world.specs.WorkerLaws.{QuietStepsMakeNoEvent, IsExact, CommitsAreExact, IsNoCopy, ProposalsAreOfCopies, IsMadeOf, CopiedChoicesAreMade}
-use Rattle.cap_world.proofs.Alike.{same_choice}
+use Rattle.cap_sights.proofs.Alike.{same_choice}
 
 -- ---- steps without events
 

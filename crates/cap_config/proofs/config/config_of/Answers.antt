@@ -9,10 +9,10 @@ use Rattle.cap_config.proofs.Listing.{rows_are_listing}
 use Rattle.cap_config.proofs.RowBounds.{few_rows}
 use Rattle.cap_config.proofs.config.config_of.Goals as goal
 
-pub invariant_of-result : goal.invariant_of-result
+pub new-requires-2 : goal.new-requires-2
 unfolding root
-invariant_of-result c =
+new-requires-2 c =
     let entries = c.args.index.now.entries.now in
-    let few : c.cluster_number-5.result ≤ applications_max = omega arith in
+    let limit : c.cluster_number-5.result ≤ applications_max = omega arith in
     let rows : c.add_queues.new.queues.items ≡ rows_under 16 entries root = search rules in
-    (few, subst IsListing (sym rows) (rows_are_listing entries c.requires.bounded c.requires.whole), omega arith, subst (λ (x : List QueueRow). length x ≤ queues_max) (sym rows) (few_rows entries c.requires.bounded c.requires.whole))
+    (omega arith, (omega arith, (omega arith, (subst IsListing (sym rows) (rows_are_listing entries c.requires.bounded c.requires.whole), (subst (λ (x : List QueueRow). length x ≤ queues_max) (sym rows) (few_rows entries c.requires.bounded c.requires.whole), (limit, omega arith))))))

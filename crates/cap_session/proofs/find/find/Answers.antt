@@ -1,7 +1,7 @@
 use Rattle.std.proofs.Common.{◌≡◌, [], ◌∷◌, Err, ap, subst, ◌∙◌}
-use Rattle.cap_messages.specs.declared.fault.MessageFault.{MessageFault}
-use Rattle.cap_messages.specs.declared.fault.MessageFault.TheVariants.{Bad}
-use Rattle.cap_messages.specs.Spelling.{IsNoRequest}
+use Rattle.cap_grammar.specs.declared.fault.MessageFault.{MessageFault}
+use Rattle.cap_grammar.specs.declared.fault.MessageFault.TheVariants.{Bad}
+use Rattle.cap_grammar.specs.Spelling.{IsNoRequest}
 use Rattle.cap_session.specs.Asked.{ReadResult, IsReadFrom}
 use Rattle.cap_session.proofs.Steps.{bad_none, bad_more}
 use Rattle.cap_session.proofs.find.find.Goals as goal

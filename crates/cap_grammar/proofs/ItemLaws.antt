@@ -1,0 +1,74 @@
+-- Where the lists of a payload stand, and which are not empty.
+use Rattle.std.proofs.Common.{◌≡◌, ℕ, zero, suc, ◌+◌, ◌<◌, Bool, true, List, [], ◌∷◌, length, take, drop, Option, Some, None, sym, ap, subst, ◌∙◌, arith, inl, inr, ◌⊎◌}
+use Rattle.std.specs.Prelude.{nat_lt, nat_le, if◌then◌else◌, slice_index}
+use Rattle.std.specs.Int.{Width, w16, w32, w64, byte_len, from_be_bytes}
+use Rattle.std.proofs.lemmas.Bool.{lt-ltb}
+use Rattle.std.proofs.Math.Seq.{drop-drop}
+use Rattle.cap_model.specs.Cascade.{holds_of}
+use Rattle.cap_grammar.specs.Fields.{byte_at, number_at, pair_at, passing_at, times_at, counted_at}
+use Rattle.cap_grammar.specs.Reading.{HasItemsAt, ListsItems, CarriesItems, head_at}
+use Rattle.cap_grammar.proofs.FieldLaws.{bind_then, guard_else, guard_then}
+use Rattle.cap_grammar.proofs.RequestLaws.{second_is_kind}
+
+-- what stands after a number
+pub number_rest : (w : Width) (bytes : List ℕ) (n : ℕ) (rest : List ℕ) → number_at w bytes ≡ Some (n, rest) → rest ≡ drop (byte_len w) bytes
+number_rest w bytes n rest e =
+    let both = guard_else (nat_lt (length bytes) (byte_len w)) (from_be_bytes w (take (byte_len w) bytes), drop (byte_len w) bytes) (n, rest) e in
+    sym (ap (λ (p : ℕ × List ℕ). p.1) both.1)
+
+-- a number that passed a test
+passed : (test : ℕ → Bool) (bytes : List ℕ) (n : ℕ) (rest : List ℕ) → passing_at test (number_at w16) bytes ≡ Some (n, rest) → number_at w16 bytes ≡ Some (n, rest)
+passed test bytes n rest e =
+    bind_then (number_at w16 bytes) (λ x. if test x.0 then Some x else None) (n, rest) e (λ x at is. at ∙ (guard_then (test x.0) (Some x) (n, rest) is).1)
+
+-- a list whose length is not 0
+pub has_items : (test : ℕ → Bool) (bytes : List ℕ) (n : ℕ) (rest : List ℕ) → passing_at test (number_at w16) bytes ≡ Some (n, rest) → 0 < n → HasItemsAt 0 bytes
+has_items test bytes n rest e some = ap (holds_of (λ x. nat_lt 0 x.0)) (passed test bytes n rest e) ∙ lt-ltb 0 n some
+
+-- what stands after a list that may be empty
+pub items_or_rest : {A : Type 0} (most : ℕ) (field : List ℕ → Option (A × List ℕ)) (bytes : List ℕ) (xs : List A) (rest : List ℕ) → counted_at most field bytes ≡ Some (xs, rest) → HasItemsAt 0 bytes ⊎ (rest ≡ drop 2 bytes)
+unfolding counted_at
+items_or_rest {A} most field bytes xs rest e =
+    bind_then (passing_at (λ n. nat_le n most) (number_at w16) bytes) (λ n. times_at n.0 field n.1) (xs, rest) e (λ n at is. by n.0 n.1 at is)
+  where
+    by : (n : ℕ) (after : List ℕ) → passing_at (λ n. nat_le n most) (number_at w16) bytes ≡ Some (n, after) → times_at n field after ≡ Some (xs, rest) → HasItemsAt 0 bytes ⊎ (rest ≡ drop 2 bytes)
+    by zero after at is =
+        let same : ([], after) ≡ (xs, rest) = cc is in
+        inr (sym (ap (λ (p : List A × List ℕ). p.1) same) ∙ number_rest w16 bytes zero after (passed (λ n. nat_le n most) bytes zero after at))
+    by (suc n) after at is = inl (has_items (λ n. nat_le n most) bytes (suc n) after at (omega arith))
+
+-- the same further on in the bytes
+pub items_further : (i j : ℕ) (bytes rest : List ℕ) → rest ≡ drop j bytes → HasItemsAt i rest → HasItemsAt (j + i) bytes
+items_further i j bytes rest e has = subst (λ (x : List ℕ). holds_of (λ n. nat_lt 0 n.0) (number_at w16 x) ≡ true) (ap (λ (x : List ℕ). drop i x) e ∙ drop-drop i j bytes) has
+
+-- the lists of a body stand after a number of eight bytes and one of four
+pub two_numbers : (bytes first second : List ℕ) (a b : ℕ) → number_at w64 bytes ≡ Some (a, first) → number_at w32 first ≡ Some (b, second) → second ≡ drop 12 bytes
+two_numbers bytes first second a b e f = number_rest w32 first b second f ∙ ap (λ (x : List ℕ). drop 4 x) (number_rest w64 bytes a first e) ∙ drop-drop 4 8 bytes
+
+pub first_list : (bytes first second : List ℕ) (a b : ℕ) → number_at w64 bytes ≡ Some (a, first) → number_at w32 first ≡ Some (b, second) → HasItemsAt 0 second → HasItemsAt 12 bytes
+first_list bytes first second a b e f has = items_further 0 12 bytes second (two_numbers bytes first second a b e f) has
+
+pub second_list : {A : Type 0} (most : ℕ) (field : List ℕ → Option (A × List ℕ)) (bytes first second third : List ℕ) (a b : ℕ) (xs : List A) → number_at w64 bytes ≡ Some (a, first) → number_at w32 first ≡ Some (b, second) → counted_at most field second ≡ Some (xs, third)
+    → HasItemsAt 0 third → HasItemsAt 12 bytes ⊎ HasItemsAt 14 bytes
+second_list most field bytes first second third a b xs e f g has =
+    elim (items_or_rest most field second xs third g) [
+      | inl some ↦ inl (first_list bytes first second a b e f some)
+      | inr after ↦ inr (items_further 0 14 bytes third (after ∙ ap (λ (x : List ℕ). drop 2 x) (two_numbers bytes first second a b e f) ∙ drop-drop 2 12 bytes) has)
+    ]
+
+-- the version is the first byte, and the body stands after six
+pub head_is : (bytes : List ℕ) (h : ℕ × (ℕ × ℕ)) (rest : List ℕ) → head_at bytes ≡ Some (h, rest) → (slice_index bytes 0 ≡ h.0) × (rest ≡ drop 6 bytes)
+unfolding head_at
+head_is [] h rest e = absurd (cc e)
+head_is (v ∷ []) h rest e = absurd (cc e)
+head_is (v ∷ k ∷ bytes) h rest e =
+    bind_then (pair_at byte_at (number_at w32) (k ∷ bytes)) (λ y. Some ((v, y.0), y.1)) (h, rest) e (λ y at_y is.
+    bind_then (number_at w32 bytes) (λ z. Some ((k, z.0), z.1)) y at_y (λ z at_z is'.
+    let pair-is : ((k, z.0), z.1) ≡ y = cc is' in
+    let head-is : ((v, y.0), y.1) ≡ (h, rest) = cc is in
+    (ap (λ (p : (ℕ × (ℕ × ℕ)) × List ℕ). p.0.0) head-is, sym (ap (λ (p : (ℕ × ℕ) × List ℕ). p.1) pair-is ∙ ap (λ (p : (ℕ × (ℕ × ℕ)) × List ℕ). p.1) head-is) ∙ number_rest w32 bytes z.0 z.1 at_z)))
+
+pub carries_items : (bytes : List ℕ) (h : ℕ × (ℕ × ℕ)) (rest : List ℕ) → head_at bytes ≡ Some (h, rest) → h.0 ≡ 1 → ListsItems h.1.0 rest → CarriesItems bytes
+carries_items bytes h rest e first lists =
+    let head = head_is bytes h rest e in
+    (head.0 ∙ first, subst (λ (kind : ℕ). ListsItems kind (drop 6 bytes)) (sym (second_is_kind bytes h rest e)) (subst (λ (body : List ℕ). ListsItems h.1.0 body) head.1 lists))

@@ -1,0 +1,51 @@
+-- How long the spelling of news is.
+use Rattle.std.proofs.Common.{◌≡◌, ℕ, ◌*◌, ◌≤◌, true, List, [], ◌∷◌, ◌++◌, length, length-append, arith}
+use Rattle.std.specs.Prelude.{nat_le, nat_lt, ◌&&◌}
+use Rattle.std.specs.List.{flat_map, list_all, AllByRecursion}
+use Rattle.std.specs.Int.{w32, w64, to_be_bytes}
+use Rattle.std.proofs.lemmas.Bool.{and_parts}
+use Rattle.std.proofs.lemmas.Bool.Decides.{nat_tests}
+use Rattle.cap_vector.specs.Vector.{IsResource}
+use Rattle.cap_model.specs.Texts.{is_graphic}
+use Rattle.cap_model.specs.News.{Grant}
+use Rattle.cap_model.specs.declared.news.End.{End}
+use Rattle.cap_grammar.specs.Texts.{is_place}
+use Rattle.cap_grammar.specs.Spelling.{text, resource, grant, FitsGrant, end}
+
+length_amounts : (v : List ℕ) → length (flat_map (to_be_bytes w64) v) ≡ 8 * length v
+length_amounts [] = omega arith
+length_amounts (n ∷ v) = omega (arith, length-append (to_be_bytes w64 n) (flat_map (to_be_bytes w64) v), length_amounts v)
+
+length_resource : (v : List ℕ) → IsResource 2 v → length (resource v) ≡ 16
+unfolding resource
+length_resource v is = let two = is.count in omega (arith, length_amounts v, two)
+
+short_place : (t : List ℕ) → is_place t ≡ true → length t ≤ 64
+short_place t h =
+    let p = and_parts (nat_lt 0 (length t) && nat_le (length t) 64) (list_all is_graphic t) h in
+    let q = and_parts (nat_lt 0 (length t)) (nat_le (length t) 64) p.0 in
+    let few = q.1 in grind (arith, nat_tests, few)
+
+pub length_grant : (g : Grant) → FitsGrant g → length (grant g) ≤ 109
+unfolding grant
+length_grant g fits =
+    let e : List ℕ = text g.host ++ resource g.resource in
+    let d : List ℕ = to_be_bytes w64 g.node ++ e in
+    let c : List ℕ = to_be_bytes w64 g.key.request ++ d in
+    let b : List ℕ = to_be_bytes w32 g.key.priority ++ c in
+    let le = length-append (text g.host) (resource g.resource) in
+    let lr = length_resource g.resource fits.resource in
+    let lh = short_place g.host fits.host in
+    omega (arith, le, lr, lh)
+
+pub length_end : (e : End) → length (end e) ≡ 9
+unfolding end
+length_end e = omega arith
+
+pub length_grants : (gs : List Grant) → AllByRecursion FitsGrant gs → length (flat_map grant gs) ≤ 109 * length gs
+length_grants [] fits = omega arith
+length_grants (g ∷ gs) fits = omega (arith, length-append (grant g) (flat_map grant gs), length_grant g fits.0, length_grants gs fits.1)
+
+pub length_ends : (es : List End) → length (flat_map end es) ≤ 9 * length es
+length_ends [] = omega arith
+length_ends (e ∷ es) = omega (arith, length-append (end e) (flat_map end es), length_end e, length_ends es)

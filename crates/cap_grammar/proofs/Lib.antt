@@ -1,0 +1,9 @@
+pub mod Lengths
+pub mod ListLaws
+pub mod Appends
+pub mod FieldLaws
+pub mod RequestLaws
+pub mod ItemLaws
+pub mod ReplyLaws
+pub mod SpelledBytes
+pub mod Beginnings

@@ -1,0 +1,21 @@
+use Rattle.std.proofs.Common.{refl, arith}
+use Rattle.cap_grammar.specs.Spelling.{reply_bytes}
+use Rattle.cap_grammar.proofs.ReplyLaws.{one_reply, no_fault, one_answer}
+use Rattle.cap_grammar.proofs.SpelledBytes.{reply_is_bytes}
+use Rattle.cap_grammar.proofs.laws.replies_have_one_spelling.Goals as goal
+
+pub returns-clause-some : goal.returns-clause-some
+returns-clause-some c = λ id kind reply id_fits is_kind of_kind fits. (
+  reply_bytes id kind reply,
+  reply_is_bytes id kind reply (omega (arith, is_kind.1)) fits,
+  record { spelled = refl; id_fits = id_fits; is_kind = is_kind; of_kind = of_kind; fits = fits },
+)
+
+pub returns-clause-apart : goal.returns-clause-apart
+returns-clause-apart c = one_reply
+
+pub returns-clause-fault : goal.returns-clause-fault
+returns-clause-fault c = no_fault
+
+pub returns-clause-answers : goal.returns-clause-answers
+returns-clause-answers c = one_answer

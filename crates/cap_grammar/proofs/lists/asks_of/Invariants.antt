@@ -1,0 +1,13 @@
+use Rattle.std.proofs.Common.{◌≡◌, ◌-◌, length}
+use Rattle.cap_grammar.specs.Fields.{counted_at}
+use Rattle.cap_grammar.specs.MasterCalls.{ask_at}
+use Rattle.cap_model.specs.Limits.{asks_max}
+use Rattle.cap_grammar.proofs.ListLaws.{more_at}
+use Rattle.cap_grammar.proofs.lists.asks_of.Given as goal
+
+-- what the rest gives is what the whole gives, and one was read in each turn
+abbrev pub invariant-loop-i : goal.invariant-loop-i
+invariant-loop-i l = record {
+  rest : counted_at asks_max (ask_at) l.bytes ≡ more_at l.asks.items (l.length - l.i) (ask_at) l.rest;
+  count : length l.asks.items ≡ l.i;
+}

@@ -1,0 +1,241 @@
+-- The one spelling of each request and each reply.
+use Rattle.std.specs.Prelude.{◌≡◌, ℕ, ◌<◌, ◌≤◌, ◌^◌, ◌⊎◌, List, [], ◌∷◌, ◌++◌, length, Bool, true, Option, IfSome, is_some, unwrap_or, if◌then◌else◌}
+use Rattle.std.specs.List.{flat_map, AllByRecursion}
+use Rattle.std.specs.Int.{w16, w32, w64, to_be_bytes}
+use Rattle.cap_vector.specs.Vector.{IsResource, IsSum, zeros}
+use Rattle.cap_model.specs.Refusals.{status_of}
+use Rattle.cap_model.specs.Asks.{Ask}
+use Rattle.cap_model.specs.Limits.{asks_max, numbers_max, news_max}
+use Rattle.cap_model.specs.News.{Grant, AllocateReply, cause_number}
+use Rattle.cap_model.specs.declared.news.End.{End}
+use Rattle.cap_model.specs.declared.replies.HeartbeatReply.{HeartbeatReply}
+use Rattle.cap_model.specs.declared.report.QueueReport.{QueueReport}
+use Rattle.cap_model.specs.declared.report.ClusterReport.{ClusterReport}
+use Rattle.cap_model.specs.declared.request.Request.{Request}
+use Rattle.cap_model.specs.declared.reply.ReplyWith.TheVariants as Reply
+use Rattle.cap_model.specs.News.{Reply}
+use Rattle.cap_grammar.specs.Texts.{is_host, is_rack, is_path, is_user, is_place}
+
+-- a text: its length and its bytes
+abbrev pub text : List ℕ → List ℕ
+text bytes = length bytes ∷ bytes
+
+-- amounts, each of eight bytes
+unfoldable pub resource : List ℕ → List ℕ
+resource amounts = flat_map (to_be_bytes w64) amounts
+
+-- a byte that is 1 or 0
+abbrev pub flag : Bool → List ℕ
+flag holds = (if holds then 1 else 0) ∷ []
+
+-- whether there is a maximum, and the maximum, zeros where there is none
+abbrev pub limit : Option (List ℕ) → List ℕ
+limit maximum = flag (is_some maximum) ++ resource (unwrap_or maximum (zeros 2))
+
+-- ---- requests
+
+-- a list with its length before it
+unfoldable pub list_bytes : {A : Type 0} → (A → List ℕ) → List A → List ℕ
+list_bytes spell xs = to_be_bytes w16 (length xs) ++ flat_map spell xs
+
+-- a list that is short enough, each item within its bounds
+pub record FitsListed {A : Type 0} (most : ℕ) (Fits : A → Type 0) (xs : List A) : Type 0 where
+  pub few : length xs ≤ most
+  pub each : AllByRecursion Fits xs
+
+-- priority, request id, count, resource and place
+unfoldable pub ask : Ask → List ℕ
+ask a = to_be_bytes w32 a.key.priority ++ (to_be_bytes w64 a.key.request ++ (to_be_bytes w32 a.count ++ (resource a.resource ++ text a.place)))
+
+pub record FitsAsk (a : Ask) : Type 0 where
+  pub priority : a.key.priority < 2 ^ 32
+  pub request : a.key.request < 2 ^ 64
+  pub count : a.count < 2 ^ 32
+  pub resource : IsResource 2 a.resource
+  pub place : is_place a.place ≡ true
+
+abbrev pub FitsNumber : ℕ → Type 0
+FitsNumber n = n < 2 ^ 64
+
+abbrev pub kind_of : Request 2 → ℕ
+kind_of (Request.Submit path user) = 1
+kind_of (Request.RegisterMaster app) = 2
+kind_of (Request.Allocate app response asks releases) = 3
+kind_of (Request.FinishMaster app) = 4
+kind_of (Request.RegisterNode host rack total) = 5
+kind_of (Request.Heartbeat node response ended) = 6
+kind_of (Request.NodeGone node) = 7
+kind_of (Request.QueueInfo path) = 8
+kind_of (Request.SetQueueState path running) = 9
+kind_of Request.ClusterInfo = 10
+
+abbrev pub request_body : Request 2 → List ℕ
+request_body (Request.Submit path user) = text path ++ text user
+request_body (Request.RegisterMaster app) = to_be_bytes w64 app
+request_body (Request.Allocate app response asks releases) = to_be_bytes w64 app ++ (to_be_bytes w32 response ++ (list_bytes ask asks ++ list_bytes (to_be_bytes w64) releases))
+request_body (Request.FinishMaster app) = to_be_bytes w64 app
+request_body (Request.RegisterNode host rack total) = text host ++ (text rack ++ resource total)
+request_body (Request.Heartbeat node response ended) = to_be_bytes w64 node ++ (to_be_bytes w32 response ++ list_bytes (to_be_bytes w64) ended)
+request_body (Request.NodeGone node) = to_be_bytes w64 node
+request_body (Request.QueueInfo path) = text path
+request_body (Request.SetQueueState path running) = text path ++ flag running
+request_body Request.ClusterInfo = []
+
+-- its texts and numbers are within their bounds
+abbrev pub FitsRequest : Request 2 → Type 0
+FitsRequest (Request.Submit path user) = (is_path path ≡ true) × (is_user user ≡ true)
+FitsRequest (Request.RegisterMaster app) = app < 2 ^ 64
+FitsRequest (Request.Allocate app response asks releases) =
+    (app < 2 ^ 64) × (response < 2 ^ 32) × FitsListed asks_max FitsAsk asks × FitsListed numbers_max FitsNumber releases
+FitsRequest (Request.FinishMaster app) = app < 2 ^ 64
+FitsRequest (Request.RegisterNode host rack total) = (is_host host ≡ true) × (is_rack rack ≡ true) × IsResource 2 total
+FitsRequest (Request.Heartbeat node response ended) = (node < 2 ^ 64) × (response < 2 ^ 32) × FitsListed numbers_max FitsNumber ended
+FitsRequest (Request.NodeGone node) = node < 2 ^ 64
+FitsRequest (Request.QueueInfo path) = is_path path ≡ true
+FitsRequest (Request.SetQueueState path running) = is_path path ≡ true
+FitsRequest Request.ClusterInfo = Unit {0}
+
+-- version, kind, call id and body
+abbrev pub request_bytes : ℕ → Request 2 → List ℕ
+request_bytes id request = 1 ∷ kind_of request ∷ to_be_bytes w32 id ++ request_body request
+
+-- the bytes spell the request
+pub record IsRequest (bytes : List ℕ) (id : ℕ) (request : Request 2) : Type 0 where
+  pub spelled : bytes ≡ request_bytes id request
+  pub id_fits : id < 2 ^ 32
+  pub fits : FitsRequest request
+
+abbrev pub IsNoRequest : List ℕ → Type 0
+IsNoRequest bytes = (id : ℕ) (request : Request 2) → IsRequest bytes id request → ⊥
+
+-- ---- replies
+
+-- whether it runs, whether it is a leaf, guarantee, maximum, use and active applications of a queue
+unfoldable pub queue_report : QueueReport 2 → List ℕ
+queue_report r = flag r.running ++ flag r.leaf ++ resource r.guaranteed ++ limit r.maximum ++ resource r.used ++ to_be_bytes w32 r.apps
+
+pub record FitsQueueReport (r : QueueReport 2) : Type 0 where
+  pub guaranteed : IsResource 2 r.guaranteed
+  pub maximum : IfSome r.maximum (IsResource 2)
+  pub used : IsSum 2 r.used
+  pub apps : r.apps < 2 ^ 32
+
+-- how many nodes, active applications and live containers, what the nodes have, and what is used
+unfoldable pub cluster_report : ClusterReport 2 → List ℕ
+cluster_report r = to_be_bytes w32 r.nodes ++ to_be_bytes w32 r.apps ++ to_be_bytes w32 r.containers ++ resource r.totals ++ resource r.used
+
+pub record FitsClusterReport (r : ClusterReport 2) : Type 0 where
+  pub nodes : r.nodes < 2 ^ 32
+  pub apps : r.apps < 2 ^ 32
+  pub containers : r.containers < 2 ^ 32
+  pub totals : IsResource 2 r.totals
+  pub used : IsSum 2 r.used
+
+-- a list with its length before it in one byte
+abbrev pub counted_list : {A : Type 0} → (A → List ℕ) → List A → List ℕ
+counted_list spell xs = length xs ∷ flat_map spell xs
+
+-- container, key, node, host and resource
+unfoldable pub grant : Grant → List ℕ
+grant g =
+    to_be_bytes w64 g.container ++ (to_be_bytes w32 g.key.priority ++ (to_be_bytes w64 g.key.request ++ (to_be_bytes w64 g.node ++ (text g.host ++ resource g.resource))))
+
+pub record FitsGrant (g : Grant) : Type 0 where
+  pub container : g.container < 2 ^ 64
+  pub priority : g.key.priority < 2 ^ 32
+  pub request : g.key.request < 2 ^ 64
+  pub node : g.node < 2 ^ 64
+  pub host : is_place g.host ≡ true
+  pub resource : IsResource 2 g.resource
+
+-- container and cause
+unfoldable pub end : End → List ℕ
+end e = to_be_bytes w64 e.container ++ cause_number e.cause ∷ []
+
+abbrev pub FitsEnd : End → Type 0
+FitsEnd e = e.container < 2 ^ 64
+
+-- the new response id, how many were ignored, grants and ends
+unfoldable pub allocate_bytes : AllocateReply → List ℕ
+allocate_bytes r = to_be_bytes w32 r.response ++ (to_be_bytes w16 r.ignored ++ (counted_list grant r.grants ++ counted_list end r.ends))
+
+pub record FitsAllocated (r : AllocateReply) : Type 0 where
+  pub response : r.response < 2 ^ 32
+  pub ignored : r.ignored < 2 ^ 16
+  pub grants : FitsListed news_max FitsGrant r.grants
+  pub ends : FitsListed news_max FitsEnd r.ends
+
+-- the new response id, how many were ignored, and how many live
+unfoldable pub beat : HeartbeatReply → List ℕ
+beat r = to_be_bytes w32 r.response ++ (to_be_bytes w16 r.ignored ++ to_be_bytes w32 r.live)
+
+pub record FitsBeat (r : HeartbeatReply) : Type 0 where
+  pub response : r.response < 2 ^ 32
+  pub ignored : r.ignored < 2 ^ 16
+  pub live : r.live < 2 ^ 32
+
+-- the status, which is 0 or a refusal's number, and what follows it
+abbrev pub reply_body : Reply 2 → List ℕ
+reply_body (Reply.Refused refusal) = status_of refusal ∷ []
+reply_body (Reply.Submit app) = 0 ∷ to_be_bytes w64 app
+reply_body (Reply.RegisterMaster minimum maximum) = 0 ∷ resource minimum ++ resource maximum
+reply_body (Reply.Allocate reply) = 0 ∷ allocate_bytes reply
+reply_body (Reply.FinishMaster ended) = 0 ∷ to_be_bytes w32 ended
+reply_body (Reply.RegisterNode node) = 0 ∷ to_be_bytes w64 node
+reply_body (Reply.Heartbeat reply) = 0 ∷ beat reply
+reply_body (Reply.NodeGone ended) = 0 ∷ to_be_bytes w32 ended
+reply_body (Reply.QueueInfo report) = 0 ∷ queue_report report
+reply_body Reply.SetQueueState = 0 ∷ []
+reply_body (Reply.ClusterInfo report) = 0 ∷ cluster_report report
+
+-- a reply under the call id and the kind of its request
+abbrev pub reply_bytes : ℕ → ℕ → Reply 2 → List ℕ
+reply_bytes id kind reply = 1 ∷ kind ∷ to_be_bytes w32 id ++ reply_body reply
+
+-- a refusal, or a reply of this kind
+abbrev pub IsOfKind : ℕ → Reply 2 → Type 0
+IsOfKind kind (Reply.Refused refusal) = Unit {0}
+IsOfKind kind (Reply.Submit app) = kind ≡ 1
+IsOfKind kind (Reply.RegisterMaster minimum maximum) = kind ≡ 2
+IsOfKind kind (Reply.Allocate reply) = kind ≡ 3
+IsOfKind kind (Reply.FinishMaster ended) = kind ≡ 4
+IsOfKind kind (Reply.RegisterNode node) = kind ≡ 5
+IsOfKind kind (Reply.Heartbeat reply) = kind ≡ 6
+IsOfKind kind (Reply.NodeGone ended) = kind ≡ 7
+IsOfKind kind (Reply.QueueInfo report) = kind ≡ 8
+IsOfKind kind Reply.SetQueueState = kind ≡ 9
+IsOfKind kind (Reply.ClusterInfo report) = kind ≡ 10
+
+-- its numbers are within their bounds
+abbrev pub FitsReply : Reply 2 → Type 0
+FitsReply (Reply.Refused refusal) = Unit {0}
+FitsReply (Reply.Submit app) = app < 2 ^ 64
+FitsReply (Reply.RegisterMaster minimum maximum) = IsResource 2 minimum × IsResource 2 maximum
+FitsReply (Reply.Allocate reply) = FitsAllocated reply
+FitsReply (Reply.FinishMaster ended) = ended < 2 ^ 32
+FitsReply (Reply.RegisterNode node) = node < 2 ^ 64
+FitsReply (Reply.Heartbeat reply) = FitsBeat reply
+FitsReply (Reply.NodeGone ended) = ended < 2 ^ 32
+FitsReply (Reply.QueueInfo report) = FitsQueueReport report
+FitsReply Reply.SetQueueState = Unit {0}
+FitsReply (Reply.ClusterInfo report) = FitsClusterReport report
+
+-- the number of a request's kind
+abbrev pub IsKind : ℕ → Type 0
+IsKind kind = (1 ≤ kind) × (kind ≤ 10)
+
+-- the bytes spell the reply to a request of this call id and kind
+pub record IsReply (bytes : List ℕ) (id kind : ℕ) (reply : Reply 2) : Type 0 where
+  pub spelled : bytes ≡ reply_bytes id kind reply
+  pub id_fits : id < 2 ^ 32
+  pub is_kind : IsKind kind
+  pub of_kind : IsOfKind kind reply
+  pub fits : FitsReply reply
+
+-- a length that no frame has, or a payload that is no request
+abbrev pub IsFaultStatus : ℕ → Type 0
+IsFaultStatus status = (status ≡ 40) ⊎ (status ≡ 41)
+
+-- the reply to a payload that is no request: kind 0, call id 0 and the status
+abbrev pub fault_reply : ℕ → List ℕ
+fault_reply status = 1 ∷ 0 ∷ 0 ∷ 0 ∷ 0 ∷ 0 ∷ status ∷ []

@@ -1,0 +1,105 @@
+//! Lists at the front of bytes, each with its length before it.
+ghost use Rattle.std.specs.Prelude.{◌≡◌, ◌≤◌, nat_le, IfOk, IsErrOf};
+ghost use Rattle.std.specs.Int.{w16, w64};
+ghost use Rattle.cap_grammar.specs.Fields.{Gives, counted_at, number_at, passing_at};
+ghost use Rattle.cap_grammar.specs.MasterCalls.{ask_at};
+ghost use Rattle.cap_grammar.specs.Reading.{GivesInMemory, HasItemsAt};
+ghost use Rattle.cap_model.specs.Limits.{asks_max, numbers_max};
+
+use crate::fault::MessageFault;
+use crate::fields::{amounts_of, text_of, u16_of, u32_of, u64_of};
+use crate::texts::place_from;
+use cap_model::{Ask, Asks, Key, List, Numbers};
+use cap_vector::Resource;
+use std::alloc::Global;
+
+/// The most asks of one request.
+const ASKS_MAX: u16 = 256;
+
+/// The most releases, or ended containers, of one request.
+const NUMBERS_MAX: u16 = 1024;
+
+// The length of a list, at most so long.
+fn length_of(most: u16, bytes: &[u8]) -> Result<(u16, &[u8]), MessageFault>
+    ensures gives { Gives (λ x. (x.0, x.1.now)) result
+        (passing_at (λ n. nat_le n most) (number_at w16) bytes.now) }
+    ensures few { IfOk result (λ x. x.0 ≤ most) }
+{
+    let (length, rest) = u16_of(bytes)?;
+    if length > most {
+        return Err(MessageFault::Bad);
+    }
+    Ok((length, rest))
+}
+
+// Container numbers.
+pub(crate) fn numbers_of(alloc: Global, bytes: &[u8]) -> Result<(Numbers, &[u8]), MessageFault>
+    ensures gives { GivesInMemory (λ x. (x.0, x.1.now))
+        result (counted_at numbers_max (number_at w64) bytes.now) }
+    ensures memory { IsErrOf result MessageFault.NoMemory → HasItemsAt 0 bytes.now }
+{
+    let Ok((length, mut rest)) = length_of(NUMBERS_MAX, bytes) else {
+        return Err(MessageFault::Bad);
+    };
+    if length == 0 {
+        return Ok((List::of(Vec::new(alloc)), rest));
+    }
+    let Ok(mut numbers) = Vec::with_capacity(alloc, length as usize) else {
+        return Err(MessageFault::NoMemory);
+    };
+    for i in 0..length {
+        let Ok((number, after)) = u64_of(rest) else {
+            return Err(MessageFault::Bad);
+        };
+        let Ok(()) = numbers.push(number) else {
+            return Err(MessageFault::NoMemory);
+        };
+        rest = after;
+    }
+    Ok((List::of(numbers), rest))
+}
+
+// Asks.
+pub(crate) fn asks_of(alloc: Global, bytes: &[u8]) -> Result<(Asks<2>, &[u8]), MessageFault>
+    ensures gives { GivesInMemory (λ x. (x.0, x.1.now))
+        result (counted_at asks_max ask_at bytes.now) }
+    ensures memory { IsErrOf result MessageFault.NoMemory → HasItemsAt 0 bytes.now }
+{
+    let Ok((length, mut rest)) = length_of(ASKS_MAX, bytes) else {
+        return Err(MessageFault::Bad);
+    };
+    if length == 0 {
+        return Ok((List::of(Vec::new(alloc)), rest));
+    }
+    let Ok(mut asks) = Vec::with_capacity(alloc, length as usize) else {
+        return Err(MessageFault::NoMemory);
+    };
+    for i in 0..length {
+        let Ok(read) = ask_of(rest) else {
+            return Err(MessageFault::Bad);
+        };
+        let Ok(()) = asks.push(read.0) else {
+            return Err(MessageFault::NoMemory);
+        };
+        rest = read.1;
+    }
+    Ok((List::of(asks), rest))
+}
+
+// One ask: priority, request id, count, resource and place.
+#[tactic(auto, unfolding(crate::specs::MasterCalls::ask_at))]
+fn ask_of(bytes: &[u8]) -> Result<(Ask<2>, &[u8]), MessageFault>
+    ensures { Gives (λ x. (x.0, x.1.now)) result (ask_at bytes.now) }
+{
+    let (priority, rest) = u32_of(bytes)?;
+    let (request, rest) = u64_of(rest)?;
+    let (count, rest) = u32_of(rest)?;
+    let (amounts, rest) = amounts_of(rest)?;
+    let Some(resource) = Resource::new(amounts) else {
+        return Err(MessageFault::Bad);
+    };
+    let (place, rest) = text_of(rest)?;
+    let place = place_from(place)?;
+    let ask = Ask::new(&Key { priority, request }, count, &resource, &place);
+    Ok((ask, rest))
+}

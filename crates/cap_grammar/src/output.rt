@@ -1,0 +1,30 @@
+ghost use Rattle.std.specs.Prelude.{◌≡◌, ◌≤◌, ◌+◌, ◌++◌, length};
+ghost use Rattle.cap_vector.specs.Vector.{IsVector};
+ghost use Rattle.cap_grammar.specs.Spelling.{resource};
+
+use bytes::BytesMut;
+use cap_vector::Amounts;
+
+/// What replies are written into.
+pub type Out = BytesMut;
+
+/// The room that the longest reply takes, in bytes, with the four bytes of a frame's length before it.
+pub const REPLY_ROOM: usize = 7571;
+
+/// The room that the reply to a payload or a frame that is no request takes, in bytes.
+pub const FAULT_ROOM: usize = 7;
+
+const _: () = prove!(REPLY_ROOM == 7_571 && FAULT_ROOM == 7);
+
+#[tactic(auto, unfolding(crate::specs::Spelling::resource))]
+pub(crate) fn put_amounts<const MAX: u64>(amounts: &Amounts<2, MAX>, out: &mut Out)
+    requires { 16 ≤ out.old.spare }
+    ensures appends { out.new.items ≡ out.old.items ++ resource amounts.now }
+    ensures spare { out.new.spare + 16 ≡ out.old.spare }
+    ensures len { length (resource amounts.now) ≡ 16 }
+    ensures vector { IsVector 2 MAX amounts.now }
+{
+    let [memory, vcores] = amounts.amounts();
+    out.extend_reserved(&memory.to_be_bytes());
+    out.extend_reserved(&vcores.to_be_bytes());
+}

@@ -1,0 +1,103 @@
+ghost use Rattle.std.specs.Prelude.{◌≡◌, ◌≤◌, ◌<◌, ◌+◌, ◌++◌, ◌∷◌, length};
+ghost use Rattle.std.specs.Int.{w32, w64, to_be_bytes};
+ghost use Rattle.cap_grammar.specs.Spelling.{IsKind, IsOfKind, FitsReply, IsReply, reply_bytes, reply_body, fault_reply};
+
+use crate::cluster_info::put_cluster_report;
+use crate::news::{put_allocated, put_beat};
+use crate::output::{FAULT_ROOM, Out, REPLY_ROOM, put_amounts};
+use crate::queue_calls::put_queue_report;
+use cap_model::{ReplyView, ReplyWith};
+
+/// The status of the reply to a length that no frame has.
+pub const BAD_LENGTH: u8 = 40;
+
+/// The status of the reply to a payload that is no request.
+pub const BAD_MESSAGE: u8 = 41;
+
+// The status and what follows it, after the 10 bytes of a frame's length and a reply's head.
+fn put_reply_body(reply: &ReplyView<'_, 2>, out: &mut Out)
+    requires { REPLY_ROOM ≤ out.old.spare + 10 }
+    ensures appends { out.new.items ≡ out.old.items ++ reply_body reply.now }
+    ensures spare { out.new.spare + length (reply_body reply.now) ≡ out.old.spare }
+    ensures room { 10 + length (reply_body reply.now) ≤ REPLY_ROOM }
+    ensures fits { FitsReply reply.now }
+{
+    match reply {
+        ReplyWith::Refused(refusal) => out.extend_reserved(&[refusal.status()]),
+        ReplyWith::Submit { app } => put_number(*app, out),
+        ReplyWith::RegisterMaster { minimum, maximum } => {
+            out.extend_reserved(&[0]);
+            put_amounts(minimum, out);
+            put_amounts(maximum, out);
+        }
+        ReplyWith::Allocate { reply } => {
+            out.extend_reserved(&[0]);
+            put_allocated(reply, out);
+        }
+        ReplyWith::FinishMaster { ended } => put_count(*ended, out),
+        ReplyWith::RegisterNode { node } => put_number(*node, out),
+        ReplyWith::Heartbeat { reply } => {
+            out.extend_reserved(&[0]);
+            put_beat(reply, out);
+        }
+        ReplyWith::NodeGone { ended } => put_count(*ended, out),
+        ReplyWith::QueueInfo { report } => {
+            out.extend_reserved(&[0]);
+            put_queue_report(report, out);
+        }
+        ReplyWith::SetQueueState => out.extend_reserved(&[0]),
+        ReplyWith::ClusterInfo { report } => {
+            out.extend_reserved(&[0]);
+            put_cluster_report(report, out);
+        }
+    }
+}
+
+// Success, and the number that the call gives.
+fn put_number(number: u64, out: &mut Out)
+    requires { 9 ≤ out.old.spare }
+    ensures appends { out.new.items ≡ out.old.items ++ 0 ∷ to_be_bytes w64 number }
+    ensures spare { out.new.spare + 9 ≡ out.old.spare }
+{
+    out.extend_reserved(&[0]);
+    out.extend_reserved(&number.to_be_bytes());
+}
+
+// Success, and how many containers have ended.
+fn put_count(count: u32, out: &mut Out)
+    requires { 5 ≤ out.old.spare }
+    ensures appends { out.new.items ≡ out.old.items ++ 0 ∷ to_be_bytes w32 count }
+    ensures spare { out.new.spare + 5 ≡ out.old.spare }
+{
+    out.extend_reserved(&[0]);
+    out.extend_reserved(&count.to_be_bytes());
+}
+
+/// Appends the one spelling of a reply to a request of this call id and kind: the kind is one that `kind` gives, the reply
+/// is a refusal or one of the kind, and `REPLY_ROOM` bytes of `out` are free. It takes no memory and cannot fail; what `out` held stays.
+pub fn write_reply(call_id: u32, kind: u8, reply: &ReplyView<'_, 2>, out: &mut Out)
+    requires table { IsKind kind }
+    requires kind { IsOfKind kind reply.now }
+    requires room { REPLY_ROOM ≤ out.old.spare }
+    ensures appends { out.new.items ≡ out.old.items ++ reply_bytes call_id kind reply.now }
+    ensures spare { out.new.spare + length (reply_bytes call_id kind reply.now) ≡ out.old.spare }
+    ensures spells { IsReply (reply_bytes call_id kind reply.now) call_id kind reply.now }
+    ensures some { 0 < length (reply_bytes call_id kind reply.now) }
+    ensures room { 4 + length (reply_bytes call_id kind reply.now) ≤ REPLY_ROOM }
+{
+    out.extend_reserved(&[1, kind]);
+    out.extend_reserved(&call_id.to_be_bytes());
+    put_reply_body(reply, out);
+}
+
+/// Appends the reply to a payload that is no request, or to a frame that is none, whose call id is not known: `status`
+/// with kind 0 and call id 0. `FAULT_ROOM` bytes of `out` are free. It takes no memory and cannot fail; what `out` held
+/// stays.
+pub fn write_fault(status: u8, out: &mut Out)
+    requires { FAULT_ROOM ≤ out.old.spare }
+    ensures appends { out.new.items ≡ out.old.items ++ fault_reply status }
+    ensures spare { out.new.spare + FAULT_ROOM ≡ out.old.spare }
+    ensures room { length (fault_reply status) ≡ FAULT_ROOM }
+{
+    out.extend_reserved(&[1, 0, 0, 0, 0, 0, status]);
+}
