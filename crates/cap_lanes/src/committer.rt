@@ -1,11 +1,11 @@
 //! The committer's end of the lanes.
-ghost use Rattle.std.specs.Prelude.{◌≡◌, ◌<◌, ℕ, [], ◌++◌, IfSome, IfNone};
+ghost use Rattle.std.specs.Prelude.{◌≡◌, ◌<◌, ◌↔◌, ℕ, [], ◌++◌, IfSome, IfNone, IsTrue};
 ghost use Rattle.cap_lanes.specs.Items.{tagged};
 ghost use Rattle.cap_lanes.specs.Sides.{AllOf, AllOver, IsTakenNext, StayOver, ends_of, put_by};
 
 use crate::putter::Ended;
 use crate::putting::{Back, LanePass};
-use crate::taking::{Front, gather_all, take_next, take_rest};
+use crate::taking::{Front, all_over, gather_all, take_at_once, take_next, take_rest};
 use cap_model::Proposal;
 use std::marker::Model;
 use std::sync::Wait;
@@ -57,6 +57,24 @@ impl Committer {
         ensures kept { StayOver self.old.over self.new.over }
     {
         take_next(rt, &self.front, &mut self.pass, &mut self.over)
+    }
+
+    /// Takes what comes next if it has come, and does not wait for it: a proposal, with the number of the worker that put it. None if nothing
+    /// has come, or if it is the end of a worker. It takes no memory.
+    pub fn try_take<R: Wait>(&mut self, rt: &R) -> Option<(u32, Proposal<2>)>
+        ensures lanes { self.new.lanes ≡ self.old.lanes }
+        ensures some { IfSome result (IsTakenNext self.old self.new) }
+        ensures none { IfNone result (self.new.taken ≡ self.old.taken) }
+        ensures kept { StayOver self.old.over self.new.over }
+    {
+        take_at_once(rt, &self.front, &mut self.pass, &mut self.over)
+    }
+
+    /// Whether the ends of all eight workers were taken. Then nothing comes any more.
+    pub fn is_over(&self) -> bool
+        ensures { IsTrue result ↔ AllOver self.now.over }
+    {
+        all_over(&self.over)
     }
 
     /// Closes the lanes, once all eight workers have finished: takes what the channel still holds. What each worker put is what was

@@ -60,6 +60,13 @@ impl Model for Ended {
 }
 
 impl Putter {
+    /// The number of the worker whose lane this is.
+    pub fn worker(&self) -> u32
+        ensures { result ≡ self.now.worker }
+    {
+        self.worker
+    }
+
     /// Puts a proposal behind all that this worker put. Waits while the channel is full. An error hands the proposal back, and
     /// nothing changes.
     pub fn put<R: Wait>(&mut self, rt: &R, proposal: Proposal<2>) -> Result<(), PutFault>

@@ -1,5 +1,5 @@
 //! What the committer does with the parts of its end of the lanes.
-ghost use Rattle.std.specs.Prelude.{◌≡◌, ◌<◌, ◌≤◌, ℕ, true, [], IfSome, IfNone, length, vec_capacity};
+ghost use Rattle.std.specs.Prelude.{◌≡◌, ◌<◌, ◌≤◌, ◌↔◌, ℕ, true, [], IfSome, IfNone, IsTrue, length, vec_capacity};
 ghost use Rattle.crossbeam_channel.specs.Ends.{sends_on, receives_on};
 ghost use Rattle.crossbeam_channel.specs.Claims.{view, IsSeatAt};
 ghost use Rattle.cap_lanes.specs.Rule.{taker, times};
@@ -18,6 +18,13 @@ use std::sync::Wait;
 
 /// The front of the channel.
 pub(crate) type Front = RuledReceiver<Item, View, LanesRule, Global>;
+
+/// Whether all ends are marked.
+pub(crate) fn all_over(over: &[bool; 8]) -> bool
+    ensures { IsTrue result ↔ AllOver over.now }
+{
+    over.iter().all(|e| *e)
+}
 
 /// Takes the next proposal, and marks the ends that come before it. None once all are marked.
 pub(crate) fn take_next<R: Wait>(
@@ -38,7 +45,7 @@ pub(crate) fn take_next<R: Wait>(
     ensures kept { StayOver over.old over.new }
 {
     for _ in rt.forever() {
-        if over.iter().all(|e| *e) {
+        if all_over(over) {
             return None;
         }
         let Ok(item) = front.recv_as::<Takes, R>(rt, pass) else {
@@ -50,6 +57,36 @@ pub(crate) fn take_next<R: Wait>(
         }
     }
     unreachable!()
+}
+
+/// Takes what comes next if it has come: a proposal, or an end, which is marked.
+pub(crate) fn take_at_once<R: Wait>(
+    rt: &R,
+    front: &Front,
+    pass: &mut LanePass,
+    over: &mut [bool; 8],
+) -> Option<(u32, Proposal<2>)>
+    requires seat { IsSeatAt (receives_on front.now) pass.old }
+    requires takes { view pass.old ≡ taker (view pass.old).took [] }
+    requires flags { Flags over.old (view pass.old).took }
+    ensures seat { IsSeatAt (receives_on front.now) pass.new }
+    ensures same { SameSeat pass.old pass.new }
+    ensures takes { view pass.new ≡ taker (view pass.new).took [] }
+    ensures flags { Flags over.new (view pass.new).took }
+    ensures some { IfSome result (IsNext over.old (taken_in pass.old) (taken_in pass.new)) }
+    ensures none { IfNone result (taken_in pass.new ≡ taken_in pass.old) }
+    ensures kept { StayOver over.old over.new }
+{
+    let Ok(item) = front.try_recv_as::<Takes, R>(rt, pass) else {
+        return None;
+    };
+    match item.message.proposal() {
+        Some(proposal) => Some((item.worker, proposal)),
+        None => {
+            over[item.worker as usize] = true;
+            None
+        }
+    }
 }
 
 /// The committer's pass takes over the lane of a worker.

@@ -42,5 +42,5 @@ module _ (J : RattleType) (epoch : naming.Ghosts J.Denot) where
   Shared-sync s =
       recorded_sync (Shared.the_field J epoch).row _ _ (Shared.the_type J epoch).to_one (struct_sync (shape (Shared.the_type J epoch)) (
         (search (crosses, sendable) depth 60),
-        ((search (table.the_field_sync, mark.the_send, crosses, sendable) depth 60), ((search (Desk-send, mutex.the_sync, crosses, sendable) depth 60), ((search (vec.the_sync, report.the_sync, crosses, sendable) depth 60), tt))),
+        ((search (table.the_field_sync, mark.the_send, crosses, sendable) depth 60), ((search (crosses, sendable) depth 60), ((search (Desk-send, mutex.the_sync, crosses, sendable) depth 60), ((search (vec.the_sync, report.the_sync, crosses, sendable) depth 60), tt)))),
       ))

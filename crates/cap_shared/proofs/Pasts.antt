@@ -16,7 +16,7 @@ use Rattle.cap_shared.specs.declared.history.Moment.TheVariants.{Entered, Noted}
 use Rattle.cap_shared.specs.declared.history.Mark.{Mark}
 use Rattle.cap_shared.specs.declared.history.Sitting.{Sitting}
 use Rattle.cap_shared.specs.declared.history.View.{View}
-use Rattle.cap_shared.specs.Journal.{Replays, receipt_for, seat_entries, receipts_in, position_of, start_of, end_of, Rises, NoteHolds, NotesHold, IsBy, TagsBelow, AllHonest}
+use Rattle.cap_shared.specs.Journal.{Replays, receipt_for, seat_entries, receipts_in, position_of, start_of, end_of, end_after, Rises, NoteHolds, NotesHold, IsBy, TagsBelow, AllHonest}
 use Rattle.cap_shared.specs.Rule.{keeper, sitter, sitting, sitting_of, NotesBegin, Fits}
 use Rattle.cap_shared.specs.Parts.{IsSeat, IsDesk}
 use Rattle.cap_shared.specs.Passes.{Pass, IsNoted, IsEntered}
@@ -29,11 +29,6 @@ Replays-push s m t (d ∷ es) e r h = (r.0, r.1, Replays-push r.0 m t es e r.2 h
 pub TagsBelow-push : (n : ℕ) (es : List Entry) (e : Entry) → TagsBelow n es → (e.seat < n) × IsBy e.seat e.event → TagsBelow n (es ++ e ∷ [])
 TagsBelow-push n [] e h l = (l, tt)
 TagsBelow-push n (d ∷ es) e h l = (h.0, TagsBelow-push n es e h.1 l)
-
--- where the last of these moments ends
-abbrev end_after : ℕ → List Moment → ℕ
-end_after n [] = n
-end_after n (m ∷ ms) = end_after (end_of m) ms
 
 Rises-push : (n : ℕ) (ms : List Moment) (m : Moment) → Rises n ms → end_after n ms ≤ start_of m → Rises n (ms ++ m ∷ [])
 Rises-push n [] m h l = (l, tt)
@@ -67,6 +62,10 @@ ends log n (Noted es a ∷ ms) l w b = ends log (length es) ms (prefix_length es
 
 pub fits_ends : (log : List Entry) (s : Sitting) → Fits log s → end_after 0 s.past ≤ length log
 fits_ends log s h = ends log 0 s.past (omega arith) (subst (λ (rs : List Receipt). Within (length log) rs) h.receipts (receipts_within s.seat 0 (length log) log (omega arith))) h.notes
+
+-- a seat that fits a journal that is not full has met no full one
+pub met_less : (log : List Entry) (s x : Sitting) (limit : ℕ) → Fits log s → s ≡ x → length log < limit → end_after 0 x.past < limit
+met_less log s x limit h is less = subst (λ (y : Sitting). end_after 0 y.past < limit) is (let e = fits_ends log s h in omega arith)
 
 NotesHold-told : (o : Flat 2) (limit : ℕ) (ms : List Moment) (r : Receipt) → NotesHold o limit ms → NotesHold o limit (ms ++ Entered r ∷ [])
 NotesHold-told o limit [] r h = tt

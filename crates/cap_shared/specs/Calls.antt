@@ -1,5 +1,5 @@
 -- What each call of a seat adds to what it was answered.
-use Rattle.std.specs.Prelude.{◌≡◌, ℕ, List, [], ◌∷◌, ◌++◌, length, false}
+use Rattle.std.specs.Prelude.{◌≡◌, ℕ, ◌<◌, ◌≤◌, List, [], ◌∷◌, ◌++◌, length, false}
 use Rattle.cap_model.specs.Flat.{Flat}
 use Rattle.cap_model.specs.Sight.{sight_of}
 use Rattle.cap_model.specs.News.{Reply}
@@ -9,7 +9,7 @@ use Rattle.cap_model.specs.Verdicts.{IsOf}
 use Rattle.cap_model.specs.declared.request.Request.{Request}
 use Rattle.cap_model.specs.declared.proposal.Verdict.{Verdict}
 use Rattle.cap_model.specs.declared.proposal.Verdict.TheVariants as verdict
-use Rattle.cap_messages.specs.Spelling.{IsOfKind, kind_of}
+use Rattle.cap_grammar.specs.Spelling.{IsOfKind, kind_of}
 use Rattle.cap_copy.specs.Snapshot.{Seen, sight_in}
 use Rattle.cap_sights.specs.Sights.{ShowTheSame}
 use Rattle.cap_shared.specs.declared.entry.Entry.{Entry}
@@ -24,7 +24,7 @@ use Rattle.cap_shared.specs.declared.history.Answer.TheVariants as answer
 use Rattle.cap_shared.specs.declared.history.Moment.{Moment}
 use Rattle.cap_shared.specs.declared.history.Moment.TheVariants.{Entered, Noted}
 use Rattle.cap_shared.specs.declared.history.Sitting.{Sitting}
-use Rattle.cap_shared.specs.Journal.{Replays, receipt_for}
+use Rattle.cap_shared.specs.Journal.{Replays, end_after, receipt_for}
 use Rattle.cap_shared.specs.Rule.{sitting}
 
 -- the same seat was answered these moments more
@@ -40,25 +40,40 @@ CallsOk request old new reply =
 abbrev pub IsSealedCall : Request 2 → ℕ → Sitting → Sitting → Type 0
 IsSealedCall request limit old new = (es : List Entry) × (length es ≡ limit) × HasMore old new (Noted es (answer.SealedCall request) ∷ [])
 
+-- the call changed nothing, and the seat has met no full journal
+abbrev pub IsStarvedCall : ℕ → Sitting → Sitting → Type 0
+IsStarvedCall limit old new = (new ≡ old) × (end_after 0 old.past < limit)
+
 abbrev pub CallMisses : Request 2 → ℕ → Sitting → Sitting → Fault → Type 0
 CallMisses request limit old new missed.Sealed = IsSealedCall request limit old new
-CallMisses request limit old new missed.NoMemory = new ≡ old
+CallMisses request limit old new missed.NoMemory = IsStarvedCall limit old new
+
+-- a full journal is told first: an allocation has failed only where it is not full
+abbrev pub TellsFull : ℕ → List Entry → Fault → Type 0
+TellsFull limit log missed.Sealed = limit ≤ length log
+TellsFull limit log missed.NoMemory = length log < limit
 
 -- a call that is not made gives its request back; where an allocation failed, nothing changed
 abbrev pub CallsBack : Request 2 → ℕ → Sitting → Sitting → CallFault → Type 0
 CallsBack request limit old new (fault.Sealed back) = (back ≡ request) × IsSealedCall request limit old new
-CallsBack request limit old new (fault.NoMemory back) = (back ≡ request) × (new ≡ old)
+CallsBack request limit old new (fault.NoMemory back) = (back ≡ request) × IsStarvedCall limit old new
 
 -- a proposal that is made has a receipt of an event of its kind, application, key, node and resource; a rejection is noted
 abbrev pub CommitAnswers : NodeProposal → Sitting → Sitting → Verdict 2 → Type 0
 CommitAnswers p old new (verdict.Done event) = IsOf p event × ((n : ℕ) × HasMore old new (Entered (receipt_for n event) ∷ []))
 CommitAnswers p old new (verdict.Rejected reason) = (es : List Entry) × HasMore old new (Noted es (answer.Rejected p reason) ∷ [])
 
--- a proposal that is not tried or not made comes back, and that is noted
+-- a proposal that is not tried or not made comes back, and that is noted; an allocation has failed only where the journal was not full
 abbrev pub CommitsBack : NodeProposal → ℕ → Sitting → Sitting → CommitFault → Type 0
 CommitsBack p limit old new (refusal.Sealed back) =
     (back ≡ p) × ((es : List Entry) × (length es ≡ limit) × HasMore old new (Noted es (answer.SealedCommit p) ∷ []))
-CommitsBack p limit old new (refusal.NoMemory back) = (back ≡ p) × ((es : List Entry) × HasMore old new (Noted es (answer.NoMemory p) ∷ []))
+CommitsBack p limit old new (refusal.NoMemory back) =
+    (back ≡ p) × ((es : List Entry) × (length es < limit) × HasMore old new (Noted es (answer.NoMemory p) ∷ []))
+
+-- the same of a proposal that is not tried or not made
+abbrev pub TellsFullFirst : ℕ → List Entry → CommitFault → Type 0
+TellsFullFirst limit log (refusal.Sealed back) = limit ≤ length log
+TellsFullFirst limit log (refusal.NoMemory back) = length log < limit
 
 -- a copy shows what the cluster showed after the entries of its note
 abbrev pub CopyIs : Flat 2 → Sitting → Sitting → Seen → Type 0

@@ -52,6 +52,11 @@ abbrev pub end_of : Moment → ℕ
 end_of (Entered r) = suc (position_of r)
 end_of (Noted es a) = length es
 
+-- how long the journal was after the last of these moments, n where there is none
+abbrev pub end_after : ℕ → List Moment → ℕ
+end_after n [] = n
+end_after n (m ∷ ms) = end_after (end_of m) ms
+
 -- the first moment found a journal of at least n entries, and each other one at least as long as the one before left it
 abbrev pub Rises : ℕ → List Moment → Type 0
 Rises n [] = Unit {0}

@@ -30,6 +30,14 @@ pub record HasMoment (before after : List Entry) (moment : Moment) (desk_old des
   pub sits : seat_new.me ≡ (sitter (sitting (sitting_of seat_old.me.0).seat ((sitting_of seat_old.me.0).past ++ moment ∷ [])), [])
   pub fits : Fits before (sitting_of seat_old.me.0)
 
+-- Neither pass knows anything else than before, and the seat fits the journal.
+pub record IsCompared (log : List Entry) (desk_old desk_new seat_old seat_new : Pass) : Type 0 where
+  pub desk_table : desk_new.table_id ≡ desk_old.table_id
+  pub seat_table : seat_new.table_id ≡ seat_old.table_id
+  pub keeps : desk_new.me ≡ desk_old.me
+  pub sits : seat_new.me ≡ seat_old.me
+  pub fits : Fits log (sitting_of seat_old.me.0)
+
 abbrev pub IsNoted : List Entry → Answer → Pass → Pass → Pass → Pass → Type 0
 IsNoted log answer desk_old desk_new seat_old seat_new = HasMoment log log (Noted log answer) desk_old desk_new seat_old seat_new
 

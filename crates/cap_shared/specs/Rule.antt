@@ -128,6 +128,7 @@ addition_of (mark.SealedCall log) = first_note (λ request _. answer.SealedCall 
 addition_of (mark.SealedCommit log) = first_note (λ p _. answer.SealedCommit p) log.items
 addition_of (mark.NoMemory log) = first_note (λ p _. answer.NoMemory p) log.items
 addition_of mark.Copied = Notes answer.Copied
+addition_of mark.Nothing = Nothing
 
 -- the journal after it, and what a seat was answered then
 abbrev pub log_after : List Entry → Addition → List Entry

@@ -1,8 +1,8 @@
 //! What lies under the lock.
-ghost use Rattle.std.specs.Prelude.{◌≡◌, ◌<◌, ◌≤◌, MatchResult, OnErr, length, ◌↔◌, IsTrue, None};
+ghost use Rattle.std.specs.Prelude.{◌≡◌, ◌<◌, ◌≤◌, MatchResult, IfErr, OnErr, length, ◌↔◌, IsTrue, None};
 ghost use Rattle.cap_model.specs.Sight.{sight_of};
 ghost use Rattle.cap_model.specs.Admission.{reason_of};
-ghost use Rattle.cap_shared.specs.Calls.{CallsOk, CallMisses, CommitAnswers, CommitsBack, CopyIs};
+ghost use Rattle.cap_shared.specs.Calls.{CallsOk, CallMisses, CommitAnswers, CommitsBack, CopyIs, TellsFull, TellsFullFirst};
 
 use crate::calls::{CallRoom, is_no_memory, own_copies};
 use crate::entry::{Entry, Receipt};
@@ -10,7 +10,8 @@ use crate::event::{CompactEvent, EventForm};
 use crate::faults::{CommitFault, Fault};
 use crate::making::make_proposed;
 use crate::marks::{
-    enter, note_copied, note_no_memory, note_rejected, note_sealed_call, note_sealed_commit,
+    compare, enter, note_copied, note_no_memory, note_rejected, note_sealed_call,
+    note_sealed_commit,
 };
 use crate::passes::{Pass, Word};
 use crate::request::CompactRequest;
@@ -61,7 +62,7 @@ impl<J: Naming> Desk<J> {
         self.journal.len()
     }
 
-    /// Makes a call, with an entry and a receipt; the entry takes the lists of the request. A full journal is noted, and if an
+    /// Makes a call, with an entry and a receipt; the entry takes the lists of the request. A full journal is told first, and noted; if an
     /// allocation fails nothing changes.
     pub fn call(
         &mut self,
@@ -73,18 +74,41 @@ impl<J: Naming> Desk<J> {
         requires word { (word.now.table_id ≡ J.table) × (0 < word.now.table_id.words) }
         ensures answer { MatchResult result (CallsOk request.old seat.old seat.new)
             (CallMisses request.old J.limit seat.old seat.new) }
+        ensures full { IfErr result (TellsFull J.limit self.old.log) }
         ensures back { OnErr result (request.new ≡ request.old) }
     {
         if self.journal.len() >= self.limit {
             note_sealed_call(word, &mut self.pass, &self.journal, &mut seat.pass, request);
             return Err(Fault::Sealed);
         }
-        let Ok(room) = CallRoom::of(alloc, &self.cluster, &mut seat.receipts, request) else {
+        let Ok(reply) = self.answer(alloc, word, seat, request) else {
+            compare(word, &mut self.pass, &self.journal, &mut seat.pass);
             return Err(Fault::NoMemory);
+        };
+        Ok(reply)
+    }
+
+    /// Makes a call, with room in the journal.
+    fn answer(
+        &mut self,
+        alloc: Global,
+        word: &Word,
+        seat: &mut Seat<J>,
+        request: &mut Request<2>,
+    ) -> Result<OwnedReply<2>, NoMemory>
+        requires word { (word.now.table_id ≡ J.table) × (0 < word.now.table_id.words) }
+        requires room { length self.old.log < J.limit }
+        ensures answer { MatchResult result (CallsOk request.old seat.old seat.new)
+            (λ _. seat.new ≡ seat.old) }
+        ensures same { OnErr result (self.new.log ≡ self.old.log) }
+        ensures back { OnErr result (request.new ≡ request.old) }
+    {
+        let Ok(room) = CallRoom::of(alloc, &self.cluster, &mut seat.receipts, request) else {
+            return Err(NoMemory);
         };
         let answer = dispatch(alloc, &mut self.cluster, request);
         if is_no_memory(&answer) {
-            return Err(Fault::NoMemory);
+            return Err(NoMemory);
         }
         let copies = own_copies(alloc, room.news, &self.cluster, &answer);
         let position = self.journal.len() as u64;
@@ -110,8 +134,8 @@ impl<J: Naming> Desk<J> {
         Ok(copies.given)
     }
 
-    /// Makes a proposal that is admissible now, with an entry and a receipt. A rejection, a full journal and a failed allocation are
-    /// noted. A rejection takes no memory.
+    /// Makes a proposal that is admissible now, with an entry and a receipt. A full journal is told first. A rejection, a full journal and
+    /// a failed allocation are noted. A rejection takes no memory.
     pub fn commit(
         &mut self,
         word: &Word,
@@ -119,8 +143,9 @@ impl<J: Naming> Desk<J> {
         proposal: Proposal<2>,
     ) -> Result<Verdict<2>, CommitFault>
         requires word { (word.now.table_id ≡ J.table) × (0 < word.now.table_id.words) }
-        ensures { MatchResult result (CommitAnswers proposal seat.old seat.new)
+        ensures answer { MatchResult result (CommitAnswers proposal seat.old seat.new)
             (CommitsBack proposal J.limit seat.old seat.new) }
+        ensures full { IfErr result (TellsFullFirst J.limit self.old.log) }
     {
         if self.journal.len() >= self.limit {
             note_sealed_commit(
@@ -156,8 +181,9 @@ impl<J: Naming> Desk<J> {
         requires word { (word.now.table_id ≡ J.table) × (0 < word.now.table_id.words) }
         requires room { length self.old.log < J.limit }
         requires admitted { reason_of (sight_of self.old.cluster) proposal ≡ None }
-        ensures { MatchResult result (CommitAnswers proposal seat.old seat.new)
+        ensures answer { MatchResult result (CommitAnswers proposal seat.old seat.new)
             (CommitsBack proposal J.limit seat.old seat.new) }
+        ensures full { IfErr result (TellsFullFirst J.limit self.old.log) }
     {
         let Ok(made) = make_proposed(&mut self.cluster, &mut seat.receipts, &proposal) else {
             note_no_memory(

@@ -38,7 +38,7 @@ pub struct View {
     pub sits: LinkedList<Sitting>,
 }
 
-/// What a step under the lock adds: an entry, or a note of an answer without one. It takes no memory.
+/// What a step under the lock adds: an entry, a note of an answer without one, or nothing. It takes no memory.
 #[derive(Drop)]
 pub enum Mark {
     Entry(Log<Entry, ()>),
@@ -47,4 +47,5 @@ pub enum Mark {
     SealedCommit(Log<Proposal<2>, ()>),
     NoMemory(Log<Proposal<2>, ()>),
     Copied,
+    Nothing,
 }

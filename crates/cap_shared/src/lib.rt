@@ -17,6 +17,7 @@ mod request;
 mod rule;
 mod seat;
 mod shared;
+mod turnstile;
 
 pub use blank::Blank;
 pub use closed::{Closed, SeatReport};

@@ -1,9 +1,9 @@
-//! What is added under the lock: an entry with its receipt, or a note of an answer without one.
+//! What is added under the lock: an entry with its receipt, a note of an answer without one, or nothing.
 ghost use Rattle.std.specs.Prelude.{◌≡◌, ◌<◌, ◌++◌, ◌∷◌, [], length, vec_len, vec_capacity};
 ghost use Rattle.cap_shared.specs.declared.history.Answer.TheVariants as answer;
 ghost use Rattle.cap_shared.specs.Journal.{receipt_for};
 ghost use Rattle.cap_shared.specs.Rule.{sitting_of};
-ghost use Rattle.cap_shared.specs.Passes.{AreHere, IsEntered, IsNoted};
+ghost use Rattle.cap_shared.specs.Passes.{AreHere, IsCompared, IsEntered, IsNoted};
 
 use crate::entry::{Entry, Receipt};
 use crate::history::Mark;
@@ -113,4 +113,13 @@ pub(crate) fn note_copied(word: &Word, desk: &mut Pass, journal: &Vec<Entry>, se
 {
     let _journal = journal;
     add(word, desk, seat, &Mark::Copied);
+}
+
+/// Adds nothing, and compares what the seat was answered with the journal.
+pub(crate) fn compare(word: &Word, desk: &mut Pass, journal: &Vec<Entry>, seat: &mut Pass)
+    requires { AreHere word.now.table_id journal.now.items desk.old seat.old }
+    ensures { IsCompared journal.now.items desk.old desk.new seat.old seat.new }
+{
+    let _journal = journal;
+    add(word, desk, seat, &Mark::Nothing);
 }

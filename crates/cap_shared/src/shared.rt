@@ -14,6 +14,7 @@ use crate::history::{Mark, View};
 use crate::passes::{Pass, Word};
 use crate::rule::{Compares, Handover, JournalRule};
 use crate::seat::{Naming, Seat};
+use crate::turnstile::{Place, Turnstile};
 use atomic_table::Table;
 use bumpalo::Bump;
 use cap_commit::Cluster;
@@ -22,15 +23,12 @@ use cap_model::{NoMemory, OwnedReply, Proposal, Request, Verdict};
 use std::alloc::Global;
 use std::marker::PhantomData;
 use std::sync::{Mutex, MutexGuard, Wait};
-use std::thread::yield_now;
-
-/// How often a thread looks whether the cluster is free before it sleeps until it is woken.
-const LOOKS: u32 = 100;
 
 /// A cluster under a lock, its journal, and the word that ties both to the seats. Threads share it by reference, each with a seat.
 pub struct Shared<J: Naming> {
     alloc: Global,
     table: Table<Mark, View, u64, JournalRule, Global>,
+    turnstile: Turnstile,
     desk: Mutex<Desk<J>>,
     room: Vec<SeatReport>,
     ghost named: { table.shared.table_id ≡ J.table },
@@ -44,17 +42,19 @@ impl<J: Naming> Drop for Shared<J> {
         let Shared {
             alloc: _,
             table: _,
+            turnstile: _,
             desk: _,
             room: _,
         } = self;
     }
 }
 
-/// A cluster that one thread holds for some calls. All others wait until it is dropped.
+/// A cluster that one thread holds for some calls, commits and copies. All others wait until it is dropped.
 pub struct Held<'a, J: Naming> {
     alloc: Global,
     word: &'a Word,
     desk: MutexGuard<'a, Desk<J>>,
+    place: Option<MutexGuard<'a, Place>>,
     ghost named: { word.now.table_id ≡ J.table },
     ghost some: { 0 < word.now.table_id.words },
 }
@@ -64,8 +64,11 @@ impl<'a, J: Naming> Drop for Held<'a, J> {
         let Held {
             alloc: _,
             word: _,
-            desk: _,
+            desk,
+            place,
         } = self;
+        drop(desk);
+        drop(place);
     }
 }
 
@@ -82,11 +85,45 @@ impl<'a, J: Naming> Held<'a, J> {
     {
         self.desk.call(self.alloc, self.word, seat, request)
     }
+
+    /// Makes a proposal if it is admissible, as `Shared::commit`.
+    pub fn commit(
+        &mut self,
+        seat: &mut Seat<J>,
+        proposal: Proposal<2>,
+    ) -> Result<Verdict<2>, CommitFault>
+        ensures { MatchResult result (CommitAnswers proposal seat.old seat.new)
+            (CommitsBack proposal J.limit seat.old seat.new) }
+    {
+        self.desk.commit(self.word, seat, proposal)
+    }
+
+    /// A snapshot of the cluster in an arena, as `Shared::copy`.
+    pub fn copy<'b>(
+        &mut self,
+        arena: &'b Bump,
+        seat: &mut Seat<J>,
+    ) -> Result<Snapshot<2, &'b Bump>, NoMemory>
+        ensures { MatchResult result (CopyIs J.opening seat.old seat.new)
+            (λ _. seat.new ≡ seat.old) }
+    {
+        self.desk.copy(arena, self.word, seat)
+    }
+
+    /// Whether the journal is full.
+    pub fn is_full(&self) -> bool {
+        self.desk.is_full()
+    }
+
+    /// How many entries the journal has.
+    pub fn entries(&self) -> usize {
+        self.desk.entries()
+    }
 }
 
 impl<J: Naming> Shared<J> {
     /// Makes a call. It is entered in the journal, whatever it is answered, and the seat has a receipt. If the journal is full, or if
-    /// an allocation fails, the request comes back and nothing changes; `Refusal::NoMemory` is never a reply.
+    /// an allocation fails, the request comes back and nothing changes; `Refusal::NoMemory` is never a reply. A full journal is told first.
     pub fn call<R: Wait>(
         &self,
         rt: &R,
@@ -107,28 +144,36 @@ impl<J: Naming> Shared<J> {
 
     /// Holds the cluster for some calls, which then take the lock once.
     pub fn hold<R: Wait>(&self, rt: &R) -> Held<'_, J> {
+        let place = self.turnstile.line_up(rt);
+        let desk = self.desk.lock(rt);
+        self.held(desk, Some(place))
+    }
+
+    /// The same for a thread that schedules. It waits for a few calls of others at most, however many threads call.
+    pub fn hold_to_schedule<R: Wait>(&self, rt: &R) -> Held<'_, J> {
+        let place = self.turnstile.go_first(rt);
+        let desk = self.desk.lock(rt);
+        self.turnstile.has_gone(place);
+        self.held(desk, None)
+    }
+
+    /// The cluster, held.
+    fn held<'a>(
+        &'a self,
+        desk: MutexGuard<'a, Desk<J>>,
+        place: Option<MutexGuard<'a, Place>>,
+    ) -> Held<'a, J> {
         Held {
             alloc: self.alloc,
             word: &self.table.shared,
-            desk: self.desk(rt),
+            desk,
+            place,
         }
-    }
-
-    /// The desk under its lock. A thread that finds it locked first looks again a while, since the calls of others take less time than to
-    /// sleep and to be woken.
-    fn desk<R: Wait>(&self, rt: &R) -> MutexGuard<'_, Desk<J>> {
-        for _ in 0..LOOKS {
-            if let Some(desk) = self.desk.try_lock() {
-                return desk;
-            }
-            yield_now();
-        }
-        self.desk.lock(rt)
     }
 
     /// Makes a proposal if it is admissible now: it is entered in the journal, and the seat has a receipt. Else it is rejected for the
     /// first reason that holds, and nothing changes; that takes no memory. If the journal is full, or if the proposal is admissible
-    /// and an allocation fails, it comes back and nothing changes.
+    /// and an allocation fails, it comes back and nothing changes. A full journal is told first.
     pub fn commit<R: Wait>(
         &self,
         rt: &R,
@@ -138,7 +183,7 @@ impl<J: Naming> Shared<J> {
         ensures { MatchResult result (CommitAnswers proposal seat.old seat.new)
             (CommitsBack proposal J.limit seat.old seat.new) }
     {
-        self.desk(rt).commit(&self.table.shared, seat, proposal)
+        self.hold_to_schedule(rt).commit(seat, proposal)
     }
 
     /// A snapshot of the cluster in an arena. If an allocation fails nothing changes.
@@ -151,17 +196,17 @@ impl<J: Naming> Shared<J> {
         ensures { MatchResult result (CopyIs J.opening seat.old seat.new)
             (λ _. seat.new ≡ seat.old) }
     {
-        self.desk(rt).copy(arena, &self.table.shared, seat)
+        self.hold_to_schedule(rt).copy(arena, seat)
     }
 
     /// Whether the journal is full. Once it is, it stays so.
     pub fn is_full<R: Wait>(&self, rt: &R) -> bool {
-        self.desk(rt).is_full()
+        self.hold_to_schedule(rt).is_full()
     }
 
     /// How many entries the journal has. Another thread may have entered more by the time that this returns.
     pub fn entries<R: Wait>(&self, rt: &R) -> usize {
-        self.desk(rt).entries()
+        self.hold_to_schedule(rt).entries()
     }
 
     /// Opens an epoch over a cluster, with a journal of at most so many entries, and seats that were answered nothing. The journal, room for
@@ -202,6 +247,7 @@ impl<J: Naming> Shared<J> {
             Shared {
                 alloc,
                 table,
+                turnstile: Turnstile::new(),
                 desk: Mutex::new(desk),
                 room,
             },
@@ -224,6 +270,7 @@ impl<J: Naming> Shared<J> {
         let Shared {
             alloc: _,
             table,
+            turnstile: _,
             desk,
             mut room,
         } = self;

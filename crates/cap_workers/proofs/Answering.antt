@@ -3,7 +3,7 @@ use Rattle.std.proofs.Common.{◌≡◌, ℕ, List, [], ◌∷◌, ◌++◌, Opt
 use Rattle.cap_model.specs.declared.request.Request.{Request}
 use Rattle.cap_model.specs.News.{Reply}
 use Rattle.cap_frames.specs.Stream.{frame_of}
-use Rattle.cap_messages.specs.Spelling.{IsOfKind, kind_of, fault_reply}
+use Rattle.cap_grammar.specs.Spelling.{IsOfKind, kind_of, fault_reply}
 use Rattle.cap_session.specs.Answers.{Answers}
 use Rattle.cap_session.specs.Session.{SessionState, OpenRequest, Continues, NextGives, EndsNow, MayAnswer, SpellsAnswer, after_answer, with_answer}
 use Rattle.cap_session.specs.declared.session.Cause.{Cause}

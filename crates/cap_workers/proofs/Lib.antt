@@ -3,3 +3,4 @@ mod Answering
 mod Streams
 mod Rounds
 mod Together
+mod Turning

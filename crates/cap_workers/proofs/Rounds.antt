@@ -1,7 +1,9 @@
 -- A round of serving, and more of them.
-use Rattle.std.proofs.Common.{◌≡◌, ℕ, List, [], ◌++◌, Option, Some, None, refl, ap, sym, ◌∙◌, subst, inl, inr}
+use Rattle.std.proofs.Math.Seq.{drop-length}
+use Rattle.std.proofs.Common.{◌≡◌, ℕ, List, [], ◌++◌, length, drop, Option, Some, None, refl, ap, sym, ◌∙◌, subst, inl, inr}
 use Rattle.cap_session.specs.Session.{SessionState, all_answers, after_sent, FeedGives}
 use Rattle.cap_session.specs.Counted.{StreamState}
+use Rattle.cap_model.specs.declared.request.Request.{Request}
 use Rattle.cap_session.specs.declared.counted.Sent.{Sent}
 use Rattle.cap_session.specs.declared.counted.Sent.TheVariants as sents
 use Rattle.cap_session.specs.declared.session.Cause.{Cause}
@@ -11,7 +13,7 @@ use Rattle.cap_session.proofs.Continuing.{continues_fed}
 use Rattle.cap_shared.specs.declared.history.Sitting.{Sitting}
 use Rattle.cap_workers.specs.declared.sessions.EndCause.{EndCause}
 use Rattle.cap_workers.specs.declared.sessions.EndCause.TheVariants as ends
-use Rattle.cap_workers.specs.Sessions.{Serves, IsAtRest, ServesAll, ServesToFault, IsServed, IsRound, ReadsOn, GoesOn, writer_at, end_of}
+use Rattle.cap_workers.specs.Sessions.{Serves, IsAtRest, ServesAll, ServesToFault, IsServed, IsRound, IsSealed, IsWrittenOut, ReadsOn, GoesOn, writer_at, end_of}
 use Rattle.cap_workers.proofs.Receipts.{serves_quiet, serves_then, serves_as, serves_sent}
 
 at_rest_sent : (t : SessionState) (n : ℕ) → IsAtRest t → IsAtRest (after_sent t (sents.All n))
@@ -46,7 +48,16 @@ starved_sent {old} {mid} {s} {t} new sent x is = subst (λ (v : SessionState). S
 -- a length that no frame has
 pub faulted_round : (limit : ℕ) (old mid new : SessionState) (s t : Sitting) (sent : Sent) (end : Option EndCause) → ServesToFault old mid s t → new ≡ after_sent mid sent → end ≡ Some (end_of ends.Faulted sent) → IsRound limit old new s t end
 faulted_round limit old mid new s t (sents.All n) end x is ended = subst (λ (e : Option EndCause). IsRound limit old new s t e) (sym ended) (fault_sent new (sents.All n) x is)
-faulted_round limit old mid new s t (sents.Fault n) end x is ended = subst (λ (e : Option EndCause). IsRound limit old new s t e) (sym ended) (inr (fault_sent new (sents.Fault n) x is))
+faulted_round limit old mid new s t (sents.Fault n) end x is ended = subst (λ (e : Option EndCause). IsRound limit old new s t e) (sym ended) (inr (inl (fault_sent new (sents.Fault n) x is)))
+
+-- a full journal
+pub sealed_round : (limit : ℕ) (q : Request 2) (old mid new : SessionState) (s t : Sitting) (sent : Sent) (end : Option EndCause) → IsSealed limit q old mid s t → new ≡ after_sent mid sent → end ≡ Some (end_of (ends.Sealed q) sent) → IsRound limit old new s t end
+sealed_round limit q old mid new s t (sents.All n) end x is ended =
+    subst (λ (e : Option EndCause). IsRound limit old new s t e) (sym ended)
+    (subst (λ (v : SessionState). IsSealed limit q old v s t) (sym is) (record { entries = x.entries; full = x.full; serves = serves_sent (sents.All n) x.serves; waits = x.waits; goes_on = x.goes_on }))
+sealed_round limit q old mid new s t (sents.Fault n) end x is ended =
+    subst (λ (e : Option EndCause). IsRound limit old new s t e) (sym ended)
+    (subst (λ (v : SessionState). IsRound limit old v s t (Some ends.WriteFault)) (sym is) (inr (inr (q, x.entries, x.full, serves_sent (sents.Fault n) x.serves))))
 
 -- no memory
 pub starved_round : (limit : ℕ) (old mid new : SessionState) (s t : Sitting) (sent : Sent) (end : Option EndCause) → Serves old mid s t [] [] → new ≡ after_sent mid sent → end ≡ Some (end_of ends.NoMemory sent) → IsRound limit old new s t end
@@ -69,6 +80,40 @@ read_is_no_write old new (Some ends.WriteFault) w is = absurd is
 read_is_no_write old new (Some ends.Faulted) w is = absurd is
 read_is_no_write old new (Some (ends.Sealed q)) w is = absurd is
 
+-- ---- what is still to be written
+
+-- where nothing is, all went out
+all_out : (end : Option EndCause) (unsent : List ℕ) → unsent ≡ [] → IsWrittenOut end unsent
+all_out None unsent none = tt
+all_out (Some ends.InputEnded) unsent none = none
+all_out (Some ends.Quiet) unsent none = none
+all_out (Some ends.ReadFault) unsent none = none
+all_out (Some ends.WriteFault) unsent none = tt
+all_out (Some ends.Faulted) unsent none = none
+all_out (Some (ends.Sealed q)) unsent none = none
+all_out (Some ends.NoMemory) unsent none = none
+
+drop_all : {A : Type 0} (xs : List A) (n : ℕ) → n ≡ length xs → drop n xs ≡ []
+drop_all xs n is = ap (λ k. drop k xs) is ∙ drop-length xs
+
+-- all was written
+pub all_written : (cause : EndCause) (n : ℕ) (old new : SessionState) → n ≡ length old.unsent → new ≡ after_sent old (sents.All n) → IsWrittenOut (Some cause) new.unsent
+all_written cause n old new count is = all_out (Some cause) new.unsent (ap (λ (v : SessionState). v.unsent) is ∙ drop_all old.unsent n count)
+
+reads_keep : (old new : SessionState) (end : Option EndCause) → ReadsOn old new end → new.unsent ≡ old.unsent
+reads_keep old new None is = ap (λ (v : SessionState). v.unsent) is
+reads_keep old new (Some ends.InputEnded) is = ap (λ (v : SessionState). v.unsent) is
+reads_keep old new (Some ends.Quiet) is = ap (λ (v : SessionState). v.unsent) is
+reads_keep old new (Some ends.ReadFault) is = ap (λ (v : SessionState). v.unsent) is
+reads_keep old new (Some ends.NoMemory) is = ap (λ (v : SessionState). v.unsent) is
+reads_keep old new (Some ends.WriteFault) is = absurd is
+reads_keep old new (Some ends.Faulted) is = absurd is
+reads_keep old new (Some (ends.Sealed q)) is = absurd is
+
+-- all was written, and then more was read
+pub read_out : (n : ℕ) (old mid new : SessionState) (end : Option EndCause) → n ≡ length old.unsent → mid ≡ after_sent old (sents.All n) → ReadsOn mid new end → IsWrittenOut end new.unsent
+read_out n old mid new end count is read = all_out end new.unsent (reads_keep mid new end read ∙ ap (λ (v : SessionState). v.unsent) is ∙ drop_all old.unsent n count)
+
 -- ---- more rounds
 
 all_then : {a b : SessionState} {s t : Sitting} (c : SessionState) (u : Sitting) → Serves a b s t [] [] → ServesAll b c t u → ServesAll a c s u
@@ -82,7 +127,8 @@ served_then c u limit ends.InputEnded x y = all_then c u x y
 served_then c u limit ends.Quiet x y = all_then c u x y
 served_then c u limit ends.ReadFault x y = all_then c u x y
 served_then c u limit ends.WriteFault x (inl y) = inl (serves_then x y)
-served_then c u limit ends.WriteFault x (inr y) = inr (fault_then c u x y)
+served_then c u limit ends.WriteFault x (inr (inl y)) = inr (inl (fault_then c u x y))
+served_then c u limit ends.WriteFault x (inr (inr y)) = inr (inr (y.0, y.1, y.2, serves_then x y.3))
 served_then c u limit ends.Faulted x y = fault_then c u x y
 served_then c u limit (ends.Sealed q) x y = record { entries = y.entries; full = y.full; serves = serves_then x y.serves; waits = y.waits; goes_on = y.goes_on }
 served_then c u limit ends.NoMemory x y = serves_then x y

@@ -4,7 +4,7 @@ use Rattle.std.proofs.Math.Seq.{take-length}
 use Rattle.std.proofs.lemmas.List.{length-map, map-append}
 use Rattle.cap_model.specs.declared.request.Request.{Request}
 use Rattle.cap_model.specs.News.{Reply}
-use Rattle.cap_messages.specs.Spelling.{IsOfKind, kind_of}
+use Rattle.cap_grammar.specs.Spelling.{IsOfKind, kind_of}
 use Rattle.cap_session.specs.Answers.{Call}
 use Rattle.cap_session.specs.Batch.{BatchState, MayAnswerFirst, SpellsFirst, after_first, IsFirstOf, with_first_open}
 use Rattle.cap_session.specs.Ahead.{asked_requests}

@@ -2,7 +2,7 @@
 use Rattle.std.specs.Prelude.{◌≡◌, ℕ, List, [], ◌∷◌, ◌++◌, length, map, Option, Some, None}
 use Rattle.cap_model.specs.declared.request.Request.{Request}
 use Rattle.cap_model.specs.News.{Reply}
-use Rattle.cap_messages.specs.Spelling.{IsOfKind, kind_of}
+use Rattle.cap_grammar.specs.Spelling.{IsOfKind, kind_of}
 use Rattle.cap_session.specs.Answers.{Call}
 use Rattle.cap_session.specs.Batch.{BatchState}
 use Rattle.cap_session.specs.Ahead.{asked_requests}

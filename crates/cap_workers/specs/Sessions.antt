@@ -73,12 +73,17 @@ pub record IsSealed (limit : ℕ) (request : Request 2) (old new : SessionState)
   pub waits : pending_request new.open_request ≡ Some request
   pub goes_on : new.ended ≡ None
 
+-- all payloads were answered before a request for which the journal was full
+abbrev pub ServesToFull : ℕ → SessionState → SessionState → Sitting → Sitting → Type 0
+ServesToFull limit old new before after =
+    (request : Request 2) × (entries : List Entry) × (length entries ≡ limit) × Serves old new before after [] (Noted entries (answer.SealedCall request) ∷ [])
+
 -- What serving a session answered, by the cause of its end.
 abbrev pub IsServed : ℕ → SessionState → SessionState → Sitting → Sitting → EndCause → Type 0
 IsServed limit old new before after ends.InputEnded = ServesAll old new before after
 IsServed limit old new before after ends.Quiet = ServesAll old new before after
 IsServed limit old new before after ends.ReadFault = ServesAll old new before after
-IsServed limit old new before after ends.WriteFault = Serves old new before after [] [] ⊎ ServesToFault old new before after
+IsServed limit old new before after ends.WriteFault = Serves old new before after [] [] ⊎ (ServesToFault old new before after ⊎ ServesToFull limit old new before after)
 IsServed limit old new before after ends.Faulted = ServesToFault old new before after
 IsServed limit old new before after (ends.Sealed request) = IsSealed limit request old new before after
 IsServed limit old new before after ends.NoMemory = Serves old new before after [] []
@@ -157,6 +162,17 @@ pub record IsWritten (end : Option EndCause) (old new : StreamState) (had has : 
   pub state : new ≡ writer_at end (record old { taken = old.taken ++ out })
   pub appends : Appends had has out
   pub sent : after ≡ before ++ out
+
+-- all that was answered went out, unless the writer failed or the session is served on
+abbrev pub IsWrittenOut : Option EndCause → List ℕ → Type 0
+IsWrittenOut None unsent = Unit {0}
+IsWrittenOut (Some ends.InputEnded) unsent = unsent ≡ []
+IsWrittenOut (Some ends.Quiet) unsent = unsent ≡ []
+IsWrittenOut (Some ends.ReadFault) unsent = unsent ≡ []
+IsWrittenOut (Some ends.WriteFault) unsent = Unit {0}
+IsWrittenOut (Some ends.Faulted) unsent = unsent ≡ []
+IsWrittenOut (Some (ends.Sealed request)) unsent = unsent ≡ []
+IsWrittenOut (Some ends.NoMemory) unsent = unsent ≡ []
 
 -- ---- the steps of a round
 

@@ -1,15 +1,19 @@
 -- What a turn of a worker does.
-use Rattle.std.specs.Prelude.{◌≡◌, ◌⊎◌, ℕ, Option, Some, None, Result, Ok, Err}
+use Rattle.std.specs.Prelude.{◌≡◌, ◌⊎◌, ℕ, List, [], ◌∷◌, Option, Some, None, Result, Ok, Err, MatchResult}
 use Rattle.cap_model.specs.Admission.{NodeProposal}
 use Rattle.cap_model.specs.Candidates.{choice_from}
 use Rattle.cap_model.specs.Flat.{Flat}
 use Rattle.cap_model.specs.declared.proposal.Verdict.{Verdict}
 use Rattle.cap_model.specs.declared.proposal.Verdict.TheVariants as verdict
-use Rattle.cap_copy.specs.Snapshot.{Seen, sight_in}
+use Rattle.cap_model.specs.Sight.{sight_of}
 use Rattle.cap_shared.specs.declared.faults.CommitFault.{CommitFault}
 use Rattle.cap_shared.specs.declared.faults.CommitFault.TheVariants as fault
 use Rattle.cap_shared.specs.declared.history.Sitting.{Sitting}
-use Rattle.cap_shared.specs.Calls.{CopyIs, CommitAnswers, CommitsBack}
+use Rattle.cap_shared.specs.Calls.{CommitAnswers, CommitsBack, HasMore}
+use Rattle.cap_shared.specs.Journal.{Replays}
+use Rattle.cap_shared.specs.declared.entry.Entry.{Entry}
+use Rattle.cap_shared.specs.declared.history.Answer.TheVariants as answer
+use Rattle.cap_shared.specs.declared.history.Moment.TheVariants.{Noted}
 use Rattle.cap_lanes.specs.Sides.{WorkerSide, after_put}
 use Rattle.cap_workers.specs.declared.gate.Outcome.{Outcome}
 use Rattle.cap_workers.specs.declared.gate.Outcome.TheVariants as outcomes
@@ -18,11 +22,13 @@ use Rattle.cap_workers.specs.declared.worker.End.TheVariants as ends
 use Rattle.cap_workers.specs.declared.worker.OfferEnd.{OfferEnd}
 use Rattle.cap_workers.specs.declared.worker.OfferEnd.TheVariants as offers
 
--- one copy of the cluster is noted, and this is the choice on it, from the starting node
+-- one copy of the cluster is noted, and this is the choice on the cluster of that note, from the starting node
 pub record Chooses (opening : Flat 2) (start : ℕ) (old new : Sitting) (choice : Option NodeProposal) : Type 0 where
-  pub snapshot : Seen
-  pub copied : CopyIs opening old new snapshot
-  pub chosen : choice ≡ choice_from (sight_in 2 snapshot) start
+  pub entries : List Entry
+  pub cluster : Flat 2
+  pub replays : Replays opening entries cluster
+  pub noted : HasMore old new (Noted entries answer.Copied ∷ [])
+  pub chosen : choice ≡ choice_from (sight_of cluster) start
 
 -- how a turn ends whose proposal came back
 abbrev pub end_by_fault : CommitFault → End
@@ -82,3 +88,8 @@ IsOffer opening start old new before after offers.Nothing = Chooses opening star
 IsOffer opening start old new before after offers.Put = PutsChoice opening start old new before after offers.Put
 IsOffer opening start old new before after (offers.Refused back) = PutsChoice opening start old new before after (offers.Refused back)
 IsOffer opening start old new before after offers.NoMemory = (new ≡ old) × (after ≡ before)
+
+-- the proposal of a turn was committed once; then the next turn has begun, or memory was refused for its copy and nothing was noted
+abbrev pub GoesOn : {E : Type 0} → Flat 2 → ℕ → ℕ → NodeProposal → Sitting → Sitting → End → Result (Option NodeProposal) E → Type 0
+GoesOn opening limit start p old new end choice =
+    (mid : Sitting) × IsCommitted p limit old mid end × MatchResult choice (Chooses opening start mid new) (λ _. new ≡ mid)

@@ -37,12 +37,12 @@ pub enum Point {
     Copied,
     /// A proposal was made, or there is nothing to propose.
     Proposed,
-    /// The commit was answered, to the worker itself or to the committer.
+    /// The commit was answered, to the worker itself or to who committed for it.
     Committed(Outcome),
 }
 
-/// A hook that a worker calls at each point of its turn, and that may hold it there. The worker has no lock then. The committer calls it
-/// for a worker whose proposal it has committed.
+/// A hook that a worker calls at each point of its turn, and that may hold it there. The cluster is free then. Who commits what a worker
+/// put into its lane, the committer or another worker, calls it for that worker.
 pub trait Gate {
     fn at(&self, worker: u32, point: Point);
 }

@@ -2,11 +2,15 @@
 #![tactic(auto)]
 
 mod batches;
+mod coordinator;
 mod gate;
+mod scheduling;
 mod sessions;
 mod worker;
 
 pub use cap_lanes::{Committer, Ended, LanesClosed, PutFault, Putter, lanes};
+pub use coordinator::Coordinator;
 pub use gate::{Gate, OpenGate, Outcome, Point, Tally};
+pub use scheduling::{StopSignal, commit_all, schedule, schedule_by_lane};
 pub use sessions::{EndCause, SessionEnd, serve_session};
 pub use worker::{End, Offer, OfferEnd, Turn, Worker};

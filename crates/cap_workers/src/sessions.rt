@@ -3,7 +3,7 @@ ghost use Rattle.std.specs.Prelude.{◌≡◌, ◌≢◌, ℕ, ◌-◌, ◌^◌,
 ghost use Rattle.cap_session.specs.Counted.{state_of, inner_of, CanCount};
 ghost use Rattle.cap_session.specs.Session.{after_sent, IsSession};
 ghost use Rattle.cap_session.specs.declared.counted.Sent.{Sent};
-ghost use Rattle.cap_workers.specs.Sessions.{pending_request, IsServed, IsRound, IsPause, IsCallMade, IsRead, IsWritten, GoesOn, ReadsOn, end_of};
+ghost use Rattle.cap_workers.specs.Sessions.{pending_request, IsServed, IsRound, IsPause, IsCallMade, IsRead, IsWritten, IsWrittenOut, GoesOn, ReadsOn, end_of};
 
 use crate::batches::answer_batch;
 use cap_model::{OwnedReply, Refusal, ReplyWith, Request};
@@ -55,7 +55,8 @@ pub(crate) enum Pause {
 
 /// Serves a session that has not ended; `pending` is its open request, if it has one. Reads, makes the calls that are asked for,
 /// the pending one first, and writes their answers out, until one of the causes comes. A call that finds no memory is answered with
-/// status 20. After `Quiet` the session can be served again, after `Sealed` with the request as `pending` in another epoch.
+/// status 20. Unless the writer failed, all answers were written out. After `Quiet` the session can be served again, after `Sealed` with
+/// the request as `pending` in another epoch.
 pub fn serve_session<J: Naming, H: Wait, R: Read, W: Write>(
     rt: &H,
     shared: &Shared<J>,
@@ -80,6 +81,7 @@ pub fn serve_session<J: Naming, H: Wait, R: Read, W: Write>(
         session.sent result.session.sent out
         × (result.sent ≡ min (length out) (2 ^ 64 - 1)) }
     ensures unsent { result.unsent ≡ length result.session.unsent }
+    ensures out { IsWrittenOut (Some result.cause) result.session.unsent }
 {
     let mut session = session;
     let mut pending = pending;
@@ -137,22 +139,20 @@ fn serve_once<J: Naming, H: Wait, R: Read, W: Write>(
         (W.contents (inner_of writer.old)) (W.contents (inner_of writer.new))
         session.sent result.session.sent out
         × (result.sent ≡ length out) }
+    ensures out { IsWrittenOut result.end result.session.unsent }
 {
     let (session, pause) = answer_all(rt, shared, seat, session, pending);
     match pause {
         Pause::Need => go_on(session, reader, writer),
-        Pause::Sealed(request) => Round {
-            session,
-            sent: 0,
-            end: Some(EndCause::Sealed(request)),
-        },
+        Pause::Sealed(request) => finish(session, writer, EndCause::Sealed(request)),
         Pause::Ended(Cause::BadLength) => finish(session, writer, EndCause::Faulted),
         Pause::Ended(Cause::NoMemory) => finish(session, writer, EndCause::NoMemory),
         Pause::Ended(Cause::WriteFault) => unreachable!(),
     }
 }
 
-/// Writes out the unsent answers of a session that has ended.
+/// Writes out the unsent answers of a session that is not served on.
+#[tactic(auto, using(crate::proofs::Rounds::all_written))]
 fn finish<W: Write>(session: Session, writer: &mut Counted<W>, cause: EndCause) -> Round
     requires counts { CanCount (state_of writer.old) }
     requires cause { cause ≢ EndCause.WriteFault }
@@ -163,6 +163,7 @@ fn finish<W: Write>(session: Session, writer: &mut Counted<W>, cause: EndCause) 
         (W.contents (inner_of writer.old)) (W.contents (inner_of writer.new))
         session.sent result.session.sent out
         × (result.sent ≡ length out) }
+    ensures out { IsWrittenOut result.end result.session.unsent }
 {
     let mut session = session;
     match session.write_out(writer) {
@@ -198,9 +199,11 @@ fn go_on<R: Read, W: Write>(
         (W.contents (inner_of writer.old)) (W.contents (inner_of writer.new))
         session.sent result.session.sent out
         × (result.sent ≡ length out) }
+    ensures out { IsWrittenOut result.end result.session.unsent }
 {
     let mut session = session;
-    match session.write_out(writer) {
+    let written = session.write_out(writer);
+    match written {
         Sent::All(count) => {
             let end = read_more(&mut session, reader);
             Round {

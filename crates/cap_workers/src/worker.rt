@@ -1,13 +1,18 @@
 //! A worker, and what it does in a turn.
 ghost use Rattle.std.specs.Prelude.{◌≡◌, ◌+◌, ◌%◌, ◌^◌, MatchResult};
-ghost use Rattle.cap_workers.specs.Worker.{Chooses, IsCommitted, IsOffer, IsPut, IsTurn, end_by, end_by_fault};
+ghost use Rattle.cap_model.specs.Candidates.{choice_from};
+ghost use Rattle.cap_copy.specs.Snapshot.{sight_in};
+ghost use Rattle.cap_shared.specs.Calls.{CopyIs};
+ghost use Rattle.cap_workers.specs.Worker.{Chooses, GoesOn, IsCommitted, IsOffer, IsPut, IsTurn, end_by, end_by_fault};
 
+use crate::coordinator::{BATCH, Coordinator, Outcomes};
 use crate::gate::{Gate, Outcome, Point};
 use bumpalo::Bump;
+use cap_copy::Snapshot;
 use cap_lanes::Putter;
 use cap_model::{Event, NoMemory, Proposal, Reason, Verdict};
 use cap_propose::propose;
-use cap_shared::{CommitFault, Naming, Seat, Shared};
+use cap_shared::{CommitFault, Held, Naming, Seat, Shared};
 use std::sync::Wait;
 
 /// A worker. Contracts see its number, and the node at which its next turn starts.
@@ -61,6 +66,59 @@ pub struct Offer {
     pub reset: bool,
 }
 
+/// A turn that has begun: it is still to be committed.
+#[derive(Drop)]
+pub(crate) struct Begun {
+    /// What is proposed, if anything. An error means that an allocation failed.
+    pub choice: Result<Option<Proposal<2>>, NoMemory>,
+    /// How many entries the journal had when the cluster was copied.
+    pub entries: usize,
+    /// Whether the arena was reset.
+    pub reset: bool,
+}
+
+/// A turn that has ended, and the next, which has begun.
+#[derive(Drop)]
+pub(crate) struct Next {
+    pub end: End,
+    pub begun: Begun,
+}
+
+/// What came of earlier turns, which is told once the cluster is not held any more: to the gate, and through the coordinator to the workers
+/// that wait for it.
+#[derive(Drop)]
+pub(crate) struct Told<'a> {
+    pub outcomes: Outcomes,
+    pub coordinator: Option<&'a Coordinator>,
+}
+
+impl Told<'_> {
+    /// Nothing came of earlier turns.
+    fn nothing() -> Told<'static> {
+        Told {
+            outcomes: [None; BATCH],
+            coordinator: None,
+        }
+    }
+
+    /// The last turn of the worker has ended so.
+    fn of(worker: u32, outcome: Outcome) -> Told<'static> {
+        let mut told = Told::nothing();
+        told.outcomes[0] = Some((worker, outcome));
+        told
+    }
+
+    fn tell<R: Wait, G: Gate>(&self, rt: &R, gate: &G) {
+        if let Some(coordinator) = self.coordinator {
+            coordinator.tell(rt, gate, &self.outcomes);
+            return;
+        }
+        for (worker, outcome) in self.outcomes.iter().flatten() {
+            gate.at(*worker, Point::Committed(*outcome));
+        }
+    }
+}
+
 impl Worker {
     /// A worker whose first turn starts at the node of its number.
     pub fn new(number: u32) -> Worker
@@ -89,12 +147,9 @@ impl Worker {
         } }
         ensures turn { IsTurn J.opening J.limit self.old.start seat.old seat.new result.end }
     {
-        let start = self.start;
-        self.start = start.wrapping_add(1);
-        let choice = choose(rt, shared, seat, arena, gate, self.number, start);
-        let reset = arena.reset().is_ok();
+        let Begun { choice, reset, .. } = self.begin(rt, shared, seat, arena, gate);
         let end = match choice {
-            Ok(Some(proposal)) => commit(rt, shared, seat, gate, self.number, proposal),
+            Ok(Some(proposal)) => self.commit(rt, shared, seat, gate, proposal),
             Ok(None) => End::Nothing,
             Err(NoMemory) => End::NoMemory,
         };
@@ -119,10 +174,7 @@ impl Worker {
         ensures offer { IsOffer J.opening self.old.start seat.old seat.new
             putter.old putter.new result.end }
     {
-        let start = self.start;
-        self.start = start.wrapping_add(1);
-        let choice = choose(rt, shared, seat, arena, gate, self.number, start);
-        let reset = arena.reset().is_ok();
+        let Begun { choice, reset, .. } = self.begin(rt, shared, seat, arena, gate);
         let end = match choice {
             Ok(Some(proposal)) => put(rt, putter, proposal),
             Ok(None) => OfferEnd::Nothing,
@@ -130,44 +182,156 @@ impl Worker {
         };
         Offer { end, reset }
     }
+
+    /// Begins a turn: copies the cluster, and proposes on the copy.
+    pub(crate) fn begin<J: Naming, R: Wait, G: Gate>(
+        &mut self,
+        rt: &R,
+        shared: &Shared<J>,
+        seat: &mut Seat<J>,
+        arena: &mut Bump,
+        gate: &G,
+    ) -> Begun
+        ensures start { self.new ≡ record {
+          number = self.old.number;
+          start = (self.old.start + 1) % 2 ^ 32;
+        } }
+        ensures choice { MatchResult result.choice
+            (Chooses J.opening self.old.start seat.old seat.new) (λ _. seat.new ≡ seat.old) }
+    {
+        self.begin_held(
+            rt,
+            shared.hold_to_schedule(rt),
+            seat,
+            arena,
+            gate,
+            &Told::nothing(),
+        )
+    }
+
+    /// Commits the proposal of a turn that has begun, and begins the next, while the cluster is held once.
+    pub(crate) fn go_on<J: Naming, R: Wait, G: Gate>(
+        &mut self,
+        rt: &R,
+        shared: &Shared<J>,
+        seat: &mut Seat<J>,
+        arena: &mut Bump,
+        gate: &G,
+        proposal: Proposal<2>,
+    ) -> Next
+        ensures start { self.new ≡ record {
+          number = self.old.number;
+          start = (self.old.start + 1) % 2 ^ 32;
+        } }
+        ensures next { GoesOn J.opening J.limit self.old.start proposal seat.old seat.new
+            result.end result.begun.choice }
+    {
+        let mut held = shared.hold_to_schedule(rt);
+        let answer = held.commit(seat, proposal);
+        let told = Told::of(self.number, Outcome::of(&answer));
+        let begun = self.begin_held(rt, held, seat, arena, gate, &told);
+        Next {
+            end: end_of(answer),
+            begun,
+        }
+    }
+
+    /// Begins a turn of which the cluster is held already. It is given back before anything is proposed, and before it is told what came of
+    /// earlier turns.
+    pub(crate) fn begin_held<J: Naming, R: Wait, G: Gate>(
+        &mut self,
+        rt: &R,
+        held: Held<'_, J>,
+        seat: &mut Seat<J>,
+        arena: &mut Bump,
+        gate: &G,
+        told: &Told<'_>,
+    ) -> Begun
+        ensures start { self.new ≡ record {
+          number = self.old.number;
+          start = (self.old.start + 1) % 2 ^ 32;
+        } }
+        ensures choice { MatchResult result.choice
+            (Chooses J.opening self.old.start seat.old seat.new) (λ _. seat.new ≡ seat.old) }
+    {
+        let start = self.start;
+        self.start = start.wrapping_add(1);
+        let (choice, entries) = choose(rt, held, seat, arena, gate, told, self.number, start);
+        let reset = arena.reset().is_ok();
+        Begun {
+            choice,
+            entries,
+            reset,
+        }
+    }
+
+    /// Commits the proposal of a turn that has begun, once.
+    pub(crate) fn commit<J: Naming, R: Wait, G: Gate>(
+        &self,
+        rt: &R,
+        shared: &Shared<J>,
+        seat: &mut Seat<J>,
+        gate: &G,
+        proposal: Proposal<2>,
+    ) -> End
+        ensures { IsCommitted proposal J.limit seat.old seat.new result }
+    {
+        let answer = shared.commit(rt, seat, proposal);
+        gate.at(self.number, Point::Committed(Outcome::of(&answer)));
+        end_of(answer)
+    }
 }
 
-/// What a worker proposes on a copy of the cluster, which it drops. If an allocation fails there is none.
+/// What a worker proposes on a copy of the cluster, which it drops, and how many entries the journal had when it was made. If an allocation fails
+/// there is none.
 fn choose<J: Naming, R: Wait, G: Gate>(
     rt: &R,
-    shared: &Shared<J>,
+    held: Held<'_, J>,
     seat: &mut Seat<J>,
     arena: &Bump,
     gate: &G,
+    told: &Told<'_>,
     worker: u32,
     start: u32,
-) -> Result<Option<Proposal<2>>, NoMemory>
-    ensures { MatchResult result (Chooses J.opening start seat.old seat.new)
+) -> (Result<Option<Proposal<2>>, NoMemory>, usize)
+    ensures { MatchResult result.0 (Chooses J.opening start seat.old seat.new)
         (λ _. seat.new ≡ seat.old) }
 {
-    let Ok(snapshot) = shared.copy(rt, arena, seat) else {
-        return Err(NoMemory);
+    let (copied, entries) = copy(held, seat, arena);
+    told.tell(rt, gate);
+    let Ok(snapshot) = copied else {
+        return (Err(NoMemory), entries);
     };
-    gate.at(worker, Point::Copied);
-    let choice = propose(&snapshot, start);
-    gate.at(worker, Point::Proposed);
-    Ok(choice)
+    (Ok(propose_on(&snapshot, gate, worker, start)), entries)
 }
 
-/// Commits what a worker proposes, once.
-fn commit<J: Naming, R: Wait, G: Gate>(
-    rt: &R,
-    shared: &Shared<J>,
+/// Copies the cluster, and gives it back: the snapshot, and how many entries the journal had.
+fn copy<'a, J: Naming>(
+    held: Held<'_, J>,
     seat: &mut Seat<J>,
+    arena: &'a Bump,
+) -> (Result<Snapshot<2, &'a Bump>, NoMemory>, usize)
+    ensures { MatchResult result.0 (CopyIs J.opening seat.old seat.new)
+        (λ _. seat.new ≡ seat.old) }
+{
+    let mut held = held;
+    let copied = held.copy(arena, seat);
+    (copied, held.entries())
+}
+
+/// What a worker proposes on a snapshot. It has no shared cluster here, so that it can hold none.
+fn propose_on<G: Gate>(
+    snapshot: &Snapshot<2, &Bump>,
     gate: &G,
     worker: u32,
-    proposal: Proposal<2>,
-) -> End
-    ensures { IsCommitted proposal J.limit seat.old seat.new result }
+    start: u32,
+) -> Option<Proposal<2>>
+    ensures { result ≡ choice_from (sight_in 2 snapshot.now) start }
 {
-    let answer = shared.commit(rt, seat, proposal);
-    gate.at(worker, Point::Committed(Outcome::of(&answer)));
-    end_of(answer)
+    gate.at(worker, Point::Copied);
+    let choice = propose(snapshot, start);
+    gate.at(worker, Point::Proposed);
+    choice
 }
 
 /// How a turn ends whose commit was answered so.
@@ -192,7 +356,7 @@ fn end_without(fault: &CommitFault) -> End
 }
 
 /// Puts what a worker proposes, once.
-fn put<R: Wait>(rt: &R, putter: &mut Putter, proposal: Proposal<2>) -> OfferEnd
+pub(crate) fn put<R: Wait>(rt: &R, putter: &mut Putter, proposal: Proposal<2>) -> OfferEnd
     ensures { IsPut proposal putter.old putter.new result }
 {
     match putter.put(rt, proposal) {

@@ -15,4 +15,4 @@ returns-in-Ok-clause-called g c =
 pub returns-in-Err-NoMemory-clause-called : goal.returns-in-Err-NoMemory-clause-called
 returns-in-Err-NoMemory-clause-called g c =
     let misses = subst (λ (f : Fault). CallMisses c.args.request.now g.J.Naming.limit c.args.seat.now c.call.new.seat f) c.in-Err-NoMemory.field-0-is c.in-Err-NoMemory.ensures.answer in
-    ([], starved none_made, tt, misses ∙ has_none c.args.seat.now)
+    ([], starved none_made, tt, misses.0 ∙ has_none c.args.seat.now)

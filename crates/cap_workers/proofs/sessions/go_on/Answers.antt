@@ -2,8 +2,12 @@ use Rattle.std.proofs.Common.{Some, refl, ap}
 use Rattle.cap_session.specs.Counted.{state_of, inner_of}
 use Rattle.cap_session.specs.Session.{SessionState}
 use Rattle.cap_workers.specs.declared.sessions.EndCause.TheVariants as ends
+use Rattle.cap_workers.proofs.Rounds.{read_out}
 use Rattle.cap_workers.proofs.Streams.{reads_none}
 use Rattle.cap_workers.proofs.sessions.go_on.Goals as goal
 
 pub returns-in-Fault-clause-read : goal.returns-in-Fault-clause-read
-returns-in-Fault-clause-read g c = reads_none (Some ends.WriteFault) (state_of c.args.reader.now) (g.R.Read.remaining (inner_of c.args.reader.now)) c.args.session.fed c.write_out.new.self.fed refl (ap (λ (t : SessionState). t.fed) c.in-Fault.ensures.session)
+returns-in-Fault-clause-read g c = reads_none (Some ends.WriteFault) (state_of c.args.reader.now) (g.R.Read.remaining (inner_of c.args.reader.now)) c.args.session.fed c.write_out-written.new.self.fed refl (ap (λ (t : SessionState). t.fed) c.in-Fault.ensures.session)
+
+pub returns-in-All-clause-out : goal.returns-in-All-clause-out
+returns-in-All-clause-out g c = read_out c.in-All.count c.args.session c.write_out-written.new.self c.read_more-end.new.session c.read_more-end.result c.in-All.ensures.count c.in-All.ensures.session c.read_more-end.ensures.step

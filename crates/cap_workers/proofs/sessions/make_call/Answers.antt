@@ -32,7 +32,7 @@ returns-in-Err-NoMemory-clause-call g c =
     let q = c.in_ok-request.request in
     let back = subst (λ (f : CallFault). CallsBack q g.J.Naming.limit c.args.seat.now c.call.new.seat f) c.in-Err-NoMemory.field-0-is c.in-Err-NoMemory.ensures in
     serves_call c.args.session.now c.answer-in-Err-NoMemory.new.self c.args.seat.now c.call.new.seat q (reply.Refused refusal.NoMemory) [] (sym c.requires ∙ c.in_ok-request.was) c.answer-in-Err-NoMemory.ensures.spells c.answer-in-Err-NoMemory.ensures.answered (starved none_made)
-    (back.1 ∙ has_none c.args.seat.now)
+    (back.1.0 ∙ has_none c.args.seat.now)
 
 pub returns-in-Err-Sealed-clause-call : goal.returns-in-Err-Sealed-clause-call
 returns-in-Err-Sealed-clause-call g c =

@@ -1,12 +1,12 @@
-use Rattle.std.proofs.Common.{refl, ap, ◌∙◌, subst, [], Some}
+use Rattle.std.proofs.Common.{refl, ap, ◌∙◌, subst}
 use Rattle.cap_session.specs.Counted.{state_of, inner_of}
 use Rattle.cap_session.specs.Session.{SessionState}
 use Rattle.cap_workers.specs.Sessions.{IsPause}
 use Rattle.cap_workers.specs.declared.sessions.EndCause.TheVariants as ends
 use Rattle.cap_workers.specs.declared.sessions.Pause.{Pause}
 use Rattle.cap_workers.specs.declared.sessions.Pause.TheVariants as pauses
-use Rattle.cap_workers.proofs.Rounds.{went_on, faulted_round, starved_round}
-use Rattle.cap_workers.proofs.Streams.{reads_none, reads_finished, writes_none}
+use Rattle.cap_workers.proofs.Rounds.{went_on, faulted_round, sealed_round, starved_round}
+use Rattle.cap_workers.proofs.Streams.{reads_finished}
 use Rattle.cap_workers.proofs.sessions.serve_once.Goals as goal
 
 pub returns-in-Need-clause-round : goal.returns-in-Need-clause-round
@@ -15,22 +15,28 @@ returns-in-Need-clause-round g c =
     let read = c.go_on.ensures.read in
     went_on g.J.Naming.limit c.args.session c.answer_all-session.result.0 c.go_on.result.session c.args.seat.now c.answer_all-session.new.seat sent.0 c.go_on.result.end read.more (subst (λ (p : Pause). IsPause g.J.Naming.limit c.args.session c.answer_all-session.result.0 c.args.seat.now c.answer_all-session.new.seat p) c.in-Need.is c.answer_all-session.ensures.pause) sent.1 read.fed
 
-pub returns-in-Sealed-clause-read : goal.returns-in-Sealed-clause-read
-returns-in-Sealed-clause-read g c = reads_none (Some (ends.Sealed c.in-Sealed.request)) (state_of c.args.reader.now) (g.R.Read.remaining (inner_of c.args.reader.now)) c.args.session.fed c.answer_all-session.result.0.fed refl c.answer_all-session.ensures.same.0
+pub returns-in-Sealed-clause-round : goal.returns-in-Sealed-clause-round
+returns-in-Sealed-clause-round g c =
+    let pause = subst (λ (p : Pause). IsPause g.J.Naming.limit c.args.session c.answer_all-session.result.0 c.args.seat.now c.answer_all-session.new.seat p) c.in-Sealed.is c.answer_all-session.ensures.pause in
+    let sent = c.finish.ensures.sent in
+    sealed_round g.J.Naming.limit c.in-Sealed.request c.args.session c.answer_all-session.result.0 c.finish.result.session c.args.seat.now c.answer_all-session.new.seat sent.0 c.finish.result.end pause sent.1 sent.2
 
-pub returns-in-Sealed-clause-written : goal.returns-in-Sealed-clause-written
-returns-in-Sealed-clause-written g c = ([], writes_none (Some (ends.Sealed c.in-Sealed.request)) (state_of c.args.writer.now) (g.W.Write.contents (inner_of c.args.writer.now)) c.args.session.sent c.answer_all-session.result.0.sent refl c.answer_all-session.ensures.same.1, refl)
+pub returns-in-Sealed-clause-read : goal.returns-in-Sealed-clause-read
+returns-in-Sealed-clause-read g c =
+    let sent = c.finish.ensures.sent in
+    reads_finished (ends.Sealed c.in-Sealed.request) sent.0 c.finish.result.end (state_of c.args.reader.now) (g.R.Read.remaining (inner_of c.args.reader.now)) c.args.session.fed c.finish.result.session.fed sent.2 refl
+    (ap (λ (t : SessionState). t.fed) sent.1 ∙ c.answer_all-session.ensures.same.0)
 
 pub returns-in-Ended-BadLength-clause-round : goal.returns-in-Ended-BadLength-clause-round
 returns-in-Ended-BadLength-clause-round g c =
     let pause = subst (λ (p : Pause). IsPause g.J.Naming.limit c.args.session c.answer_all-session.result.0 c.args.seat.now c.answer_all-session.new.seat p) (c.in-Ended-BadLength.is ∙ ap pauses.Ended (rw c.in-Ended-BadLength.is at c.in-Ended-BadLength.field-0-is)) c.answer_all-session.ensures.pause in
-    let sent = c.finish.ensures.sent in
-    faulted_round g.J.Naming.limit c.args.session c.answer_all-session.result.0 c.finish.result.session c.args.seat.now c.answer_all-session.new.seat sent.0 c.finish.result.end pause sent.1 sent.2
+    let sent = c.finish-in-Ended-BadLength.ensures.sent in
+    faulted_round g.J.Naming.limit c.args.session c.answer_all-session.result.0 c.finish-in-Ended-BadLength.result.session c.args.seat.now c.answer_all-session.new.seat sent.0 c.finish-in-Ended-BadLength.result.end pause sent.1 sent.2
 
 pub returns-in-Ended-BadLength-clause-read : goal.returns-in-Ended-BadLength-clause-read
 returns-in-Ended-BadLength-clause-read g c =
-    let sent = c.finish.ensures.sent in
-    reads_finished ends.Faulted sent.0 c.finish.result.end (state_of c.args.reader.now) (g.R.Read.remaining (inner_of c.args.reader.now)) c.args.session.fed c.finish.result.session.fed sent.2 refl
+    let sent = c.finish-in-Ended-BadLength.ensures.sent in
+    reads_finished ends.Faulted sent.0 c.finish-in-Ended-BadLength.result.end (state_of c.args.reader.now) (g.R.Read.remaining (inner_of c.args.reader.now)) c.args.session.fed c.finish-in-Ended-BadLength.result.session.fed sent.2 refl
     (ap (λ (t : SessionState). t.fed) sent.1 ∙ c.answer_all-session.ensures.same.0)
 
 pub returns-in-Ended-NoMemory-clause-round : goal.returns-in-Ended-NoMemory-clause-round

@@ -1,9 +1,11 @@
-use Rattle.std.proofs.Common.{[], ◌∷◌, ◌++◌, refl, ap, ◌∙◌, arith}
-use Rattle.cap_model.specs.Reporting.{full_reply}
-use Rattle.cap_shared.specs.declared.entry.Receipt.TheVariants as receipt
+use Rattle.std.proofs.Common.{◌≡◌, length, refl, ap, ◌∙◌, arith}
+use Rattle.atomic_table.specs.Table.{Me}
 use Rattle.cap_shared.specs.declared.history.Answer.TheVariants as answer
-use Rattle.cap_shared.proofs.Entering.{call_step, call_by}
-use Rattle.cap_shared.proofs.Pasts.{noted_seat, entered_seat, entered_desk}
+use Rattle.cap_shared.specs.declared.history.Mark.{Mark}
+use Rattle.cap_shared.specs.declared.history.View.{View}
+use Rattle.cap_shared.specs.Parts.{Content}
+use Rattle.cap_shared.specs.Rule.{sitting_of}
+use Rattle.cap_shared.proofs.Pasts.{noted_seat, met_less}
 use Rattle.cap_shared.proofs.desk.Desk.call.Goals as goal
 
 pub invariant_of-seat : goal.invariant_of-seat
@@ -11,24 +13,13 @@ invariant_of-seat g c =
     let len = c.self.inside.journal.ok.0 in
     noted_seat _ _ _ _ c.self.inside.journal.items c.self.inside.pass c.note_sealed_call.new.desk c.seat.inside.pass c.note_sealed_call.new.seat _ _ _ (answer.SealedCall c.args.request.now) c.seat.invariant c.note_sealed_call.ensures refl (omega (arith, c.self.invariant.fits, c.self.invariant.limit_is))
 
-pub own_copies-copies-requires-clause-room : goal.own_copies-copies-requires-clause-room
-own_copies-copies-requires-clause-room g c =
-    let new = c.dispatch-answer.new.cluster.flat in
-    c.in-Ok.ensures.ok.news (full_reply new c.dispatch-answer.result) new c.dispatch-answer.ensures.replies
-
-pub invariant_of-self-2 : goal.invariant_of-self-2
-invariant_of-self-2 g c =
-    let new = c.dispatch-answer.new.cluster.flat in
-    let reply = full_reply new c.dispatch-answer.result in
-    let copies = c.own_copies-copies in
-    let len = c.self.inside.journal.ok.0 in
-    let step = call_step c.self.inside.cluster.flat new c.seat.inside.number c.args.request.now _ reply _ c.of-event.result c.dispatch-answer.ensures.replies c.moved.ensures copies.ensures.entry c.of-event.ensures in
-    entered_desk _ _ _ _ c.self.inside.journal.items c.self.inside.pass c.enter.new.desk c.seat.inside.pass c.enter.new.seat c.self.inside.cluster.flat new _ _ _ (record { seat = c.seat.inside.number; event = c.of-event.result })
-    (receipt.Call c.len-position.result c.in-Ok.room.receipt copies.result.receipt) _ c.self.invariant c.enter.ensures.entered step (c.seat.invariant.below, call_by _ _ _ c.of-event.result c.of-event.ensures) (omega arith) c.enter.ensures.journal c.enter.ensures.capacity
-
-pub invariant_of-seat-2 : goal.invariant_of-seat-2
-invariant_of-seat-2 g c =
-    let r = receipt.Call c.len-position.result c.in-Ok.room.receipt c.own_copies-copies.result.receipt in
-    let at = c.self.inside.journal.ok.0 in
-    entered_seat _ _ _ _ c.self.inside.journal.items c.self.inside.pass c.enter.new.desk c.seat.inside.pass c.enter.new.seat _ _ _ (record { seat = c.seat.inside.number; event = c.of-event.result }) r
-    c.seat.invariant c.enter.ensures.entered (omega (arith, c.len-position.ensures)) (c.enter.ensures.receipts ∙ ap (λ xs. xs ++ r ∷ []) c.in-Ok.ensures.receipts)
+pub returns-in_default-clause-answer : goal.returns-in_default-clause-answer
+returns-in_default-clause-answer g c =
+    let is : sitting_of c.seat-2.inside.pass.me.0 ≡ c.args.seat.now = c.seat-2.view_is ∙ c.in_default.ensures.answer in
+    let new : length c.self-2.inside.journal.items ≡ length c.answer.new.self.log = ap (λ (v : Content). length v.log) c.self-2.view_is in
+    let same : length c.answer.new.self.log ≡ length c.args.self.now.log = ap length c.in_default.ensures.same in
+    let old : length c.self.inside.journal.items ≡ length c.args.self.now.log = ap (λ (v : Content). length v.log) c.self.view_is in
+    let len = c.self.inside.journal.ok.0 in (
+      ap (λ (m : Me Mark View). sitting_of m.0) c.compare.ensures.sits ∙ is,
+      met_less c.self-2.inside.journal.items _ _ _ c.compare.ensures.fits is (omega (arith, c.self.invariant.limit_is)),
+    )

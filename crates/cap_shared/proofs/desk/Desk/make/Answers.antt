@@ -34,8 +34,8 @@ invariant_of-seat-2 g c =
     entered_seat _ _ _ _ c.self.inside.journal.items c.self.inside.pass c.enter.new.desk c.seat.inside.pass c.enter.new.seat _ _ _ (record { seat = c.seat.inside.number; event = c.compact.result }) r
     c.seat.invariant c.enter.ensures.entered (omega (arith, c.len-at.ensures)) (c.enter.ensures.receipts ∙ ap (λ xs. xs ++ r ∷ []) c.in-Ok.ensures.receipts)
 
-pub returns : goal.returns
-returns g c = (
+pub returns-clause-answer : goal.returns-clause-answer
+returns-clause-answer g c = (
   subst (λ (e : Event 2). IsOf c.args.proposal e) (sym c.event.ensures) c.in-Ok.ensures.of,
   (c.len-at.result, one_more c.seat.inside.pass c.enter.new.seat _ _ _ c.seat.view_is c.enter.ensures.entered.sits (ap (λ r. Entered r) (event_receipt _ c.in-Ok.made _ _ c.event.ensures c.compact-2.ensures))),
 )

@@ -1,0 +1,444 @@
+//! What a worker and the committer do in an epoch.
+use crate::coordinator::{BATCH, Coordinator, LaneSide, Outcomes};
+use crate::gate::{Gate, Outcome};
+use crate::worker::{Begun, End, Next, OfferEnd, Told, Worker, put};
+use bumpalo::Bump;
+use cap_lanes::{Committer, Putter};
+use cap_model::{NoMemory, Proposal};
+use cap_shared::{Held, Naming, Seat, Shared};
+use std::alloc::Global;
+use std::sync::Wait;
+use std::time::Clock;
+
+/// How long a worker that finds nothing to do waits at most, in milliseconds.
+const PAUSE_MAX: u64 = 10;
+
+/// How many turns a worker takes one at a time with the others whose proposals were rejected, after one of its own was.
+const CAREFUL_TURNS: u32 = 16;
+
+/// How many turns a worker takes before it looks again whether others wait.
+const TURNS_AT_ONCE: u32 = 1024;
+
+/// Ends an epoch, and keeps those that have nothing to do until then.
+pub trait StopSignal {
+    /// Whether those that schedule are to leave the epoch. Once it is raised it stays so until the epoch has ended.
+    fn is_raised<R: Wait>(&self, rt: &R) -> bool;
+
+    /// Waits for so many milliseconds, or until the signal is raised.
+    fn wait<R: Wait + Clock>(&self, rt: &R, milliseconds: u64);
+}
+
+/// Why a worker's turns have ended.
+#[derive(Clone, Copy, PartialEq, Eq)]
+enum Stop {
+    /// So many were to be taken, or the signal was raised.
+    Over,
+    /// There was nothing to propose when the journal had so many entries, at the first turn or after some.
+    Idle { entries: usize, at_once: bool },
+    /// A proposal was rejected.
+    Rejected,
+    /// The journal is full.
+    Sealed,
+    /// An allocation failed.
+    NoMemory,
+}
+
+/// How long a worker waits, and how it goes on.
+#[derive(Clone, Copy)]
+struct Pace {
+    pause: u64,
+    /// How many entries the journal had when the worker last found nothing to propose.
+    idle_at: Option<usize>,
+    /// How many turns the worker still takes one at a time with others.
+    careful: u32,
+}
+
+impl Pace {
+    /// Of a worker that begins.
+    fn new() -> Pace {
+        Pace {
+            pause: 1,
+            idle_at: None,
+            careful: 0,
+        }
+    }
+
+    /// How many turns the worker takes next.
+    fn turns(&self) -> u32 {
+        if self.careful > 0 {
+            self.careful
+        } else {
+            TURNS_AT_ONCE
+        }
+    }
+
+    /// Waits until the signal is raised, or for a while, and twice as long the next time.
+    fn wait<R: Wait + Clock, S: StopSignal>(&mut self, rt: &R, signal: &S) {
+        signal.wait(rt, self.pause);
+        self.pause = self.pause.saturating_mul(2).min(PAUSE_MAX);
+    }
+
+    /// After turns that have ended so. Returns whether the worker goes on.
+    fn after<R: Wait + Clock, S: StopSignal>(&mut self, rt: &R, signal: &S, stop: Stop) -> bool {
+        match stop {
+            Stop::Sealed => return false,
+            Stop::Over => *self = Pace::new(),
+            Stop::Rejected => {
+                *self = Pace {
+                    careful: CAREFUL_TURNS,
+                    ..Pace::new()
+                }
+            }
+            Stop::Idle { entries, at_once } => {
+                if !at_once {
+                    self.pause = 1;
+                }
+                self.idle_at = Some(entries);
+                self.wait(rt, signal);
+            }
+            Stop::NoMemory => {
+                self.idle_at = None;
+                self.wait(rt, signal);
+            }
+        }
+        true
+    }
+}
+
+/// How a worker takes turns.
+trait Turns {
+    /// So many turns at most, until one stops the worker.
+    fn take<J: Naming, R: Wait, G: Gate, S: StopSignal>(
+        &mut self,
+        rt: &R,
+        shared: &Shared<J>,
+        seat: &mut Seat<J>,
+        signal: &S,
+        gate: &G,
+        worker: &mut Worker,
+        most: u32,
+    ) -> Stop;
+}
+
+/// Where a worker's snapshots lie.
+#[derive(Drop)]
+struct Room {
+    alloc: Global,
+    arena: Bump,
+}
+
+impl Room {
+    fn new(alloc: Global) -> Room {
+        Room {
+            alloc,
+            arena: Bump::new(alloc),
+        }
+    }
+
+    /// The proposal of a turn that has begun, the first or a later one. Where the arena was not reset, there is another for the next turn.
+    fn proposal(&mut self, begun: Begun, at_once: bool) -> Result<Proposal<2>, Stop> {
+        if !begun.reset {
+            self.arena = Bump::new(self.alloc);
+        }
+        match begun.choice {
+            Ok(Some(proposal)) => Ok(proposal),
+            Ok(None) => Err(Stop::Idle {
+                entries: begun.entries,
+                at_once,
+            }),
+            Err(NoMemory) => Err(Stop::NoMemory),
+        }
+    }
+}
+
+/// The worker commits what it proposes.
+#[derive(Drop)]
+struct Direct {
+    room: Room,
+}
+
+/// Whether a turn that has ended so stops the worker.
+fn stop_of(end: &End) -> Option<Stop> {
+    match end {
+        End::Done(_) | End::Nothing => None,
+        End::Rejected(_) => Some(Stop::Rejected),
+        End::Sealed(_) => Some(Stop::Sealed),
+        End::NoMemory => Some(Stop::NoMemory),
+    }
+}
+
+impl Turns for Direct {
+    fn take<J: Naming, R: Wait, G: Gate, S: StopSignal>(
+        &mut self,
+        rt: &R,
+        shared: &Shared<J>,
+        seat: &mut Seat<J>,
+        signal: &S,
+        gate: &G,
+        worker: &mut Worker,
+        most: u32,
+    ) -> Stop {
+        let mut begun = worker.begin(rt, shared, seat, &mut self.room.arena, gate);
+        for turn in 1..most {
+            let proposal = match self.room.proposal(begun, turn == 1) {
+                Ok(proposal) => proposal,
+                Err(stop) => return stop,
+            };
+            if signal.is_raised(rt) {
+                let _end = worker.commit(rt, shared, seat, gate, proposal);
+                return Stop::Over;
+            }
+            let next = worker.go_on(rt, shared, seat, &mut self.room.arena, gate, proposal);
+            let Next { end, begun: more } = next;
+            if let Some(stop) = stop_of(&end) {
+                return stop;
+            }
+            begun = more;
+        }
+        Stop::Over
+    }
+}
+
+/// The worker puts what it proposes into its lane, for the committer, and waits for the answer. Where nobody is at the lanes meanwhile, it takes
+/// and commits what waits there itself.
+#[derive(Drop)]
+struct ByLane<'a> {
+    room: Room,
+    putter: Putter,
+    side: LaneSide<'a>,
+    coordinator: &'a Coordinator,
+}
+
+impl ByLane<'_> {
+    /// The answer to what the worker has put, and its next turn, if that has begun in the same hold of the cluster.
+    fn settle<J: Naming, R: Wait, G: Gate>(
+        &mut self,
+        rt: &R,
+        shared: &Shared<J>,
+        seat: &mut Seat<J>,
+        gate: &G,
+        worker: &mut Worker,
+    ) -> (Outcome, Option<Begun>) {
+        for _ in rt.forever() {
+            let mut lanes = self.coordinator.lanes(rt);
+            if let Some(outcome) = self.side.answer(rt) {
+                return (outcome, None);
+            }
+            let Some(committer) = lanes.as_mut() else {
+                drop(lanes);
+                return (self.side.await_answer(rt), None);
+            };
+            let mut held = shared.hold_to_schedule(rt);
+            let told = Told {
+                outcomes: commit_waiting(rt, &mut held, seat, committer),
+                coordinator: Some(self.coordinator),
+            };
+            drop(lanes);
+            let begun = worker.begin_held(rt, held, seat, &mut self.room.arena, gate, &told);
+            if let Some(outcome) = self.side.answer(rt) {
+                return (outcome, Some(begun));
+            }
+        }
+        unreachable!()
+    }
+}
+
+impl Turns for ByLane<'_> {
+    fn take<J: Naming, R: Wait, G: Gate, S: StopSignal>(
+        &mut self,
+        rt: &R,
+        shared: &Shared<J>,
+        seat: &mut Seat<J>,
+        signal: &S,
+        gate: &G,
+        worker: &mut Worker,
+        most: u32,
+    ) -> Stop {
+        let mut begun = worker.begin(rt, shared, seat, &mut self.room.arena, gate);
+        for turn in 1..most {
+            let proposal = match self.room.proposal(begun, turn == 1) {
+                Ok(proposal) => proposal,
+                Err(stop) => return stop,
+            };
+            let OfferEnd::Put = put(rt, &mut self.putter, proposal) else {
+                return Stop::NoMemory;
+            };
+            let (outcome, next) = self.settle(rt, shared, seat, gate, worker);
+            match outcome {
+                Outcome::Made => {}
+                Outcome::Rejected => return Stop::Rejected,
+                Outcome::Unmade => return Stop::NoMemory,
+            }
+            if signal.is_raised(rt) {
+                return Stop::Over;
+            }
+            begun = match next {
+                Some(begun) => begun,
+                None => worker.begin(rt, shared, seat, &mut self.room.arena, gate),
+            };
+        }
+        Stop::Over
+    }
+}
+
+/// A worker takes turns until the journal is full, or until the signal is raised.
+fn schedule_by<J: Naming, R: Wait + Clock, G: Gate, S: StopSignal, T: Turns>(
+    rt: &R,
+    shared: &Shared<J>,
+    seat: &mut Seat<J>,
+    coordinator: &Coordinator,
+    signal: &S,
+    gate: &G,
+    worker: &mut Worker,
+    turns: &mut T,
+) {
+    let mut pace = Pace::new();
+    for _ in rt.forever() {
+        if signal.is_raised(rt) || shared.is_full(rt) {
+            return;
+        }
+        if let Some(entries) = pace.idle_at {
+            let _watch = coordinator.watch(rt);
+            if shared.entries(rt) == entries {
+                pace.wait(rt, signal);
+                continue;
+            }
+        }
+        let most = pace.turns();
+        let stop = if pace.careful > 0 {
+            let _alone = coordinator.alone(rt);
+            turns.take(rt, shared, seat, signal, gate, worker, most)
+        } else {
+            turns.take(rt, shared, seat, signal, gate, worker, most)
+        };
+        if !pace.after(rt, signal, stop) {
+            return;
+        }
+    }
+}
+
+/// A worker schedules, and commits what it proposes, until the journal is full, or until the signal is raised. A commit and the next copy
+/// are made while the cluster is held once.
+pub fn schedule<J: Naming, R: Wait + Clock, G: Gate, S: StopSignal>(
+    rt: &R,
+    alloc: Global,
+    shared: &Shared<J>,
+    seat: &mut Seat<J>,
+    coordinator: &Coordinator,
+    signal: &S,
+    gate: &G,
+    worker: &mut Worker,
+) {
+    let mut turns = Direct {
+        room: Room::new(alloc),
+    };
+    schedule_by(
+        rt,
+        shared,
+        seat,
+        coordinator,
+        signal,
+        gate,
+        worker,
+        &mut turns,
+    );
+}
+
+/// A worker schedules through the lane of its number until the journal is full, or until the signal is raised, and puts its end into it. After each
+/// proposal it waits until the committer has answered that.
+pub fn schedule_by_lane<J: Naming, R: Wait + Clock, G: Gate, S: StopSignal>(
+    rt: &R,
+    alloc: Global,
+    shared: &Shared<J>,
+    seat: &mut Seat<J>,
+    coordinator: &Coordinator,
+    signal: &S,
+    gate: &G,
+    worker: &mut Worker,
+    putter: Putter,
+) {
+    let mut turns = ByLane {
+        room: Room::new(alloc),
+        side: coordinator.lane(putter.worker()),
+        putter,
+        coordinator,
+    };
+    schedule_by(
+        rt,
+        shared,
+        seat,
+        coordinator,
+        signal,
+        gate,
+        worker,
+        &mut turns,
+    );
+    let ByLane { putter, .. } = turns;
+    let _ended = putter.finish(rt);
+    coordinator.has_finished();
+}
+
+/// The committer commits what the workers put, in the order in which it is taken, until all workers have finished; those that wait for an answer
+/// take and commit meanwhile what waits, too. The cluster is held once for all that waits. What is taken once the journal is full is dropped, as is
+/// a proposal that an allocation fails for.
+pub fn commit_all<J: Naming, R: Wait, G: Gate>(
+    rt: &R,
+    shared: &Shared<J>,
+    seat: &mut Seat<J>,
+    coordinator: &Coordinator,
+    gate: &G,
+    committer: Committer,
+) {
+    coordinator.open_lanes(rt, committer);
+    for _ in rt.forever() {
+        let (outcomes, is_over) = commit_once(rt, shared, seat, coordinator);
+        coordinator.tell(rt, gate, &outcomes);
+        if is_over {
+            return;
+        }
+        if outcomes.iter().all(|outcome| outcome.is_none()) {
+            coordinator.await_finished(rt);
+        }
+    }
+}
+
+/// Commits what waits in the lanes, and returns what came of it, and whether all workers have finished.
+fn commit_once<J: Naming, R: Wait>(
+    rt: &R,
+    shared: &Shared<J>,
+    seat: &mut Seat<J>,
+    coordinator: &Coordinator,
+) -> (Outcomes, bool) {
+    let mut lanes = coordinator.lanes(rt);
+    let Some(committer) = lanes.as_mut() else {
+        return ([None; BATCH], true);
+    };
+    let mut held = shared.hold_to_schedule(rt);
+    let outcomes = commit_waiting(rt, &mut held, seat, committer);
+    (outcomes, committer.is_over())
+}
+
+/// How often the lanes are looked into while the cluster is held: for what each worker has put, and for its end.
+const LOOKS: usize = 2 * BATCH;
+
+/// Commits the proposals that wait in the lanes. Each worker has one there at most, and its end.
+fn commit_waiting<J: Naming, R: Wait>(
+    rt: &R,
+    held: &mut Held<'_, J>,
+    seat: &mut Seat<J>,
+    committer: &mut Committer,
+) -> Outcomes {
+    let mut outcomes = [None; BATCH];
+    let mut count = 0;
+    for _ in 0..LOOKS {
+        if count >= BATCH {
+            break;
+        }
+        if let Some((worker, proposal)) = committer.try_take(rt) {
+            let answer = held.commit(seat, proposal);
+            outcomes[count] = Some((worker, Outcome::of(&answer)));
+            count += 1;
+        }
+    }
+    outcomes
+}
