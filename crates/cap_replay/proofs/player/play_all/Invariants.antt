@@ -1,0 +1,19 @@
+use Rattle.std.proofs.Common.{◌≡◌, ◌+◌, List, ℕ, true}
+use Rattle.cap_text.specs.Pieces.{lacks}
+use Rattle.cap_session.specs.Counted.{state_of, CanCount}
+use Rattle.cap_replay.specs.Progress.{IsPlayed}
+use Rattle.cap_replay.specs.Streams.{IsRead}
+use Rattle.cap_replay.proofs.player.play_all.Given as goal
+
+-- what was read was played but for what is begun, each read gave bytes, and no call has failed
+abbrev pub invariant-loop-reads : goal.invariant-loop-reads
+invariant-loop-reads g l = record {
+  text : (text : List ℕ) × IsRead g.R.Read.remaining l.fn.reader l.reader text × IsPlayed text l.begun.items l.script.simulation;
+  clean : lacks 10 l.begun.items ≡ true;
+  failures : (state_of l.reader).failures ≡ (state_of l.fn.reader).failures;
+  quiets : (state_of l.reader).quiets ≡ (state_of l.fn.reader).quiets;
+  ends : (state_of l.reader).ends ≡ (state_of l.fn.reader).ends;
+  many : (state_of l.reader).reads ≡ (state_of l.fn.reader).reads + l._reads;
+  writes : (state_of l.writer).failures ≡ (state_of l.fn.writer).failures;
+  may_write : CanCount (state_of l.writer);
+}

@@ -1,0 +1,30 @@
+use Rattle.std.proofs.Common.{◌≡◌, List, ℕ, [], ◌++◌, length, ap, sym, ◌∙◌, subst, arith}
+use Rattle.std.specs.Str.Lines.{strip_carriage_return}
+use Rattle.std.proofs.lemmas.Bool.Decides.{nat_tests}
+use Rattle.std.proofs.lemmas.List.{nil_from_length}
+use Rattle.cap_replay.specs.Progress.{MayNotFollow, FailsAtStep}
+use Rattle.cap_replay.proofs.player.play_line.Goals as goal
+
+pub returns-then-is_empty-clause-bad : goal.returns-then-is_empty-clause-bad
+returns-then-is_empty-clause-bad c = λ n e.
+    let empty = c.if-is_empty.ensures in
+    let none : length c.args.begun.now.items ≡ 0 = grind (arith, nat_tests, empty, c.args.begun.now.ok.0) in
+    let line = c.without_return.ensures ∙ ap (λ (b : List ℕ). strip_carriage_return (b ++ c.args.last.now)) (sym (nil_from_length c.args.begun.now.items none)) in
+    subst (λ (x : List ℕ). MayNotFollow x c.args.script.now.simulation) line (c.play.ensures.bad n e)
+
+pub returns-then-is_empty-clause-fault : goal.returns-then-is_empty-clause-fault
+returns-then-is_empty-clause-fault c = λ fault e.
+    let empty = c.if-is_empty.ensures in
+    let none : length c.args.begun.now.items ≡ 0 = grind (arith, nat_tests, empty, c.args.begun.now.ok.0) in
+    let line = c.without_return.ensures ∙ ap (λ (b : List ℕ). strip_carriage_return (b ++ c.args.last.now)) (sym (nil_from_length c.args.begun.now.items none)) in
+    subst (λ (x : List ℕ). FailsAtStep x c.args.script.now.simulation fault) line (c.play.ensures.fault fault e)
+
+pub returns-in-Err-clause-bad : goal.returns-in-Err-clause-bad
+returns-in-Err-clause-bad c = λ n e.
+    let line = c.without_return-2.ensures ∙ ap strip_carriage_return (c.deref.ensures.value ∙ c.in_ok-extend_from_slice.ensures.items) in
+    subst (λ (x : List ℕ). MayNotFollow x c.args.script.now.simulation) line (c.in-Err.ensures.bad n e)
+
+pub returns-in-Err-clause-fault : goal.returns-in-Err-clause-fault
+returns-in-Err-clause-fault c = λ fault e.
+    let line = c.without_return-2.ensures ∙ ap strip_carriage_return (c.deref.ensures.value ∙ c.in_ok-extend_from_slice.ensures.items) in
+    subst (λ (x : List ℕ). FailsAtStep x c.args.script.now.simulation fault) line (c.in-Err.ensures.fault fault e)

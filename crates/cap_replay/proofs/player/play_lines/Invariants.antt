@@ -1,0 +1,14 @@
+use Rattle.std.proofs.Common.{◌≡◌, ◌++◌, List, ℕ, length, true}
+use Rattle.cap_text.specs.Pieces.{lacks}
+use Rattle.cap_replay.specs.Progress.{IsPlayed}
+use Rattle.cap_replay.proofs.player.play_lines.Given as goal
+
+-- what is begun and what is left stand after the lines that were played
+abbrev pub invariant-loop-front : goal.invariant-loop-front
+invariant-loop-front l = record {
+  clean : lacks 10 l.begun.items ≡ true;
+  played : (text : List ℕ) → IsPlayed text l.fn.begun.items l.fn.script.simulation → IsPlayed (text ++ l.bytes) (l.begun.items ++ l.rest) l.script.simulation;
+}
+
+abbrev pub decreases-loop-front : goal.decreases-loop-front
+decreases-loop-front l = length l.rest

@@ -1,0 +1,46 @@
+//! Words for why a script was played no further.
+
+use crate::script::Script;
+use crate::stop::Stop;
+use cap_config::ConfigFault;
+use cap_model::NoMemory;
+use cap_words::describe;
+use std::alloc::{AllocError, Global};
+
+/// Adds a line of words, where the script itself is why it was played no further: for a bad line its number and what is expected
+/// there, for a fault of the settings the number of its line among the `conf` lines, its key and what is wrong. If an allocation
+/// fails, a part of the words may have been added.
+pub(crate) fn explain_end(
+    alloc: Global,
+    script: &Script,
+    played: Result<(), Stop>,
+    words: &mut String,
+) -> Result<(), AllocError> {
+    match played {
+        Err(Stop::BadLine(line)) => {
+            let expected = script.expected().words();
+            let text = format!(in alloc; "line {line}: {expected}\n")?;
+            words.push_str(text.as_str())
+        }
+        Err(Stop::Config(fault)) => explain_fault(alloc, script.settings_text(), &fault, words),
+        Ok(()) | Err(Stop::NoMemory | Stop::Input | Stop::Output) => Ok(()),
+    }
+}
+
+/// Adds the words for a fault of the settings.
+fn explain_fault(
+    alloc: Global,
+    text: &[u8],
+    fault: &ConfigFault,
+    words: &mut String,
+) -> Result<(), AllocError> {
+    let described = match describe(alloc, text, fault) {
+        Ok(described) => described,
+        Err(NoMemory) => return Err(AllocError),
+    };
+    if fault.line > 0 {
+        words.push_str("conf ")?;
+    }
+    words.push_str(described.as_str())?;
+    words.push_str("\n")
+}
