@@ -1,16 +1,13 @@
-//! The programs over the engine: the replay of a script of connections.
+//! The program's words: the command line and the streams in, the exit status out. `replay` plays a script, `serve_on` is the daemon on a listener.
 #![tactic(auto)]
 
-mod command;
-mod expected;
-mod player;
-mod print;
-mod report;
-mod script;
-mod settings;
-mod simulation;
-mod stop;
+mod input;
+mod serve;
+mod streams;
+mod texts;
 mod words;
 
+pub use cap_replay::replay;
+pub use cap_server::{Sizes, serve_on};
 pub use cap_session::Counted;
-pub use player::{replay, replay_with_words};
+pub use words::run;

@@ -1,46 +1,139 @@
-//! Words for why a script was played no further.
+ghost use Rattle.std.specs.Prelude.{◌≡◌, ◌<◌};
+ghost use Rattle.cap_session.specs.Counted.{state_of, CanCount};
 
-use crate::script::Script;
-use crate::stop::Stop;
-use cap_config::ConfigFault;
-use cap_model::NoMemory;
-use cap_words::describe;
+use crate::serve::{serve, serve_command};
+use crate::streams::explain_streams;
+use crate::texts::{check_settings, explain_lines, print};
+use cap_replay::replay_with_words;
+use cap_session::Counted;
+use clap::error::ErrorKind;
+use clap::{Command, Error};
 use std::alloc::{AllocError, Global};
+use std::convert::AsStr;
+use std::io::{Read, Write};
+use std::net::{Net, TcpListener, TcpStream};
+use std::rt::Files;
+use std::sync::Wait;
+use std::thread::Threads;
+use std::time::Clock;
 
-/// Adds a line of words, where the script itself is why it was played no further: for a bad line its number and what is expected
-/// there, for a fault of the settings the number of its line among the `conf` lines, its key and what is wrong. If an allocation
-/// fails, a part of the words may have been added.
-pub(crate) fn explain_end(
-    alloc: Global,
-    script: &Script,
-    played: Result<(), Stop>,
-    words: &mut String,
-) -> Result<(), AllocError> {
-    match played {
-        Err(Stop::BadLine(line)) => {
-            let expected = script.expected().words();
-            let text = format!(in alloc; "line {line}: {expected}\n")?;
-            words.push_str(text.as_str())
-        }
-        Err(Stop::Config(fault)) => explain_fault(alloc, script.settings_text(), &fault, words),
-        Ok(()) | Err(Stop::NoMemory | Stop::Input | Stop::Output) => Ok(()),
+/// Runs the program on the words of its command line, of which the first is its own name: `replay` plays a script, `serve` is the daemon,
+/// `check` looks at property lines, `explain` puts words under the lines of a script or of what `replay` printed. The result is the exit status: 0
+/// done; 1 a stream failed; 2 bad words, a bad line of a script or a fault of its settings; 3 an allocation failed. What was wrong is
+/// left in words in `complaint`, for the error stream: with status 2, and with status 1 the stream and the system's error. Help and
+/// the version are written to the writer.
+pub fn run<
+    'a,
+    H: Net<Listener = TcpListener, Stream = TcpStream>
+        + Threads
+        + Wait
+        + Clock
+        + Eprint
+        + Files
+        + AllocGlobal
+        + Sync,
+    S: AsStr,
+    R: Read,
+    W: Write,
+>(
+    rt: &H,
+    words: &'a [S],
+    reader: &mut Counted<R>,
+    writer: &mut Counted<W>,
+    complaint: &mut String,
+) -> u8
+    requires reader { CanCount (state_of reader.old) }
+    requires writer { CanCount (state_of writer.old) }
+    ensures status { result < 4 }
+    ensures failed { (state_of writer.old).failures < (state_of writer.new).failures → result ≡ 1 }
+{
+    let alloc = rt.alloc();
+    let Ok(command) = command_line(alloc) else {
+        return 3;
+    };
+    let status = match command.try_get_matches_from(words) {
+        Ok(matches) => match matches.subcommand() {
+            Some(("serve", matches)) => serve(rt, matches, writer, complaint),
+            Some(("check", _)) => check_settings(alloc, reader, writer, complaint),
+            Some(("explain", _)) => explain_lines(alloc, reader, writer),
+            _ => replay_with_words(alloc, reader, writer, complaint),
+        },
+        Err(error) => report(alloc, &error, writer, complaint),
+    };
+    if status == 1 && complaint.is_empty() {
+        let _explained = explain_streams(alloc, reader, writer, complaint);
+    }
+    status
+}
+
+/// The command line of the program.
+fn command_line<'a>(alloc: Global) -> Result<Command<'a>, AllocError> {
+    let command = program(alloc).subcommand(replay_command(alloc))?;
+    let command = with_serve(alloc, command)?;
+    command
+        .subcommand(check_command(alloc))?
+        .subcommand(explain_command(alloc))
+}
+
+/// The program, with none of its commands yet.
+fn program<'a>(alloc: Global) -> Command<'a> {
+    Command::new(alloc, "capsched")
+        .version("0.1.0")
+        .about("The allocation engine of a YARN cluster: a proved Capacity Scheduler")
+        .subcommand_required(true)
+}
+
+/// Adds the command `serve`.
+fn with_serve<'a>(alloc: Global, command: Command<'a>) -> Result<Command<'a>, AllocError> {
+    match serve_command(alloc) {
+        Ok(serve) => command.subcommand(serve),
+        Err(error) => Err(error),
     }
 }
 
-/// Adds the words for a fault of the settings.
-fn explain_fault(
+/// The command `replay`.
+fn replay_command<'a>(alloc: Global) -> Command<'a> {
+    Command::new(alloc, "replay").about(
+        "Plays a script of connections from standard input, and prints what they are answered",
+    )
+}
+
+/// The command `check`.
+fn check_command<'a>(alloc: Global) -> Command<'a> {
+    Command::new(alloc, "check").about(
+        "Reads property lines from standard input, and prints a table of their queues",
+    )
+}
+
+/// The command `explain`.
+fn explain_command<'a>(alloc: Global) -> Command<'a> {
+    Command::new(alloc, "explain").about(
+        "Reads a script or what replay printed from standard input, and puts words under its lines",
+    )
+}
+
+/// Writes help and the version to the writer, and leaves the text for bad words in `complaint`. The result is the exit status.
+fn report<W: Write>(
     alloc: Global,
-    text: &[u8],
-    fault: &ConfigFault,
-    words: &mut String,
-) -> Result<(), AllocError> {
-    let described = match describe(alloc, text, fault) {
-        Ok(described) => described,
-        Err(NoMemory) => return Err(AllocError),
-    };
-    if fault.line > 0 {
-        words.push_str("conf ")?;
+    error: &Error,
+    writer: &mut Counted<W>,
+    complaint: &mut String,
+) -> u8
+    requires { CanCount (state_of writer.old) }
+    ensures status { result < 4 }
+    ensures failed { (state_of writer.old).failures < (state_of writer.new).failures → result ≡ 1 }
+{
+    if error.kind() == ErrorKind::OutOfMemory {
+        return 3;
     }
-    words.push_str(described.as_str())?;
-    words.push_str("\n")
+    let Ok(text) = error.to_string(alloc) else {
+        return 3;
+    };
+    if error.use_stderr() {
+        return match complaint.push_str(text.as_str()) {
+            Ok(()) => 2,
+            Err(_) => 3,
+        };
+    }
+    print(writer, text.as_bytes())
 }

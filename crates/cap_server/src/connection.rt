@@ -3,195 +3,329 @@ ghost use Rattle.std.specs.Prelude.{◌≡◌, None, IfSome};
 ghost use Rattle.cap_session.specs.Session.{new_session};
 ghost use Rattle.cap_workers.specs.Sessions.{pending_request, IsServed};
 
-use crate::uninterrupted::Uninterrupted;
+use crate::poller::Poller;
+use crate::signal::EndSignal;
+use crate::streams::{Backlog, Incoming, Outgoing, Sender};
 use cap_model::Request;
 use cap_session::{Counted, Session};
 use cap_shared::{Naming, Seat, Shared};
 use cap_workers::{EndCause, SessionEnd, serve_session};
+use mio::Interest;
 use std::alloc::Global;
 use std::io::{self, ErrorKind, Read};
-use std::net::{Shutdown, TcpStream};
+use std::net::{Net, Shutdown, TcpStream};
+use std::os::fd::{AsRawFd, RawFd};
 use std::sync::Wait;
-use std::time::Duration;
-
-/// How long a read waits, in milliseconds. A session to which nothing came in that time can go on in the next epoch.
-const READ_WAITS: u64 = 50;
-
-/// How long a write waits, in seconds. A client that takes nothing for so long has failed.
-const WRITE_WAITS: u64 = 5;
+use std::time::Clock;
 
 /// How many reads are made at most of what a client sends that is not looked at any more.
 const DRAIN_READS: u32 = 64;
 
-/// A connection that is served: its stream, its session, and the session's open request, if it has one.
-pub(crate) struct Connection {
+/// The socket of a connection, and what the client has not taken yet.
+#[derive(Drop)]
+struct ClientSocket {
     stream: TcpStream,
+    /// Waits until the client sends something.
+    poller: Poller,
+    /// Waits until the client takes something.
+    taking: Poller,
+    backlog: Backlog,
+}
+
+/// A session that has not ended, and its open request, if it has one.
+struct OpenSession {
     session: Session,
     pending: Option<Request<2>>,
     ghost goes_on: { session.ended ≡ None },
     ghost open: { pending ≡ pending_request session.open_request },
 }
 
-impl Drop for Connection {
+impl Drop for OpenSession {
     fn drop(self) {
-        let Connection {
-            stream: _,
+        let OpenSession {
             session: _,
             pending: _,
         } = self;
     }
 }
 
-/// What came of serving a connection once.
+impl OpenSession {
+    /// Its session, and the open request.
+    fn into_parts(self) -> (Session, Option<Request<2>>)
+        ensures goes_on { result.0.ended ≡ None }
+        ensures open { result.1 ≡ pending_request result.0.open_request }
+    {
+        let OpenSession { session, pending } = self;
+        (session, pending)
+    }
+}
+
+/// What is done with a connection.
+#[derive(Drop)]
+enum Phase {
+    /// Its requests are answered.
+    Serving(OpenSession),
+    /// It was answered for the last time. What it still sends is read, in so many reads at most.
+    Closing(u32),
+}
+
+/// A connection from epoch to epoch.
+#[derive(Drop)]
+pub(crate) struct Connection {
+    /// Connections are numbered from 0, in the order in which they were accepted.
+    pub number: usize,
+    /// Whether it is reported to the thread of the daemon once something comes.
+    pub is_watched: bool,
+    socket: ClientSocket,
+    phase: Phase,
+}
+
+/// What came of serving a session once.
 #[derive(Drop)]
 enum Served {
-    /// Nothing came in time.
-    Quiet(Connection),
+    /// Nothing came in time, or the epoch is ending.
+    Quiet(OpenSession),
     /// The journal is full.
-    Sealed(Connection),
+    Sealed(OpenSession),
+    /// The session has ended, and what was answered last is to be read before the connection is closed.
+    Closing,
     /// The connection has ended.
     Over,
 }
 
 impl Connection {
-    /// A connection that was accepted. `None` if its stream can't be set up, or if an allocation fails.
-    pub(crate) fn new(alloc: Global, stream: TcpStream) -> Option<Connection> {
-        let session = session_over(alloc, &stream)?;
-        Some(Connection {
-            stream,
-            session,
-            pending: None,
+    /// A connection that was accepted. An error means that its stream can't be set up, or that an allocation failed.
+    pub(crate) fn new<H: Net>(
+        rt: &H,
+        alloc: Global,
+        stream: TcpStream,
+        number: usize,
+        signal: &EndSignal,
+    ) -> io::Result<Connection> {
+        stream.set_nodelay(true)?;
+        stream.set_nonblocking(true)?;
+        let poller = Poller::new(rt, alloc, &stream, Interest::READABLE, signal)?;
+        let taking = Poller::new(rt, alloc, &stream, Interest::WRITABLE, signal)?;
+        let Some(open_session) = new_open_session(alloc) else {
+            return Err(io::Error::from(ErrorKind::OutOfMemory));
+        };
+        Ok(Connection {
+            number,
+            is_watched: false,
+            socket: ClientSocket {
+                stream,
+                poller,
+                taking,
+                backlog: Backlog::new(alloc),
+            },
+            phase: Phase::Serving(open_session),
         })
     }
 
-    /// Serves the connection until it ends, or until the journal is full: then it comes back, to be served in the next epoch.
-    pub(crate) fn serve<J: Naming, H: Wait>(
+    /// Its socket's descriptor.
+    pub(crate) fn descriptor(&self) -> RawFd {
+        self.socket.stream.as_raw_fd()
+    }
+
+    /// Whether there is something to do for it, although nothing more comes.
+    pub(crate) fn is_busy(&self) -> bool {
+        let is_open = match &self.phase {
+            Phase::Serving(open_session) => open_session.pending.is_some(),
+            Phase::Closing(_) => true,
+        };
+        is_open || self.socket.poller.is_ready() || !self.socket.backlog.is_empty()
+    }
+
+    /// Serves the connection until it ends, or until the epoch does: then it comes back, to be served in the next. Where the journal is full the
+    /// epoch ends.
+    pub(crate) fn serve<J: Naming, H: Wait + Clock>(
         self,
         rt: &H,
         shared: &Shared<J>,
         seat: &mut Seat<J>,
+        signal: &EndSignal,
     ) -> Option<Connection> {
-        let mut connection = self;
+        let Connection {
+            number,
+            is_watched,
+            mut socket,
+            mut phase,
+        } = self;
         for _ in rt.forever() {
-            match connection.serve_once(rt, shared, seat) {
-                Served::Quiet(quiet) => {
-                    if quiet.rest(rt, shared) {
-                        return Some(quiet);
+            socket.write_kept(rt, signal).ok()?;
+            if !socket.backlog.is_empty() {
+                break;
+            }
+            match phase {
+                Phase::Serving(open_session) => {
+                    match socket.serve(rt, shared, seat, open_session, signal) {
+                        Served::Quiet(open_session) => {
+                            phase = Phase::Serving(open_session);
+                            if socket.rest(rt, shared, signal).ok()? {
+                                break;
+                            }
+                        }
+                        Served::Sealed(open_session) => {
+                            phase = Phase::Serving(open_session);
+                            signal.raise(rt);
+                            break;
+                        }
+                        Served::Closing => phase = Phase::Closing(DRAIN_READS),
+                        Served::Over => return None,
                     }
-                    connection = quiet;
                 }
-                Served::Sealed(sealed) => return Some(sealed),
-                Served::Over => return None,
+                Phase::Closing(reads) => {
+                    phase = Phase::Closing(socket.drain(reads, signal)?);
+                    break;
+                }
             }
         }
-        unreachable!()
+        Some(Connection {
+            number,
+            is_watched,
+            socket,
+            phase,
+        })
     }
+}
 
-    /// Waits until something comes, or until the journal is full, and returns whether it is. What has come is left to be read.
-    fn rest<J: Naming, H: Wait>(&self, rt: &H, shared: &Shared<J>) -> bool {
-        let mut byte = [0u8; 1];
-        for _ in rt.forever() {
-            if shared.is_full(rt) {
-                return true;
-            }
-            if !is_quiet(&self.stream.peek(&mut byte)) {
-                return false;
-            }
+impl ClientSocket {
+    /// Writes what the client has not taken yet, until it has taken all or the epoch is ending.
+    fn write_kept<'x, H: Clock>(&'x mut self, rt: &'x H, signal: &'x EndSignal) -> io::Result<()> {
+        if self.backlog.is_empty() {
+            return Ok(());
         }
-        unreachable!()
+        let mut sender = Sender::new(rt, &self.stream, &mut self.taking, signal);
+        self.backlog.write_out(&mut sender)
     }
 
-    /// Serves the connection until its session ends, nothing comes in time or the journal is full.
-    fn serve_once<J: Naming, H: Wait>(
-        self,
+    /// Serves a session until it ends, nothing comes in time, the journal is full or the epoch is ending.
+    fn serve<J: Naming, H: Wait + Clock>(
+        &mut self,
         rt: &H,
         shared: &Shared<J>,
         seat: &mut Seat<J>,
+        open_session: OpenSession,
+        signal: &EndSignal,
     ) -> Served {
-        let Connection {
-            stream,
-            session,
-            pending,
-        } = self;
+        let (session, pending) = open_session.into_parts();
         let SessionEnd {
             session,
             sent: _,
             unsent: _,
             cause,
-        } = serve_stream(rt, shared, seat, session, pending, &stream);
+        } = serve_stream(
+            rt,
+            shared,
+            seat,
+            session,
+            pending,
+            &self.stream,
+            &mut self.poller,
+            &mut self.taking,
+            &mut self.backlog,
+            signal,
+        );
         match cause {
-            EndCause::Quiet => Served::Quiet(Connection {
-                stream,
+            EndCause::Quiet => Served::Quiet(OpenSession {
                 session,
                 pending: None,
             }),
-            EndCause::Sealed(request) => Served::Sealed(Connection {
-                stream,
+            EndCause::Sealed(request) => Served::Sealed(OpenSession {
                 session,
                 pending: Some(request),
             }),
-            EndCause::Faulted => {
-                drain(&stream);
-                Served::Over
+            EndCause::Faulted | EndCause::NoMemory => Served::Closing,
+            EndCause::InputEnded | EndCause::ReadFault | EndCause::WriteFault => Served::Over,
+        }
+    }
+
+    /// Waits until something comes, or until the epoch ends, which it does where the journal is full. Whether it ends.
+    fn rest<J: Naming, H: Wait + Clock>(
+        &mut self,
+        rt: &H,
+        shared: &Shared<J>,
+        signal: &EndSignal,
+    ) -> io::Result<bool> {
+        for _ in rt.forever() {
+            if shared.is_full(rt) {
+                signal.raise(rt);
             }
-            _ => Served::Over,
+            if signal.is_over() {
+                return Ok(true);
+            }
+            if self.poller.is_ready() {
+                return Ok(false);
+            }
+            self.poller.wait()?;
+        }
+        unreachable!()
+    }
+
+    /// Takes what a client still sends, after its connection was answered for the last time, until nothing comes in time or the epoch is ending: what
+    /// is left unread when a connection is closed can make the system take back what was sent last. How many reads are still to be made; `None` if
+    /// the connection can be closed.
+    fn drain(&mut self, reads: u32, signal: &EndSignal) -> Option<u32> {
+        let _shut = self.stream.shutdown(Shutdown::Write);
+        for left in (0..reads).rev() {
+            if signal.is_over() {
+                return Some(left);
+            }
+            if !self.poller.is_ready() && !self.poller.wait().ok()? {
+                return None;
+            }
+            if !self.goes_on(signal) {
+                return None;
+            }
+        }
+        None
+    }
+
+    /// Reads once, and drops what came. Whether more may come.
+    fn goes_on<'x>(&'x mut self, signal: &'x EndSignal) -> bool {
+        let mut buffer = [0u8; 1024];
+        let ClientSocket { stream, poller, .. } = self;
+        match Incoming::new(stream, poller, signal).read(&mut buffer) {
+            Ok(count) => count > 0,
+            Err(error) => error.kind() == ErrorKind::WouldBlock,
         }
     }
 }
 
-/// A session for a stream, which is set up for it. `None` if it can't be set up, or if an allocation fails.
-fn session_over(alloc: Global, stream: &TcpStream) -> Option<Session>
-    ensures { IfSome result (λ session. session ≡ new_session) }
-{
-    stream.set_nodelay(true).ok()?;
-    let reads = Duration::from_millis(READ_WAITS);
-    stream.set_read_timeout(Some(reads)).ok()?;
-    let writes = Duration::from_secs(WRITE_WAITS);
-    stream.set_write_timeout(Some(writes)).ok()?;
-    Session::open(alloc).ok()
-}
-
 /// Serves a session over a stream, as `serve_session` does.
-fn serve_stream<J: Naming, H: Wait>(
-    rt: &H,
+fn serve_stream<'x, J: Naming, H: Wait + Clock>(
+    rt: &'x H,
     shared: &Shared<J>,
     seat: &mut Seat<J>,
     session: Session,
     pending: Option<Request<2>>,
-    stream: &TcpStream,
+    stream: &'x TcpStream,
+    poller: &'x mut Poller,
+    taking: &'x mut Poller,
+    backlog: &'x mut Backlog,
+    signal: &'x EndSignal,
 ) -> SessionEnd
     requires goes_on { session.ended ≡ None }
     requires pending { pending ≡ pending_request session.open_request }
     ensures { IsServed J.limit session result.session seat.old seat.new result.cause }
 {
-    let mut reader = Counted::new(Uninterrupted::new(stream));
-    let mut writer = Counted::new(Uninterrupted::new(stream));
+    let mut reader = Counted::new(Incoming::new(stream, poller, signal));
+    let mut writer = Counted::new(Outgoing::new(rt, stream, taking, backlog, signal));
     serve_session(rt, shared, seat, session, pending, &mut reader, &mut writer)
 }
 
-/// Whether a look at what has come found nothing in time, or was interrupted.
-fn is_quiet(look: &io::Result<usize>) -> bool {
-    match look {
-        Ok(_) => false,
-        Err(error) => matches!(
-            error.kind(),
-            ErrorKind::WouldBlock | ErrorKind::TimedOut | ErrorKind::Interrupted
-        ),
-    }
+/// A session of which nothing was read. `None` if an allocation fails.
+fn new_open_session(alloc: Global) -> Option<OpenSession> {
+    let session = new_session_in(alloc)?;
+    Some(OpenSession {
+        session,
+        pending: None,
+    })
 }
 
-/// Takes what a client still sends, after its connection was answered for the last time, until nothing comes in time: what is left unread
-/// when a connection is closed can make the system take back what was sent last.
-fn drain(stream: &TcpStream) {
-    if stream.shutdown(Shutdown::Write).is_err() {
-        return;
-    }
-    let mut reader = stream;
-    let mut buffer = [0u8; 1024];
-    for _ in 0..DRAIN_READS {
-        match reader.read(&mut buffer) {
-            Ok(0) | Err(_) => return,
-            Ok(_) => {}
-        }
-    }
+/// A session to which nothing was fed. `None` if an allocation fails.
+fn new_session_in(alloc: Global) -> Option<Session>
+    ensures { IfSome result (λ session. session ≡ new_session) }
+{
+    Session::open(alloc).ok()
 }

@@ -1,14 +1,17 @@
 //! The daemon: connections that are served and workers that schedule, each in a thread of its own, over one cluster.
 #![tactic(auto)]
 
+mod acceptor;
 mod connection;
-mod door;
 mod epoch;
-mod job;
-mod rest;
-mod scheduling;
+mod participants;
+mod poller;
 mod serving;
-mod site;
+mod signal;
+mod state;
+mod streams;
+mod task;
+mod threads;
 mod uninterrupted;
 
 pub use serving::{Sizes, serve_on};

@@ -1,18 +1,22 @@
 //! The daemon's run: its epochs, and what it prints.
-ghost use Rattle.std.specs.Prelude.{◌≡◌, ◌<◌, ◌≤◌, Err, IfSome, IfErr, OnOk};
+ghost use Rattle.std.specs.Prelude.{◌≡◌, ◌<◌, ◌↔◌, Err, IfOk, IfErr, OnOk, IsTrue};
 ghost use Rattle.cap_session.specs.Counted.{state_of, CanCount};
+ghost use Rattle.cap_server.specs.Bounds.{IsAllowed};
+ghost use Rattle.cap_server.specs.Epochs.{LeadsThrough, one_more};
 
-use crate::epoch::{Past, epoch};
-use crate::job::Job;
-use crate::site::Site;
+use crate::acceptor::Acceptor;
+use crate::epoch::{Carried, epoch};
+use crate::participants::Participants;
+use crate::signal::EndSignal;
+use crate::state::SharedState;
 use cap_commit::Cluster;
 use cap_config::Config;
 use cap_model::NoMemory;
 use cap_session::{Counted, write_out};
 use cap_workers::{Gate, Worker};
-use std::alloc::{AllocError, Global};
-use std::io::Write;
-use std::net::TcpListener;
+use std::alloc::Global;
+use std::io::{self, ErrorKind, Write};
+use std::net::{Net, TcpListener};
 use std::sync::Wait;
 use std::thread::Threads;
 use std::time::Clock;
@@ -29,24 +33,51 @@ pub struct Sizes {
     pub connections: u32,
     /// How many entries an epoch's journal has at most: 1 to 1,000,000.
     pub journal: usize,
-    /// How many proposals wait for the committer at most: 1 to 1,024, of which 1 to 6
-    /// count as 7. `None` if each worker commits what it proposes.
+    /// How many proposals wait for the committer at most: 8 to 1,024. `None` if each worker
+    /// commits what it proposes.
     pub lanes: Option<usize>,
 }
 
-/// How many epochs there were, and how many entries their journals had together.
+impl Sizes {
+    /// Whether a daemon can be so large.
+    pub fn is_allowed(&self) -> bool
+        ensures { IsTrue result ↔ IsAllowed self.now }
+    {
+        let places = self.lanes.unwrap_or(8);
+        (1..=8).contains(&self.workers)
+            && (1..=128).contains(&self.connections)
+            && (1..=1_000_000).contains(&self.journal)
+            && (8..=1024).contains(&places)
+    }
+}
+
+/// How many epochs there were, and how many entries their journals had together. Both stop at `u64::MAX`.
 #[derive(Clone, Copy)]
 struct Totals {
     epochs: u64,
     entries: u64,
 }
 
+impl Totals {
+    /// With one more epoch, whose journal has so many entries.
+    fn with_epoch(self, entries: usize) -> Totals
+        ensures { result ≡ one_more self entries }
+    {
+        Totals {
+            epochs: self.epochs.saturating_add(1),
+            entries: self.entries.saturating_add(entries as u64),
+        }
+    }
+}
+
 /// Serves connections that the listener accepts, exactly as many as `sizes` says, each in a thread of its own, over one cluster with the
 /// queues of the settings, on which workers schedule, until all connections have ended. Prints `listening` with the port first, and at
 /// the end `closed` with the number of epochs and the sum of their journals' lengths. A connection that fails ends alone; the others go
-/// on. The result is the exit status: 0 done; 1 if the writer failed or a connection could not be accepted, after which those that were
-/// accepted are still served; 3 if an allocation of the daemon's own failed, after it has printed `no memory`.
-pub fn serve_on<H: Threads + Wait + Clock + Sync, G: Gate + Sync, W: Write>(
+/// on. The result is the exit status: 0 done; 1 if the writer failed, the system has no descriptor for the daemon or a connection could not be
+/// accepted, after which those that were accepted are still served; 3 if an allocation of the daemon's own failed or a thread could not be made,
+/// after it has printed `no memory`. Standard error is told why a connection could not be accepted or set up, and at the end how many changes of
+/// epochs there were and how long they took at most.
+pub fn serve_on<H: Net + Threads + Wait + Clock + Eprint + Sync, G: Gate + Sync, W: Write>(
     rt: &H,
     alloc: Global,
     listener: &TcpListener,
@@ -55,19 +86,41 @@ pub fn serve_on<H: Threads + Wait + Clock + Sync, G: Gate + Sync, W: Write>(
     gate: &G,
     writer: &mut Counted<W>,
 ) -> u8
-    requires journal { (1 ≤ sizes.now.journal) × (sizes.now.journal ≤ 1000000) }
-    requires lanes { IfSome sizes.now.lanes (λ n. (0 < n) × (n ≤ 1024)) }
+    requires sizes { IsAllowed sizes.now }
     requires writer { CanCount (state_of writer.old) }
     ensures status { result < 4 }
     ensures failed { (state_of writer.old).failures < (state_of writer.new).failures → result ≡ 1 }
 {
-    let Ok(past) = begin(alloc, config, sizes) else {
+    let signal = match EndSignal::new(rt) {
+        Ok(signal) => signal,
+        Err(error) => return without_descriptor(rt, error, writer),
+    };
+    let connections = sizes.connections;
+    let acceptor = match Acceptor::new(rt, alloc, listener, connections, &signal) {
+        Ok(acceptor) => acceptor,
+        Err(error) => return without_descriptor(rt, error, writer),
+    };
+    let Ok(carried) = begin(alloc, config, sizes, acceptor) else {
         return no_memory(writer);
     };
+    let state = SharedState::new(gate, sizes, signal);
     match announce(alloc, listener, writer) {
-        Ok(()) => serve_all(rt, alloc, &Site::new(listener, gate, sizes), past, writer),
+        Ok(()) => serve_all(rt, alloc, &state, carried, writer),
         Err(status) => status,
     }
+}
+
+/// The system has no descriptor for the daemon, or no memory. The result is the exit status.
+fn without_descriptor<H: Eprint, W: Write>(rt: &H, error: io::Error, writer: &mut Counted<W>) -> u8
+    requires { CanCount (state_of writer.old) }
+    ensures status { result < 4 }
+    ensures failed { (state_of writer.old).failures < (state_of writer.new).failures → result ≡ 1 }
+{
+    if error.kind() == ErrorKind::OutOfMemory {
+        return no_memory(writer);
+    }
+    let _told = eprintln!(rt; "listener: {error}");
+    1
 }
 
 /// Prints the port of the listener. The error is the exit status.
@@ -97,27 +150,36 @@ fn announce<W: Write>(
 }
 
 /// Serves until all connections have ended, and prints how many epochs and entries there were. The result is the exit status.
-fn serve_all<H: Threads + Wait + Clock + Sync, G: Gate + Sync, W: Write>(
+fn serve_all<H: Net + Threads + Wait + Clock + Eprint + Sync, G: Gate + Sync, W: Write>(
     rt: &H,
     alloc: Global,
-    site: &Site<'_, G>,
-    past: Past,
+    state: &SharedState<'_, G>,
+    carried: Carried<'_>,
     writer: &mut Counted<W>,
 ) -> u8
     requires { CanCount (state_of writer.old) }
     ensures status { result < 4 }
     ensures failed { (state_of writer.old).failures < (state_of writer.new).failures → result ≡ 1 }
 {
-    let Ok(Totals { epochs, entries }) = run_epochs(rt, alloc, site, past) else {
+    let Ok((totals, carried)) = run_epochs(rt, alloc, state, carried) else {
         return no_memory(writer);
     };
+    let has_failed = carried.participants.acceptor.has_failed();
+    tell_changes(rt, state);
+    let Totals { epochs, entries } = totals;
     let Ok(closed) = format!(in alloc; "closed epochs={epochs} entries={entries}\n") else {
         return no_memory(writer);
     };
-    if write_out(writer, closed.as_bytes()).is_err() || site.has_failed(rt) {
+    if write_out(writer, closed.as_bytes()).is_err() || has_failed {
         return 1;
     }
     0
+}
+
+/// Tells standard error how many changes of epochs there were, and how long they took at most.
+fn tell_changes<H: Eprint, G>(rt: &H, state: &SharedState<'_, G>) {
+    let (count, longest) = state.changes();
+    let _told = eprintln!(rt; "epochs: {count} changes, at most {longest} microseconds");
 }
 
 /// Prints that an allocation failed. The result is the exit status: 3, or 1 if the writer failed.
@@ -143,44 +205,35 @@ fn port_of(listener: &TcpListener) -> Option<u16> {
     }
 }
 
-/// The cluster of the settings, and the jobs of all threads. An error means that an allocation failed.
-fn begin(alloc: Global, config: &Config<2>, sizes: &Sizes) -> Result<Past, NoMemory> {
-    let jobs = jobs_of(alloc, sizes)?;
-    Ok(Past {
+/// The cluster of the settings, and the workers. An error means that an allocation failed.
+fn begin<'a>(
+    alloc: Global,
+    config: &Config<2>,
+    sizes: &Sizes,
+    acceptor: Acceptor<'a>,
+) -> Result<Carried<'a>, NoMemory> {
+    let workers = workers_of(alloc, sizes.workers)?;
+    Ok(Carried {
         cluster: Cluster::from_config(alloc, config)?,
-        jobs,
+        participants: Participants {
+            acceptor,
+            connections: Vec::new(alloc),
+            workers,
+            records: None,
+        },
         entries: 0,
     })
 }
 
-/// The jobs of all threads. An error means that an allocation failed.
-fn jobs_of(alloc: Global, sizes: &Sizes) -> Result<Vec<Job>, NoMemory> {
-    let mut jobs = Vec::new(alloc);
-    match add_jobs(&mut jobs, sizes) {
-        Ok(()) => Ok(jobs),
-        Err(_) => Err(NoMemory),
-    }
-}
-
-/// Adds the jobs of all threads.
-fn add_jobs(jobs: &mut Vec<Job>, sizes: &Sizes) -> Result<(), AllocError> {
-    for _ in 0..sizes.connections {
-        jobs.push(Job::Awaiting)?;
-    }
-    add_workers(jobs, sizes.workers)?;
-    if sizes.lanes.is_some() {
-        jobs.push(Job::Committing)?;
-    }
-    jobs.push(Job::Clearing(None))?;
-    Ok(())
-}
-
-/// Adds the jobs of so many workers.
-fn add_workers(jobs: &mut Vec<Job>, count: u32) -> Result<(), AllocError> {
+/// So many workers, numbered from 0. An error means that an allocation failed.
+fn workers_of(alloc: Global, count: u32) -> Result<Vec<Worker>, NoMemory> {
+    let mut workers = Vec::new(alloc);
     for number in 0..count {
-        jobs.push(Job::Scheduling(Worker::new(number)))?;
+        let Ok(()) = workers.push(Worker::new(number)) else {
+            return Err(NoMemory);
+        };
     }
-    Ok(())
+    Ok(workers)
 }
 
 /// Lets the memory that an epoch frees be kept for the next. glibc's malloc takes a block above a threshold anew from the system, and gives
@@ -190,26 +243,29 @@ fn keep_memory(alloc: Global) {
     drop(Vec::<u8>::with_capacity(alloc, KEPT));
 }
 
-/// One epoch after the other, each over the cluster that the last one closed, until all connections have ended. An error means that an
-/// allocation failed.
-fn run_epochs<H: Threads + Wait + Clock + Sync, G: Gate + Sync>(
+/// One epoch after the other, each over the cluster that the last one closed, until all connections have ended: how many there were, and what the
+/// last one left. The events of all journals, one after the other, lead from the first cluster to the last one. An error means that an
+/// allocation failed, or that a thread could not be made.
+fn run_epochs<'a, H: Net + Threads + Wait + Clock + Eprint + Sync, G: Gate + Sync>(
     rt: &H,
     alloc: Global,
-    site: &Site<'_, G>,
-    past: Past,
-) -> Result<Totals, NoMemory> {
+    state: &SharedState<'_, G>,
+    carried: Carried<'a>,
+) -> Result<(Totals, Carried<'a>), NoMemory>
+    ensures { IfOk result (λ run.
+        LeadsThrough state.now.limit carried.entry.cluster.flat run.0 run.1.cluster.flat) }
+{
     keep_memory(alloc);
-    let mut past = past;
+    let mut carried = carried;
     let mut totals = Totals {
         epochs: 0,
         entries: 0,
     };
     for _ in rt.forever() {
-        past = epoch(rt, alloc, past, site)?;
-        totals.epochs = totals.epochs.saturating_add(1);
-        totals.entries = totals.entries.saturating_add(past.entries as u64);
-        if !past.is_open() {
-            return Ok(totals);
+        carried = epoch(rt, alloc, carried, state)?;
+        totals = totals.with_epoch(carried.entries);
+        if state.is_over() {
+            return Ok((totals, carried));
         }
     }
     unreachable!()

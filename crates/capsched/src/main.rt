@@ -1,7 +1,7 @@
 //! The program: words in, exit status out.
 #![tactic(auto)]
 
-use cap_command::{Counted, run};
+use cap_daemon::{Counted, run};
 use std::process::ExitCode;
 use std::{env, io};
 

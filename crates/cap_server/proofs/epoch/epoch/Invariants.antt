@@ -1,4 +1,4 @@
 use Rattle.cap_server.proofs.epoch.epoch.Given as goal
 
 abbrev pub ghosts-named_epoch : goal.ghosts-named_epoch
-ghosts-named_epoch g a = record { table = a.blank.0; opening = a.cluster.flat; limit = a.site.now.limit; seats = a.blank.1 }
+ghosts-named_epoch g a = record { table = a.blank.0; opening = a.cluster.flat; limit = a.state.now.limit; seats = a.blank.1 }

@@ -1,0 +1,254 @@
+//! The command `serve`: its words, its settings file and its port.
+ghost use Rattle.std.specs.Prelude.{◌≡◌, ◌<◌, Err, IfSome, IfErr, OnOk};
+ghost use Rattle.cap_server.specs.Bounds.{IsAllowed};
+ghost use Rattle.cap_session.specs.Counted.{state_of, CanCount};
+
+use crate::texts::{complain, print};
+use cap_config::{Config, ConfigFault, ConfigFaultKind, read_config};
+use cap_server::{Sizes, serve_on};
+use cap_session::Counted;
+use cap_workers::Tally;
+use clap::builder::ValueParser;
+use clap::{Arg, ArgAction, ArgMatches, Command};
+use std::alloc::{AllocError, Global};
+use std::fs;
+use std::io::{self, ErrorKind, Write};
+use std::net::{Net, TcpListener, TcpStream};
+use std::rt::Files;
+use std::sync::Wait;
+use std::thread::Threads;
+use std::time::Clock;
+
+/// How many entries an epoch's journal has, if no other number is given.
+const JOURNAL: &str = "4096";
+
+/// How many proposals wait for the committer, if no other number is given.
+const LANES: &str = "64";
+
+/// What is said of lanes that can't hold the end of each worker.
+const FEW_LANES: &str = "error: --lanes is 0, or a number from 8 to 1024\n";
+
+/// What the words of `serve` say.
+#[derive(Drop)]
+struct Words<'a> {
+    port: u16,
+    config: &'a str,
+    sizes: Sizes,
+}
+
+/// The command and its words.
+pub(crate) fn serve_command<'a>(alloc: Global) -> Result<Command<'a>, AllocError> {
+    Command::new(alloc, "serve")
+        .about("Serves connections on a port of 127.0.0.1, and schedules, until all have ended")
+        .arg(number(alloc, "port", 1, 65535, "The port").required(true))?
+        .arg(number(alloc, "workers", 1, 8, "How many threads schedule").required(true))?
+        .arg(text(alloc, "config", "The file of property lines").required(true))?
+        .arg(number(
+            alloc,
+            "connections",
+            1,
+            128,
+            "How many connections are accepted",
+        )
+        .required(true))?
+        .arg(number(
+            alloc,
+            "journal",
+            1,
+            1_000_000,
+            "How many calls, grants and reservations an epoch has",
+        )
+        .default_value(JOURNAL))?
+        .arg(number(
+            alloc,
+            "lanes",
+            0,
+            1024,
+            "How many proposals wait for the committer, at least 8; 0: each worker commits its own",
+        )
+        .default_value(LANES))
+}
+
+/// A word that is a number within bounds.
+fn number<'a>(alloc: Global, name: &'a str, least: u64, most: u64, help: &'a str) -> Arg<'a> {
+    text(alloc, name, help).value_parser(ValueParser::Unsigned(least, most))
+}
+
+/// A word of any text.
+fn text<'a>(alloc: Global, name: &'a str, help: &'a str) -> Arg<'a> {
+    Arg::new(alloc, name)
+        .long(name)
+        .action(ArgAction::Set)
+        .help(help)
+}
+
+/// What the words say. `None` if one is missing or is no number within its bounds.
+fn read_words<'a>(matches: &ArgMatches<'a>) -> Option<Words<'a>>
+    ensures { IfSome result (λ words. IsAllowed words.sizes) }
+{
+    let lanes: usize = matches.get_one("lanes")?;
+    let words = Words {
+        port: matches.get_one("port")?,
+        config: matches.get_str("config")?,
+        sizes: Sizes {
+            workers: matches.get_one("workers")?,
+            connections: matches.get_one("connections")?,
+            journal: matches.get_one("journal")?,
+            lanes: if lanes == 0 { None } else { Some(lanes) },
+        },
+    };
+    if !words.sizes.is_allowed() {
+        return None;
+    }
+    Some(words)
+}
+
+/// Serves connections on a port of 127.0.0.1, over a cluster with the queues of a settings file. The result is the exit status: 0 done; 1
+/// if the writer, the settings file or the listener failed; 2 for bad words, or a fault of the settings, which is printed; 3 if an allocation failed or
+/// a thread could not be made, which is printed as `no memory`.
+/// What was wrong is left in words in `complaint`, except of the writer, and how many proposals were made and rejected.
+pub(crate) fn serve<
+    H: Net<Listener = TcpListener, Stream = TcpStream>
+        + Threads
+        + Wait
+        + Clock
+        + Eprint
+        + Files
+        + AllocGlobal
+        + Sync,
+    W: Write,
+>(rt: &H, matches: &ArgMatches<'_>, writer: &mut Counted<W>, complaint: &mut String) -> u8
+    requires writer { CanCount (state_of writer.old) }
+    ensures status { result < 4 }
+    ensures failed { (state_of writer.old).failures < (state_of writer.new).failures → result ≡ 1 }
+{
+    let Some(words) = read_words(matches) else {
+        return match complaint.push_str(FEW_LANES) {
+            Ok(()) => 2,
+            Err(_) => no_memory(writer),
+        };
+    };
+    match read_settings(rt, words.config, writer, complaint) {
+        Ok(config) => serve_settings(rt, &words, &config, writer, complaint),
+        Err(status) => status,
+    }
+}
+
+/// The settings of a file. The error is the exit status.
+fn read_settings<H: Files + AllocGlobal, W: Write>(
+    rt: &H,
+    path: &str,
+    writer: &mut Counted<W>,
+    complaint: &mut String,
+) -> Result<Config<2>, u8>
+    requires writer { CanCount (state_of writer.old) }
+    ensures status { IfErr result (λ status. status < 4) }
+    ensures failed { (state_of writer.old).failures < (state_of writer.new).failures
+        → result ≡ Err 1 }
+    ensures same { OnOk result (state_of writer.new ≡ state_of writer.old) }
+{
+    let alloc = rt.alloc();
+    let text = match fs::read(rt, path) {
+        Ok(text) => text,
+        Err(error) if error.kind() == ErrorKind::OutOfMemory => return Err(no_memory(writer)),
+        Err(error) => return Err(refuse(alloc, "settings file", Some(error), complaint)),
+    };
+    match read_config(alloc, &text) {
+        Ok(config) => Ok(config),
+        Err(fault) => Err(refuse_settings(alloc, &text, &fault, writer, complaint)),
+    }
+}
+
+/// Serves connections over a cluster with the queues of these settings. The result is the exit status.
+fn serve_settings<
+    H: Net<Listener = TcpListener, Stream = TcpStream>
+        + Threads
+        + Wait
+        + Clock
+        + Eprint
+        + AllocGlobal
+        + Sync,
+    W: Write,
+>(
+    rt: &H,
+    words: &Words<'_>,
+    config: &Config<2>,
+    writer: &mut Counted<W>,
+    complaint: &mut String,
+) -> u8
+    requires sizes { IsAllowed words.now.sizes }
+    requires writer { CanCount (state_of writer.old) }
+    ensures status { result < 4 }
+    ensures failed { (state_of writer.old).failures < (state_of writer.new).failures → result ≡ 1 }
+{
+    let alloc = rt.alloc();
+    let listener = match TcpListener::bind(rt, ("127.0.0.1", words.port)) {
+        Ok(listener) => listener,
+        Err(error) => return refuse(alloc, "listener", Some(error), complaint),
+    };
+    let tally = Tally::new();
+    let status = serve_on(rt, alloc, &listener, &words.sizes, config, &tally, writer);
+    report(alloc, &tally, complaint);
+    if status == 1 && writer.failures() == 0 {
+        return refuse(alloc, "listener", None, complaint);
+    }
+    status
+}
+
+/// Prints that an allocation failed. The result is the exit status: 3, or 1 if the writer failed.
+fn no_memory<W: Write>(writer: &mut Counted<W>) -> u8
+    requires { CanCount (state_of writer.old) }
+    ensures status { result < 4 }
+    ensures failed { (state_of writer.old).failures < (state_of writer.new).failures → result ≡ 1 }
+{
+    match print(writer, b"no memory\n") {
+        0 => 3,
+        failed => failed,
+    }
+}
+
+/// Leaves in `complaint` how many proposals were made and rejected.
+fn report(alloc: Global, tally: &Tally, complaint: &mut String) {
+    let (made, rejected) = (tally.made(), tally.rejected());
+    if let Ok(line) = format!(in alloc; "proposals: {made} made, {rejected} rejected\n") {
+        let _kept = complaint.push_str(line.as_str());
+    }
+}
+
+/// Leaves in `complaint` what failed, with the system's error. The result is the exit status 1.
+fn refuse(alloc: Global, what: &str, error: Option<io::Error>, complaint: &mut String) -> u8
+    ensures { result ≡ 1 }
+{
+    let line = match error {
+        Some(error) => format!(in alloc; "{what}: {error}\n"),
+        None => format!(in alloc; "{what}: a connection could not be accepted\n"),
+    };
+    if let Ok(line) = line {
+        let _kept = complaint.push_str(line.as_str());
+    }
+    1
+}
+
+/// Prints a fault of the settings, and leaves its words in `complaint`. The result is the exit status.
+fn refuse_settings<W: Write>(
+    alloc: Global,
+    text: &[u8],
+    fault: &ConfigFault,
+    writer: &mut Counted<W>,
+    complaint: &mut String,
+) -> u8
+    requires writer { CanCount (state_of writer.old) }
+    ensures status { result < 4 }
+    ensures failed { (state_of writer.old).failures < (state_of writer.new).failures → result ≡ 1 }
+{
+    if fault.kind == ConfigFaultKind::NoMemory {
+        return no_memory(writer);
+    }
+    let Ok(line) = format!(in alloc; "config {} {}\n", fault.line, fault.kind as u8) else {
+        return no_memory(writer);
+    };
+    match print(writer, line.as_bytes()) {
+        0 => complain(alloc, text, fault, complaint),
+        failed => failed,
+    }
+}

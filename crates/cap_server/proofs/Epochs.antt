@@ -1,0 +1,42 @@
+-- Epochs one after the other.
+use Rattle.std.proofs.Common.{◌≡◌, ℕ, ◌+◌, ◌≤◌, List, [], ◌∷◌, ◌++◌, length, length-append, map, min, refl, sym, subst, arith}
+use Rattle.std.specs.List.{flat_map}
+use Rattle.std.proofs.lemmas.List.{flat_map_more}
+use Rattle.std.proofs.lemmas.List.Elements.{All-nil, All-push}
+use Rattle.cap_model.specs.Flat.{Flat}
+use Rattle.cap_model.specs.Events.{Step}
+use Rattle.cap_shared.specs.declared.entry.Entry.{Entry}
+use Rattle.cap_shared.specs.Journal.{Replays}
+use Rattle.cap_server.specs.declared.serving.Totals.{Totals}
+use Rattle.cap_server.specs.Epochs.{LeadsTo, LeadsThrough, count_max, one_more, totals_of}
+
+Replays-append : (es fs : List Entry) (a b c : Flat 2) → Replays a es b → Replays b fs c → Replays a (es ++ fs) c
+Replays-append [] fs a b c r s = subst (λ (x : Flat 2). Replays x fs c) (sym r) s
+Replays-append (e ∷ es) fs a b c r s = (r.0, r.1, Replays-append es fs r.0 b c r.2 s)
+
+min_more : (a b m : ℕ) → min (min a m + b) m ≡ min (a + b) m
+min_more a b m = omega arith
+
+totals_more : (journals : List (List Entry)) (journal : List Entry) (totals : Totals) (n : ℕ) → totals ≡ totals_of journals → length journal ≡ n
+    → one_more totals n ≡ totals_of (journals ++ journal ∷ [])
+totals_more journals journal totals n is count =
+    let events : flat_map (λ it. it) journals ++ journal ≡ flat_map (λ it. it) (journals ++ journal ∷ []) = flat_map_more (λ it. it) [] journals journal in
+    let all : length (flat_map (λ it. it) (journals ++ journal ∷ [])) ≡ length (flat_map (λ it. it) journals) + n =
+    rw (sym events, length-append (flat_map (λ it. it) journals) journal, count) refl in
+    let epochs : length (journals ++ journal ∷ []) ≡ length journals + 1 = length-append journals (journal ∷ []) in
+    rw (is, all, epochs, min_more (length journals) 1 count_max, min_more (length (flat_map (λ it. it) journals)) n count_max) refl
+
+-- before the first epoch
+pub through_none : (limit : ℕ) (s : Flat 2) → LeadsThrough limit s (record { epochs = 0; entries = 0 }) s
+through_none limit s = record { journals = []; run = refl; counts = refl; within = All-nil (λ it. length it ≤ limit) }
+
+-- one epoch more
+pub through_more : (limit n : ℕ) (s m t : Flat 2) (totals : Totals) → LeadsThrough limit s totals m → LeadsTo limit m n t
+    → LeadsThrough limit s (one_more totals n) t
+through_more limit n s m t totals h k = record {
+  journals = h.journals ++ k.journal ∷ [];
+  run = subst (λ (es : List Entry). Replays s es t) (flat_map_more (λ it. it) [] h.journals k.journal)
+      (Replays-append (flat_map (λ it. it) h.journals) k.journal s m t h.run k.run);
+  counts = totals_more h.journals k.journal totals n h.counts k.count;
+  within = All-push (λ it. length it ≤ limit) h.journals k.journal h.within k.within;
+}

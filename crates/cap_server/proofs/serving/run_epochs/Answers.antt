@@ -1,0 +1,8 @@
+use Rattle.cap_server.proofs.Epochs.{through_more}
+use Rattle.cap_server.proofs.serving.run_epochs.Goals as goal
+
+pub returns-then-is_over : goal.returns-then-is_over
+returns-then-is_over g c = rw c.with_epoch-totals.ensures (through_more _ _ _ _ _ _ c.loop.invariant c.in_ok-carried.ensures)
+
+pub loop-preserved : goal.loop-preserved
+loop-preserved g c = rw c.with_epoch-totals.ensures (through_more _ _ _ _ _ _ c.loop.invariant c.in_ok-carried.ensures)

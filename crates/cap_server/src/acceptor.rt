@@ -1,0 +1,175 @@
+//! Where connections come in, and where those wait to which nothing comes.
+use crate::connection::Connection;
+use crate::signal::EndSignal;
+use mio::unix::SourceFd;
+use mio::{Events, Interest, Poll, Token};
+use std::alloc::Global;
+use std::io::{self, ErrorKind};
+use std::net::{Net, TcpListener, TcpStream};
+use std::os::fd::AsRawFd;
+use std::time::{Clock, Duration, Instant};
+
+/// How long it is tried again to accept a connection while the system has no descriptor or no memory for it, in seconds.
+const TRIES_AGAIN: u64 = 5;
+
+/// The errors of a system that has no descriptor or no memory for a connection now: ENOMEM, ENFILE, EMFILE and ENOBUFS (accept(2)).
+const WANTS: [i32; 4] = [12, 23, 24, 105];
+
+/// How many events are looked at after one wait.
+const EVENTS: usize = 64;
+
+const LISTENER: Token = Token(0);
+
+const END: Token = Token(1);
+
+/// The tokens of connections are their numbers, from this one on.
+const FIRST: usize = 2;
+
+/// Accepts connections, and waits for those to which nothing comes.
+#[derive(Drop)]
+pub(crate) struct Acceptor<'a> {
+    listener: &'a TcpListener,
+    poll: Poll,
+    events: Events,
+    /// How many of the events of the last wait were looked at.
+    seen: usize,
+    /// How many connections were accepted, and how many are still to be.
+    accepted: usize,
+    left: u32,
+    /// Since when the system has refused to accept one.
+    since: Option<Instant>,
+    has_failed: bool,
+}
+
+/// What came of one look at the listener.
+#[derive(Drop)]
+pub(crate) enum Accept {
+    /// A connection, and its number.
+    Accepted(TcpStream, usize),
+    /// None waits, or none can be accepted now.
+    Nobody,
+    /// One was given up before it was accepted.
+    GivenUp,
+    /// The system has no descriptor or no memory for one. It is tried again.
+    Refused(io::Error),
+    /// None can be accepted any more, and so many were still to come.
+    Failed(io::Error, u32),
+}
+
+impl<'a> Acceptor<'a> {
+    /// Before so many connections. An error means that the system refuses, or that an allocation failed.
+    pub(crate) fn new<H: Net>(
+        rt: &H,
+        alloc: Global,
+        listener: &'a TcpListener,
+        connections: u32,
+        signal: &EndSignal,
+    ) -> io::Result<Acceptor<'a>> {
+        let poll = Poll::new(rt)?;
+        let Ok(events) = Events::with_capacity(alloc, EVENTS) else {
+            return Err(io::Error::from(ErrorKind::OutOfMemory));
+        };
+        let descriptor = listener.as_raw_fd();
+        poll.registry()
+            .register(&mut SourceFd(&descriptor), LISTENER, Interest::READABLE)?;
+        signal.register(poll.registry(), END)?;
+        Ok(Acceptor {
+            listener,
+            poll,
+            events,
+            seen: 0,
+            accepted: 0,
+            left: connections,
+            since: None,
+            has_failed: false,
+        })
+    }
+
+    /// Whether a connection could not be accepted, and none is any more.
+    pub(crate) fn has_failed(&self) -> bool {
+        self.has_failed
+    }
+
+    /// Accepts a connection, if one waits and is still to come. Where the system has no descriptor or no memory for it that is said once, and it is
+    /// tried again for 5 seconds.
+    pub(crate) fn accept<H: Clock>(&mut self, rt: &H) -> Accept {
+        if self.left == 0 {
+            return Accept::Nobody;
+        }
+        match self.listener.accept() {
+            Ok((stream, _)) => {
+                let number = self.accepted;
+                self.accepted = number.saturating_add(1);
+                self.left -= 1;
+                self.since = None;
+                Accept::Accepted(stream, number)
+            }
+            Err(error) => match error.kind() {
+                ErrorKind::WouldBlock => Accept::Nobody,
+                ErrorKind::Interrupted | ErrorKind::ConnectionAborted => Accept::GivenUp,
+                _ => self.refuse(rt, error),
+            },
+        }
+    }
+
+    /// What becomes of a connection that the system refuses to accept.
+    fn refuse<H: Clock>(&mut self, rt: &H, error: io::Error) -> Accept {
+        let may_pass = error
+            .raw_os_error()
+            .is_some_and(|code| WANTS.contains(&code));
+        if let (true, Ok(now)) = (may_pass, Instant::now(rt)) {
+            let Some(since) = self.since else {
+                self.since = Some(now);
+                return Accept::Refused(error);
+            };
+            if now.duration_since(since) < Duration::from_secs(TRIES_AGAIN) {
+                return Accept::Nobody;
+            }
+        }
+        let left = self.left;
+        self.left = 0;
+        self.has_failed = true;
+        Accept::Failed(error, left)
+    }
+
+    /// Has the connection reported once something comes, and says whether it will be: the system may refuse.
+    pub(crate) fn watch(&self, connection: &mut Connection) -> bool {
+        if !connection.is_watched {
+            let token = Token(connection.number.saturating_add(FIRST));
+            let descriptor = connection.descriptor();
+            let answer = self
+                .poll
+                .registry()
+                .register(&mut SourceFd(&descriptor), token, Interest::READABLE);
+            connection.is_watched = answer.is_ok();
+        }
+        connection.is_watched
+    }
+
+    /// The connection is not reported any more.
+    pub(crate) fn unwatch(&self, connection: &mut Connection) {
+        if connection.is_watched {
+            let descriptor = connection.descriptor();
+            let _unwatched = self.poll.registry().deregister(&mut SourceFd(&descriptor));
+            connection.is_watched = false;
+        }
+    }
+
+    /// Waits until something comes, the epoch ends, or nothing happened for so many milliseconds.
+    pub(crate) fn wait(&mut self, milliseconds: u64) -> io::Result<()> {
+        self.seen = 0;
+        self.poll.poll(&mut self.events, Some(Duration::from_millis(milliseconds)))
+    }
+
+    /// The number of the next connection to which something came, of those that the last wait reported.
+    pub(crate) fn next_ready(&mut self) -> Option<usize> {
+        for event in self.events.iter().skip(self.seen) {
+            self.seen = self.seen.saturating_add(1);
+            let Token(token) = event.token();
+            if let Some(number) = token.checked_sub(FIRST) {
+                return Some(number);
+            }
+        }
+        None
+    }
+}

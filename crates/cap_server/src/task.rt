@@ -1,0 +1,156 @@
+//! What the threads of an epoch do.
+use crate::connection::Connection;
+use crate::state::SharedState;
+use cap_shared::{Entry, Naming, Seat, SeatReport, Shared};
+use cap_workers::{
+    Committer, Coordinator, Gate, Putter, Worker, commit_all, schedule, schedule_by_lane,
+};
+use std::alloc::Global;
+use std::sync::Wait;
+use std::time::Clock;
+
+/// What is left of a closed epoch beside its cluster.
+pub(crate) struct Records {
+    pub journal: Vec<Entry>,
+    pub seats: Vec<SeatReport>,
+}
+
+impl Drop for Records {
+    fn drop(self) {
+        let Records {
+            journal: _,
+            seats: _,
+        } = self;
+    }
+}
+
+/// What a thread does in an epoch that serves no connection.
+#[derive(Drop)]
+pub(crate) enum Task {
+    /// Schedules, through a lane if it has one.
+    Schedule(Worker, Option<Putter>),
+    /// Commits what workers put into their lanes.
+    Commit(Committer),
+}
+
+/// What a thread leaves for the next epoch.
+#[derive(Drop)]
+pub(crate) enum Remains {
+    Connection(Connection),
+    Worker(Worker),
+    /// The connection has ended, or the next epoch has a committer of its own.
+    Nothing,
+}
+
+/// A task that was done in an epoch, and the seat that it was done with.
+pub(crate) struct Done<J: Naming> {
+    pub remains: Remains,
+    pub seat: Seat<J>,
+}
+
+impl<J: Naming> Drop for Done<J> {
+    fn drop(self) {
+        let Done {
+            remains: _,
+            seat: _,
+        } = self;
+    }
+}
+
+impl<J: Naming> Done<J> {
+    /// What remains, and the seat.
+    pub(crate) fn into_parts(self) -> (Remains, Seat<J>) {
+        let Done { remains, seat } = self;
+        (remains, seat)
+    }
+}
+
+impl Task {
+    /// Does the task in an epoch. It ends once the epoch does; the committer's once the workers have ended.
+    pub(crate) fn work<J: Naming, H: Wait + Clock, G: Gate>(
+        self,
+        rt: &H,
+        alloc: Global,
+        shared: &Shared<J>,
+        state: &SharedState<'_, G>,
+        coordinator: &Coordinator,
+        mut seat: Seat<J>,
+    ) -> Done<J> {
+        let remains = match self {
+            Task::Schedule(worker, putter) => {
+                propose(
+                    rt,
+                    alloc,
+                    shared,
+                    &mut seat,
+                    state,
+                    coordinator,
+                    worker,
+                    putter,
+                )
+            }
+            Task::Commit(committer) => {
+                commit_all(rt, shared, &mut seat, coordinator, state.gate, committer);
+                Remains::Nothing
+            }
+        };
+        Done { remains, seat }
+    }
+}
+
+/// Serves a connection in an epoch, until it ends or the epoch does.
+pub(crate) fn serve<J: Naming, H: Wait + Clock, G>(
+    rt: &H,
+    shared: &Shared<J>,
+    state: &SharedState<'_, G>,
+    connection: Connection,
+    mut seat: Seat<J>,
+) -> Done<J> {
+    let remains = match connection.serve(rt, shared, &mut seat, &state.signal) {
+        Some(connection) => Remains::Connection(connection),
+        None => {
+            state.end_connections(rt, 1);
+            Remains::Nothing
+        }
+    };
+    Done { remains, seat }
+}
+
+/// Schedules until the journal is full or the epoch ends; where the journal is full the epoch ends.
+fn propose<J: Naming, H: Wait + Clock, G: Gate>(
+    rt: &H,
+    alloc: Global,
+    shared: &Shared<J>,
+    seat: &mut Seat<J>,
+    state: &SharedState<'_, G>,
+    coordinator: &Coordinator,
+    mut worker: Worker,
+    putter: Option<Putter>,
+) -> Remains {
+    let (signal, gate) = (&state.signal, state.gate);
+    match putter {
+        Some(putter) => schedule_by_lane(
+            rt,
+            alloc,
+            shared,
+            seat,
+            coordinator,
+            signal,
+            gate,
+            &mut worker,
+            putter,
+        ),
+        None => schedule(
+            rt,
+            alloc,
+            shared,
+            seat,
+            coordinator,
+            signal,
+            gate,
+            &mut worker,
+        ),
+    }
+    signal.raise(rt);
+    Remains::Worker(worker)
+}
