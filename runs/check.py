@@ -11,6 +11,9 @@ import os
 import subprocess
 import sys
 
+sys.dont_write_bytecode = True
+import daemon
+
 HERE = os.path.dirname(os.path.abspath(__file__))
 TOP = os.path.dirname(HERE)
 MARK = b"== "
@@ -63,6 +66,7 @@ def main():
         for folder in folders:
             count = check(program, folder)
             print(f"{os.path.relpath(program, TOP)} {os.path.basename(folder)}: {count} cases are answered as they must be")
+        print(f"{os.path.relpath(program, TOP)} daemon: {daemon.check(program)} cases end as they must")
 
 
 if __name__ == "__main__":

@@ -1,11 +1,13 @@
-//! What tests of several crates need: settings of queues and the cluster that they open, and requests spelled into frames. The spelling
-//! is written by hand and shares no code with the engine.
+//! What tests of several crates need: settings of queues, the cluster that they open and the tree with its changes, and requests spelled into
+//! frames. The spelling is written by hand and shares no code with the engine.
 #![tactic(auto)]
 
 mod settings;
 mod spelling;
 mod table;
+mod tree;
 
-pub use settings::{NESTED_QUEUES, TWO_QUEUES, cluster, cluster_after, make_call};
+pub use settings::{NESTED_QUEUES, SMALL_QUEUES, TWO_QUEUES, cluster, cluster_after, make_call};
 pub use spelling::{Call, WantedContainers, frame};
 pub use table::first;
+pub use tree::{Change, ChangeAt, change_queue, change_queues, tree_after};

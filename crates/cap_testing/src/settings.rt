@@ -13,6 +13,14 @@ yarn.scheduler.capacity.root.a.user-limit-factor=4
 yarn.scheduler.capacity.root.b.capacity=[memory=2048,vcores=8]
 ";
 
+/// Two leaf queues: `a` may grow from (1024, 1) to (2048, 2), where a user has four times its capacity; `b` has (2048, 8).
+pub const SMALL_QUEUES: &[u8] = b"yarn.scheduler.capacity.root.queues=a,b
+yarn.scheduler.capacity.root.a.capacity=[memory=1024,vcores=1]
+yarn.scheduler.capacity.root.a.maximum-capacity=[memory=2048,vcores=2]
+yarn.scheduler.capacity.root.a.user-limit-factor=4
+yarn.scheduler.capacity.root.b.capacity=[memory=2048,vcores=8]
+";
+
 /// The queues `a` and `b` with the same capacities, `x` and `y` under `a`, of which `y` is stopped, and at most two applications.
 pub const NESTED_QUEUES: &[u8] = b"yarn.scheduler.capacity.root.queues=a,b
 yarn.scheduler.capacity.root.a.queues=x,y

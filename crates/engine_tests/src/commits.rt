@@ -1,16 +1,8 @@
 use cap_commit::{Cluster, Proposal, ProposalKind, Reason, Verdict};
 use cap_model::Key;
-use cap_testing::{Call, WantedContainers, cluster_after, make_call};
+use cap_testing::{Call, SMALL_QUEUES, WantedContainers, cluster_after, make_call};
 use cap_vector::Resource;
 use std::alloc::Global;
-
-/// Two leaf queues: `a` may grow from (1024, 1) to (2048, 2), where a user has four times its capacity; `b` has (2048, 8).
-const QUEUES: &[u8] = b"yarn.scheduler.capacity.root.queues=a,b
-yarn.scheduler.capacity.root.a.capacity=[memory=1024,vcores=1]
-yarn.scheduler.capacity.root.a.maximum-capacity=[memory=2048,vcores=2]
-yarn.scheduler.capacity.root.a.user-limit-factor=4
-yarn.scheduler.capacity.root.b.capacity=[memory=2048,vcores=8]
-";
 
 /// One container wanted anywhere.
 const ONE: WantedContainers<'static> = WantedContainers {
@@ -90,7 +82,7 @@ fn reason(
     resource: [u64; 2],
 ) -> Option<Option<Reason>> {
     let proposal = proposal(kind, of, resource)?;
-    let cluster = cluster_after(alloc, QUEUES, &CALLS)?;
+    let cluster = cluster_after(alloc, SMALL_QUEUES, &CALLS)?;
     Some(cluster.reason(&proposal))
 }
 
@@ -174,7 +166,7 @@ fn make(alloc: Global, cluster: &mut Cluster<2>, change: Change) -> Option<Optio
 /// After these changes: why the last one was rejected, if it was; how many containers are live and how many reservations there are;
 /// and what `root.a` uses.
 fn after(alloc: Global, changes: &[Change]) -> Option<(Option<Reason>, usize, usize, [u64; 2])> {
-    let mut cluster = cluster_after(alloc, QUEUES, &CALLS)?;
+    let mut cluster = cluster_after(alloc, SMALL_QUEUES, &CALLS)?;
     after_in(alloc, &mut cluster, changes)
 }
 

@@ -77,17 +77,22 @@ fn bad_messages_are_answered_and_bad_lengths_end_it(rt: HostRuntime) {
     }
 }
 
-/// What a session answers to a piece that comes after a length that no frame has.
-fn fed_after_the_end(alloc: Global) -> Option<Fed> {
+/// After a length that no frame has: what two more pieces are answered, what comes next twice, and whether the fault reply is all that is
+/// unsent.
+fn after_the_end(alloc: Global) -> Option<([Fed; 2], [Option<Cause>; 2], bool)> {
     let mut session = Session::open(alloc).ok()?;
     session.feed(&[0, 0, 0, 0]);
     refuse_all(&mut session);
-    Some(session.feed(TWO))
+    let fed = [session.feed(TWO), session.feed(TWO)];
+    let next = [refuse_all(&mut session), refuse_all(&mut session)];
+    Some((fed, next, session.unsent() == BAD_LENGTH_ANSWERED))
 }
 
 #[test]
 fn nothing_is_taken_after_the_end(rt: HostRuntime) {
-    assert!(rt; fed_after_the_end(rt.alloc()) == Some(Fed::Ended(Cause::BadLength)));
+    let fed = Fed::Ended(Cause::BadLength);
+    let next = Some(Cause::BadLength);
+    assert!(rt; after_the_end(rt.alloc()) == Some(([fed, fed], [next, next], true)));
 }
 
 /// Whether what was answered stands where an allocation fails, and all is answered where none does.

@@ -1,126 +1,12 @@
 ghost use Rattle.cap_tree.specs.Spot.{IsPosition};
 
-use cap_config::read_config;
 use cap_model::ShortText;
-use cap_testing::{NESTED_QUEUES, first};
+use cap_testing::{Change, ChangeAt, NESTED_QUEUES, change_queue, first, tree_after};
 use cap_tree::{Found, OverLimit, Path, QueueTree};
-use cap_vector::{Resource, checked_add, fits, minus};
+use cap_vector::Resource;
 use std::alloc::Global;
 
 type Tree = QueueTree<2, Global>;
-
-/// A change at a queue, made where its condition holds.
-#[derive(Clone, Copy)]
-enum Change {
-    /// The queue is RUNNING or STOPPED.
-    State(bool),
-    /// One more active application of the user.
-    Enter,
-    /// One less.
-    Leave,
-    /// The user gives so much back.
-    GiveBack([u64; 2]),
-    /// The user's use changes from the first amounts to the second.
-    Apply([u64; 2], [u64; 2]),
-}
-
-/// A change at the queue of a path, for a user.
-type Step = (&'static str, &'static str, Change);
-
-fn enter(tree: &mut Tree, position: &Path<Global>, user: &ShortText) -> Option<()>
-    requires { IsPosition tree.old position.now.items }
-{
-    if tree.active() >= 10 {
-        return None;
-    }
-    tree.enter(position, user).ok()
-}
-
-fn leave(tree: &mut Tree, position: &Path<Global>, user: &ShortText) -> Option<()>
-    requires { IsPosition tree.old position.now.items }
-{
-    let active = tree.row(position).user_active(user);
-    let used = tree.user_use(position, user);
-    if active == 0 || !used.is_zero() {
-        return None;
-    }
-    tree.leave(position, user);
-    Some(())
-}
-
-fn give_back(tree: &mut Tree, position: &Path<Global>, user: &ShortText, r: [u64; 2]) -> Option<()>
-    requires { IsPosition tree.old position.now.items }
-{
-    let r = Resource::new(r)?;
-    let active = tree.row(position).user_active(user);
-    let used = tree.user_use(position, user);
-    if active == 0 || !fits(&r, &used) {
-        return None;
-    }
-    tree.give_back(position, user, &r);
-    Some(())
-}
-
-fn apply(
-    tree: &mut Tree,
-    position: &Path<Global>,
-    user: &ShortText,
-    old: [u64; 2],
-    new: [u64; 2],
-) -> Option<()>
-    requires { IsPosition tree.old position.now.items }
-{
-    let (old, new) = (Resource::new(old)?, Resource::new(new)?);
-    let active = tree.row(position).user_active(user);
-    let used = tree.user_use(position, user);
-    let all = tree.used();
-    if active == 0 || !fits(&old, &used) || !fits(&old, &all) {
-        return None;
-    }
-    checked_add(&minus(&all, &old), &new)?;
-    tree.apply(position, user, &old, &new);
-    Some(())
-}
-
-fn make_at(tree: &mut Tree, position: &Path<Global>, user: &ShortText, change: Change) -> Option<()>
-    requires { IsPosition tree.old position.now.items }
-{
-    match change {
-        Change::State(running) => Some(tree.set_state(position, running)),
-        Change::Enter => enter(tree, position, user),
-        Change::Leave => leave(tree, position, user),
-        Change::GiveBack(r) => give_back(tree, position, user, r),
-        Change::Apply(old, new) => apply(tree, position, user, old, new),
-    }
-}
-
-fn make(tree: &mut Tree, step: Step) -> Option<()> {
-    let (path, user, change) = step;
-    let user = ShortText::new(user.as_bytes())?;
-    match tree.find(path.as_bytes()) {
-        Found::Leaf(position) | Found::Parent(position) => {
-            make_at(tree, &position, &user, change)
-        }
-        Found::Missing => None,
-    }
-}
-
-fn make_all(tree: &mut Tree, steps: &[Step]) -> Option<()> {
-    for step in steps {
-        make(tree, *step)?;
-    }
-    Some(())
-}
-
-/// The tree of these settings after these steps. `None` if the condition of one does not hold or an allocation fails.
-fn after(alloc: Global, lines: &[u8], steps: &[Step]) -> Option<Tree> {
-    let config = read_config(alloc, lines).ok()?;
-    let mut tree = QueueTree::from_config(alloc, &config).ok()?;
-    match make_all(&mut tree, steps) {
-        Some(()) => Some(tree),
-        None => None,
-    }
-}
 
 /// All that is seen of a queue, and of a user in it.
 #[derive(Clone, Copy, PartialEq)]
@@ -170,8 +56,14 @@ fn shown(tree: &Tree, path: &str, user: &str) -> Option<Seen> {
 }
 
 /// What is seen after these steps.
-fn seen_after(alloc: Global, lines: &[u8], steps: &[Step], path: &str, user: &str) -> Option<Seen> {
-    shown(&after(alloc, lines, steps)?, path, user)
+fn seen_after(
+    alloc: Global,
+    lines: &[u8],
+    steps: &[ChangeAt],
+    path: &str,
+    user: &str,
+) -> Option<Seen> {
+    shown(&tree_after(alloc, lines, steps)?, path, user)
 }
 
 /// A running queue in which nothing has happened, and others of the nested queues.
@@ -251,7 +143,7 @@ fn a_stopped_queue_stops_those_under_it(rt: HostRuntime) {
 }
 
 /// Two applications of `ann` in `root.a.x` and one of `bob` in `root.b`; then those of `ann` end.
-const ANN_AND_BOB: [Step; 5] = [
+const ANN_AND_BOB: [ChangeAt; 5] = [
     ("root.a.x", "ann", Change::Enter),
     ("root.b", "bob", Change::Enter),
     ("root.a.x", "ann", Change::Enter),
@@ -311,9 +203,9 @@ fn nothing_given_back_is_no_change(rt: HostRuntime) {
 }
 
 /// Whether one more step can be made after the first so many of these.
-fn can(alloc: Global, made: usize, step: Step) -> Option<bool> {
-    let mut tree = after(alloc, NESTED_QUEUES, first(&ANN_AND_BOB, made))?;
-    Some(make(&mut tree, step).is_some())
+fn can(alloc: Global, made: usize, step: ChangeAt) -> Option<bool> {
+    let mut tree = tree_after(alloc, NESTED_QUEUES, first(&ANN_AND_BOB, made))?;
+    Some(change_queue(&mut tree, step).is_some())
 }
 
 #[test]
@@ -345,7 +237,7 @@ yarn.scheduler.capacity.root.g.r.user-limit-factor=9
 ";
 
 /// Containers of `ann`: two in `root.g.q` and two in `root.b`; one in `root.g.q` grows and is given back.
-const CONTAINERS: [Step; 8] = [
+const CONTAINERS: [ChangeAt; 8] = [
     ("root.g.q", "ann", Change::Enter),
     ("root.b", "ann", Change::Enter),
     ("root.g.q", "ann", Change::Apply([0, 0], [1024, 1])),
@@ -435,7 +327,7 @@ fn accepted(
     old: [u64; 2],
     new: [u64; 2],
 ) -> Option<Result<(), OverLimit>> {
-    let tree = after(alloc, LIMITED_QUEUES, first(&CONTAINERS, 6))?;
+    let tree = tree_after(alloc, LIMITED_QUEUES, first(&CONTAINERS, 6))?;
     accepts(&tree, path, old, new)
 }
 

@@ -1,6 +1,7 @@
+use cap_commit::Cluster;
 use cap_model::Event;
 use cap_testing::{Call, cluster, frame};
-use cap_world::{Step, World};
+use cap_world::{Did, Step, World};
 use std::alloc::Global;
 
 /// The index of the status in the frame of a reply: after its length, version, kind and call id.
@@ -17,23 +18,30 @@ pub struct Client {
 impl Client {
     /// The connection, opened over the cluster of these property lines.
     pub fn open(alloc: Global, lines: &[u8]) -> Option<Client> {
+        Some(Client::over(alloc, cluster(alloc, lines)?))
+    }
+
+    /// The connection, opened over this cluster.
+    pub fn over(alloc: Global, cluster: Cluster<2>) -> Client {
         let mut client = Client {
             alloc,
-            world: World::open(alloc, cluster(alloc, lines)?),
+            world: World::open(alloc, cluster),
             events: Vec::new(alloc),
         };
         let _opened = client.step(Step::Open(1));
-        Some(client)
+        client
+    }
+
+    /// Makes a step, and says whether it applied.
+    pub fn did(&mut self, step: Step<'_>) -> Option<Did> {
+        let did = self.world.step(step, &mut self.events);
+        self.events.clear();
+        did.ok()
     }
 
     /// Makes a step.
     pub fn step(&mut self, step: Step<'_>) -> Option<()> {
-        let did = self.world.step(step, &mut self.events);
-        self.events.clear();
-        match did {
-            Ok(_) => Some(()),
-            Err(_) => None,
-        }
+        self.did(step).map(|_| ())
     }
 
     /// The bytes that are answered to these on a connection.
@@ -55,10 +63,21 @@ impl Client {
         Some(*status as u32)
     }
 
+    /// How many containers live, and how many reservations stand.
+    pub fn live_and_reserved(&self) -> [u32; 2] {
+        let nodes = self.world.cluster().nodes();
+        [nodes.live_count() as u32, capped(nodes.reservation_count())]
+    }
+
     /// Whether a connection is open.
     pub fn is_open(&self, connection: u32) -> bool {
         self.world.is_open(connection)
     }
+}
+
+/// A count, at most `u32::MAX`.
+pub fn capped(count: usize) -> u32 {
+    u32::try_from(count).unwrap_or(u32::MAX)
 }
 
 /// Bytes in hexadecimal, nothing where there are none.

@@ -6,6 +6,7 @@ mod asks;
 mod client;
 mod nodes;
 mod queues;
+mod reservations;
 mod streams;
 mod test;
 

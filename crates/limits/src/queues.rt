@@ -81,3 +81,23 @@ fn lengthen(length: usize, lines: &mut String, path: &mut String) -> Result<(), 
     }
     Ok(())
 }
+
+/// What becomes of property lines of so many bytes, comments in front of the one that has queues.
+pub fn long_lines(alloc: Global, length: usize) -> String {
+    let mut lines = String::new(alloc);
+    match fill(length, &mut lines) {
+        Ok(()) => opened(alloc, &lines, "root.a").unwrap_or(String::new(alloc)),
+        Err(_) => String::new(alloc),
+    }
+}
+
+/// So many bytes of them.
+fn fill(length: usize, lines: &mut String) -> Result<(), AllocError> {
+    let last = "yarn.scheduler.capacity.root.queues=a";
+    let comments = length.saturating_sub(last.len());
+    for at in 0..comments {
+        let ends = at % 100 == 99 || at == comments.saturating_sub(1);
+        lines.push(if ends { '\n' } else { '#' })?;
+    }
+    lines.push_str(last)
+}

@@ -1,4 +1,4 @@
-use crate::client::Client;
+use crate::client::{Client, capped};
 use cap_world::Step;
 use std::alloc::Global;
 
@@ -24,6 +24,28 @@ pub fn connections(client: &mut Client) -> Option<[u32; 2]> {
         ];
     }
     Some(counts)
+}
+
+/// How many of so many ClusterInfos are answered as the first is, and how many bytes are answered in all.
+pub fn answers(client: &mut Client, count: u32) -> Option<[u32; 2]> {
+    let mut counts = [0u32; 2];
+    for _ in 0..count {
+        let answer = client.answer_to(1, INFO)?;
+        let [right, bytes] = counts;
+        counts = [
+            right.saturating_add(is_empty_cluster(answer) as u32),
+            bytes.saturating_add(capped(answer.len())),
+        ];
+    }
+    Some(counts)
+}
+
+/// Whether the bytes answer the ClusterInfo for a cluster without anything.
+fn is_empty_cluster(answer: &[u8]) -> bool {
+    match answer.strip_prefix(&[0, 0, 0, 51, 1, 10, 0, 0, 0, 1]) {
+        Some(rest) => rest.len() == 45 && rest.iter().all(|byte| *byte == 0),
+        None => false,
+    }
 }
 
 /// What is answered to a payload of 65,536 zeros and a ClusterInfo in one piece.

@@ -1,4 +1,4 @@
-use cap_daemon::{Counted, replay};
+use cap_replay::{Counted, replay};
 use std::alloc::Global;
 
 /// Plays the script: the status that it ends with, and what it prints.

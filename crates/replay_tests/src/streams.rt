@@ -1,6 +1,6 @@
 use crate::play::run as play_script;
-use cap_command::{Counted, run};
-use cap_daemon::replay;
+use cap_daemon::{Counted, run};
+use cap_replay::replay;
 use std::alloc::Global;
 use std::cell::Cell;
 use std::io::{self, Read, Write};
@@ -96,6 +96,7 @@ fn play<
         + Threads
         + Wait
         + Clock
+        + Eprint
         + Files
         + AllocGlobal
         + Sync,

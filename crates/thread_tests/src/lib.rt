@@ -1,8 +1,6 @@
-//! Tests of what threads share: a cluster with its journal, workers and sessions over it, and the daemon.
+//! Tests of what threads share: a cluster with its journal, and workers and sessions over it.
 #![tactic(auto)]
 
-#[cfg(test)]
-mod server;
 #[cfg(test)]
 mod shared;
 #[cfg(test)]

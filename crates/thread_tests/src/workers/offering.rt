@@ -2,7 +2,9 @@
 use bumpalo::Bump;
 use cap_model::NoMemory;
 use cap_shared::{Naming, Seat, Shared};
-use cap_workers::{Committer, Offer, OfferEnd, OpenGate, Putter, Worker, lanes};
+use cap_workers::{
+    Committer, Coordinator, Offer, OfferEnd, OpenGate, Putter, Tally, Worker, commit_all, lanes,
+};
 use shared_testing::Work;
 use std::alloc::Global;
 use std::sync::{Mutex, Wait};
@@ -83,6 +85,46 @@ impl Work for Offering {
             };
             self.came.lock(rt)[turn] = Some(came);
         }
+        seat
+    }
+
+    fn finish<J: Naming, H: Wait>(&self, _rt: &H, _shared: &Shared<J>, _seat: &mut Seat<J>) {}
+}
+
+/// Two workers offer what they propose, all lanes end, and the committer commits what it takes until then.
+#[derive(Drop)]
+pub struct Committing {
+    pub alloc: Global,
+    pub tally: Tally,
+}
+
+/// A worker of each lane up to two offers what it proposes.
+fn offer_two<J: Naming, H: Wait>(
+    rt: &H,
+    alloc: Global,
+    shared: &Shared<J>,
+    seat: &mut Seat<J>,
+    putters: &mut Vec<Putter>,
+) {
+    let mut arena = Bump::new(alloc);
+    for (number, putter) in [0, 1].into_iter().zip(putters.iter_mut()) {
+        let mut worker = Worker::new(number);
+        let _offer = worker.offer(rt, shared, seat, putter, &mut arena, &OpenGate);
+    }
+}
+
+impl Work for Committing {
+    fn work<J: Naming, H: Wait>(&self, rt: &H, shared: &Shared<J>, seat: Seat<J>) -> Seat<J> {
+        let mut seat = seat;
+        let Ok((committer, mut putters)) = ten_places(self.alloc) else {
+            return seat;
+        };
+        offer_two(rt, self.alloc, shared, &mut seat, &mut putters);
+        for putter in putters {
+            let _ended = putter.finish(rt);
+        }
+        let coordinator = Coordinator::new();
+        commit_all(rt, shared, &mut seat, &coordinator, &self.tally, committer);
         seat
     }
 

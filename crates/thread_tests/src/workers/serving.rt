@@ -119,7 +119,7 @@ fn serve_once<J: Naming, H: Wait, R: Read, W: Write>(
     })
 }
 
-/// Serves a session in one epoch, again after each time that it was quiet.
+/// Serves a session in one epoch, again after each time that it was quiet, 64 times at most.
 pub fn serve<J: Naming, H: Wait, R: Read, W: Write>(
     rt: &H,
     shared: &Shared<J>,
@@ -128,7 +128,7 @@ pub fn serve<J: Naming, H: Wait, R: Read, W: Write>(
     reader: &mut Counted<R>,
     writer: &mut Counted<W>,
 ) {
-    for _ in 0..4 {
+    for _ in 0..64 {
         let Some(waiting) = line.waiting.take() else {
             return;
         };

@@ -1,6 +1,6 @@
 use crate::workers::epochs::serve_epoch;
 use crate::workers::serving::{Ending, Line, Waiting};
-use crate::workers::streams::{Sink, Source};
+use crate::workers::streams::{Sink, Source, Stutter};
 use cap_session::Counted;
 use cap_shared::Closed;
 use cap_testing::cluster;
@@ -136,6 +136,42 @@ fn a_quiet_reader_goes_on_wherever_it_was(rt: HostRuntime) {
         };
         assert!(rt; answer == Some((Some(want), true)), "quiet at {at}");
     }
+}
+
+/// What came of the stream byte by byte where the reader is quiet before each: how often the session was quiet, how it ended then, with how
+/// many entries in the journal, and whether the answers went out.
+fn stuttered<H: Wait>(rt: &H, alloc: Global) -> Option<(usize, Option<Ending>, usize, bool)> {
+    let mut line = Line {
+        waiting: Some(Waiting::new(alloc)?),
+        endings: Vec::new(alloc),
+        sent: 0,
+        unsent: 0,
+    };
+    let mut sink = wide(alloc);
+    let mut reader = Counted::new(Stutter {
+        rest: STREAM,
+        was_quiet: false,
+    });
+    let mut writer = Counted::new(&mut sink);
+    let opening = cluster(alloc, ONE_QUEUE)?;
+    let closed = serve_epoch(rt, alloc, opening, 100, &mut line, &mut reader, &mut writer)?;
+    let quiets = line
+        .endings
+        .iter()
+        .take_while(|ending| **ending == Ending::Quiet)
+        .count();
+    Some((
+        quiets,
+        line.endings.get(quiets).copied(),
+        closed.journal.len(),
+        sink.kept.as_slice() == ANSWERS,
+    ))
+}
+
+#[test]
+fn a_reader_may_be_quiet_before_each_byte(rt: HostRuntime) {
+    let answer = stuttered(&rt, rt.alloc());
+    assert!(rt; answer == Some((43, Some(Ending::InputEnded), 2, true)));
 }
 
 /// What came of the first so many bytes of the stream, so many a read, before it fails or ends, with the length of what was answered
@@ -316,6 +352,7 @@ fn through_two_epochs<H: Wait>(rt: &H, alloc: Global, sink: &mut Sink) -> Option
     Some([before, after])
 }
 
+/// The four answers of the first epoch are written out before it ends.
 #[test]
 fn a_pending_request_goes_on_in_the_next_epoch(rt: HostRuntime) {
     let mut sink = wide(rt.alloc());
@@ -323,8 +360,8 @@ fn a_pending_request_goes_on_in_the_next_epoch(rt: HostRuntime) {
     let before = Outcome {
         first: Some(Ending::Sealed),
         second: None,
-        sent: 0,
-        unsent: 220,
+        sent: 220,
+        unsent: 0,
         entries: 4,
         failures: 0,
     };
@@ -338,4 +375,29 @@ fn a_pending_request_goes_on_in_the_next_epoch(rt: HostRuntime) {
     };
     assert!(rt; answer == Some([before, after]));
     assert!(rt; are_six_replies(&sink.kept));
+}
+
+/// What comes of six requests in an epoch of at most four entries where the writer takes so many bytes.
+fn cut_off_at_a_full_journal<H: Wait>(rt: &H, alloc: Global, limit: usize) -> Option<Outcome> {
+    let mut sink = Sink {
+        kept: Vec::new(alloc),
+        step: 4096,
+        limit,
+    };
+    let [first, _second] = through_two_epochs(rt, alloc, &mut sink)?;
+    Some(first)
+}
+
+#[test]
+fn a_writer_can_fail_at_a_full_journal(rt: HostRuntime) {
+    let want = Outcome {
+        first: Some(Ending::WriteFault),
+        second: None,
+        sent: 100,
+        unsent: 120,
+        entries: 4,
+        failures: 0,
+    };
+    let answer = cut_off_at_a_full_journal(&rt, rt.alloc(), 100);
+    assert!(rt; answer == Some(want));
 }

@@ -36,6 +36,28 @@ impl Read for Source<'_> {
     }
 }
 
+/// Gives its bytes one a read, is quiet before each, and then ends.
+#[derive(Drop)]
+pub struct Stutter<'a> {
+    pub rest: &'a [u8],
+    pub was_quiet: bool,
+}
+
+impl Read for Stutter<'_> {
+    fn read(&mut self, buf: &mut [u8]) -> io::Result<usize> {
+        let (Some((first, rest)), Some(place)) = (self.rest.split_first(), buf.first_mut()) else {
+            return Ok(0);
+        };
+        self.was_quiet = !self.was_quiet;
+        if self.was_quiet {
+            return Err(io::Error::from(ErrorKind::WouldBlock));
+        }
+        *place = *first;
+        self.rest = rest;
+        Ok(1)
+    }
+}
+
 /// Takes so many bytes a write, and fails after a limit.
 #[derive(Drop)]
 pub struct Sink {

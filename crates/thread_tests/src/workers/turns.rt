@@ -1,13 +1,15 @@
 use crate::workers::epochs::take_turns;
-use crate::workers::offering::{Offered, Offering};
+use crate::workers::offering::{Committing, Offered, Offering};
 use crate::workers::turning::Came;
 use cap_commit::Cluster;
 use cap_model::Reason;
 use cap_testing::{Call, TWO_QUEUES, WantedContainers, cluster_after, first};
+use cap_workers::Tally;
 use shared_testing::epoch;
 use std::alloc::Global;
 use std::sync::{Mutex, Wait};
 use std::test::*;
+use std::thread::Threads;
 
 /// So many nodes, one or two, and application 1 of `u1` in `root.a`, which asks for so many containers of (1024, 1).
 fn filled(alloc: Global, nodes: usize, count: u32) -> Option<Cluster<2>> {
@@ -101,23 +103,53 @@ fn a_full_journal_gives_the_proposal_back(rt: HostRuntime) {
     assert!(rt; is_turned(came, &want));
 }
 
-#[test]
-fn an_offer_is_taken_by_the_committer(rt: HostRuntime) -> Result<(), Fail> {
-    let cluster = filled(rt.alloc(), 1, 1).ok_or("a cluster")?;
+/// What came of the two offers of a worker, which the committer takes and commits, and how many entries the journal has then.
+fn offers<H: Threads + Wait + Sync>(
+    rt: &H,
+    alloc: Global,
+) -> Option<([Option<Offered>; 2], usize)> {
+    let cluster = filled(alloc, 1, 1)?;
     let offering = Offering {
-        alloc: rt.alloc(),
+        alloc,
         came: Mutex::new([None, None]),
     };
-    let closed = epoch(&rt, rt.alloc(), cluster, 1, 100, &offering);
+    let closed = epoch(rt, alloc, cluster, 1, 100, &offering)?;
+    let came = *offering.came.lock(rt);
+    Some((came, closed.journal.len()))
+}
+
+#[test]
+fn an_offer_is_taken_by_the_committer(rt: HostRuntime) {
     let taken = Offered::Taken {
         worker: 0,
         app: 1,
         node: 1,
     };
-    assert_eq!(rt;
-        *offering.came.lock(&rt),
-        [Some(taken), Some(Offered::Nothing)]
-    );
-    assert_eq!(rt; closed.map(|closed| closed.journal.len()), Some(1));
-    Ok(())
+    let want = [Some(taken), Some(Offered::Nothing)];
+    assert!(rt; offers(&rt, rt.alloc()) == Some((want, 1)));
+}
+
+/// How many proposals of two workers a committer makes and rejects, and how many entries the journal has then. Both were put before it begins,
+/// on a cluster of so many nodes in which so many containers are asked for.
+fn committed<H: Threads + Wait + Sync>(
+    rt: &H,
+    alloc: Global,
+    (nodes, count): (usize, u32),
+    limit: usize,
+) -> Option<(u64, u64, usize)> {
+    let cluster = filled(alloc, nodes, count)?;
+    let committing = Committing {
+        alloc,
+        tally: Tally::new(),
+    };
+    let closed = epoch(rt, alloc, cluster, 1, limit, &committing)?;
+    let tally = &committing.tally;
+    Some((tally.made(), tally.rejected(), closed.journal.len()))
+}
+
+#[test]
+fn the_committer_commits_each_proposal_that_it_takes(rt: HostRuntime) {
+    assert!(rt; committed(&rt, rt.alloc(), (2, 2), 100) == Some((2, 0, 2)));
+    assert!(rt; committed(&rt, rt.alloc(), (2, 1), 100) == Some((1, 1, 1)));
+    assert!(rt; committed(&rt, rt.alloc(), (2, 2), 1) == Some((1, 0, 1)));
 }

@@ -13,12 +13,9 @@ use std::time::Clock;
 /// What is done at the other end of the daemon's connections.
 pub trait Client {
     /// Opens the connections, and says whether all was answered as it has to be. An error means that a socket failed.
-    fn talk<H: Net<Listener = TcpListener, Stream = TcpStream> + Threads + Wait + Clock + Sync>(
-        &self,
-        rt: &H,
-        alloc: Global,
-        port: u16,
-    ) -> io::Result<bool>;
+    fn talk<
+        H: Net<Listener = TcpListener, Stream = TcpStream> + Threads + Wait + Clock + Eprint + Sync,
+    >(&self, rt: &H, alloc: Global, port: u16) -> io::Result<bool>;
 }
 
 /// What came of a daemon: its exit status, what it printed, and what the client said.
@@ -29,15 +26,23 @@ pub struct Outcome {
     pub answered: bool,
 }
 
+/// A listener on a port of the loopback, and the port. `None` if the system has none.
+pub fn listen<H: Net<Listener = TcpListener, Stream = TcpStream>>(
+    rt: &H,
+) -> Option<(TcpListener, u16)> {
+    let listener = TcpListener::bind(rt, "127.0.0.1:0").ok()?;
+    let port = listener.local_addr().ok()?.port();
+    Some((listener, port))
+}
+
 /// Runs a daemon with the queues of these property lines on a port of the loopback, in a thread of its own, and the client beside it.
 /// `None` if the lines have a fault, or the system has no port.
 pub fn beside_daemon<
-    H: Net<Listener = TcpListener, Stream = TcpStream> + Threads + Wait + Clock + Sync,
+    H: Net<Listener = TcpListener, Stream = TcpStream> + Threads + Wait + Clock + Eprint + Sync,
     G: Gate + Sync,
     C: Client + Sync,
 >(rt: &H, alloc: Global, lines: &[u8], sizes: &Sizes, gate: &G, client: &C) -> Option<Outcome> {
-    let listener = TcpListener::bind(rt, "127.0.0.1:0").ok()?;
-    let port = listener.local_addr().ok()?.port();
+    let (listener, port) = listen(rt)?;
     let ((status, printed), answered) = join(
         rt,
         || served(rt, alloc, lines, &listener, sizes, gate),
@@ -51,7 +56,7 @@ pub fn beside_daemon<
 }
 
 /// The daemon's exit status, and what it printed. The status is 2 if the lines have a fault, or if a size is out of its bounds.
-fn served<H: Threads + Wait + Clock + Sync, G: Gate + Sync>(
+pub fn served<H: Net + Threads + Wait + Clock + Eprint + Sync, G: Gate + Sync>(
     rt: &H,
     alloc: Global,
     lines: &[u8],
@@ -63,12 +68,7 @@ fn served<H: Threads + Wait + Clock + Sync, G: Gate + Sync>(
     let Ok(config) = read_config(alloc, lines) else {
         return (2, printed);
     };
-    if sizes.journal == 0 || sizes.journal > 1_000_000 {
-        return (2, printed);
-    }
-    if let Some(lanes) = sizes.lanes
-        && (lanes == 0 || lanes > 1024)
-    {
+    if !sizes.is_allowed() {
         return (2, printed);
     }
     let mut writer = Counted::new(&mut printed);

@@ -1,10 +1,11 @@
-use crate::server::client::{ANSWER, ASK, ask_last, connect, is_answered};
-use crate::server::gates::{Holding, Mark, Meeting};
-use crate::server::side::{Client, beside_daemon, said};
+use crate::client::{ASK, are_answered, are_answers, call, connect, is_answered, is_taken};
+use crate::gates::{Holding, Mark, Meeting};
+use crate::side::{Client, beside_daemon, said};
 use cap_server::Sizes;
+use cap_testing::Call;
 use cap_workers::OpenGate;
 use std::alloc::Global;
-use std::io;
+use std::io::{self, Read, Write};
 use std::net::{Net, TcpListener, TcpStream};
 use std::sync::Wait;
 use std::test::*;
@@ -29,21 +30,10 @@ struct Asks {
 }
 
 impl Client for Asks {
-    fn talk<H: Net<Listener = TcpListener, Stream = TcpStream> + Threads + Wait + Clock + Sync>(
-        &self,
-        rt: &H,
-        alloc: Global,
-        port: u16,
-    ) -> io::Result<bool> {
-        let stream = connect(rt, port)?;
-        let mut bytes = Vec::new(alloc);
-        let mut expected = Vec::new(alloc);
-        for _ in 0..self.count {
-            bytes.extend_from_slice(&ASK)?;
-            expected.extend_from_slice(&ANSWER)?;
-        }
-        let answer = ask_last(alloc, &stream, bytes.as_slice())?;
-        Ok(answer.as_slice() == expected.as_slice())
+    fn talk<
+        H: Net<Listener = TcpListener, Stream = TcpStream> + Threads + Wait + Clock + Eprint + Sync,
+    >(&self, rt: &H, alloc: Global, port: u16) -> io::Result<bool> {
+        are_answered(alloc, &connect(rt, port)?, self.count)
     }
 }
 
@@ -79,16 +69,12 @@ fn six_calls_take_two_epochs_of_four(rt: HostRuntime) -> Result<(), Fail> {
 struct Silent;
 
 impl Client for Silent {
-    fn talk<H: Net<Listener = TcpListener, Stream = TcpStream> + Threads + Wait + Clock + Sync>(
-        &self,
-        rt: &H,
-        alloc: Global,
-        port: u16,
-    ) -> io::Result<bool> {
+    fn talk<
+        H: Net<Listener = TcpListener, Stream = TcpStream> + Threads + Wait + Clock + Eprint + Sync,
+    >(&self, rt: &H, alloc: Global, port: u16) -> io::Result<bool> {
         let first = connect(rt, port)?;
         let second = connect(rt, port)?;
-        let answer = ask_last(alloc, &second, &ASK)?;
-        Ok(answer.as_slice() == ANSWER.as_slice() && is_answered(&first)?)
+        Ok(are_answered(alloc, &second, 1)? && is_answered(&first)?)
     }
 }
 
@@ -113,12 +99,9 @@ struct Crowd {
 }
 
 impl Client for Crowd {
-    fn talk<H: Net<Listener = TcpListener, Stream = TcpStream> + Threads + Wait + Clock + Sync>(
-        &self,
-        rt: &H,
-        alloc: Global,
-        port: u16,
-    ) -> io::Result<bool> {
+    fn talk<
+        H: Net<Listener = TcpListener, Stream = TcpStream> + Threads + Wait + Clock + Eprint + Sync,
+    >(&self, rt: &H, alloc: Global, port: u16) -> io::Result<bool> {
         let mut streams = Vec::with_capacity(alloc, self.count)?;
         for _ in 0..self.count {
             streams.push(connect(rt, port)?)?;
@@ -154,12 +137,9 @@ struct Witness<'a> {
 }
 
 impl Client for Witness<'_> {
-    fn talk<H: Net<Listener = TcpListener, Stream = TcpStream> + Threads + Wait + Clock + Sync>(
-        &self,
-        rt: &H,
-        _alloc: Global,
-        port: u16,
-    ) -> io::Result<bool> {
+    fn talk<
+        H: Net<Listener = TcpListener, Stream = TcpStream> + Threads + Wait + Clock + Eprint + Sync,
+    >(&self, rt: &H, _alloc: Global, port: u16) -> io::Result<bool> {
         let stream = connect(rt, port)?;
         Ok(self.both.awaits(1) && is_answered(&stream)?)
     }
@@ -167,7 +147,7 @@ impl Client for Witness<'_> {
 
 /// Whether two workers propose at the same time.
 fn two_workers_meet<
-    H: Net<Listener = TcpListener, Stream = TcpStream> + Threads + Wait + Clock + Sync,
+    H: Net<Listener = TcpListener, Stream = TcpStream> + Threads + Wait + Clock + Eprint + Sync,
 >(rt: &H, alloc: Global, lanes: Option<usize>) -> bool {
     let sizes = Sizes {
         workers: 2,
@@ -175,6 +155,7 @@ fn two_workers_meet<
         ..SMALL
     };
     let gate = Meeting {
+        first: Mark::new(),
         second: Mark::new(),
         both: Mark::new(),
     };
@@ -202,12 +183,9 @@ struct Releasing<'a> {
 }
 
 impl Client for Releasing<'_> {
-    fn talk<H: Net<Listener = TcpListener, Stream = TcpStream> + Threads + Wait + Clock + Sync>(
-        &self,
-        rt: &H,
-        _alloc: Global,
-        port: u16,
-    ) -> io::Result<bool> {
+    fn talk<
+        H: Net<Listener = TcpListener, Stream = TcpStream> + Threads + Wait + Clock + Eprint + Sync,
+    >(&self, rt: &H, _alloc: Global, port: u16) -> io::Result<bool> {
         let stream = connect(rt, port)?;
         for step in 1..3 {
             if !self.gate.held.awaits(step) || !is_answered(&stream)? {
@@ -230,6 +208,97 @@ fn propose_while_locked(rt: HostRuntime) -> Result<(), Fail> {
     assert_eq!(rt;
         said(&outcome),
         Some((0, true, b"closed epochs=1 entries=2".as_slice()))
+    );
+    Ok(())
+}
+
+/// Six calls are sent at once to a daemon of four entries an epoch. Four are answered while a worker is held, so that the next epoch can't begin.
+#[derive(Drop)]
+struct Ahead<'a> {
+    gate: &'a Holding,
+}
+
+impl Ahead<'_> {
+    fn ask_six(&self, stream: &TcpStream) -> io::Result<bool> {
+        let mut client = stream;
+        let is_held = self.gate.held.awaits(1);
+        let is_taken = is_taken(stream, &ASK, 6);
+        let mut early = [0u8; 220];
+        let read = client.read_exact(&mut early);
+        self.gate.let_go.reach(2);
+        read?;
+        let mut late = [0u8; 110];
+        client.read_exact(&mut late)?;
+        Ok(is_held && is_taken && are_answers(&early, 4) && are_answers(&late, 2))
+    }
+}
+
+impl Client for Ahead<'_> {
+    fn talk<
+        H: Net<Listener = TcpListener, Stream = TcpStream> + Threads + Wait + Clock + Eprint + Sync,
+    >(&self, rt: &H, _alloc: Global, port: u16) -> io::Result<bool> {
+        self.ask_six(&connect(rt, port)?)
+    }
+}
+
+#[test]
+fn answers_come_before_the_change(rt: HostRuntime) -> Result<(), Fail> {
+    let gate = Holding {
+        held: Mark::new(),
+        let_go: Mark::new(),
+    };
+    let sizes = Sizes {
+        journal: 4,
+        ..SMALL
+    };
+    let client = Ahead { gate: &gate };
+    let outcome = beside_daemon(&rt, rt.alloc(), ONE_QUEUE, &sizes, &gate, &client);
+    assert_eq!(rt;
+        said(&outcome),
+        Some((0, true, b"closed epochs=2 entries=6".as_slice()))
+    );
+    Ok(())
+}
+
+/// Asks five times for the cluster. Whether it has one node each time.
+fn has_one_node(stream: &TcpStream) -> io::Result<bool> {
+    let mut client = stream;
+    for _ in 0..5 {
+        client.write_all(&ASK)?;
+        let mut answer = [0u8; 55];
+        client.read_exact(&mut answer)?;
+        if answer.get(11..15) != Some([0, 0, 0, 1].as_slice()) {
+            return Ok(false);
+        }
+    }
+    Ok(true)
+}
+
+/// Registers a node, and asks five times for the cluster, which has that node each time.
+#[derive(Drop)]
+struct OneNode;
+
+impl Client for OneNode {
+    fn talk<
+        H: Net<Listener = TcpListener, Stream = TcpStream> + Threads + Wait + Clock + Eprint + Sync,
+    >(&self, rt: &H, alloc: Global, port: u16) -> io::Result<bool> {
+        let stream = connect(rt, port)?;
+        let node = Call::RegisterNode(b"n1", b"/r1", [8192, 8]);
+        let _number = call(alloc, &stream, &node)?;
+        has_one_node(&stream)
+    }
+}
+
+#[test]
+fn the_cluster_goes_on_in_the_next_epoch(rt: HostRuntime) -> Result<(), Fail> {
+    let sizes = Sizes {
+        journal: 4,
+        ..SMALL
+    };
+    let outcome = beside_daemon(&rt, rt.alloc(), ONE_QUEUE, &sizes, &OpenGate, &OneNode);
+    assert_eq!(rt;
+        said(&outcome),
+        Some((0, true, b"closed epochs=2 entries=6".as_slice()))
     );
     Ok(())
 }

@@ -1,0 +1,193 @@
+//! Gates that hold a worker until something else has happened.
+use cap_workers::{Gate, Point};
+use std::sync::atomic::{AtomicU64, Ordering};
+use std::thread::yield_now;
+
+/// How many times a thread that waits looks at most.
+const LOOKS: u64 = 10_000_000;
+
+/// A count that threads wait for.
+#[derive(Drop)]
+pub struct Mark {
+    count: AtomicU64,
+}
+
+impl Mark {
+    pub fn new() -> Mark {
+        Mark {
+            count: AtomicU64::new(0),
+        }
+    }
+
+    pub fn reach(&self, count: u64) {
+        self.count.store(count, Ordering::SeqCst);
+    }
+
+    pub fn is_reached(&self, count: u64) -> bool {
+        self.count.load(Ordering::SeqCst) >= count
+    }
+
+    /// Waits until the count is reached. False if that takes too long.
+    pub fn awaits(&self, count: u64) -> bool {
+        for _ in 0..LOOKS {
+            if self.is_reached(count) {
+                return true;
+            }
+            yield_now();
+        }
+        false
+    }
+}
+
+/// Holds two workers where they propose until both do: worker 1 counts only after worker 0 has come, which stays until then.
+#[derive(Drop)]
+pub struct Meeting {
+    pub first: Mark,
+    pub second: Mark,
+    /// Reached once both were there at the same time.
+    pub both: Mark,
+}
+
+impl Gate for Meeting {
+    fn at(&self, worker: u32, point: Point) {
+        if point != Point::Proposed {
+            return;
+        }
+        if worker == 0 {
+            self.first.reach(1);
+            if self.second.awaits(1) {
+                self.both.reach(1);
+            }
+        } else if self.first.awaits(1) {
+            self.second.reach(1);
+        }
+    }
+}
+
+/// What a worker has done at a gate.
+#[derive(Drop)]
+struct Turns {
+    copied: AtomicU64,
+    proposed: AtomicU64,
+    committed: Mark,
+}
+
+impl Turns {
+    fn new() -> Turns {
+        Turns {
+            copied: AtomicU64::new(0),
+            proposed: AtomicU64::new(0),
+            committed: Mark::new(),
+        }
+    }
+}
+
+/// Holds two workers where they first propose until there is something to ask for, so that each proposes it in its second turn; and in its third
+/// turn until what both proposed was committed.
+#[derive(Drop)]
+pub struct Committing {
+    pub asked: Mark,
+    workers: [Turns; 2],
+    /// Reached once both were let go in their third turn.
+    pub both: Mark,
+    /// Reached where a worker was held for too long.
+    pub missed: Mark,
+}
+
+impl Committing {
+    pub fn new() -> Committing {
+        Committing {
+            asked: Mark::new(),
+            workers: [Turns::new(), Turns::new()],
+            both: Mark::new(),
+            missed: Mark::new(),
+        }
+    }
+
+    /// Waits until what both proposed was committed.
+    fn await_both(&self) {
+        if self.workers.iter().all(|it| it.committed.awaits(1)) {
+            self.both.reach(1);
+        } else {
+            self.missed.reach(1);
+        }
+    }
+}
+
+impl Gate for Committing {
+    fn at(&self, worker: u32, point: Point) {
+        let Some(turns) = self.workers.get(worker as usize) else {
+            return;
+        };
+        match point {
+            Point::Copied => {
+                if turns.copied.fetch_add(1, Ordering::SeqCst) == 2 {
+                    self.await_both();
+                }
+            }
+            Point::Proposed => {
+                if turns.proposed.fetch_add(1, Ordering::SeqCst) == 0 && !self.asked.awaits(1) {
+                    self.missed.reach(1);
+                }
+            }
+            Point::Committed(_) => turns.committed.reach(1),
+        }
+    }
+}
+
+/// Once something is asked for, holds worker 1 where it has copied until what worker 0 proposes was committed for worker 0.
+#[derive(Drop)]
+pub struct OwnLanes {
+    pub asked: Mark,
+    /// Reached once a commit was answered to worker 0.
+    pub answered: Mark,
+    /// Reached where one was answered to worker 1 before, which had proposed nothing, or where worker 1 was held for too long.
+    pub missed: Mark,
+}
+
+impl OwnLanes {
+    pub fn new() -> OwnLanes {
+        OwnLanes {
+            asked: Mark::new(),
+            answered: Mark::new(),
+            missed: Mark::new(),
+        }
+    }
+}
+
+impl Gate for OwnLanes {
+    fn at(&self, worker: u32, point: Point) {
+        let is_answered = match (worker, point) {
+            (0, Point::Committed(_)) => {
+                self.answered.reach(1);
+                true
+            }
+            (1, Point::Committed(_)) => self.answered.is_reached(1),
+            (1, Point::Copied) => !self.asked.is_reached(1) || self.answered.awaits(1),
+            _ => true,
+        };
+        if !is_answered {
+            self.missed.reach(1);
+        }
+    }
+}
+
+/// Holds worker 0 where it has first copied the cluster, and where it then proposes, until it is let go.
+#[derive(Drop)]
+pub struct Holding {
+    /// 1 where it has copied, 2 where it proposes.
+    pub held: Mark,
+    pub let_go: Mark,
+}
+
+impl Gate for Holding {
+    fn at(&self, _worker: u32, point: Point) {
+        let step = match point {
+            Point::Copied => 1,
+            Point::Proposed => 2,
+            Point::Committed(_) => return,
+        };
+        self.held.reach(step);
+        let _in_time = self.let_go.awaits(step);
+    }
+}

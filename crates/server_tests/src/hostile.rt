@@ -1,0 +1,111 @@
+use crate::client::{ASK, BAD_LENGTH, ask_last, connect, is_answered, is_taken};
+use crate::side::{Client, beside_daemon, number_after, said};
+use cap_server::Sizes;
+use cap_workers::OpenGate;
+use std::alloc::Global;
+use std::io;
+use std::net::{Net, TcpListener, TcpStream};
+use std::sync::Wait;
+use std::test::*;
+use std::thread::Threads;
+use std::time::{Clock, Duration};
+
+/// How many ClusterInfos a connection sends that reads nothing: their answers are more than the sockets hold.
+const UNREAD: u32 = 1_000_000;
+
+/// Sends calls and reads nothing, until no more is taken within a second.
+fn flood(alloc: Global, stream: &TcpStream) -> io::Result<()> {
+    stream.set_write_timeout(Some(Duration::from_secs(1)))?;
+    let calls = ASK.repeat(alloc, 1000)?;
+    let _all = is_taken(stream, calls.as_slice(), UNREAD / 1000);
+    Ok(())
+}
+
+/// Whether these are all the answers to these last bytes.
+fn is_answer(alloc: Global, stream: &TcpStream, bytes: &[u8], answer: &[u8]) -> io::Result<bool> {
+    Ok(ask_last(alloc, stream, bytes)?.as_slice() == answer)
+}
+
+fn is_answered_ten_times(stream: &TcpStream) -> io::Result<bool> {
+    for _ in 0..10 {
+        if !is_answered(stream)? {
+            return Ok(false);
+        }
+    }
+    Ok(true)
+}
+
+/// A connection that never reads, beside the one that is answered.
+fn beside_deaf<H: Net<Listener = TcpListener, Stream = TcpStream>>(
+    rt: &H,
+    alloc: Global,
+    port: u16,
+    good: &TcpStream,
+) -> io::Result<bool> {
+    let deaf = connect(rt, port)?;
+    flood(alloc, &deaf)?;
+    is_answered_ten_times(good)
+}
+
+/// A connection that closes in a frame, and then that one.
+fn beside_cut<H: Net<Listener = TcpListener, Stream = TcpStream>>(
+    rt: &H,
+    alloc: Global,
+    port: u16,
+    good: &TcpStream,
+) -> io::Result<bool> {
+    let cut = connect(rt, port)?;
+    let is_silent = is_answer(alloc, &cut, &ASK[..7], &[])?;
+    Ok(is_silent && is_answered(good)? && beside_deaf(rt, alloc, port, good)?)
+}
+
+/// A connection that sends a length that no frame has, and then those two.
+fn beside_garbage<H: Net<Listener = TcpListener, Stream = TcpStream>>(
+    rt: &H,
+    alloc: Global,
+    port: u16,
+    good: &TcpStream,
+) -> io::Result<bool> {
+    let garbage = connect(rt, port)?;
+    let is_told = is_answer(alloc, &garbage, &[0, 0, 0, 0, 1, 2, 3, 4], &BAD_LENGTH)?;
+    Ok(is_told && is_answered(good)? && beside_cut(rt, alloc, port, good)?)
+}
+
+/// One connection sends a length that no frame has, one closes in a frame, and one never reads; a fourth is answered all the time.
+#[derive(Drop)]
+struct Hostile;
+
+impl Client for Hostile {
+    fn talk<
+        H: Net<Listener = TcpListener, Stream = TcpStream> + Threads + Wait + Clock + Eprint + Sync,
+    >(&self, rt: &H, alloc: Global, port: u16) -> io::Result<bool> {
+        beside_garbage(rt, alloc, port, &connect(rt, port)?)
+    }
+}
+
+#[test]
+fn others_go_on(rt: HostRuntime) -> Result<(), Fail> {
+    let sizes = Sizes {
+        workers: 1,
+        connections: 4,
+        journal: 1000,
+        lanes: Some(64),
+    };
+    let outcome = beside_daemon(
+        &rt,
+        rt.alloc(),
+        b"yarn.scheduler.capacity.root.queues=default",
+        &sizes,
+        &OpenGate,
+        &Hostile,
+    );
+    let ended = said(&outcome);
+    assert!(rt; matches!(ended, Some((0, true, _))));
+    assert!(rt;
+        ended
+            .and_then(|e| number_after(e.2, b"epochs="))
+            .unwrap_or(0)
+            >= 2
+    );
+    Ok(())
+}

@@ -1,0 +1,387 @@
+//! The daemon through the words of the program, on real sockets.
+use crate::client::{ASK, are_answered, connect};
+use cap_daemon::{Counted, run};
+use std::alloc::Global;
+use std::fs;
+use std::io::{self, Read, Write};
+use std::net::{Net, TcpListener, TcpStream};
+use std::rt::Files;
+use std::sync::Wait;
+use std::test::*;
+use std::thread::{Threads, join, sleep};
+use std::time::{Clock, Duration};
+
+/// What came of the program: its exit status, what it printed, and what it left in words.
+#[derive(Drop)]
+struct Ran {
+    status: u8,
+    printed: Vec<u8>,
+    complaint: String,
+}
+
+/// Runs the program on these words.
+fn run_words<
+    H: Net<Listener = TcpListener, Stream = TcpStream>
+        + Threads
+        + Wait
+        + Clock
+        + Eprint
+        + Files
+        + AllocGlobal
+        + Sync,
+>(rt: &H, words: &[&str]) -> Ran {
+    let alloc = rt.alloc();
+    let mut printed = Vec::new(alloc);
+    let mut complaint = String::new(alloc);
+    let mut input: &[u8] = &[];
+    let status = run(
+        rt,
+        words,
+        &mut Counted::new(&mut input),
+        &mut Counted::new(&mut printed),
+        &mut complaint,
+    );
+    Ran {
+        status,
+        printed,
+        complaint,
+    }
+}
+
+/// A port of the loopback that nobody listens on.
+fn free_port<H: Net<Listener = TcpListener, Stream = TcpStream>>(rt: &H) -> io::Result<u16> {
+    let listener = TcpListener::bind(rt, "127.0.0.1:0")?;
+    Ok(listener.local_addr()?.port())
+}
+
+/// Where no settings file is.
+const MISSING: &str = "/nowhere/settings";
+
+/// An empty settings file, in which `root` has no queues.
+const EMPTY: &str = "/dev/null";
+
+/// Where the values stand in the words of a daemon.
+const PORT: usize = 3;
+
+const WORKERS: usize = 5;
+
+const CONFIG: usize = 7;
+
+const CONNECTIONS: usize = 9;
+
+const JOURNAL: usize = 11;
+
+const LANES: usize = 13;
+
+/// The words of a daemon without a settings file. No port is bound before that file is read.
+const WORDS: [&str; 14] = [
+    "capsched",
+    "serve",
+    "--port",
+    "1",
+    "--workers",
+    "1",
+    "--config",
+    MISSING,
+    "--connections",
+    "1",
+    "--journal",
+    "4",
+    "--lanes",
+    "64",
+];
+
+/// The same with another value in one place.
+fn with_value<'a>(words: &[&'a str; 14], place: usize, value: &'a str) -> [&'a str; 14] {
+    let mut words = *words;
+    if let Some(word) = words.get_mut(place) {
+        *word = value;
+    }
+    words
+}
+
+/// Each option at its bounds and past them, and whether that is taken.
+const OPTIONS: [(usize, &str, bool); 22] = [
+    (PORT, "0", false),
+    (PORT, "1", true),
+    (PORT, "65535", true),
+    (PORT, "65536", false),
+    (WORKERS, "0", false),
+    (WORKERS, "1", true),
+    (WORKERS, "8", true),
+    (WORKERS, "9", false),
+    (CONNECTIONS, "0", false),
+    (CONNECTIONS, "1", true),
+    (CONNECTIONS, "128", true),
+    (CONNECTIONS, "129", false),
+    (JOURNAL, "0", false),
+    (JOURNAL, "1", true),
+    (JOURNAL, "1000000", true),
+    (JOURNAL, "1000001", false),
+    (LANES, "0", true),
+    (LANES, "1", false),
+    (LANES, "7", false),
+    (LANES, "8", true),
+    (LANES, "1024", true),
+    (LANES, "1025", false),
+];
+
+/// Whether the words with this value are taken. `None` if the program says neither.
+fn takes<
+    H: Net<Listener = TcpListener, Stream = TcpStream>
+        + Threads
+        + Wait
+        + Clock
+        + Eprint
+        + Files
+        + AllocGlobal
+        + Sync,
+>(rt: &H, place: usize, value: &str) -> Option<bool> {
+    let words = with_value(&WORDS, place, value);
+    let ran = run_words(rt, words.as_slice());
+    let is_file = ran.complaint.as_str().starts_with("settings file: ");
+    match (ran.status, is_file) {
+        (1, true) if ran.printed.is_empty() => Some(true),
+        (2, false) if ran.printed.is_empty() => Some(false),
+        _ => None,
+    }
+}
+
+// Words are looked at before the settings file, which is not there: bad ones are status 2, and good ones lead to the file that is missing.
+#[test]
+fn options_have_bounds(rt: HostRuntime) {
+    for (place, value, is_taken) in OPTIONS {
+        assert!(rt;
+            takes(&rt, place, value) == Some(is_taken),
+            "{place} {value}"
+        );
+    }
+}
+
+/// Property lines without a fault, which each test writes into a file of its own.
+const QUEUES: &[u8] = b"yarn.scheduler.capacity.root.queues=default\n";
+
+/// The settings file of the test of faults.
+const SETTINGS: &str = "/tmp/capsched_faults.settings";
+
+/// Another value in the words of a daemon on a port that is taken and with a settings file that is missing; the exit status, what is printed, and what is said
+/// of the first fault.
+const FAULTS: [(usize, &str, u8, &str, &str); 4] = [
+    (WORKERS, "none", 2, "", "error: "),
+    (CONFIG, MISSING, 1, "", "settings file: "),
+    (CONFIG, EMPTY, 2, "config 0 10\n", ""),
+    (CONFIG, SETTINGS, 1, "", "listener: "),
+];
+
+/// Whether the first fault is told on this port, which is taken.
+fn is_told<
+    H: Net<Listener = TcpListener, Stream = TcpStream>
+        + Threads
+        + Wait
+        + Clock
+        + Eprint
+        + Files
+        + AllocGlobal
+        + Sync,
+>(rt: &H, port: &str, fault: (usize, &str, u8, &str, &str)) -> bool {
+    let (place, value, status, printed, said) = fault;
+    let words = with_value(&WORDS, PORT, port);
+    let words = with_value(&words, place, value);
+    let ran = run_words(rt, words.as_slice());
+    ran.status == status
+        && ran.printed.as_slice() == printed.as_bytes()
+        && ran.complaint.as_str().starts_with(said)
+}
+
+#[test]
+fn faults_have_an_order(rt: HostRuntime) -> Result<(), Fail> {
+    let taken = TcpListener::bind(&rt, "127.0.0.1:0")?;
+    let port = format!(in rt.alloc(); "{}", taken.local_addr()?.port())?;
+    fs::write(&rt, SETTINGS, QUEUES)?;
+    for fault in FAULTS {
+        assert!(rt; is_told(&rt, port.as_str(), fault), "{}", fault.1);
+    }
+    fs::remove_file(&rt, SETTINGS)?;
+    Ok(())
+}
+
+/// A client of the daemon on this port.
+trait Visitor {
+    /// Whether all was answered as it has to be. An error means that a socket failed.
+    fn visit<H: Net<Listener = TcpListener, Stream = TcpStream> + Clock>(
+        &self,
+        rt: &H,
+        alloc: Global,
+        port: u16,
+    ) -> io::Result<bool>;
+}
+
+/// A connection to the daemon, once it listens. A read fails after 10 seconds.
+fn connect_late<H: Net<Listener = TcpListener, Stream = TcpStream> + Clock>(
+    rt: &H,
+    port: u16,
+) -> io::Result<TcpStream> {
+    for _ in 0..500 {
+        if let Ok(stream) = connect(rt, port) {
+            return Ok(stream);
+        }
+        sleep(rt, Duration::from_millis(10));
+    }
+    connect(rt, port)
+}
+
+/// Sends so many ClusterInfos at once, and reads their answers.
+#[derive(Drop)]
+struct Asks {
+    count: usize,
+}
+
+impl Visitor for Asks {
+    fn visit<H: Net<Listener = TcpListener, Stream = TcpStream> + Clock>(
+        &self,
+        rt: &H,
+        alloc: Global,
+        port: u16,
+    ) -> io::Result<bool> {
+        are_answered(alloc, &connect_late(rt, port)?, self.count)
+    }
+}
+
+/// Whether a ClusterInfo of the first connection is answered, and not one of the second.
+fn is_first_answered(alloc: Global, first: &TcpStream, second: &TcpStream) -> io::Result<bool> {
+    let mut second = second;
+    second.write_all(&ASK)?;
+    let is_first = are_answered(alloc, first, 1)?;
+    let mut byte = [0u8; 1];
+    Ok(is_first && !matches!(second.read(&mut byte), Ok(1)))
+}
+
+/// Finds that the daemon listens on 127.0.0.1 alone, and that it answers one connection and not the one after it.
+#[derive(Drop)]
+struct Second;
+
+impl Visitor for Second {
+    fn visit<H: Net<Listener = TcpListener, Stream = TcpStream> + Clock>(
+        &self,
+        rt: &H,
+        alloc: Global,
+        port: u16,
+    ) -> io::Result<bool> {
+        let first = connect_late(rt, port)?;
+        let is_elsewhere = TcpStream::connect(rt, ("127.0.0.2", port)).is_ok();
+        let second = connect_late(rt, port)?;
+        Ok(is_first_answered(alloc, &first, &second)? && !is_elsewhere)
+    }
+}
+
+/// The words of a daemon with this port, settings file and length of journals.
+fn daemon_words<'a>(port: &'a str, settings: &'a str, journal: &'a str) -> [&'a str; 14] {
+    [
+        "capsched",
+        "serve",
+        "--port",
+        port,
+        "--workers",
+        "1",
+        "--config",
+        settings,
+        "--connections",
+        "1",
+        "--journal",
+        journal,
+        "--lanes",
+        "64",
+    ]
+}
+
+/// What came of the program on these words, which serves on this port, and whether the visitor was answered.
+fn beside_program<
+    H: Net<Listener = TcpListener, Stream = TcpStream>
+        + Threads
+        + Wait
+        + Clock
+        + Eprint
+        + Files
+        + AllocGlobal
+        + Sync,
+    V: Visitor + Sync,
+>(rt: &H, port: u16, words: &[&str], visitor: &V) -> (bool, Ran) {
+    let alloc = rt.alloc();
+    join(
+        rt,
+        || visitor.visit(rt, alloc, port).unwrap_or(false),
+        || run_words(rt, words),
+    )
+}
+
+/// Whether the port and then this line were printed.
+fn is_printed(alloc: Global, ran: &Ran, port: u16, line: &str) -> io::Result<bool> {
+    let printed = format!(in alloc; "listening {port}\n{line}\n")?;
+    Ok(ran.printed.as_slice() == printed.as_bytes())
+}
+
+/// What came of a daemon on this port: whether the visitor was answered, the exit status, and whether the port and then this line were printed.
+fn visited_on<
+    H: Net<Listener = TcpListener, Stream = TcpStream>
+        + Threads
+        + Wait
+        + Clock
+        + Eprint
+        + Files
+        + AllocGlobal
+        + Sync,
+    V: Visitor + Sync,
+>(
+    rt: &H,
+    number: u16,
+    (settings, journal): (&str, &str),
+    visitor: &V,
+    line: &str,
+) -> io::Result<(bool, u8, bool)> {
+    let port = format!(in rt.alloc(); "{number}")?;
+    let words = daemon_words(port.as_str(), settings, journal);
+    let (answered, ran) = beside_program(rt, number, words.as_slice(), visitor);
+    let printed = is_printed(rt.alloc(), &ran, number, line)?;
+    Ok((answered, ran.status, printed))
+}
+
+/// The same on a port that is free, with a settings file that this makes.
+fn visited<
+    H: Net<Listener = TcpListener, Stream = TcpStream>
+        + Threads
+        + Wait
+        + Clock
+        + Eprint
+        + Files
+        + AllocGlobal
+        + Sync,
+    V: Visitor + Sync,
+>(rt: &H, settings: &str, journal: &str, visitor: &V, line: &str) -> io::Result<(bool, u8, bool)> {
+    let port = free_port(rt)?;
+    fs::write(rt, settings, QUEUES)?;
+    let outcome = visited_on(rt, port, (settings, journal), visitor, line)?;
+    fs::remove_file(rt, settings)?;
+    Ok(outcome)
+}
+
+#[test]
+fn a_journal_has_a_limit(rt: HostRuntime) -> Result<(), Fail> {
+    for (journal, count, line) in [
+        ("4", 6, "closed epochs=2 entries=6"),
+        ("7", 6, "closed epochs=1 entries=6"),
+        ("4096", 5000, "closed epochs=2 entries=5000"),
+    ] {
+        let visitor = Asks { count };
+        let outcome = visited(&rt, "/tmp/capsched_limit.settings", journal, &visitor, line)?;
+        assert!(rt; outcome == (true, 0, true), "{journal}");
+    }
+    Ok(())
+}
+
+#[test]
+fn one_connection_is_accepted_and_no_more(rt: HostRuntime) -> Result<(), Fail> {
+    let line = "closed epochs=1 entries=1";
+    let outcome = visited(&rt, "/tmp/capsched_second.settings", "4", &Second, line)?;
+    assert!(rt; outcome == (true, 0, true));
+    Ok(())
+}
