@@ -2,13 +2,16 @@
 //!
 //!     load port                                     prints a port that is free
 //!     load info PORT CONNECTIONS WINDOW REQUESTS    keeps WINDOW ClusterInfos in flight on each connection, REQUESTS in all on each
+//!     load info PORT .. REQUESTS QUIET              the same beside QUIET connections that say nothing
 //!     load cluster PORT NODES APPS QUEUES SECONDS   a cluster in which containers are asked for, granted and ended all the time, over 9 connections
+//!     load busy PORT NODES MASTERS QUEUES SECONDS   node managers, masters and an operator, each on a connection of its own, that call as fast as they are answered
 //!     load quiet PORT CONNECTIONS NODES SECONDS PID connections to the process PID that say nothing, once the first has registered the nodes
 //!     load stopped PORT CONNECTIONS PID             calls on each connection before and after the process PID is stopped and continues
 //!
-//! `info` takes as an answer a reply with success, or the request itself as echo_run writes it back. `cluster` submits its applications in turn to the
-//! queues root.q1, root.q2 and so on, on a server that has just begun.
-use std::collections::VecDeque;
+//! `info` takes as an answer a reply with success, or the request itself as echo_run writes it back. `cluster` and `busy` submit their applications in turn
+//! to the queues root.q1, root.q2 and so on, on a server that has just begun. `busy` holds the answers against each other: each container is granted once,
+//! for an ask of its master, and ends once; and nothing is left at the end.
+use std::collections::{HashSet, VecDeque};
 use std::env;
 use std::fs;
 use std::io::{self, BufReader, Read, Write};
@@ -22,8 +25,10 @@ use std::time::{Duration, Instant};
 const SUBMIT: u8 = 1;
 const REGISTER_MASTER: u8 = 2;
 const ALLOCATE: u8 = 3;
+const FINISH_MASTER: u8 = 4;
 const REGISTER_NODE: u8 = 5;
 const HEARTBEAT: u8 = 6;
+const QUEUE_INFO: u8 = 8;
 const CLUSTER_INFO: u8 = 10;
 
 /// Version, kind and call id.
@@ -39,6 +44,10 @@ const WARM_UP: Duration = Duration::from_secs(1);
 const PAUSE: Duration = Duration::from_millis(1);
 /// How many containers an application always wants.
 const WANTED: u32 = 64;
+/// How many containers a busy master asks for at once.
+const BUSY_WANTED: u32 = 4;
+/// How often a master allocates at most until all that it has released has ended.
+const LAST_ALLOCATES: usize = 1000;
 /// The most ended containers in one heartbeat.
 const ENDED_MAX: usize = 1024;
 
@@ -58,8 +67,17 @@ fn main() -> Result<()> {
         (Some("info"), &[port, connections, window, requests]) => {
             info(port, connections, window, requests)?
         }
+        (Some("info"), &[port, connections, window, requests, quiet]) => {
+            let _quiet: Vec<Connection> = (0..quiet)
+                .map(|_| Connection::open(port))
+                .collect::<io::Result<_>>()?;
+            info(port, connections, window, requests)?
+        }
         (Some("cluster"), &[port, nodes, apps, queues, seconds]) => {
             cluster(port, nodes, apps, queues, seconds as u64)?
+        }
+        (Some("busy"), &[port, nodes, masters, queues, seconds]) => {
+            busy(port, nodes, masters, queues, seconds as u64)?
         }
         (Some("quiet"), &[port, connections, nodes, seconds, pid]) => {
             quiet(port, connections, nodes, seconds as u64, pid)?
@@ -520,4 +538,214 @@ impl Cluster {
         print_times(times);
         Ok(())
     }
+}
+
+/// A master on a connection of its own: it asks for containers, and releases what it was granted when it asks again.
+struct Master {
+    connection: Connection,
+    number: u64,
+    response: u32,
+    /// How many it was told of its last ask.
+    granted: u32,
+    held: Vec<u64>,
+    /// What was released, and has not ended yet.
+    released: HashSet<u64>,
+    /// All that it was ever granted.
+    ever: Vec<u64>,
+}
+
+impl Master {
+    fn open(port: usize, queue: &str) -> Result<Master> {
+        let mut lane = Lane::open(port)?;
+        lane.add_app(queue)?;
+        let number = lane.callers.first().map_or(0, |app| app.number);
+        Ok(Master {
+            connection: lane.connection,
+            number,
+            response: 0,
+            granted: 0,
+            held: Vec::new(),
+            released: HashSet::new(),
+            ever: Vec::new(),
+        })
+    }
+
+    /// Asks for so many containers, if it asks, releases all that it holds, and holds the answer against what was asked for and released.
+    fn allocate(&mut self, wanted: Option<u32>) -> Result<()> {
+        let releases = std::mem::take(&mut self.held);
+        let mut body = self.number.to_be_bytes().to_vec();
+        body.extend_from_slice(&self.response.to_be_bytes());
+        body.extend_from_slice(&u16::from(wanted.is_some()).to_be_bytes());
+        if let Some(wanted) = wanted {
+            body.extend_from_slice(&1u32.to_be_bytes());
+            body.extend_from_slice(&self.number.to_be_bytes());
+            body.extend_from_slice(&wanted.to_be_bytes());
+            put_resource(&mut body, 1024, 1);
+            put_text(&mut body, "*");
+        }
+        body.extend_from_slice(&(releases.len() as u16).to_be_bytes());
+        body.extend(releases.iter().flat_map(|container| container.to_be_bytes()));
+        self.released.extend(&releases);
+        let mut reply = self.connection.call(ALLOCATE, &body)?;
+        self.response = reply.number(4)? as u32;
+        if reply.number(2)? != 0 {
+            return Err("a release of a container that lives was ignored".into());
+        }
+        for _ in 0..reply.number(1)? {
+            let container = reply.number(8)?;
+            if (reply.number(4)?, reply.number(8)?) != (1, self.number) {
+                return Err("a grant of an ask that was not made".into());
+            }
+            reply.skip(8);
+            let host = reply.number(1)? as usize;
+            reply.skip(host);
+            if (reply.number(8)?, reply.number(8)?) != (1024, 1) {
+                return Err("a grant of another resource".into());
+            }
+            self.granted += 1;
+            self.held.push(container);
+            self.ever.push(container);
+        }
+        if self.granted > BUSY_WANTED {
+            return Err("more grants than were asked for".into());
+        }
+        for _ in 0..reply.number(1)? {
+            let container = reply.number(8)?;
+            if !self.released.remove(&container) || reply.number(1)? != 1 {
+                return Err("an end of a container that was not released".into());
+            }
+        }
+        Ok(())
+    }
+
+    /// Asks again as soon as all that it asked for was granted. Returns all that it was ever granted.
+    fn run(
+        mut self,
+        ends: &AtomicBool,
+        calls: &AtomicU64,
+        granted: &AtomicU64,
+    ) -> Result<Vec<u64>> {
+        self.allocate(Some(BUSY_WANTED))?;
+        while !ends.load(SeqCst) {
+            let before = self.ever.len();
+            if self.granted == BUSY_WANTED {
+                self.granted = 0;
+                self.allocate(Some(BUSY_WANTED))?;
+            } else {
+                self.allocate(None)?;
+            }
+            calls.fetch_add(1, SeqCst);
+            granted.fetch_add((self.ever.len() - before) as u64, SeqCst);
+        }
+        self.allocate(Some(0))?;
+        for _ in 0..LAST_ALLOCATES {
+            if self.held.is_empty() && self.released.is_empty() {
+                break;
+            }
+            self.allocate(None)?;
+        }
+        let number = self.number.to_be_bytes();
+        let ended = self.connection.call(FINISH_MASTER, &number)?.number(4)?;
+        if ended != 0 || !self.released.is_empty() {
+            return Err("containers are left to a master that has released all".into());
+        }
+        Ok(self.ever)
+    }
+}
+
+/// Calls as fast as it is answered, until the others end, and counts its calls.
+fn repeat(
+    mut connection: Connection,
+    ends: &AtomicBool,
+    calls: &AtomicU64,
+    mut call: impl FnMut(&mut Connection) -> Result<()>,
+) -> Result<()> {
+    while !ends.load(SeqCst) {
+        call(&mut connection)?;
+        calls.fetch_add(1, SeqCst);
+    }
+    Ok(())
+}
+
+/// A heartbeat of the node on a lane, on which nothing has ended.
+fn beat(connection: &mut Connection, node: &mut Caller) -> Result<()> {
+    let mut body = node.number.to_be_bytes().to_vec();
+    body.extend_from_slice(&node.response.to_be_bytes());
+    body.extend_from_slice(&0u16.to_be_bytes());
+    node.response = connection.call(HEARTBEAT, &body)?.number(4)? as u32;
+    Ok(())
+}
+
+fn busy(port: usize, nodes: usize, masters: usize, queues: usize, seconds: u64) -> Result<()> {
+    let mut operator = Connection::open(port)?;
+    let mut managers = Vec::new();
+    for index in 0..nodes {
+        let mut lane = Lane::open(port)?;
+        lane.add_node(&format!("n{index}"))?;
+        managers.push(lane);
+    }
+    let opened: Vec<Master> = (0..masters)
+        .map(|index| Master::open(port, &format!("root.q{}", index % queues + 1)))
+        .collect::<Result<_>>()?;
+    let (ends, over) = (AtomicBool::new(false), AtomicBool::new(false));
+    let (calls, granted) = (AtomicU64::new(0), AtomicU64::new(0));
+    let ever = thread::scope(|scope| -> Result<Vec<u64>> {
+        let (ends, over, calls, granted) = (&ends, &over, &calls, &granted);
+        let mut others = Vec::new();
+        for Lane {
+            connection,
+            mut callers,
+        } in managers
+        {
+            others.push(scope.spawn(move || {
+                repeat(connection, over, calls, |connection| {
+                    callers.iter_mut().try_for_each(|node| beat(connection, node))
+                })
+            }));
+        }
+        let asking: Vec<_> = opened
+            .into_iter()
+            .map(|master| scope.spawn(move || master.run(ends, calls, granted)))
+            .collect();
+        let looking = scope.spawn(|| -> Result<()> {
+            let mut queue = 0;
+            while !over.load(SeqCst) {
+                let mut body = Vec::new();
+                put_text(&mut body, &format!("root.q{}", queue % queues + 1));
+                operator.call(QUEUE_INFO, &body)?;
+                calls.fetch_add(1, SeqCst);
+                queue += 1;
+            }
+            let mut info = operator.call(CLUSTER_INFO, &[])?;
+            info.skip(4);
+            if (info.number(4)?, info.number(4)?) != (0, 0) {
+                return Err("applications or containers are left at the end".into());
+            }
+            Ok(())
+        });
+        thread::sleep(WARM_UP);
+        let (begin, called, told) = (Instant::now(), calls.load(SeqCst), granted.load(SeqCst));
+        thread::sleep(Duration::from_secs(seconds));
+        let passed = begin.elapsed().as_secs_f64();
+        println!("{:.0} requests a second", (calls.load(SeqCst) - called) as f64 / passed);
+        println!("{:.0} grants a second", (granted.load(SeqCst) - told) as f64 / passed);
+        ends.store(true, SeqCst);
+        let mut ever = Vec::new();
+        for thread in asking {
+            ever.append(&mut thread.join().map_err(|_| "a thread has panicked")??);
+        }
+        over.store(true, SeqCst);
+        for thread in others {
+            thread.join().map_err(|_| "a thread has panicked")??;
+        }
+        looking.join().map_err(|_| "a thread has panicked")??;
+        Ok(ever)
+    })?;
+    let all = ever.len();
+    let once: HashSet<u64> = ever.into_iter().collect();
+    if once.len() != all {
+        return Err("a container was granted twice".into());
+    }
+    println!("{all} containers were granted, each once, and each has ended once");
+    Ok(())
 }

@@ -1,12 +1,17 @@
 #!/usr/bin/env bash
-# The daemon on the loopback. First ClusterInfos over 1, 16 and 128 connections with 16 in flight on each: how many a second `capsched serve` answers,
-# beside how many frames a second `echo_run` writes back as they came, the median of five runs of each, in turn; fails where the daemon makes less than
-# half of what echo_run makes. Then a cluster of 512 nodes, 64 leaf queues and 256 applications, in which masters ask and nodes end all that runs on them every
-# 100 ms: grants a second by 1, 2 and 4 workers, without a committer (lanes=0) and with lanes of so many places (1 to 6 count as 7) to one, and how long a ClusterInfo takes
-# meanwhile; fails where its 99th percentile with 4 workers and 64 places is above 60 ms. Last how much of a core the daemon takes while nobody says
-# anything, with 512 nodes: fails where one worker with 16 connections takes 1 % or more, or 8 workers with 128 take 5 % or more. And whether all
-# connections are still answered after the daemon was stopped and continued. A number as the argument is for how many seconds each cluster is measured,
-# 10 without. Figures depend on the machine, and on what else runs there. Needs rustc for the load.
+# The daemon on the loopback. First ClusterInfos over 1, 16 and 128 connections with 16 in flight on each: how many a second `capsched serve` answers, beside
+# how many frames a second `echo_run` writes back as they came, the median of five runs of each, in turn, with epochs of 4,096 entries and of 131,072, and the
+# number and the longest time of changes of epochs in the last run, and those of a daemon with 127 connections that say nothing and one that calls; fails
+# where the daemon makes less than half of what echo_run makes, where it makes with 4,096 less than 0.8 of what it makes with 131,072, or where a change takes
+# 5 ms or more. Then a cluster of 512 nodes, 64 leaf queues and 256 applications, in which masters ask and nodes end all that runs on them every 100 ms:
+# grants a second by 1, 2 and 4 workers, without a committer (lanes=0) and with lanes of so many places to one, and how long a ClusterInfo takes meanwhile;
+# fails where its 99th percentile with 4 workers and 64 places is above 60 ms. Then a busy cluster: 60 node managers that heartbeat, 60 masters that ask,
+# release and ask again, in queues at their maxima, and an operator, each as fast as it is answered, and all answers are held against each other: grants a
+# second and how many proposals are rejected for each that is made, by 1, 2 and 4 workers, directly and through 64 places; fails where 4 workers make fewer
+# than 5,000 grants a second or fewer than 1 worker, where they make less than 0.9 of that through lanes, or where more than 0.2 proposals are rejected for
+# each that is made. Last how much of a core the daemon takes while nobody says anything, with 512 nodes: fails where one worker with 16 connections takes 1 %
+# or more, or 8 workers with 128 take 5 % or more. And whether all connections are still answered after the daemon was stopped and continued. A number as the
+# argument is for how many seconds each cluster is measured, 10 without. Figures depend on the machine, and on what else runs there. Needs rustc for the load.
 . "$(dirname "${BASH_SOURCE[0]}")/common.sh"
 seconds=${1:-10}
 requests=1920000
@@ -17,8 +22,8 @@ build_capsched
 (cd "$top/crates/echo_run" && rt run >"$work/log" 2>&1) || { tail -n 5 "$work/log" >&2; exit 1; }
 rustc --edition 2021 -O -o "$work/load" "$top/bench/load.rs"
 
-# serve WORKERS CONNECTIONS LANES, echo_back CONNECTIONS: begins a server on a free port
-serve() { begin "$program" serve --port "$port" --workers "$1" --config "$work/config" --connections "$2" --lanes "$3"; }
+# serve WORKERS CONNECTIONS LANES [JOURNAL], echo_back CONNECTIONS: begins a server on a free port
+serve() { begin "$program" serve --port "$port" --workers "$1" --config "$work/config" --connections "$2" --lanes "$3" --journal "${4:-4096}"; }
 echo_back() { begin "$top/crates/echo_run/out/echo_run" "$port" "$1"; }
 
 # begins a server, and waits until it listens
@@ -49,6 +54,9 @@ run_once() {
   echo "$(figure 'requests a second') $(figure 'microseconds at the 99th')" >>"$1"
 }
 
+# changes_of JOURNAL: keeps how many changes of epochs the last server made, and the longest, in microseconds
+changes_of() { sed -n 's/^epochs: \([0-9]*\) changes, at most \([0-9]*\) microseconds$/\1 \2/p' "$work/messages" >"$work/changes_$1"; }
+
 # median NAME: `rate` and `slowest` of the run in the middle, which it prints with that name
 median() {
   read -r rate slowest < <(sort -n "$work/$1" | sed -n "$(((runs + 1) / 2))p")
@@ -56,19 +64,40 @@ median() {
   echo "connections=$connections $1: $slowest us at the 99th percentile"
 }
 
+# changed NAME JOURNAL: how many changes `changes_of` has kept, and the longest, which is to be under 5 ms
+changed() {
+  read -r changes longest <"$work/changes_$2"
+  echo "$1 journal=$2: $changes changes of epochs, at most $longest us"
+  [ "$longest" -lt 5000 ] || { echo "that is not under 5000 us" >&2; broken=1; }
+}
+
 broken=0
 cp "$top/examples/serve.conf" "$work/config"
 for connections in 1 16 128; do
-  rm -f "$work/echo_run" "$work/capsched"
+  rm -f "$work/echo_run" "$work/capsched" "$work/capsched_131072"
   for _ in $(seq "$runs"); do
     run_once "$work/echo_run" "$connections" echo_back "$connections"
+    run_once "$work/capsched_131072" "$connections" serve 1 "$connections" 64 131072
+    changes_of 131072
     run_once "$work/capsched" "$connections" serve 1 "$connections" 64
+    changes_of 4096
   done
   median echo_run
   peer=$rate
+  median capsched_131072
+  long=$rate
   median capsched
   ratio "$rate" "$peer" 2 || broken=1
+  ratio "$rate" "$long" 1.25 || broken=1
+  for journal in 131072 4096; do
+    changed "connections=$connections" "$journal"
+  done
 done
+port=$("$work/load" port)
+serve 1 128 64
+load info "$port" 1 16 "$requests" 127
+changes_of 4096
+changed "connections=128, 127 of them quiet" 4096
 
 awk 'BEGIN {
   for (i = 1; i <= 64; i++) leaves = leaves (i > 1 ? "," : "") "q" i
@@ -78,7 +107,7 @@ awk 'BEGIN {
     print "yarn.scheduler.capacity.root.q" i ".user-limit-factor=16"
   }
 }' >"$work/config"
-for run in '1 0' '2 0' '4 0' '1 64' '2 64' '4 1' '4 8' '4 64'; do
+for run in '1 0' '2 0' '4 0' '1 64' '2 64' '4 8' '4 64'; do
   read -r workers lanes <<<"$run"
   port=$("$work/load" port)
   serve "$workers" 9 "$lanes"
@@ -91,6 +120,39 @@ for run in '1 0' '2 0' '4 0' '1 64' '2 64' '4 1' '4 8' '4 64'; do
   echo "workers=$workers lanes=$lanes: $(tail -n 1 "$work/messages")"
 done
 [ "$slowest" -le 60000 ] || { echo "with 4 workers a ClusterInfo takes more than 60000 us at the 99th percentile" >&2; broken=1; }
+
+# busy WORKERS LANES: how a busy cluster is scheduled: `grants` a second, and `rejected` for each proposal that was made
+busy() {
+  port=$("$work/load" port)
+  serve "$1" 121 "$2"
+  load busy "$port" 60 60 5 "$seconds"
+  grants=$(figure 'grants a second')
+  read -r made rejected < <(sed -n 's/^proposals: \([0-9]*\) made, \([0-9]*\) rejected$/\1 \2/p' "$work/messages")
+  rejected=$(awk -v made="$made" -v rejected="$rejected" 'BEGIN { printf "%.3f", rejected / (made > 0 ? made : 1) }')
+  echo "busy, workers=$1 lanes=$2: $(figure 'requests a second') requests and $grants grants a second, $rejected rejected for each made; $(sed -n 's/^epochs: //p' "$work/messages")"
+  awk -v r="$rejected" 'BEGIN { exit r > 0.2 }' || { echo "that is more than 0.2" >&2; broken=1; }
+}
+
+awk 'BEGIN {
+  print "yarn.scheduler.capacity.root.queues=q1,q2,q3,q4,q5"
+  for (i = 1; i <= 5; i++) {
+    print "yarn.scheduler.capacity.root.q" i ".capacity=[memory=16384,vcores=16]"
+    print "yarn.scheduler.capacity.root.q" i ".maximum-capacity=[memory=32768,vcores=32]"
+    print "yarn.scheduler.capacity.root.q" i ".user-limit-factor=2"
+  }
+}' >"$work/config"
+for lanes in 0 64; do
+  busy 1 "$lanes"
+  one=$grants
+  busy 2 "$lanes"
+  busy 4 "$lanes"
+  [ "$grants" -ge 5000 ] || { echo "4 workers make fewer than 5000 grants a second" >&2; broken=1; }
+  [ "$grants" -ge "$one" ] || { echo "4 workers make fewer grants than 1" >&2; broken=1; }
+  [ "$lanes" -ne 0 ] || directly=$grants
+done
+echo "busy: through 64 places 4 workers make $grants grants a second, directly $directly"
+[ $((grants * 10)) -ge $((directly * 9)) ] || { echo "that is less than 0.9 of it" >&2; broken=1; }
+
 for run in '1 16 10' '8 128 50'; do
   read -r workers connections most <<<"$run"
   port=$("$work/load" port)
