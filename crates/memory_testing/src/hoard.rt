@@ -1,3 +1,5 @@
+//! A hoard: all memory that the system gives this process, kept but for what a test leaves (`Hoard`).
+
 use std::alloc::Global;
 
 /// Blocks at most that a hoard takes from the system.
@@ -25,6 +27,11 @@ const LARGEST: usize = 1 << 46;
 
 /// The largest piece of the room, as large as the room.
 const LARGEST_PIECE: usize = ROOM_BLOCKS * ROOM_BLOCK;
+
+/// How many bytes of the stack a level of `touch_stack` takes at least, and how many levels there are: 1 MiB in all.
+const LEVEL: usize = 65_536;
+
+const LEVELS: &[u8] = b"0123456789abcdef";
 
 /// All that the system gives this process, kept so that nobody else has it, but for a room of 64 blocks of 65,536 bytes in which fixtures
 /// are made. It lasts until it is dropped.
@@ -80,13 +87,41 @@ fn room(alloc: Global) -> Option<Vec<Vec<u8>>> {
     Some(blocks)
 }
 
+/// Touches the stack below, one level after the other, so that the system has given it its addresses: where others have those below it, a
+/// stack can't grow any more. Each level is filled with what the one above it ends with, so that no compiler leaves one out; the result
+/// is that of the last.
+fn touch_stack(levels: &[u8], above: &[u8]) -> u8 {
+    let last = above.last().copied().unwrap_or(0);
+    let [level, below @ ..] = levels else {
+        return last;
+    };
+    let mut room = [last; LEVEL];
+    if let Some(end) = room.last_mut() {
+        *end = *level;
+    }
+    touch_stack(below, &room)
+}
+
 impl Hoard {
-    /// Takes all memory but the room. `None` where the system gives too little for it.
+    /// Takes all memory but the room. At least 1 MiB of this thread's stack is then there. `None` where the system gives too little for it.
     pub fn new(alloc: Global) -> Option<Hoard> {
+        Hoard::beside_threads(alloc, 0)
+    }
+
+    /// The same, but for the addresses of so many bytes more, in one piece, for the stacks of threads that begin later and what they
+    /// allocate. `leave` takes those too that no thread has by then. Less than 32,000,000 bytes, and before any thread begins: glibc makes a
+    /// heap of 64 MiB for a thread where it can, out of which no hoard takes anything; where it can't, each allocation of the thread takes
+    /// pages of the system's.
+    pub fn beside_threads(alloc: Global, bytes: usize) -> Option<Hoard> {
+        if touch_stack(LEVELS, &[]) != b'f' {
+            return None;
+        }
         let mut kept = Vec::with_capacity(alloc, BLOCKS).ok()?;
         let pieces = Vec::with_capacity(alloc, PIECES).ok()?;
         let blocks = room(alloc)?;
+        let stacks = Vec::<u8>::with_capacity(alloc, bytes).ok()?;
         take_rest(alloc, &mut kept, LARGEST);
+        drop(stacks);
         drop(blocks);
         Some(Hoard { kept, pieces })
     }

@@ -1,3 +1,5 @@
+//! A call that is made where 0 bytes are left, then 16 more each time, until it is done (`refuse_in_turn`).
+
 use crate::hoard::Hoard;
 use std::alloc::Global;
 

@@ -1,4 +1,4 @@
-//! Calls and commits that take memory: where it is refused they say so and change nothing, and they are made once it is there.
+//! Tests of calls and commits whose memory is refused: they say so, change nothing, and are made once it is there.
 use crate::fixture::{Answer, Row, Step, came};
 use crate::table::{
     ASKING, BEAT, GRANT, MASTER, NODE, ONE, ONE_LIVE, RESERVE, RESERVED, SIX_LIVE, SUBMIT, TWO_LIVE,

@@ -1,5 +1,6 @@
-//! Calls that take no memory: they are answered where no bytes are left, and take none of many. A call that is refused, repeated or rejected is
-//! among them. No test reaches the last number of an application, a node or a container, nor 65,536 live containers.
+//! Tests of calls that take no memory: they are answered where no bytes are left, and take none of many.
+//! A call that is refused, repeated or rejected is among them. No test reaches the last number of an application, a node or a container,
+//! nor 65,536 live containers.
 use crate::fixture::{Answer, Row, Step, takes_none};
 use crate::table::{ALLOCATE, ASKING, BEAT, GRANT, MASTER, NODE, ONE, ONE_LIVE, SUBMIT, TWO_LIVE};
 use cap_model::Reason;

@@ -1,8 +1,10 @@
-//! Plays each script of standard input, and prints what it prints and the status that it ends with. A script follows a line
-//! `== NAME`, and ends before the line feed in front of the next one.
+//! Plays each script of standard input, and prints what it prints and the status that it ends with.
+//! A script follows a line `== NAME`, and ends before the line feed in front of the next one.
 #![tactic(auto)]
 
 mod play;
+#[cfg(test)]
+mod refusals;
 #[cfg(test)]
 mod streams;
 

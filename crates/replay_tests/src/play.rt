@@ -1,3 +1,5 @@
+//! A script played in memory, to its exit status and what it prints (`run`).
+
 use cap_replay::{Counted, replay};
 use std::alloc::Global;
 
@@ -11,4 +13,17 @@ pub fn run(alloc: Global, script: &str) -> (u8, Vec<u8>) {
         &mut Counted::new(&mut output),
     );
     (status, output)
+}
+
+/// Plays a script into this room: the status, and how many bytes of the room are left.
+#[cfg(test)]
+pub fn play_into(alloc: Global, script: &[u8], room: &mut [u8]) -> (u8, usize) {
+    let mut input = script;
+    let mut output = room;
+    let status = replay(
+        alloc,
+        &mut Counted::new(&mut input),
+        &mut Counted::new(&mut output),
+    );
+    (status, output.len())
 }

@@ -1,7 +1,7 @@
-use crate::play::run as play_script;
+//! Tests of the program's words and streams: exit statuses, readers and writers that fail, refused memory.
+
+use crate::play::{play_into, run as play_script};
 use cap_daemon::{Counted, run};
-use cap_replay::replay;
-use std::alloc::Global;
 use std::cell::Cell;
 use std::io::{self, Read, Write};
 use std::net::{Net, TcpListener, TcpStream};
@@ -273,18 +273,6 @@ fn a_closed_output_ends_the_program(rt: HostRuntime) {
     let played = play(&rt, &["capsched", "replay"], &pieces, false, 1);
     assert!(rt; (played.status, played.failures) == (1, (0, 1)));
     assert!(rt; played.printed.as_slice() == b"opened 1\n".as_slice());
-}
-
-/// Plays a script into this room: the status, and how many bytes of the room are left.
-fn play_into(alloc: Global, script: &[u8], room: &mut [u8]) -> (u8, usize) {
-    let mut input = script;
-    let mut output = room;
-    let status = replay(
-        alloc,
-        &mut Counted::new(&mut input),
-        &mut Counted::new(&mut output),
-    );
-    (status, output.len())
 }
 
 // Under `--fail-alloc` this passes whichever allocation fails: no answer changes in place of the refusal.

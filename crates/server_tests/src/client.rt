@@ -79,7 +79,7 @@ pub fn call(alloc: Global, stream: &TcpStream, call: &Call<'_>) -> io::Result<Ve
     Ok(payload)
 }
 
-fn send(stream: &TcpStream, bytes: &[u8]) -> io::Result<()> {
+pub fn send(stream: &TcpStream, bytes: &[u8]) -> io::Result<()> {
     let mut stream = stream;
     stream.write_all(bytes)
 }

@@ -23,6 +23,10 @@ impl Mark {
         self.count.store(count, Ordering::SeqCst);
     }
 
+    pub fn add_one(&self) {
+        let _before = self.count.fetch_add(1, Ordering::SeqCst);
+    }
+
     pub fn is_reached(&self, count: u64) -> bool {
         self.count.load(Ordering::SeqCst) >= count
     }
@@ -189,5 +193,26 @@ impl Gate for Holding {
         };
         self.held.reach(step);
         let _in_time = self.let_go.awaits(step);
+    }
+}
+
+/// Holds a worker where it has first copied the cluster until it is let go, and counts how often it proposes.
+#[derive(Drop)]
+pub struct HoldingOnce {
+    pub copied: Mark,
+    pub let_go: Mark,
+    pub proposed: Mark,
+}
+
+impl Gate for HoldingOnce {
+    fn at(&self, _worker: u32, point: Point) {
+        match point {
+            Point::Copied => {
+                self.copied.reach(1);
+                let _in_time = self.let_go.awaits(1);
+            }
+            Point::Proposed => self.proposed.add_one(),
+            Point::Committed(_) => {}
+        }
     }
 }

@@ -1,3 +1,5 @@
+//! Tests of connections that send garbage, are cut off or never read, beside one that is answered all the time.
+
 use crate::client::{ASK, BAD_LENGTH, ask_last, connect, is_answered, is_taken};
 use crate::side::{Client, beside_daemon, number_after, said};
 use cap_server::Sizes;

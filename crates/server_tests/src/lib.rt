@@ -14,6 +14,8 @@ mod interrupted;
 #[cfg(test)]
 mod program;
 #[cfg(test)]
+mod refusals;
+#[cfg(test)]
 mod scheduling;
 #[cfg(test)]
 mod serving;

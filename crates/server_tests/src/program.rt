@@ -158,11 +158,12 @@ fn options_have_bounds(rt: HostRuntime) {
     }
 }
 
-/// Property lines without a fault, which each test writes into a file of its own.
+/// Property lines without a fault, which a test writes into a file that is named by its port, so that two runs disturb each other no more than
+/// on one port.
 const QUEUES: &[u8] = b"yarn.scheduler.capacity.root.queues=default\n";
 
-/// The settings file of the test of faults.
-const SETTINGS: &str = "/tmp/capsched_faults.settings";
+/// Stands for such a file.
+const OWN: &str = "own";
 
 /// Another value in the words of a daemon on a port that is taken and with a settings file that is missing; the exit status, what is printed, and what is said
 /// of the first fault.
@@ -170,10 +171,10 @@ const FAULTS: [(usize, &str, u8, &str, &str); 4] = [
     (WORKERS, "none", 2, "", "error: "),
     (CONFIG, MISSING, 1, "", "settings file: "),
     (CONFIG, EMPTY, 2, "config 0 10\n", ""),
-    (CONFIG, SETTINGS, 1, "", "listener: "),
+    (CONFIG, OWN, 1, "", "listener: "),
 ];
 
-/// Whether the first fault is told on this port, which is taken.
+/// Whether the first fault is told on this port, which is taken, with this settings file of the test's own.
 fn is_told<
     H: Net<Listener = TcpListener, Stream = TcpStream>
         + Threads
@@ -183,8 +184,9 @@ fn is_told<
         + Files
         + AllocGlobal
         + Sync,
->(rt: &H, port: &str, fault: (usize, &str, u8, &str, &str)) -> bool {
+>(rt: &H, port: &str, settings: &str, fault: (usize, &str, u8, &str, &str)) -> bool {
     let (place, value, status, printed, said) = fault;
+    let value = if value == OWN { settings } else { value };
     let words = with_value(&WORDS, PORT, port);
     let words = with_value(&words, place, value);
     let ran = run_words(rt, words.as_slice());
@@ -197,11 +199,13 @@ fn is_told<
 fn faults_have_an_order(rt: HostRuntime) -> Result<(), Fail> {
     let taken = TcpListener::bind(&rt, "127.0.0.1:0")?;
     let port = format!(in rt.alloc(); "{}", taken.local_addr()?.port())?;
-    fs::write(&rt, SETTINGS, QUEUES)?;
+    let settings = format!(in rt.alloc(); "/tmp/capsched_{port}.settings")?;
+    let (port, settings) = (port.as_str(), settings.as_str());
+    fs::write(&rt, settings, QUEUES)?;
     for fault in FAULTS {
-        assert!(rt; is_told(&rt, port.as_str(), fault), "{}", fault.1);
+        assert!(rt; is_told(&rt, port, settings, fault), "{}", fault.1);
     }
-    fs::remove_file(&rt, SETTINGS)?;
+    fs::remove_file(&rt, settings)?;
     Ok(())
 }
 
@@ -345,7 +349,7 @@ fn visited_on<
     Ok((answered, ran.status, printed))
 }
 
-/// The same on a port that is free, with a settings file that this makes.
+/// The same on a port that is free, with a settings file that this makes and is named by it.
 fn visited<
     H: Net<Listener = TcpListener, Stream = TcpStream>
         + Threads
@@ -356,11 +360,12 @@ fn visited<
         + AllocGlobal
         + Sync,
     V: Visitor + Sync,
->(rt: &H, settings: &str, journal: &str, visitor: &V, line: &str) -> io::Result<(bool, u8, bool)> {
+>(rt: &H, journal: &str, visitor: &V, line: &str) -> io::Result<(bool, u8, bool)> {
     let port = free_port(rt)?;
-    fs::write(rt, settings, QUEUES)?;
-    let outcome = visited_on(rt, port, (settings, journal), visitor, line)?;
-    fs::remove_file(rt, settings)?;
+    let settings = format!(in rt.alloc(); "/tmp/capsched_{port}.settings")?;
+    fs::write(rt, settings.as_str(), QUEUES)?;
+    let outcome = visited_on(rt, port, (settings.as_str(), journal), visitor, line)?;
+    fs::remove_file(rt, settings.as_str())?;
     Ok(outcome)
 }
 
@@ -372,7 +377,7 @@ fn a_journal_has_a_limit(rt: HostRuntime) -> Result<(), Fail> {
         ("4096", 5000, "closed epochs=2 entries=5000"),
     ] {
         let visitor = Asks { count };
-        let outcome = visited(&rt, "/tmp/capsched_limit.settings", journal, &visitor, line)?;
+        let outcome = visited(&rt, journal, &visitor, line)?;
         assert!(rt; outcome == (true, 0, true), "{journal}");
     }
     Ok(())
@@ -381,7 +386,7 @@ fn a_journal_has_a_limit(rt: HostRuntime) -> Result<(), Fail> {
 #[test]
 fn one_connection_is_accepted_and_no_more(rt: HostRuntime) -> Result<(), Fail> {
     let line = "closed epochs=1 entries=1";
-    let outcome = visited(&rt, "/tmp/capsched_second.settings", "4", &Second, line)?;
+    let outcome = visited(&rt, "4", &Second, line)?;
     assert!(rt; outcome == (true, 0, true));
     Ok(())
 }

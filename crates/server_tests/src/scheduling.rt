@@ -1,3 +1,5 @@
+//! Tests of workers in the daemon: a master is granted all that it asks for, with and without the committer.
+
 use crate::client::{call, connect};
 use crate::gates::{Committing, OwnLanes};
 use crate::side::{Client, beside_daemon, number_after, said};

@@ -1,3 +1,5 @@
+//! Tests of connections in the daemon: many at once, calls while a worker is held, a change of epochs.
+
 use crate::client::{ASK, are_answered, are_answers, call, connect, is_answered, is_taken};
 use crate::gates::{Holding, Mark, Meeting};
 use crate::side::{Client, beside_daemon, said};

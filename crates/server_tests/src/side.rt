@@ -55,6 +55,9 @@ pub fn beside_daemon<
     })
 }
 
+/// How many bytes a daemon prints at most, for which there is room from the start.
+const PRINTED_MAX: usize = 200;
+
 /// The daemon's exit status, and what it printed. The status is 2 if the lines have a fault, or if a size is out of its bounds.
 pub fn served<H: Net + Threads + Wait + Clock + Eprint + Sync, G: Gate + Sync>(
     rt: &H,
@@ -64,7 +67,9 @@ pub fn served<H: Net + Threads + Wait + Clock + Eprint + Sync, G: Gate + Sync>(
     sizes: &Sizes,
     gate: &G,
 ) -> (u8, Vec<u8>) {
-    let mut printed = Vec::new(alloc);
+    let Ok(mut printed) = Vec::with_capacity(alloc, PRINTED_MAX) else {
+        return (3, Vec::new(alloc));
+    };
     let Ok(config) = read_config(alloc, lines) else {
         return (2, printed);
     };
