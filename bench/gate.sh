@@ -1,6 +1,6 @@
 #!/usr/bin/env bash
-# What the merge gate costs, on a clone of the last commit: the processor seconds of one `rt ci`, over those that `cap_frames` by itself takes to be proved
-# in the same hour, since machines differ; fails where the ratio is above 250. With `--each` also a table of what each crate takes of it: its proof, the
+# What the merge gate costs, on a clone of the last commit: the processor seconds of one `rt ci` that takes over nothing from earlier runs, and of the wrong bodies
+# that are tried after it, over those that `cap_frames` by itself takes to be proved in the same hour, since machines differ; fails where the ratio is above 250. With `--each` also a table of what each crate takes of it: its proof, the
 # proof of its tests, and its must-fail edits, as the running provers were looked at each second. `--pace` prints what `cap_frames` takes, alone.
 . "$(dirname "${BASH_SOURCE[0]}")/common.sh"
 most=250
@@ -30,7 +30,7 @@ def look(process):
     if not words[0].endswith("/rattle") or "--crate-name" not in words:
         return
     folder = os.readlink(f"/proc/{process}/cwd")
-    if not folder.startswith((clone, "/tmp/rt-edit-")):
+    if not folder.startswith((clone, "/tmp/rt-edit-", "/tmp/wrong-body-")):
         return
     with open(f"/proc/{process}/stat", encoding="utf-8") as it:
         fields = it.read().rpartition(")")[2].split()
@@ -67,10 +67,15 @@ echo "cap_frames by itself: $pace s of a processor"
 [ "${1:-}" != --pace ] || exit 0
 [ "${1:-}" != --each ] || { watch_each >"$work/table" & watcher=$!; }
 SECONDS=0
-spend rt ci
+spend rt ci --anew
+gate=$seconds
+spend misuse/bodies.py
+seconds=$((gate + seconds))
 wall=$SECONDS
 [ "${1:-}" != --each ] || { kill "$watcher"; wait "$watcher" || true; cat "$work/table"; }
+grep ' passed, ' "$work/log" | tail -n 1
 tail -n 1 "$work/log"
 lines=$(git ls-files '*.rt' '*.antt' | xargs cat | wc -l)
-echo "the gate: $seconds s of all processors, $wall s of wall; lines: $lines, edits: $(ls crates/*/must-fail/*.edit | wc -l)"
+edits=$(ls crates/*/{must-fail,wrong-bodies}/*.edit | wc -l)
+echo "the gate: $seconds s of all processors, $((seconds - gate)) of them for wrong bodies, $wall s of wall; lines: $lines, edits: $edits"
 ratio "$pace" "$seconds" "$most"
