@@ -1,3 +1,4 @@
+//! One active application (`App`): its leaf queue and user, the state of its master, its asks and its news.
 ghost use Rattle.std.specs.Prelude.{◌≡◌, ◌+◌, ◌<◌, ◌≤◌, [], ◌∷◌, ◌++◌, true, false, Some, is_some, length, option_map, IfSome, IfOk, OnOk, IsOk};
 ghost use Rattle.cap_model.specs.Flat.{ask_at};
 ghost use Rattle.cap_model.specs.Limits.{live_max};

@@ -1,3 +1,4 @@
+//! The active applications by number, and the changes that calls make of one (`Apps`).
 ghost use Rattle.std.specs.Prelude.{◌≡◌, ◌+◌, ◌<◌, ◌≤◌, ◌++◌, ◌∷◌, [], true, Some, length, map, option_map, IfOk, OnOk, OnErr, IsOk, IsSome};
 ghost use Rattle.cap_model.specs.Limits.{live_max, number_end};
 ghost use Rattle.std.specs.List.{slice_get};

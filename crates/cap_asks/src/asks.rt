@@ -1,3 +1,4 @@
+//! The asks of one application, in order of key (`Asks`).
 ghost use Rattle.std.specs.Prelude.{◌≡◌, ◌+◌, ◌-◌, ◌≤◌, ◌∷◌, [], false, true, is_some, if◌then◌else◌, length, nat_lt, take, cond, not, ◌==◌, OnOk, IsOk, IfOk, IfErr};
 ghost use Rattle.std.specs.List.{fold};
 ghost use Rattle.cap_model.specs.Flat.{ask_at};

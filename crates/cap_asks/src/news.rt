@@ -1,3 +1,4 @@
+//! Grants, or ends, of one application: those that its last reply reported, and those that wait (`News`).
 ghost use Rattle.std.specs.Prelude.{◌≡◌, ◌+◌, ◌≤◌, [], ◌∷◌, ◌++◌, take, drop, length, OnOk, IsOk};
 ghost use Rattle.cap_model.specs.Limits.{news_max};
 

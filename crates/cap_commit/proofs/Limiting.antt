@@ -127,9 +127,6 @@ module _ {K : ℕ} (p : Parts K) (h : IsHeld p) (q : NodeProposal) where
     user_is : user_name sight q ≡ app.user
     user_is = ap (λ o. unwrap_or (option_map (λ (a : AppSight). a.user) o) []) seen
 
-    seen_of : Row → QueueSight
-    seen_of r = queue_sight cluster (settings_of_row r)
-
     path_is : path_at place p.rows ≡ leaf_path sight q
     path_is = at.path_is ∙ sym leaf_is
 

@@ -1,15 +1,15 @@
 -- What is reported of a queue of the tree is what the flat cluster says of it.
-use Rattle.std.proofs.Common.{◌≡◌, ℕ, ◌≤◌, Bool, true, List, Some, sym, ◌∙◌, ap, subst}
-use Rattle.std.specs.Prelude.{[], not, is_some, count_by}
-use Rattle.std.specs.Option.{option_map_or}
+use Rattle.std.proofs.Common.{◌≡◌, ℕ, ◌≤◌, Bool, true, List, [], ◌∷◌, Some, refl, sym, ◌∙◌, ap, subst, inl}
+use Rattle.std.specs.Prelude.{not, is_some, count_by}
 use Rattle.cap_model.specs.Limits.{applications_max}
 use Rattle.cap_model.specs.Flat.{Flat, App, queue_at, is_under}
-use Rattle.cap_model.specs.QueueCalls.{queue_report}
+use Rattle.cap_model.specs.Listing.{IsListedFromRoot}
+use Rattle.cap_model.specs.QueueCalls.{queue_report, root_path}
 use Rattle.cap_model.specs.Uses.{queue_use}
-use Rattle.cap_model.proofs.lists.Members.{each_of}
+use Rattle.cap_model.proofs.lists.Members.{IsIn, each_of}
 use Rattle.cap_tree.specs.Spot.{item_at, path_at}
 use Rattle.cap_tree.specs.Queue.{Queue}
-use Rattle.cap_tree.specs.Rows.{Row, AreRows, IsAt, settings_of_row, has_children, is_running, used_at}
+use Rattle.cap_tree.specs.Rows.{Row, AreRows, IsAt, queues_of, root_use, settings_of_row, has_children, is_running}
 use Rattle.cap_model.specs.declared.report.QueueReport.{QueueReport}
 use Rattle.cap_commit.specs.Held.{Parts, IsHeld, IsRowOf, flat_of}
 use Rattle.cap_commit.proofs.Parts.{report_is}
@@ -61,5 +61,11 @@ module _ {K : ℕ} (p : Parts K) (path position : List ℕ) (tree : AreRows p.ro
       (ap (λ (x : Queue). x.guaranteed) (sym item)) (ap (λ (x : Queue). x.maximum) (sym item)) (seen_use q e)
       (ap (λ (x : Queue). x.active) (sym item) ∙ tied.active ∙ ap (λ x. count_by (λ (a : App). is_under x a.leaf) cluster.apps.active) it.path_is)
 
-  pub seen_used : (used : List ℕ) → used ≡ used_at position rows → used ≡ queue_use cluster path
-  seen_used used e = e ∙ ap (λ o. option_map_or (λ (q : Queue). q.used) o []) it.item_is ∙ seen_use it.row.item it.item_is
+-- what the root uses is what the flat cluster says of `root`
+module _ {K : ℕ} (p : Parts K) (tree : AreRows p.rows) (h : IsHeld p) where
+  of_first : (rows : List Row) → IsListedFromRoot (queues_of rows) → ((r : Row) → IsIn r rows → IsRowOf (flat_of p) r) → root_use rows ≡ queue_use (flat_of p) root_path
+  of_first [] l tied = absurd l
+  of_first (r ∷ rows) l tied = (tied r (inl refl)).used ∙ ap (queue_use (flat_of p)) l.0
+
+  pub root_used : (used : List ℕ) → used ≡ root_use p.rows → used ≡ queue_use (flat_of p) root_path
+  root_used used e = e ∙ of_first p.rows tree.listing.listed (each_of (IsRowOf (flat_of p)) p.rows h.tied)

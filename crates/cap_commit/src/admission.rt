@@ -1,9 +1,8 @@
-//! Whether a proposal may be made, and the first reason why not.
-ghost use Rattle.std.specs.Prelude.{◌≡◌, ◌≤◌, ◌&&◌, ◌||◌, ◌∷◌, [], Some, None, IfSome, IsSome, bytes_eq, is_some, option_map};
+//! Whether a proposal may be made, and the first reason why not (`Cluster::reason`).
+ghost use Rattle.std.specs.Prelude.{◌≡◌, ◌≤◌, ◌&&◌, Some, None, IfSome, IsSome, is_some, option_map};
 ghost use Rattle.cap_vector.specs.Vector.{IsResource};
 ghost use Rattle.cap_model.specs.Limits.{resources_max};
 ghost use Rattle.cap_model.specs.Cascade.{earliest, holds_of};
-ghost use Rattle.cap_model.specs.Texts.{star};
 ghost use Rattle.cap_model.specs.Flat.{app_at, is_for};
 ghost use Rattle.cap_model.specs.Sight.{app_sight, seen_app, seen_node, sight_of};
 ghost use Rattle.cap_model.specs.Admission.{asks_resource, fits_free, fits_total, is_grant, is_reserved_for, is_wanted, node_reservation, proposed_ask, reason_of, suits_place};
@@ -13,7 +12,7 @@ ghost use Rattle.cap_commit.specs.Admission.{limit_tests, own_reservation, place
 use crate::cluster::Cluster;
 use cap_asks::App;
 use cap_model::{
-    Ask, LIVE_MAX, NUMBER_END, Proposal, Reason, Reservation, ShortText, first_reason,
+    Ask, LIVE_MAX, NUMBER_END, Proposal, Reason, Reservation, first_reason, takes_place,
 };
 use cap_tree::OverLimit;
 use cap_vector::{Resource, fits};
@@ -215,13 +214,4 @@ fn converts<const K: usize>(proposal: &Proposal<K>, reservation: &Reservation<K>
     proposal.is_grant()
         && reservation.app() == proposal.app()
         && reservation.key().is_same(&proposal.key())
-}
-
-/// Whether a place is anywhere (`*`), the host or the rack.
-fn takes_place(place: &ShortText, host: &ShortText, rack: &ShortText) -> bool
-    ensures { result ≡ (bytes_eq place.now (star ∷ []) || bytes_eq place.now host.now
-        || bytes_eq place.now rack.now) }
-{
-    let place = place.as_bytes();
-    place == b"*".as_slice() || place == host.as_bytes() || place == rack.as_bytes()
 }

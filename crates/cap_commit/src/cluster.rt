@@ -1,3 +1,4 @@
+//! The cluster (`Cluster`): opened from settings, its parts lent for reading, and the changes that calls make of it.
 ghost use Rattle.std.specs.Prelude.{◌≡◌, ◌≤◌, ◌+◌, ◌==◌, ◌&&◌, ◌∷◌, [], Some, None, IfOk, OnOk, OnErr, IsOk, IfSome, IsSome, is_some, length, find, ◌<◌, option_and_then};
 ghost use Rattle.std.specs.List.{All};
 ghost use Rattle.cap_model.specs.Limits.{applications_max, live_max, resources_max};
@@ -174,12 +175,7 @@ impl<const K: usize> Cluster<K> {
         ensures { result ≡ queue_use self.now.flat root_path }
     {
         let tree = &*self.tree;
-        let position = match tree.find(b"root") {
-            Found::Leaf(position) => position,
-            Found::Parent(position) => position,
-            Found::Missing => unreachable!(),
-        };
-        tree.use_of(&position)
+        tree.used()
     }
 
     /// Sets the own state of the queue at this position, and nothing else.

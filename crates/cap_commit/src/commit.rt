@@ -1,4 +1,4 @@
-//! Making a proposal: a grant or a reservation.
+//! Making a proposal, a grant or a reservation, exactly where it is admissible now (`Cluster::try_commit`).
 ghost use Rattle.std.specs.Prelude.{◌≡◌, ◌+◌, None, IsSome, IfOk, OnOk, OnErr, true, false};
 ghost use Rattle.cap_model.specs.Flat.{app_at};
 ghost use Rattle.cap_model.specs.Sight.{sight_of};

@@ -1,4 +1,4 @@
-//! The cluster: its queues, applications and nodes, and the changes that calls make of it. Contracts see it as the flat cluster.
+//! The cluster, seen by contracts as the flat cluster: its queues, applications and nodes, and the changes of calls.
 #![tactic(auto)]
 
 mod admission;

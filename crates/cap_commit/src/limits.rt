@@ -1,3 +1,5 @@
+//! The limits of a cluster: what a container may have, and how many applications may be active (`Limits`).
+
 use cap_vector::Resource;
 
 /// The limits of a cluster.

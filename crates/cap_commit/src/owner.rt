@@ -1,3 +1,4 @@
+//! Whose containers: those of an application, or those on a node (`Owner`).
 ghost use Rattle.std.specs.Prelude.{◌≡◌};
 ghost use Rattle.cap_commit.specs.Owners.{owns};
 

@@ -1,3 +1,4 @@
+//! A reply in full, lent by the cluster (`Cluster::view`), and room to own one (`Cluster::reply_room`).
 ghost use Rattle.std.specs.Prelude.{◌≡◌, IfOk};
 ghost use Rattle.cap_model.specs.Reporting.{HasNumbers, HasRoomForReplies, full_reply, reports_most};
 

@@ -1,3 +1,4 @@
+//! What an operator sees of a queue of the tree (`report_of`).
 ghost use Rattle.std.specs.Prelude.{◌≡◌, ◌≤◌};
 ghost use Rattle.cap_model.specs.Limits.{applications_max};
 

@@ -1,5 +1,4 @@
-//! How reservations of an application, for an ask or on a node are dropped. What a dropped one kept is given back at every level of
-//! its queue.
+//! How reservations of an application, for an ask or on a node are dropped, and given back at each level of a queue.
 ghost use Rattle.std.specs.Prelude.{◌≡◌, Some, find, filter, not, ◌==◌};
 ghost use Rattle.cap_model.specs.Asking.{keep_first};
 ghost use Rattle.cap_model.specs.Flat.{is_for, with_reserved};

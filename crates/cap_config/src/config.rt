@@ -1,3 +1,4 @@
+//! The settings that lines without a fault make, with a row for each queue (`config_of`).
 ghost use Rattle.std.specs.Prelude.{◌≡◌, ◌≤◌, ◌++◌, ◌∷◌, [], IfOk, None, OnOk, true};
 ghost use Rattle.cap_vector.specs.Vector.{amount_max};
 ghost use Rattle.cap_config.specs.Bounds.{are_bounded, most_of};

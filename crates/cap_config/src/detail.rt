@@ -1,3 +1,4 @@
+//! What a fault is about, beyond its line and its kind: it is found in the text again (`detail_of`, `Detail`).
 ghost use Rattle.std.specs.Prelude.{◌≡◌, ◌∷◌, [], IfOk};
 ghost use Rattle.std.specs.Option.{option_map, option_copied};
 ghost use Rattle.cap_config.specs.Index.{IsIndex};

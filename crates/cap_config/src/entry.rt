@@ -1,3 +1,4 @@
+//! A line that sets a property (`Entry`).
 ghost use Rattle.std.specs.Prelude.{◌≡◌};
 ghost use Rattle.std.specs.Option.{option_map, option_copied};
 

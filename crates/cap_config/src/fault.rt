@@ -1,3 +1,5 @@
+//! The first fault of property lines: its line (`ConfigFault`), and what is wrong there (`ConfigFaultKind`).
+
 use std::alloc::{AllocError, AllocFailed};
 use thiserror::Error;
 

@@ -1,3 +1,4 @@
+//! The tests of capacities and maximum capacities, each of a queue's own and of those of the queue above.
 ghost use Rattle.std.specs.Prelude.{◌≡◌, IfOk};
 ghost use Rattle.cap_config.specs.Index.{IsIndex};
 ghost use Rattle.cap_config.specs.Tests.{exceeds, exceeds_limit, is_over_limit, is_over_maximum, over_maximum_line, is_over_parts, guaranteed_below, is_overspent, is_over_parent, over_parent_line};

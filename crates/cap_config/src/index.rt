@@ -1,3 +1,4 @@
+//! The entries of a text, and where those of a queue are found by its path (`Index`).
 ghost use Rattle.std.specs.Prelude.{◌≡◌, IfOk};
 ghost use Rattle.std.specs.Option.{option_map, option_copied};
 ghost use Rattle.cap_config.specs.Queues.{FindsAll, entry_at, path_for, child};

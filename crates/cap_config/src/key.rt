@@ -1,3 +1,4 @@
+//! The keys of property lines: the queue that a key is of, and its property (`Key`, `key_of`).
 ghost use Rattle.std.specs.Prelude.{◌≡◌, ◌++◌, ◌∷◌, [], ◌||◌, nat_eq};
 ghost use Rattle.std.specs.List.{list_all, starts_with};
 ghost use Rattle.std.specs.Option.{option_map};

@@ -1,3 +1,4 @@
+//! The key that a line shows, whatever its bytes are (`line_key`), and the first line that shows it (`first_with`).
 ghost use Rattle.std.specs.Prelude.{◌≡◌};
 ghost use Rattle.std.specs.List.{list_all};
 ghost use Rattle.std.specs.Option.{option_map};

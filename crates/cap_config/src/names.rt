@@ -1,3 +1,4 @@
+//! The names in the value of a `queues` line, each once (`Names`, `names_for`).
 ghost use Rattle.std.specs.Prelude.{◌≡◌, ◌≤◌, ◌++◌, ◌∷◌, [], IfOk, true, length, count_by, nat_eq};
 ghost use Rattle.cap_config.specs.Seen.{HasAll};
 ghost use Rattle.cap_config.specs.Values.{names_for, is_next, name_under};

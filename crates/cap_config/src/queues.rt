@@ -1,3 +1,4 @@
+//! The queues that lines set up: which there are, and the names below, capacity, maximum, factor and state of each.
 ghost use Rattle.std.specs.Prelude.{◌≡◌, ◌≤◌, None, length, count_by};
 ghost use Rattle.std.specs.Option.{option_copied};
 ghost use Rattle.std.specs.Str.{bytes_eq};

@@ -1,3 +1,4 @@
+//! Property lines read as settings, or refused at their first fault (`read_config`).
 ghost use Rattle.std.specs.Prelude.{◌≡◌, IfOk, Some};
 ghost use Rattle.cap_config.specs.First.{AnswersFault, first_fault, settings_in};
 

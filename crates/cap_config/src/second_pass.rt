@@ -1,3 +1,4 @@
+//! The tests over the whole text, in the order of their faults, each at its least line (`check`).
 ghost use Rattle.std.specs.Prelude.{◌≡◌};
 ghost use Rattle.std.specs.Option.{option_copied};
 ghost use Rattle.cap_config.specs.Index.{IsIndex};

@@ -1,3 +1,4 @@
+//! Byte strings that were seen: the keys of earlier lines, the names of a list.
 ghost use Rattle.std.specs.Prelude.{◌≡◌, ℕ, List, IfOk, OnOk, not, ◌||◌};
 ghost use Rattle.std.specs.Str.{bytes_eq};
 ghost use Rattle.cap_config.specs.Seen.{has};

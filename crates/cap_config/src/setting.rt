@@ -1,3 +1,4 @@
+//! The properties that a line may set, of a queue or of the whole cluster, and how each is spelled (`Setting`).
 ghost use Rattle.std.specs.Prelude.{◌≡◌};
 /// A property: of one queue, or of the whole cluster.
 #[derive(Clone, Copy, Debug)]

@@ -1,3 +1,4 @@
+//! The value of a property line: amounts, a number, a state or a list of names (`Value`, `value_of`).
 ghost use Rattle.std.specs.Prelude.{◌≡◌, IfOk};
 ghost use Rattle.std.specs.Option.{option_map};
 ghost use Rattle.cap_config.specs.Values.{value_of, listed_names, as_amounts, number_within, state_of, amounts_of, amounts_in, in_brackets, number_after, resource};

@@ -14,7 +14,7 @@ use Rattle.cap_model.specs.Flat.{App, AppTable, ClusterNode, NodeTable, Reservat
 use Rattle.cap_model.specs.Sight.{AppSight, NodeSight, QueueSight, app_sight, queues_to, seen_app, still_wanted}
 use Rattle.cap_model.proofs.bounds.Wanting.{nodes_on, on_nodes}
 use Rattle.cap_model.proofs.calls.KeptAsks.{same_key_itself}
-use Rattle.cap_model.proofs.lists.Filters.{find_mapped_at, length-kept, map_twice}
+use Rattle.cap_model.proofs.lists.Filters.{filter_mapped, find_mapped_at, length-kept, map_twice}
 use Rattle.cap_model.proofs.lists.Members.{IsIn, each_of, found, in_map, of_each, of_filter, of_map}
 use Rattle.cap_model.proofs.lists.Numbered.{found_by_number, rising_kept}
 use Rattle.cap_model.proofs.lists.Sums.{sum_by_map}
@@ -43,14 +43,6 @@ index_in : {A : Type 0} (xs : List A) (x : A) → IsIn x xs → (i : ℕ) × (sl
 index_in [] x m = absurd m
 index_in (y ∷ xs) x (inl e) = (0, ap (λ z. Some z) e)
 index_in (y ∷ xs) x (inr m) = let r = index_in xs x m in (suc (r.0), r.1)
-
-filter_mapped : {A B : Type 0} (t : B → Bool) (g : A → B) (xs : List A) → filter t (map g xs) ≡ map g (filter (λ x. t (g x)) xs)
-filter_mapped t g [] = refl
-filter_mapped {A} {B} t g (x ∷ xs) = by (t (g x)) (filter_mapped t g xs)
-  where
-    by : (b : Bool) → filter t (map g xs) ≡ map g (filter (λ y. t (g y)) xs) → cond b (g x ∷ filter t (map g xs)) (filter t (map g xs)) ≡ map g (cond b (x ∷ filter (λ y. t (g y)) xs) (filter (λ y. t (g y)) xs))
-    by true e = ap (λ ys. g x ∷ ys) e
-    by false e = e
 
 -- an ask is found by its key
 asked_by_key : (asks : List Ask) (ask : Ask) → AreKept asks → IsIn ask asks → ask_at ask.key asks ≡ Some ask

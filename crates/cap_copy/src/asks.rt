@@ -1,4 +1,4 @@
-//! The asks of a snapshot.
+//! The asks of a snapshot, in the order of service and in one piece of memory (`seen_asks`).
 ghost use Rattle.std.specs.Prelude.{◌≡◌, ◌<◌, ◌≤◌, ◌++◌, IfOk, OnOk, length, map};
 ghost use Rattle.std.specs.List.{All};
 ghost use Rattle.cap_model.specs.Limits.{resources_max};

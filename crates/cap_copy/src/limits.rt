@@ -1,4 +1,4 @@
-//! The limits of the applications of a snapshot.
+//! The limits of the applications of a snapshot: the queues on the way to the leaf, and the user there (`Limits`).
 ghost use Rattle.std.specs.Prelude.{◌≡◌, ◌<◌, ◌≤◌, ◌-◌, IfOk, OnOk, length, map, slice_index_or, true};
 ghost use Rattle.std.specs.List.{All, slice_get};
 ghost use Rattle.cap_model.specs.Cascade.{holds_of};

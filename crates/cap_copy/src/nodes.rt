@@ -1,4 +1,4 @@
-//! The nodes of a snapshot.
+//! The nodes of a snapshot, in order of number and in one piece of memory (`seen_nodes`).
 ghost use Rattle.std.specs.Prelude.{◌≡◌, IfOk, map};
 ghost use Rattle.cap_model.specs.Bounds.{IsRising};
 ghost use Rattle.cap_copy.specs.Taking.{node_seen};

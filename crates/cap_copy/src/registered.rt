@@ -1,4 +1,4 @@
-//! The registered applications of a cluster, and where they wait.
+//! The registered applications of a cluster, by reference, and where they wait (`Registered`, `waiters`).
 ghost use Rattle.std.specs.Prelude.{◌≡◌, ◌≤◌, Some, IfOk, length, map};
 ghost use Rattle.std.specs.List.{All};
 ghost use Rattle.cap_model.specs.Bounds.{IsRising};

@@ -1,4 +1,4 @@
-//! What a snapshot keeps of an ask and of a node.
+//! What a snapshot keeps of an ask (`SeenAsk`) and of a node (`SeenNode`).
 ghost use Rattle.std.specs.Prelude.{◌≡◌};
 
 use cap_model::{Ask, Reservation, ShortText};

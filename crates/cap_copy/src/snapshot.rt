@@ -1,4 +1,4 @@
-//! The snapshot of a cluster.
+//! The snapshot of a cluster that a worker proposes on, and its reads (`Snapshot`).
 ghost use Rattle.std.specs.Prelude.{◌≡◌, ◌<◌, Some, length};
 ghost use Rattle.std.specs.List.{slice_get};
 ghost use Rattle.cap_model.specs.Cascade.{holds_of};

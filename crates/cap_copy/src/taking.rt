@@ -1,4 +1,4 @@
-//! Taking a snapshot.
+//! Taking a snapshot of a tree, applications and nodes (`Snapshot::take`), and copying a tree (`copy_tree`).
 ghost use Rattle.std.specs.Prelude.{◌≡◌, ◌≤◌, IsSome, IfOk, length};
 ghost use Rattle.std.specs.List.{All};
 ghost use Rattle.cap_model.specs.Limits.{applications_max, resources_max};

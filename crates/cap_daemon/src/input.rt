@@ -1,3 +1,4 @@
+//! All bytes of an input, read to its end (`read_all`).
 ghost use Rattle.std.specs.Prelude.{◌<◌};
 ghost use Rattle.cap_session.specs.Counted.{state_of, CanCount};
 

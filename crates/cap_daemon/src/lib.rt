@@ -1,4 +1,5 @@
-//! The program's words: the command line and the streams in, the exit status out. `replay` plays a script, `serve_on` is the daemon on a listener.
+//! The program's words: the command line and the streams in, the exit status out (`run`).
+//! `replay` plays a script, `serve_on` is the daemon on a listener.
 #![tactic(auto)]
 
 mod input;

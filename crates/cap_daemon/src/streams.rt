@@ -1,4 +1,4 @@
-//! Words for a stream that failed.
+//! Words for a stream that failed (`explain_streams`).
 
 use cap_session::Counted;
 use std::alloc::{AllocError, Global};

@@ -1,4 +1,4 @@
-//! What the program does with the text of its input: it checks the settings in it, or explains its lines.
+//! The commands `check` and `explain`: the settings in an input are checked, or its lines explained.
 ghost use Rattle.std.specs.Prelude.{◌≡◌, ◌<◌};
 ghost use Rattle.cap_session.specs.Counted.{state_of, CanCount};
 

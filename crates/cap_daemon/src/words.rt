@@ -1,3 +1,4 @@
+//! The words of the command line, read by `clap`, to an exit status (`run`).
 ghost use Rattle.std.specs.Prelude.{◌≡◌, ◌<◌};
 ghost use Rattle.cap_session.specs.Counted.{state_of, CanCount};
 

@@ -1,3 +1,5 @@
+//! The frames that a line completes, in words (`Explainer`).
+
 use crate::line::{Line, line_of};
 use crate::names::put_count;
 use crate::replies::put_answer;

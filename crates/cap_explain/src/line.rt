@@ -1,3 +1,5 @@
+//! What a line has for an explanation (`Line`, `line_of`).
+
 use cap_text::split_once;
 
 /// The greatest number of digits that a connection's number may have.

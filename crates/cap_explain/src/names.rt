@@ -1,3 +1,5 @@
+//! Words for kinds of request, refusals, causes of an end, keys and amounts.
+
 use cap_model::{Cause, Key, Refusal};
 use cap_vector::Amounts;
 use std::alloc::AllocError;

@@ -1,3 +1,5 @@
+//! Replies in words (`put_answer`).
+
 use crate::names::{cause_words, kind_name, put_amounts, put_count, put_key, refusal_words, shown};
 use cap_grammar::Answer;
 use cap_model::{

@@ -1,3 +1,5 @@
+//! Requests in words (`put_request`).
+
 use crate::names::{kind_name, put_amounts, put_key, shown};
 use cap_grammar::kind;
 use cap_model::{Ask, Request};

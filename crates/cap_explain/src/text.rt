@@ -1,3 +1,5 @@
+//! A text with words under each line that completes a frame (`explain`).
+
 use crate::explainer::Explainer;
 use cap_text::split_line;
 use std::alloc::{AllocError, Global};

@@ -1,4 +1,4 @@
-//! Replies read from their bytes, to be shown.
+//! Replies read from their bytes, to be shown (`read_reply`, `Answer`).
 ghost use Rattle.std.specs.Prelude.{◌≡◌, IfOk, true};
 ghost use Rattle.cap_grammar.specs.Answers.{IsKindly, Says};
 ghost use Rattle.cap_grammar.specs.Spelling.{IsOfKind, IsFaultStatus};

@@ -1,3 +1,4 @@
+//! ClusterInfo in bytes: the body of its request read, and its report written.
 ghost use Rattle.std.specs.Prelude.{◌≡◌, ◌≤◌, ◌+◌, ◌++◌, length};
 ghost use Rattle.cap_grammar.specs.Fields.{Gives};
 ghost use Rattle.cap_grammar.specs.ClusterInfo.{cluster_info_at};

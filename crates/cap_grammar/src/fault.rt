@@ -1,3 +1,4 @@
+//! Why a payload gives no request (`MessageFault`).
 ghost use Rattle.std.specs.Prelude.{◌≡◌};
 ghost use Rattle.cap_grammar.specs.declared.fault.MessageFault.TheVariants.{NoMemory};
 

@@ -1,4 +1,4 @@
-//! Fields at the front of bytes. Each is read with the bytes after it.
+//! Fields at the front of bytes, each read with the bytes after it: numbers, flags, a text's bytes, amounts.
 ghost use Rattle.std.specs.Prelude.{◌≡◌, ◌≤◌, ◌<◌, ◌^◌, IfOk};
 ghost use Rattle.std.specs.Int.{w16, w32, w64};
 ghost use Rattle.cap_vector.specs.Vector.{amount_max, IsResource};

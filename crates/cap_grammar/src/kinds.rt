@@ -1,3 +1,4 @@
+//! The numbers of the ten kinds of request (`kind`).
 ghost use Rattle.std.specs.Prelude.{◌≡◌};
 ghost use Rattle.cap_grammar.specs.Spelling.{kind_of};
 

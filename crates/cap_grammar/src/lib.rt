@@ -1,5 +1,5 @@
-//! The message grammar of the allocation engine: requests are read from bytes, replies are written as bytes, and each
-//! has exactly one spelling. Numbers are big-endian and of fixed width.
+//! The grammar of messages: requests read from bytes, replies written as bytes, each with exactly one spelling.
+//! Numbers are big-endian and of fixed width.
 #![tactic(auto)]
 
 mod answers;

@@ -1,4 +1,4 @@
-//! Lists at the front of bytes, each with its length before it.
+//! Lists of asks and of container numbers at the front of bytes, each with its length before it.
 ghost use Rattle.std.specs.Prelude.{◌≡◌, ◌≤◌, nat_le, IfOk, IsErrOf};
 ghost use Rattle.std.specs.Int.{w16, w64};
 ghost use Rattle.cap_grammar.specs.Fields.{Gives, counted_at, number_at, passing_at};

@@ -1,3 +1,4 @@
+//! RegisterMaster, Allocate and FinishMaster: the bodies of their requests read.
 ghost use Rattle.std.specs.Prelude.{◌⊎◌, IsErrOf};
 ghost use Rattle.cap_grammar.specs.Fields.{Gives};
 ghost use Rattle.cap_grammar.specs.Reading.{GivesInMemory, HasItemsAt};

@@ -1,3 +1,4 @@
+//! What replies are written into (`Out`), the room that they take (`REPLY_ROOM`, `FAULT_ROOM`), and amounts written.
 ghost use Rattle.std.specs.Prelude.{◌≡◌, ◌≤◌, ◌+◌, ◌++◌, length};
 ghost use Rattle.cap_vector.specs.Vector.{IsVector};
 ghost use Rattle.cap_grammar.specs.Spelling.{resource};

@@ -1,3 +1,4 @@
+//! QueueInfo and SetQueueState in bytes: the bodies of their requests read, and the report of a queue written.
 ghost use Rattle.std.specs.Prelude.{◌≡◌, ◌≤◌, ◌+◌, ◌++◌, length, IfSome};
 ghost use Rattle.cap_vector.specs.Vector.{IsResource};
 ghost use Rattle.cap_grammar.specs.Fields.{Gives};

@@ -1,3 +1,4 @@
+//! RegisterNode: the body of its request read.
 ghost use Rattle.cap_grammar.specs.Fields.{Gives};
 ghost use Rattle.cap_grammar.specs.RegisterNode.{register_node_at};
 

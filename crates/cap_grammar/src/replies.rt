@@ -1,3 +1,4 @@
+//! Replies and fault replies written as bytes (`write_reply`, `write_fault`).
 ghost use Rattle.std.specs.Prelude.{◌≡◌, ◌≤◌, ◌<◌, ◌+◌, ◌++◌, ◌∷◌, length};
 ghost use Rattle.std.specs.Int.{w32, w64, to_be_bytes};
 ghost use Rattle.cap_grammar.specs.Spelling.{IsKind, IsOfKind, FitsReply, IsReply, reply_bytes, reply_body, fault_reply};

@@ -1,4 +1,4 @@
-//! Amounts, and the grants and ends of a reply, at the front of bytes.
+//! Amounts, and the grants and ends of a reply, read from the front of bytes.
 
 use crate::fault::MessageFault;
 use crate::fields::{byte_of, text_of, u32_of, u64_of};

@@ -1,3 +1,4 @@
+//! A payload read as a request of one of the ten kinds (`read_request`).
 ghost use Rattle.std.specs.Prelude.{◌≡◌, ℕ, IfOk, IsErrOf};
 ghost use Rattle.cap_model.specs.declared.request.Request.{Request};
 ghost use Rattle.cap_grammar.specs.Spelling.{IsRequest, IsNoRequest};

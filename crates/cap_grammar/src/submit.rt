@@ -1,3 +1,4 @@
+//! Submit: the body of its request read.
 ghost use Rattle.cap_grammar.specs.Fields.{Gives};
 ghost use Rattle.cap_grammar.specs.Submit.{submit_at};
 

@@ -1,3 +1,4 @@
+//! Which bytes are a host, a rack, a queue's path, a user or a place, and the text of them.
 ghost use Rattle.cap_grammar.specs.Texts.{is_host, is_rack, is_path, is_user, is_place};
 ghost use Rattle.cap_grammar.specs.Fields.{Gives, what_passes};
 

@@ -1,4 +1,4 @@
-//! The committer's end of the lanes.
+//! The committer's end of the lanes (`Committer`), and what is left when they are closed (`LanesClosed`).
 ghost use Rattle.std.specs.Prelude.{◌≡◌, ◌<◌, ◌↔◌, ℕ, [], ◌++◌, IfSome, IfNone, IsTrue};
 ghost use Rattle.cap_lanes.specs.Items.{tagged};
 ghost use Rattle.cap_lanes.specs.Sides.{AllOf, AllOver, IsTakenNext, StayOver, ends_of, put_by};

@@ -1,4 +1,4 @@
-//! Why a proposal was not put.
+//! Why a proposal was not put into a lane (`PutFault`).
 use cap_model::Proposal;
 
 /// A proposal was not put, and nothing changed. The proposal comes back.

@@ -1,4 +1,4 @@
-//! What the channel holds.
+//! What the channel under the lanes holds: a proposal or an end, with its worker's number (`Item`).
 ghost use Rattle.std.specs.Prelude.{◌≡◌, IfSome, IfNone};
 ghost use Rattle.cap_lanes.specs.declared.item.Message.TheVariants.{Put, End};
 

@@ -1,4 +1,4 @@
-//! New lanes.
+//! New lanes, with the committer's end and those of eight workers (`lanes`).
 ghost use Rattle.std.specs.Prelude.{◌≡◌, ◌≤◌, ◌<◌, ◌+◌, [], IfOk};
 ghost use Rattle.crossbeam_channel.specs.Ends.{sends_on, ruled_capacity};
 ghost use Rattle.crossbeam_channel.specs.Claims.{view, IsSeatAt};

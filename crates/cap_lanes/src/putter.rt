@@ -1,4 +1,4 @@
-//! A worker's end of the lanes.
+//! A worker's end of the lanes (`Putter`), and that of a worker that has finished (`Ended`).
 ghost use Rattle.std.specs.Prelude.{◌≡◌, MatchResult};
 ghost use Rattle.cap_lanes.specs.Sides.{after_put};
 

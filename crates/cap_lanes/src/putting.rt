@@ -1,4 +1,4 @@
-//! What a worker does with the parts of its end of the lanes.
+//! What a worker does with the parts of its end of the lanes: it puts a proposal, or its end, into the channel.
 ghost use Rattle.std.specs.Prelude.{◌≡◌, ◌++◌, ◌∷◌, [], MatchResult};
 ghost use Rattle.crossbeam_channel.specs.Ends.{sends_on};
 ghost use Rattle.cap_lanes.specs.Ends.{IsOpen, IsShut, put_in};

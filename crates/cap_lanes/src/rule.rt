@@ -1,4 +1,4 @@
-//! The rule of the channel, and its steps.
+//! The rule of the channel, and its steps. It is there for the proof alone: nothing is lost, and nothing taken twice.
 use crate::item::Item;
 use crate::view::View;
 use crossbeam_channel::protocol::{Join, Lesson, Outcome, Protocol, Split};

@@ -1,4 +1,4 @@
-//! What the committer does with the parts of its end of the lanes.
+//! What the committer does with the parts of its end: it takes what comes next, and at the close what is left.
 ghost use Rattle.std.specs.Prelude.{◌≡◌, ◌<◌, ◌≤◌, ◌↔◌, ℕ, true, [], IfSome, IfNone, IsTrue, length, vec_capacity};
 ghost use Rattle.crossbeam_channel.specs.Ends.{sends_on, receives_on};
 ghost use Rattle.crossbeam_channel.specs.Claims.{view, IsSeatAt};

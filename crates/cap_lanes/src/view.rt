@@ -1,4 +1,4 @@
-//! What passes know. Values of these types exist for contracts alone.
+//! What passes of the channel know: what each worker has put, and what was taken. It exists for contracts alone.
 use crate::item::{Item, Message};
 use std::collections::LinkedList;
 

@@ -1,4 +1,4 @@
-//! One module for each call.
+//! The calls of clients and application masters, a module for each.
 pub mod allocate;
 pub mod finish_master;
 pub mod register_master;

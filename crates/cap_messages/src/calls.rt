@@ -1,3 +1,4 @@
+//! The call that a request names, made on the cluster and answered (`dispatch`).
 ghost use Rattle.cap_model.specs.Reporting.{HasNumbers, RepliesInFull, full_reply};
 ghost use Rattle.cap_grammar.specs.Spelling.{IsOfKind, kind_of};
 

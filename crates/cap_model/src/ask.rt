@@ -1,4 +1,6 @@
-ghost use Rattle.std.specs.Prelude.{◌≡◌, ◌==◌, ◌&&◌};
+//! Asks (resource requests) of an application (`Ask`), their keys (`Key`), and which places they take (`takes_place`).
+ghost use Rattle.std.specs.Prelude.{◌≡◌, ◌==◌, ◌&&◌, ◌||◌, ◌∷◌, [], bytes_eq};
+ghost use Rattle.cap_model.specs.Texts.{star};
 ghost use Rattle.cap_model.specs.Asks.{same_key};
 ghost use Rattle.cap_model.specs.Asking.{is_changed};
 
@@ -124,4 +126,13 @@ impl<const K: usize> Ask<K> {
     {
         Ask { count, ..*self }
     }
+}
+
+/// Whether a place is anywhere (`*`), the host or the rack.
+pub fn takes_place(place: &ShortText, host: &ShortText, rack: &ShortText) -> bool
+    ensures { result ≡ (bytes_eq place.now (star ∷ []) || bytes_eq place.now host.now
+        || bytes_eq place.now rack.now) }
+{
+    let place = place.as_bytes();
+    place == b"*".as_slice() || place == host.as_bytes() || place == rack.as_bytes()
 }

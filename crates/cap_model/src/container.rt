@@ -1,3 +1,4 @@
+//! Live containers (`Container`), and the room that nodes keep for asks (`Reservation`).
 ghost use Rattle.std.specs.Prelude.{◌≡◌};
 ghost use Rattle.cap_vector.specs.Vector.{IsResource};
 

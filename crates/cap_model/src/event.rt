@@ -1,3 +1,5 @@
+//! The events of a cluster (`Event`): calls with their replies, grants and reservations.
+
 use crate::container::{Container, Reservation};
 use crate::reply::OwnedReply;
 use crate::request::Request;

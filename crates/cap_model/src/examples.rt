@@ -1,5 +1,5 @@
-//! Worked examples of the definitions in `specs/`, computed by the checker. The functions do nothing: each states in
-//! its contract what small clusters and calls give.
+//! Worked examples of the definitions in `specs/`, computed by the checker.
+//! The functions do nothing: each states in its contract what small clusters and calls give.
 ghost use Rattle.cap_model.specs.ExampleShares.{DominantShares, ShareOfNothing, ThreeShares, LessFullQueueFirst, EqualQueuesByName, AsksByPriority, AsksAreRounded};
 ghost use Rattle.cap_model.specs.ExampleProposals.{MiddleMaximum, RoomIsReserved, ReservationKeepsOthersOut, ReservationIsConverted, SmallerAskDropsNewest, ChangedAskDropsAll, UserLimit, SecondProposalRejected, ReplacedAskRejected, ReturnedNodeIsAnother, NodeFillsUp, OtherReasons, RingFromTheStart, ExamplesAreTrees};
 ghost use Rattle.cap_model.specs.ExampleCalls.{SubmitRefusals, SubmitStatuses, MasterComesAndGoes, GrantIsTold, HeartbeatEnds, ReleasedOnce, ResponseIds, ResponseIdsWrap, NewsInTwoReplies, LargeAsks, KeptAsks, TotalsStayBounded, NodeRefusals, OperatorSees};

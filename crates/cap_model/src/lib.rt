@@ -1,5 +1,5 @@
-//! The vocabulary of the allocation engine and what it means: the plain data that travels between the crates, and in
-//! `specs/` the flat cluster, the reply to each request, and runs. There is no engine code here, but for tests of
+//! The vocabulary of the engine: the plain data that travels between the crates, and in `specs/` what it all means.
+//! There stand the flat cluster, the reply to each request, and runs. There is no engine code here, but for tests of
 //! refusals that several crates need.
 #![tactic(auto)]
 
@@ -22,7 +22,7 @@ mod response_ids;
 mod settings;
 mod text;
 
-pub use ask::{Ask, Key};
+pub use ask::{Ask, Key, takes_place};
 pub use container::{Container, Reservation};
 pub use event::Event;
 pub use list::{Asks, List, Numbers};

@@ -1,3 +1,4 @@
+//! The lists that requests bring, bounded by their type (`List`): asks (`Asks`) and container numbers (`Numbers`).
 ghost use Rattle.std.specs.Prelude.{◌≡◌, ◌≤◌, length, IfOk};
 
 use crate::ask::Ask;

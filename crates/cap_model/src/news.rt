@@ -1,3 +1,4 @@
+//! What an application is told: granted containers (`Grant`), ended ones (`End`), and why they ended (`Cause`).
 ghost use Rattle.std.specs.Prelude.{◌≡◌};
 ghost use Rattle.cap_model.specs.News.{cause_number};
 
@@ -100,21 +101,6 @@ impl<const K: usize> Grant<K> {
     }
 }
 
-impl<const K: usize> Default for Grant<K> {
-    fn default() -> Grant<K> {
-        Grant {
-            container: 0,
-            key: Key {
-                priority: 0,
-                request: 0,
-            },
-            node: 0,
-            host: ShortText::any(),
-            resource: Resource::zero(),
-        }
-    }
-}
-
 /// Why a container ended.
 #[derive(Clone, Copy, Debug, PartialEq, Eq)]
 pub enum Cause {
@@ -146,13 +132,4 @@ pub struct End {
     pub container: u64,
     /// Why it ended.
     pub cause: Cause,
-}
-
-impl Default for End {
-    fn default() -> End {
-        End {
-            container: 0,
-            cause: Cause::Released,
-        }
-    }
 }

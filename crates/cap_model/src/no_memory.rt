@@ -1,3 +1,5 @@
+//! That an allocation failed (`NoMemory`).
+
 use thiserror::Error;
 
 /// No memory was found. Where a call answers it, the call changed nothing unless it says otherwise.

@@ -1,3 +1,4 @@
+//! Room for the grants and ends of a reply, made before the call (`ReplyRoom`); the reply is then owned in it.
 ghost use Rattle.std.specs.Prelude.{◌≡◌, ◌≤◌, IfOk};
 ghost use Rattle.cap_model.specs.Reporting.{HasRoomFor};
 

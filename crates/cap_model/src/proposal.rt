@@ -1,3 +1,4 @@
+//! Proposals of scheduler threads (`Proposal`), why one is rejected (`Reason`), and what it came to (`Verdict`).
 ghost use Rattle.std.specs.Prelude.{◌≡◌};
 ghost use Rattle.cap_vector.specs.Vector.{IsResource};
 ghost use Rattle.cap_model.specs.Cascade.{earliest};

@@ -1,3 +1,4 @@
+//! Why a call is refused, by number (`Refusal`), and the refusal of the first test that holds (`first_refusal`).
 ghost use Rattle.std.specs.Prelude.{◌≡◌};
 ghost use Rattle.cap_model.specs.Cascade.{earliest};
 

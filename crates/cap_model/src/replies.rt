@@ -1,3 +1,4 @@
+//! The answers to an Allocate, in numbers, lent and owned (`AllocateReply`), and to a Heartbeat (`HeartbeatReply`).
 ghost use Rattle.std.specs.Prelude.{◌≡◌, ◌≤◌, length};
 ghost use Rattle.cap_model.specs.Limits.{news_max};
 

@@ -1,3 +1,4 @@
+//! The answer to a request (`ReplyWith`) in its three forms: in numbers (`Reply`), lent and owned.
 ghost use Rattle.std.specs.Prelude.{◌≡◌};
 ghost use Rattle.cap_model.specs.Reporting.{map_reply, IfAllocate};
 

@@ -1,3 +1,5 @@
+//! What an operator sees of a queue (`QueueReport`) and of the cluster (`ClusterReport`).
+
 use cap_vector::{Resource, Sum};
 
 /// What an operator sees of a queue.

@@ -1,3 +1,4 @@
+//! The ten calls of clients, application masters, node managers and operators (`Request`).
 ghost use Rattle.std.specs.Prelude.{◌≡◌, IfOk};
 
 use crate::list::{Asks, Numbers};

@@ -1,3 +1,4 @@
+//! Response ids: the next one, and whether a request repeats the last processed one (`next_response`, `repeats`).
 ghost use Rattle.std.specs.Prelude.{◌≡◌, ◌<◌};
 ghost use Rattle.cap_model.specs.Limits.{response_end};
 ghost use Rattle.cap_model.specs.ResponseIds.{next_response, repeats, is_bad};

@@ -1,4 +1,4 @@
-//! The settings of a cluster as data: its queues and its limits.
+//! The settings of a cluster as data: its limits (`Config`) and its queues (`QueueRow`).
 ghost use Rattle.std.specs.Prelude.{◌≡◌, ◌≤◌, length};
 ghost use Rattle.cap_model.specs.Limits.{applications_max, queues_max, resources_max};
 ghost use Rattle.cap_model.specs.Listing.{IsListing};

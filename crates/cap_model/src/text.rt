@@ -1,3 +1,4 @@
+//! Texts of messages, held inline (`Text`): hosts, racks, places, users (`ShortText`), paths of queues (`PathText`).
 ghost use Rattle.std.specs.Prelude.{◌≡◌, ◌↔◌, length, IfSome, IsSome, true};
 ghost use Rattle.std.specs.List.{list_all};
 ghost use Rattle.cap_model.specs.Texts.{star, is_graphic, is_text};

@@ -1,3 +1,4 @@
+//! Containers by number, found by their application and by their node too: the live ones, or the reservations.
 ghost use Rattle.std.specs.Prelude.{◌≡◌, ℕ, ◌+◌, ◌<◌, ◌≤◌, [], ◌==◌, ◌&&◌, nat_lt, length, map, find, filter, not, IfOk, OnErr};
 ghost use Rattle.std.specs.List.{slice_get};
 ghost use Rattle.cap_model.specs.Limits.{live_max, number_end};

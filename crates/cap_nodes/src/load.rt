@@ -1,3 +1,4 @@
+//! A node with what its live containers hold, and how many they are (`Load`).
 ghost use Rattle.std.specs.Prelude.{◌≡◌, Some, length};
 ghost use Rattle.cap_vector.specs.Vector.{Fits, plus, less};
 ghost use Rattle.cap_nodes.specs.Loads.{CanHold, HasOne, held_more, held_less, beaten_load};

@@ -1,3 +1,4 @@
+//! One node: its host, rack and total, and the reply to its last heartbeat (`Node`).
 ghost use Rattle.std.specs.Prelude.{◌≡◌, ◌<◌, Some, None, if◌then◌else◌};
 ghost use Rattle.cap_vector.specs.Vector.{IsResource};
 ghost use Rattle.cap_model.specs.ResponseIds.{is_repeated, is_bad_id};

@@ -1,3 +1,4 @@
+//! The nodes, the live containers on them, and the reservations (`Nodes`).
 ghost use Rattle.std.specs.Prelude.{◌≡◌, ◌+◌, ◌<◌, ◌≤◌, ◌==◌, ◌&&◌, nat_lt, [], ◌∷◌, IsSome, Some, IfOk, IfSome, OnOk, OnErr, bytes_eq, length, map, find, filter, not, true, false, is_none, option_and_then};
 ghost use Rattle.std.specs.List.{All, list_any, slice_get};
 ghost use Rattle.std.specs.Option.{option_copied};

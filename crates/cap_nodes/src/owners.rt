@@ -1,3 +1,4 @@
+//! Which containers an application or a node has, as an ordered set of pairs of numbers (`Owners`).
 ghost use Rattle.std.specs.Prelude.{◌≡◌, ℕ, ◌<◌, ◌≤◌, [], IfSome, IfNone, OnOk, OnErr, true, false};
 ghost use Rattle.cap_nodes.specs.Loads.{has_pair, HasMore, HasLess};
 

@@ -1,3 +1,4 @@
+//! The nodes that are present, found by number and by index (`Present`).
 ghost use Rattle.std.specs.Prelude.{◌≡◌, ◌+◌, ◌<◌, ◌≤◌, [], Some, None, option_and_then, ◌==◌, IsSome, IfSome, IfOk, OnErr, bytes_eq, length, map, filter, not};
 ghost use Rattle.std.specs.List.{list_any, slice_get};
 ghost use Rattle.std.specs.Option.{option_copied};

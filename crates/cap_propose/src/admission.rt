@@ -1,7 +1,6 @@
 //! Whether an ask may be proposed on a node, and as what.
-ghost use Rattle.std.specs.Prelude.{◌≡◌, ◌&&◌, ◌||◌, ◌∷◌, [], bytes_eq, false, true};
+ghost use Rattle.std.specs.Prelude.{◌≡◌, ◌&&◌, false, true};
 ghost use Rattle.cap_model.specs.Amounts.{fits};
-ghost use Rattle.cap_model.specs.Texts.{star};
 ghost use Rattle.cap_model.specs.Flat.{is_for};
 ghost use Rattle.cap_model.specs.Admission.{takes_place};
 ghost use Rattle.cap_copy.specs.Snapshot.{IsAskEntry, sight_in};
@@ -9,7 +8,7 @@ ghost use Rattle.cap_propose.specs.Sizes.{SnapshotFitsInMemory};
 ghost use Rattle.cap_propose.specs.Proposing.{IsAdmittedAs, IsClosed, IsOpen, IsSeenNode, has_numbers, is_in_limits, kind_by_room, room_back, room_kind, takes};
 
 use cap_copy::{SeenAsk, SeenNode, Snapshot};
-use cap_model::{LIVE_MAX, NUMBER_END, ProposalKind, Reservation, ShortText};
+use cap_model::{LIVE_MAX, NUMBER_END, ProposalKind, Reservation, takes_place};
 use cap_vector::{Resource, fits};
 use std::alloc::Allocator;
 
@@ -131,15 +130,6 @@ fn suits<const K: usize>(node: &SeenNode<K>, ask: &SeenAsk<K>) -> bool
     ensures { result ≡ takes_place ask.now.ask.place node.now }
 {
     takes_place(&ask.ask().place(), node.host(), node.rack())
-}
-
-/// Whether a place is anywhere (`*`), the host or the rack.
-fn takes_place(place: &ShortText, host: &ShortText, rack: &ShortText) -> bool
-    ensures { result ≡ (bytes_eq place.now (star ∷ []) || bytes_eq place.now host.now
-        || bytes_eq place.now rack.now) }
-{
-    let place = place.as_bytes();
-    place == b"*".as_slice() || place == host.as_bytes() || place == rack.as_bytes()
 }
 
 /// Whether another container may be live, and there is a number for it.

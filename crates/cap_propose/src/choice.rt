@@ -1,4 +1,4 @@
-//! The choice on a node, and from a starting node over the ring of all nodes.
+//! The choice of a proposal, on one node and from a starting node over the ring of all nodes (`propose`).
 ghost use Rattle.std.specs.Prelude.{◌≡◌, ◌<◌, ◌≤◌, Some, length};
 ghost use Rattle.cap_model.specs.Candidates.{choice_from, choice_on};
 ghost use Rattle.cap_copy.specs.Snapshot.{IsAskEntry, IsSnapshot, sight_in};

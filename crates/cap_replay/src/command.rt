@@ -1,3 +1,4 @@
+//! What a line of the script asks for (`Command`, `command_of`).
 ghost use Rattle.std.specs.Prelude.{ℕ, IfSome, IsSome};
 ghost use Rattle.cap_replay.specs.declared.command.Command.{Command};
 ghost use Rattle.cap_replay.specs.Script.{IsCommand, IsNumber};

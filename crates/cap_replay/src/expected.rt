@@ -1,4 +1,4 @@
-//! Words for the lines that a script may have.
+//! What is expected where a line of the script is bad, and words for it (`Expected`).
 
 /// What is expected where a line is bad.
 #[derive(Clone, Copy, Debug, PartialEq, Eq)]

@@ -1,3 +1,4 @@
+//! A script played from a reader to a writer, to an exit status (`replay`, `replay_with_words`).
 ghost use Rattle.std.specs.Prelude.{◌≡◌, ◌<◌, ◌+◌, ◌++◌, [], ℕ, true, length, Err, OnOk, IfOk, IfErr, None};
 ghost use Rattle.cap_text.specs.Pieces.{lacks};
 ghost use Rattle.cap_config.specs.declared.fault.ConfigFault.{ConfigFault};

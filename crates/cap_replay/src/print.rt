@@ -1,5 +1,5 @@
-//! What is printed: lines of words, numbers and frames. A line is put together beside what was printed before, so that where an allocation
-//! fails nothing of it is printed.
+//! What is printed: lines of words, numbers and frames.
+//! A line is put together beside what was printed before, so that where an allocation fails nothing of it is printed.
 ghost use Rattle.std.specs.Prelude.{◌≡◌, ◌+◌, ◌*◌, ◌++◌, ◌<◌, ◌∷◌, [], length, IfSome, OnOk, OnErr, decimal, take, drop};
 ghost use Rattle.hex.specs.Hex.{encode_lower};
 ghost use Rattle.cap_model.specs.Admission.{reason_number};

@@ -1,3 +1,4 @@
+//! Why a script was played no further, as it is printed, and the exit status (`finish`).
 ghost use Rattle.std.specs.Prelude.{◌≡◌, ◌≢◌, ◌↔◌, ◌<◌, ◌≤◌, ◌+◌, Ok, Err, IsOk, OnOk, OnErr};
 ghost use Rattle.cap_session.specs.Counted.{state_of, CanCount};
 ghost use Rattle.cap_replay.specs.Streams.{input_failures, output_failures, MayWrite, IsRefused};

@@ -1,3 +1,4 @@
+//! The property lines of a script, joined, and the world that they open (`Settings`).
 ghost use Rattle.std.specs.Prelude.{◌≡◌, ℕ, None, Some, Err, OnOk, IfOk, IfErr};
 ghost use Rattle.cap_config.specs.declared.fault.ConfigFault.{ConfigFault};
 ghost use Rattle.cap_config.specs.First.{first_fault};

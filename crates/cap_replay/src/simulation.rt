@@ -1,3 +1,4 @@
+//! The world of a script, opened by its settings at the first step (`Simulation`).
 ghost use Rattle.std.specs.Prelude.{◌≡◌, ℕ, None, Err, OnOk, IfOk, IfErr, is_some};
 ghost use Rattle.cap_config.specs.declared.fault.ConfigFault.{ConfigFault};
 ghost use Rattle.cap_replay.specs.declared.stop.Stop.TheVariants.{BadLine, Config as bad_config};

@@ -1,3 +1,4 @@
+//! Why a script is played no further (`Stop`).
 ghost use Rattle.std.specs.Prelude.{◌≡◌};
 ghost use Rattle.cap_replay.specs.declared.stop.Stop.TheVariants.{NoMemory as out_of_memory};
 

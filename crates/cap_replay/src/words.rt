@@ -1,4 +1,4 @@
-//! Words for why a script was played no further.
+//! Words for why a script was played no further (`explain_end`).
 
 use crate::script::Script;
 use crate::stop::Stop;

@@ -1,4 +1,4 @@
-//! Where connections come in, and where those wait to which nothing comes.
+//! Where connections come in, and where those wait to which nothing comes (`Acceptor`).
 use crate::connection::Connection;
 use crate::signal::EndSignal;
 use mio::unix::SourceFd;

@@ -1,4 +1,4 @@
-//! Serving a connection.
+//! A connection, served from epoch to epoch (`Connection`).
 ghost use Rattle.std.specs.Prelude.{◌≡◌, None, IfSome};
 ghost use Rattle.cap_session.specs.Session.{new_session};
 ghost use Rattle.cap_workers.specs.Sessions.{pending_request, IsServed};

@@ -1,4 +1,4 @@
-//! An epoch: all tasks over one shared cluster, until its journal is full or all connections have ended.
+//! An epoch: all tasks over one shared cluster, until its journal is full or all connections have ended (`epoch`).
 ghost use Rattle.std.specs.Prelude.{◌≡◌, ◌≤◌, ◌<◌, length, IfOk};
 ghost use Rattle.cap_server.specs.Epochs.{LeadsTo};
 

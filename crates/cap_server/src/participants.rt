@@ -1,4 +1,4 @@
-//! Who works in an epoch, and with what.
+//! Who works on from epoch to epoch, and with what (`Participants`), the lanes, and the threads of an epoch.
 ghost use Rattle.std.specs.Prelude.{◌<◌, ◌≤◌};
 ghost use Rattle.std.specs.Option.{ForSome};
 

@@ -1,4 +1,4 @@
-//! Waiting for a stream.
+//! Waiting until a stream can be read or written, or the epoch ends (`Poller`).
 use crate::signal::EndSignal;
 use mio::unix::SourceFd;
 use mio::{Events, Interest, Poll, Token};

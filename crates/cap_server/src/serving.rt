@@ -1,4 +1,4 @@
-//! The daemon's run: its epochs, and what it prints.
+//! The daemon's run: its sizes (`Sizes`), one epoch after the other, and what it prints (`serve_on`).
 ghost use Rattle.std.specs.Prelude.{◌≡◌, ◌<◌, ◌↔◌, Err, IfOk, IfErr, OnOk, IsTrue};
 ghost use Rattle.cap_session.specs.Counted.{state_of, CanCount};
 ghost use Rattle.cap_server.specs.Bounds.{IsAllowed};

@@ -1,4 +1,4 @@
-//! The end of an epoch, which wakes all threads that wait.
+//! The end of an epoch, which wakes all threads that wait (`EndSignal`).
 use cap_workers::StopSignal;
 use mio::unix::SourceFd;
 use mio::{Interest, Poll, Registry, Token, Waker};

@@ -1,4 +1,4 @@
-//! What all threads of the daemon share.
+//! What all threads of the daemon share, through all epochs (`SharedState`).
 ghost use Rattle.std.specs.Prelude.{◌≡◌, ◌<◌, ◌≤◌, IfSome};
 ghost use Rattle.std.specs.Option.{ForSome};
 ghost use Rattle.cap_server.specs.Bounds.{IsAllowed};

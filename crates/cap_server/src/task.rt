@@ -1,4 +1,4 @@
-//! What the threads of an epoch do.
+//! What the threads of an epoch do: those of workers and of the committer (`Task`), and those that serve connections.
 use crate::connection::Connection;
 use crate::state::SharedState;
 use cap_shared::{Entry, Naming, Seat, SeatReport, Shared};

@@ -1,4 +1,4 @@
-//! The threads of an epoch, which the thread of the daemon begins.
+//! The threads of an epoch, which the thread of the daemon begins and ends (`run_threads`).
 ghost use denote.Param.Send.{IsSend, IsSync};
 
 use crate::acceptor::{Accept, Acceptor};

@@ -1,4 +1,4 @@
-//! Streams whose calls survive signals.
+//! Streams of which a call that a signal interrupts is no failure (`Uninterrupted`).
 ghost use Rattle.std.specs.Prelude.{◌≡◌};
 ghost use Rattle.cap_server.specs.Interrupts.{IsUninterrupted};
 

@@ -1,4 +1,4 @@
-//! Payloads that were read.
+//! Payloads that were read: what is kept of one that is a request (`Asked`), and of one that is none (`Refused`).
 ghost use Rattle.std.specs.Prelude.{◌≡◌};
 ghost use Rattle.cap_session.specs.Asked.{IsAsked, IsRefused, first_open, first_payload, HasParts, HasRefused};
 

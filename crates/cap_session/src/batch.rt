@@ -1,4 +1,4 @@
-//! A session whose requests were handed out together.
+//! A session whose requests were handed out together (`Batch`).
 ghost use Rattle.std.specs.Prelude.{◌≡◌};
 ghost use Rattle.cap_session.specs.Batch.{MayAnswerFirst, SpellsFirst, after_first, IsFirstOf, with_first_open};
 ghost use Rattle.cap_session.specs.Ahead.{asked_requests};

@@ -1,4 +1,4 @@
-//! Readers and writers whose failures are counted.
+//! Readers and writers whose failures are counted (`Counted`), and bytes written out to one (`write_out`).
 ghost use Rattle.std.specs.Prelude.{◌≡◌, ◌<◌, ◌++◌, length, take, OnOk};
 ghost use Rattle.std.specs.Io.KnownBytes.{Appends, Keeps};
 ghost use Rattle.cap_session.specs.Counted.{state_of, inner_of, new_stream, bytes_in, CanCount, after_read, after_write, after_writes, after_flush, one_failure, CountsWrite, Gives, Takes, sent_count, IsSentCount, got_of, put_of};

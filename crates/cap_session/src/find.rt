@@ -1,4 +1,4 @@
-//! What comes next in a stream.
+//! What comes next in a stream (`find`), and the frame of a reply, written in place (`put_reply`).
 ghost use Rattle.std.specs.Prelude.{◌≡◌, ◌+◌, ◌++◌, OnOk, OnErr, false, ◌≤◌};
 ghost use Rattle.cap_frames.specs.Stream.{frame_of};
 ghost use Rattle.cap_grammar.specs.Spelling.{IsKind, IsOfKind, IsReply, reply_bytes, fault_reply};

@@ -1,4 +1,4 @@
-//! The payloads of a stream, which may be read before they are asked for.
+//! The payloads of a stream, which may be read before they are asked for (`Payloads`).
 ghost use Rattle.std.specs.Prelude.{◌≡◌, ◌≤◌, ℕ, List, IfOk, OnOk, OnErr, length, false, []};
 ghost use Rattle.cap_frames.specs.History.{IsReading, after_feed};
 ghost use Rattle.cap_session.specs.Ahead.{HasGiven, HasRequests};

@@ -1,4 +1,4 @@
-//! A session.
+//! A session (`Session`): bytes are fed, requests handed out and answered, and the answers written out.
 ghost use Rattle.std.specs.Prelude.{◌≡◌, ◌<◌, ◌≤◌, ◌++◌, IfOk, IfErr, take, vec_capacity, None};
 ghost use Rattle.std.specs.Io.KnownBytes.{Appends};
 ghost use Rattle.cap_session.specs.Counted.{state_of, inner_of, CanCount, after_writes, sent_count, IsSentCount};

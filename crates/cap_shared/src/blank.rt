@@ -1,4 +1,4 @@
-//! What names an epoch.
+//! The word beside the lock of an epoch that is not opened yet (`Blank`).
 ghost use Rattle.std.specs.Prelude.{◌≡◌, IfOk};
 
 use crate::history::{Mark, View};

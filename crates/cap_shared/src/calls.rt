@@ -1,4 +1,4 @@
-//! What a call needs beside what the cluster itself needs: room for its entry, its receipt and its reply.
+//! What a call needs beside what the cluster itself needs: room for its entry, its receipt and its reply (`CallRoom`).
 ghost use Rattle.std.specs.Prelude.{◌≡◌, ◌<◌, true, IfOk, OnOk, vec_len, vec_capacity};
 ghost use Rattle.cap_model.specs.Flat.{Flat};
 ghost use Rattle.cap_model.specs.Events.{is_no_memory};

@@ -1,4 +1,4 @@
-//! What is left of an epoch.
+//! What is left of an epoch: the cluster, the journal (`Closed`), and the receipts of each seat (`SeatReport`).
 ghost use Rattle.std.specs.Prelude.{◌≡◌};
 
 use crate::entry::{Entry, Receipt};

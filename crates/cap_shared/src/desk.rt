@@ -1,4 +1,4 @@
-//! What lies under the lock.
+//! What lies under the lock: the cluster, its journal, and the pass that knows the journal (`Desk`).
 ghost use Rattle.std.specs.Prelude.{◌≡◌, ◌<◌, ◌≤◌, MatchResult, IfErr, OnErr, length, ◌↔◌, IsTrue, None};
 ghost use Rattle.cap_model.specs.Sight.{sight_of};
 ghost use Rattle.cap_model.specs.Admission.{reason_of};

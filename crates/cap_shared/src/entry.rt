@@ -1,4 +1,4 @@
-//! What a journal holds, and what a seat keeps of it.
+//! What a journal holds (`Entry`), and what a seat keeps of its own entries (`Receipt`).
 use crate::event::CompactEvent;
 use crate::request::CompactRequest;
 use cap_model::OwnedReply;

@@ -1,4 +1,4 @@
-//! An event in little space.
+//! An event in little space, as a journal holds it (`CompactEvent`).
 ghost use Rattle.std.specs.Prelude.{◌≡◌};
 ghost use Rattle.cap_model.specs.declared.event.Event.TheVariants as event;
 ghost use Rattle.cap_shared.specs.Events.{event_of};

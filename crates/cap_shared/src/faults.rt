@@ -1,4 +1,4 @@
-//! Why a call or a commit was not made.
+//! Why a call or a commit was not made (`CallFault`, `CommitFault`).
 use cap_model::{Proposal, Request};
 
 /// A call was not made, and nothing changed. The request comes back.

@@ -1,4 +1,4 @@
-//! The history of a seat, and what passes know of it. Values of these types exist for contracts alone.
+//! What a seat was answered (`Sitting`), and what passes know of it (`View`). These types exist for contracts alone.
 use crate::entry::{Entry, Receipt};
 use cap_model::{Proposal, Reason, Request};
 use http_server::Log;

@@ -1,4 +1,4 @@
-//! One cluster that several threads share: under a lock, with a journal of all that was done, and receipts of each thread's own calls.
+//! One cluster that threads share, under a lock: a journal of all that was done, and receipts of each thread's calls.
 #![tactic(auto)]
 
 mod blank;

@@ -1,4 +1,4 @@
-//! Making a proposal that is admissible.
+//! Making a proposal that is admissible, with its event (`make_proposed`).
 ghost use Rattle.std.specs.Prelude.{◌≡◌, ◌<◌, None, IfOk, OnOk, OnErr, vec_len, vec_capacity};
 ghost use Rattle.cap_model.specs.Sight.{sight_of};
 ghost use Rattle.cap_model.specs.Admission.{IsAdmissible, reason_of};

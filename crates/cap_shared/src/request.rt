@@ -1,4 +1,4 @@
-//! A request in little space: one with texts, which are long, stands behind a pointer.
+//! A request in little space, as a journal holds it: one with texts stands behind a pointer (`CompactRequest`).
 ghost use Rattle.std.specs.Prelude.{◌≡◌, IfOk};
 ghost use Rattle.cap_shared.specs.Requests.{IsCopyIfTexts};
 

@@ -1,4 +1,4 @@
-//! A seat, and what names an epoch.
+//! A seat, with which one thread calls (`Seat`), and what names an epoch (`Naming`).
 ghost use Rattle.std.specs.Prelude.{◌≡◌, ◌<◌};
 ghost use Rattle.cap_shared.specs.Journal.{receipts_in, Rises, NotesHold};
 ghost use Rattle.cap_shared.specs.Parts.{IsSeat};

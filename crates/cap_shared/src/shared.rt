@@ -1,4 +1,4 @@
-//! The cluster that threads share, with its seats.
+//! The cluster that threads share, with its seats (`Shared`), and what one thread does under one lock (`Held`).
 ghost use Rattle.std.specs.Prelude.{◌≡◌, ℕ, ◌<◌, ◌≤◌, [], length, map, vec_capacity, IfOk, OnOk, OnErr, MatchResult};
 ghost use Rattle.cap_shared.specs.Calls.{CallsOk, CallsBack, CallMisses, CommitAnswers, CommitsBack, CopyIs};
 ghost use Rattle.cap_shared.specs.Journal.{Replays, TagsBelow, AllHonest};

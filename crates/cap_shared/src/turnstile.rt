@@ -1,4 +1,4 @@
-//! Who takes the lock next.
+//! Who takes the lock next: those that schedule wait for a few calls at most (`Turnstile`).
 use std::sync::atomic::{AtomicU64, Ordering};
 use std::sync::{Mutex, MutexGuard, Wait};
 use std::thread::yield_now;

@@ -4,6 +4,7 @@ use Rattle.std.specs.Prelude.{◌&&◌, bytes_eq, filter, find, flat_map, is_non
 use Rattle.std.specs.Option.{option_map_or, option_or}
 use Rattle.std.specs.Ordering.{is_gt}
 use Rattle.std.specs.List.{list_all}
+use Rattle.std.proofs.lemmas.List.{drop-map}
 use Rattle.cap_vector.specs.Vector.{amount, amounts_exchanged}
 use Rattle.cap_vector.specs.Fullness.{shares}
 use Rattle.cap_vector.proofs.AmountLemmas.{amount-exchanged}
@@ -15,36 +16,26 @@ use Rattle.cap_model.specs.Admission.{NodeProposal, IsAdmissible, IsWithinLimits
 use Rattle.cap_model.specs.Choice.{Level, level_of, rank_cmp, rank_of, ring_from}
 use Rattle.cap_model.specs.Candidates.{admissible_on, choice_from, choice_on, first_choice, first_served, proposals_of, sooner}
 use Rattle.cap_model.specs.declared.proposal.Reason.{Reason}
-use Rattle.cap_model.proofs.lists.Filters.{filter_same, find_mapped_at, map_twice}
+use Rattle.cap_model.proofs.lists.Filters.{filter_mapped, filter_same, find_mapped_at, map_twice}
 use Rattle.cap_model.proofs.lists.Tests.{same_test}
 use Rattle.cap_model.proofs.uses.Measures.{amounts_fit, fits_amounts}
 use Rattle.cap_model.proofs.choice.Reasons.{rejected_exactly}
-use Rattle.cap_sights.specs.Sights.{QueueUse, queue_use, ShowTheSame}
+use Rattle.cap_sights.specs.Sights.{ShownQueue, shown_queue, ShowTheSame}
 
 -- ---- what depends on the settings and the use of queues alone
 
-filtered : (f : QueueUse → Bool) (qs : List QueueSight) → map queue_use (filter (λ q. f (queue_use q)) qs) ≡ filter f (map queue_use qs)
-filtered f [] = refl
-filtered f (q ∷ qs) = by (f (queue_use q)) (filtered f qs)
-  where
-    by : (b : Bool) → map queue_use (filter (λ q. f (queue_use q)) qs) ≡ filter f (map queue_use qs)
-        → map queue_use (cond b (q ∷ filter (λ q. f (queue_use q)) qs) (filter (λ q. f (queue_use q)) qs)) ≡ cond b (queue_use q ∷ filter f (map queue_use qs)) (filter f (map queue_use qs))
-    by true r = ap (λ us. queue_use q ∷ us) r
-    by false r = r
+filtered : (f : ShownQueue → Bool) (qs : List QueueSight) → map shown_queue (filter (λ q. f (shown_queue q)) qs) ≡ filter f (map shown_queue qs)
+filtered f qs = sym (filter_mapped f shown_queue qs)
 
-all_pass : (t : QueueUse → Bool) (qs : List QueueSight) → list_all (λ q. t (queue_use q)) qs ≡ list_all t (map queue_use qs)
+all_pass : (t : ShownQueue → Bool) (qs : List QueueSight) → list_all (λ q. t (shown_queue q)) qs ≡ list_all t (map shown_queue qs)
 all_pass t [] = refl
-all_pass t (q ∷ qs) = ap (λ b. t (queue_use q) && b) (all_pass t qs)
+all_pass t (q ∷ qs) = ap (λ b. t (shown_queue q) && b) (all_pass t qs)
 
-drop_first : {A B : Type 0} (f : A → B) (xs : List A) → map f (drop 1 xs) ≡ drop 1 (map f xs)
-drop_first f [] = refl
-drop_first f (x ∷ xs) = refl
-
-abbrev level_in : QueueUse → Level
+abbrev level_in : ShownQueue → Level
 level_in u = record { fullness = shares u.used u.row.guaranteed; name = name_of u.row.path }
 
-levels_in : (qs : List QueueSight) → map level_of (drop 1 qs) ≡ map level_in (drop 1 (map queue_use qs))
-levels_in qs = sym (map_twice level_in queue_use (drop 1 qs)) ∙ ap (map level_in) (drop_first queue_use qs)
+levels_in : (qs : List QueueSight) → map level_of (drop 1 qs) ≡ map level_in (drop 1 (map shown_queue qs))
+levels_in qs = sym (map_twice level_in shown_queue (drop 1 qs)) ∙ ap (map level_in) (sym (drop-map shown_queue 1 qs))
 
 -- what fits depends on amounts alone
 same_fit : (old new v w most : List ℕ) → ((k : ℕ) → amount v k ≡ amount w k) → fits (amounts_exchanged old new v) most ≡ fits (amounts_exchanged old new w) most
@@ -57,14 +48,14 @@ same_fit old new v w most same =
 abbrev user_fits : (List ℕ → List ℕ) → List ℕ → QueueSight → Bool
 user_fits after user q = fits_user_limit q.row.factor q.row.guaranteed (after (q.used_by user))
 
-user_stays : (old new user : List ℕ) (o p : Option QueueSight) → option_map queue_use o ≡ option_map queue_use p
+user_stays : (old new user : List ℕ) (o p : Option QueueSight) → option_map shown_queue o ≡ option_map shown_queue p
     → ((k : ℕ) → amount (option_map_or (λ (q : QueueSight). q.used_by user) o []) k ≡ amount (option_map_or (λ (q : QueueSight). q.used_by user) p []) k)
     → holds_of (user_fits (amounts_exchanged old new) user) o ≡ holds_of (user_fits (amounts_exchanged old new) user) p
 user_stays old new user None None e same = refl
 user_stays old new user None (Some y) e same = absurd (cc e)
 user_stays old new user (Some x) None e same = absurd (cc e)
 user_stays old new user (Some x) (Some y) e same =
-    let rows : queue_use x ≡ queue_use y = cc e in
+    let rows : shown_queue x ≡ shown_queue y = cc e in
     same_fit old new (x.used_by user) (y.used_by user) (times x.row.factor x.row.guaranteed) same
     ∙ (λ i. fits_user_limit (rows i).row.factor (rows i).row.guaranteed (amounts_exchanged old new (y.used_by user)))
 
@@ -75,7 +66,7 @@ with_queues s qs = record s { queues = qs }
 
 -- the same queues with the same use, and the same amounts for each user
 record AreAlike {K : ℕ} (s : Sight K) (qs rs : List QueueSight) : Type 0 where
-  queues : map queue_use qs ≡ map queue_use rs
+  queues : map shown_queue qs ≡ map shown_queue rs
   users : (path user : List ℕ) (k : ℕ) → amount (option_map_or (λ (q : QueueSight). q.used_by user) (seen_queue (with_queues s qs) path) []) k ≡ amount (option_map_or (λ (q : QueueSight). q.used_by user) (seen_queue (with_queues s rs) path) []) k
 
 turned : {K : ℕ} (s : Sight K) (qs rs : List QueueSight) → AreAlike s qs rs → AreAlike s rs qs
@@ -88,20 +79,20 @@ module _ {K : ℕ} (s : Sight K) (qs rs : List QueueSight) (h : AreAlike s qs rs
   abbrev b : Sight K
   b = with_queues s rs
 
-  to_leaf : (leaf : List ℕ) → map queue_use (queues_to a leaf) ≡ map queue_use (queues_to b leaf)
+  to_leaf : (leaf : List ℕ) → map shown_queue (queues_to a leaf) ≡ map shown_queue (queues_to b leaf)
   to_leaf leaf =
-      let on : QueueUse → Bool = λ u. is_under u.row.path leaf in
+      let on : ShownQueue → Bool = λ u. is_under u.row.path leaf in
       filtered on qs ∙ ap (filter on) h.queues ∙ sym (filtered on rs)
 
   maxima_same : stays_in_maxima a p ≡ stays_in_maxima b p
   maxima_same =
-      let within : QueueUse → Bool = λ u. fits_maximum u.row.maximum (use_after a p u.used) in
+      let within : ShownQueue → Bool = λ u. fits_maximum u.row.maximum (use_after a p u.used) in
       all_pass within (queues_to a (leaf_path a p)) ∙ ap (list_all within) (to_leaf (leaf_path a p)) ∙ sym (all_pass within (queues_to b (leaf_path a p)))
 
   user_same : stays_in_user_limit a p ≡ stays_in_user_limit b p
   user_same =
-      let here : QueueUse → Bool = λ u. bytes_eq u.row.path (leaf_path a p) in
-      let found = sym (find_mapped_at queue_use here qs) ∙ ap (find here) h.queues ∙ find_mapped_at queue_use here rs in
+      let here : ShownQueue → Bool = λ u. bytes_eq u.row.path (leaf_path a p) in
+      let found = sym (find_mapped_at shown_queue here qs) ∙ ap (find here) h.queues ∙ find_mapped_at shown_queue here rs in
       user_stays (Rattle.cap_model.specs.Admission.room_replaced a p) p.resource (user_name a p) (seen_queue a (leaf_path a p)) (seen_queue b (leaf_path a p)) found (h.users (leaf_path a p) (user_name a p))
 
   still_admissible : IsAdmissible a p → IsAdmissible b p

@@ -19,7 +19,7 @@ use Rattle.cap_nodes.specs.Tables.{left_of}
 use Rattle.cap_copy.specs.Snapshot.{Seen, queue_seen, sight_in}
 use Rattle.cap_copy.specs.Taking.{IsSnapshotOf, node_seen, sight_of_parts}
 use Rattle.cap_commit.specs.Held.{IsRowOf}
-use Rattle.cap_sights.specs.Sights.{ShowTheSame, queue_use}
+use Rattle.cap_sights.specs.Sights.{ShowTheSame, shown_queue}
 
 module _ {K : ℕ} (flat : Flat K) where
   -- a user of a queue uses the same amounts
@@ -27,7 +27,7 @@ module _ {K : ℕ} (flat : Flat K) where
   uses_same r tied user k = sym (user_counts K user r.item.users (Measure.uses k)) ∙ tied.users user (Measure.uses k)
 
   -- the queues, with their use
-  queues_same : (rows : List Row) → ((r : Row) → IsIn r rows → IsRowOf flat r) → map queue_use (map (queue_seen K) rows) ≡ map queue_use (map (queue_sight flat) (queues_of rows))
+  queues_same : (rows : List Row) → ((r : Row) → IsIn r rows → IsRowOf flat r) → map shown_queue (map (queue_seen K) rows) ≡ map shown_queue (map (queue_sight flat) (queues_of rows))
   queues_same [] tied = refl
   queues_same (r ∷ rows) tied = λ i. record { row = settings_of_row r; used = (tied r (inl refl)).used i } ∷ queues_same rows (λ s m. tied s (inr m)) i
 
@@ -53,7 +53,7 @@ module _ {K : ℕ} (flat : Flat K) where
   parts_same : (rows : List Row) → queues_of rows ≡ flat.settings.queues → ((r : Row) → IsIn r rows → IsRowOf flat r) → IsRising 1 (map (λ node. node.number) flat.nodes.present) flat.nodes.next_node
       → ShowTheSame (sight_of_parts K rows flat.apps flat.nodes) (sight_of flat)
   parts_same rows queues tied rising = record {
-    queues = queues_same rows tied ∙ (λ i. map queue_use (map (queue_sight flat) (queues i)));
+    queues = queues_same rows tied ∙ (λ i. map shown_queue (map (queue_sight flat) (queues i)));
     users = λ path user k. users_same path user k rows tied ∙ (λ i. amount (option_map_or (λ (q : QueueSight). q.used_by user) (find (λ (q : QueueSight). bytes_eq q.row.path path) (map (queue_sight flat) (queues i))) []) k);
     apps = refl;
     nodes = nodes_same flat.nodes.present (λ node m. found_by_number (λ (n : ClusterNode). n.number) 1 flat.nodes.present flat.nodes.next_node node rising m);

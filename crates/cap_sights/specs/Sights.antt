@@ -5,13 +5,13 @@ use Rattle.cap_vector.specs.Vector.{amount}
 use Rattle.cap_model.specs.Settings.{QueueRow}
 use Rattle.cap_model.specs.Sight.{Sight, QueueSight, seen_queue}
 
--- a queue's settings and its use
-pub record QueueUse : Type 0 where
+-- what two sights show of a queue: its settings and its use
+pub record ShownQueue : Type 0 where
   pub row : QueueRow
   pub used : List ℕ
 
-abbrev pub queue_use : QueueSight → QueueUse
-queue_use q = record { row = q.row; used = q.used }
+abbrev pub shown_queue : QueueSight → ShownQueue
+shown_queue q = record { row = q.row; used = q.used }
 
 module _ {K : ℕ} where
   -- what a user uses in the queue of a path
@@ -20,7 +20,7 @@ module _ {K : ℕ} where
 
   -- the same queues with the same use, in each the same amounts for each user, and the same of all else
   pub record ShowTheSame (a b : Sight K) : Type 0 where
-    pub queues : map queue_use a.queues ≡ map queue_use b.queues
+    pub queues : map shown_queue a.queues ≡ map shown_queue b.queues
     pub users : (path user : List ℕ) (k : ℕ) → amount (used_at a path user) k ≡ amount (used_at b path user) k
     pub apps : a.apps ≡ b.apps
     pub nodes : a.nodes ≡ b.nodes

@@ -1,4 +1,4 @@
-//! Snapshots of a whole cluster of two resources.
+//! Snapshots of a whole cluster of two resources: `snapshot_of`, and `snapshot_in` an arena.
 #![tactic(auto)]
 
 ghost use Rattle.std.specs.Prelude.{IfOk};

@@ -1,5 +1,5 @@
-//! What tests of several crates need: settings of queues, the cluster that they open and the tree with its changes, and requests spelled into
-//! frames. The spelling is written by hand and shares no code with the engine.
+//! What tests of several crates need: settings and the cluster that they open, changes of a tree, requests as frames.
+//! The spelling of frames is written by hand and shares no code with the engine.
 #![tactic(auto)]
 
 mod settings;

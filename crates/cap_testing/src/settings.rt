@@ -1,3 +1,5 @@
+//! Property lines for tests, and the clusters that they open, also once calls were made (`cluster_after`).
+
 use crate::spelling::{Call, frame};
 use cap_commit::Cluster;
 use cap_config::read_config;

@@ -1,3 +1,5 @@
+//! The ten requests as a client means them (`Call`), spelled into frames by hand (`frame`).
+
 use std::alloc::{AllocError, Global};
 
 /// So many containers wanted for a key, of this resource each, at a place.

@@ -1,4 +1,4 @@
-//! Changes of a tree of queues.
+//! Changes of a tree of queues, in tables (`ChangeAt`, `tree_after`).
 ghost use Rattle.cap_tree.specs.Spot.{IsPosition};
 
 use cap_config::read_config;

@@ -1,3 +1,4 @@
+//! Bytes cut at the first of a separator (`split_once`).
 ghost use Rattle.std.specs.Prelude.{◌≡◌, ◌==◌, true, IfSome, IfNone};
 ghost use Rattle.std.specs.List.{position};
 ghost use Rattle.std.specs.Option.{option_map};

@@ -1,3 +1,4 @@
+//! The lines of a text, one after the other (`split_line`), and a line without its carriage return (`without_return`).
 ghost use Rattle.std.specs.Prelude.{◌≡◌, ◌∷◌, ◌<◌, length};
 ghost use Rattle.std.specs.Str.Lines.{lines, strip_carriage_return};
 

@@ -1,3 +1,4 @@
+//! The number that decimal digits spell (`number_of`).
 ghost use Rattle.std.specs.Prelude.{◌≡◌, ◌≤◌, length, true};
 ghost use Rattle.std.specs.List.{list_all};
 ghost use Rattle.cap_text.specs.Numbers.{number_of, decimal, is_digit};

@@ -1,3 +1,4 @@
+//! Bytes without the spaces at both ends (`trimmed`).
 ghost use Rattle.std.specs.Prelude.{◌≡◌};
 ghost use Rattle.cap_text.specs.Pieces.{trimmed_bytes, from_first_word, to_last_word};
 

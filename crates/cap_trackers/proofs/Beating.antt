@@ -1,6 +1,6 @@
 -- A heartbeat that is not refused.
 use Rattle.std.proofs.Common.{◌≡◌, ℕ, ◌+◌, ◌-◌, Bool, true, false, List, [], ◌∷◌, length, map, Option, Some, None, refl, sym, ◌∙◌, ap, subst, arith}
-use Rattle.std.specs.Prelude.{cond, not, filter, find, count_by, ◌==◌, ◌&&◌, if◌then◌else◌, unwrap_or, option_and_then, ◌||◌}
+use Rattle.std.specs.Prelude.{cond, not, filter, find, count_by, ◌==◌, ◌&&◌, if◌then◌else◌, unwrap_or, option_and_then}
 use Rattle.std.proofs.lemmas.Bool.Decides.{nat_tests}
 use Rattle.std.proofs.lemmas.List.Sums.{length-filter}
 use Rattle.std.proofs.lemmas.List.Filters.{length-filter_both}
@@ -37,11 +37,6 @@ counted xs = ap length (sym (filter_whole (λ c. true) xs (λ c m. refl))) ∙ l
 is_not_bad : (b : Bool) → earliest ((b, Refusal.BadResponseId) ∷ (false, Refusal.UnknownNode) ∷ []) ≡ None → b ≡ false
 is_not_bad true e = absurd (cc e)
 is_not_bad false e = refl
-
-is_current_one : (a b : Bool) → not (a || b) ≡ false → b ≡ false → a ≡ true
-is_current_one true b e f = refl
-is_current_one false true e f = absurd (cc f)
-is_current_one false false e f = absurd (cc e)
 
 -- what the table of nodes shows is what the flat cluster has
 pub node_shown : {K : ℕ} (cluster : Flat K) (nodes : NodeTable) (n : ℕ) (x : ClusterNode) → nodes ≡ cluster.nodes → Some x ≡ node_in nodes n → node_at cluster n ≡ Some x

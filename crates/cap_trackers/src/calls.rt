@@ -1,4 +1,4 @@
-//! One module for each call.
+//! The calls of node managers and operators, a module for each.
 pub mod cluster_info;
 pub mod heartbeat;
 pub mod node_gone;

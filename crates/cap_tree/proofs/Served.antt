@@ -15,7 +15,7 @@ use Rattle.std.proofs.lemmas.List.Concat.{flat_map-cons}
 use Rattle.std.proofs.lemmas.List.Elements.{filter-append}
 use Rattle.std.specs.Option.{option_cmp, option_map_or}
 use Rattle.std.proofs.lemmas.Option.{slice_get-map}
-use Rattle.cap_model.proofs.lists.Filters.{map_twice}
+use Rattle.cap_model.proofs.lists.Filters.{filter_mapped, map_twice}
 use Rattle.cap_model.proofs.lists.Tests.{same_test}
 use Rattle.cap_model.proofs.lists.Members.{IsIn, in_either, of_filter, of_map, in_filter, in_left, in_map, in_right, each_of, of_each}
 use Rattle.cap_tree.specs.Ranking.{IsPlace, IsRanked}
@@ -168,17 +168,6 @@ module _ (k : ℕ) (ks : List ℕ) where
       by : (b : Bool) → named w ≡ b → dealt k ks list ≡ filter named list → dealt k ks (w ∷ list) ≡ cond b (w ∷ filter named list) (filter named list)
       by true n r = let none = none_later w list n a.0 in one_dealt w list n none (h w (inl refl)) ∙ ap (λ xs. w ∷ xs) (sym none)
       by false n r = (λ i. passed_over waits_here w list n i ++ flat_map (λ s. passed_over (waits_in s) w list n i) ks) ∙ r
-
-filter_mapped : {A B : Type 0} (t : B → Bool) (g : A → B) (xs : List A) → filter t (map g xs) ≡ map g (filter (λ x. t (g x)) xs)
-filter_mapped t g [] = refl
-filter_mapped {A} {B} t g (x ∷ xs) = by (t (g x)) (filter_mapped t g xs)
-  where
-    by : (b : Bool) → filter t (map g xs) ≡ map g (filter (λ y. t (g y)) xs) → cond b (g x ∷ filter t (map g xs)) (filter t (map g xs)) ≡ map g (cond b (x ∷ filter (λ y. t (g y)) xs) (filter (λ y. t (g y)) xs))
-    by true e = ap (λ ys. g x ∷ ys) e
-    by false e = e
-
-named_twice : (k : ℕ) (s : ℕ) (xs : List Waiter) → map (λ w. w.index) (map (lifted s) xs) ≡ map (λ w. w.index) xs
-named_twice k s xs = map_twice (λ w. w.index) (lifted s) xs
 
 -- a tree with its children
 module _ {T : Type 0} (order : T → T → Ordering) (total : IsTotalOrder order) (name : T → List ℕ) (value : List (Spot T)) (item : T) (kids : List (List (Spot T)))

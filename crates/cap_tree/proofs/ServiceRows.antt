@@ -4,6 +4,7 @@ use Rattle.std.specs.Prelude.{MatchOption, bytes_eq, option_map}
 use Rattle.std.specs.Option.{option_cmp}
 use Rattle.std.specs.Ordering.{ordering_then, is_gt}
 use Rattle.std.specs.Cmp.Lexicographic.{slice_cmp}
+use Rattle.std.proofs.lemmas.List.{drop-map}
 use Rattle.std.proofs.lemmas.Slice.Eq.{bytes_eq-Decides}
 use Rattle.cap_vector.specs.Fullness.{shares}
 use Rattle.cap_model.specs.Choice.{Level, level_cmp}
@@ -31,16 +32,12 @@ levels_of test (r ∷ rows) h = by (test r) (levels_of test rows (λ s m. h s (i
     by true e = λ i. level_is r (h r (inl refl)) i ∷ e i
     by false e = e
 
-map-drop : {A B : Type 0} (f : A → B) (xs : List A) → map f (drop 1 xs) ≡ drop 1 (map f xs)
-map-drop f [] = refl
-map-drop f (x ∷ xs) = refl
-
 levels_are : (position : List ℕ) (rows : List Row) → AreRows rows → IsPosition rows position → levels_at position rows ≡ map level_of_queue (drop 1 (items_along position rows))
 levels_are position rows a h =
     ap (λ ss. map level_of_row (drop 1 ss)) (sym (along_rows position rows a.paths h))
-    ∙ map-drop level_of_row (along position rows)
+    ∙ sym (drop-map level_of_row 1 (along position rows))
     ∙ ap (drop 1) (levels_of _ rows (each_of HasLastName rows a.names))
-    ∙ sym (map-drop level_of_queue (items_along position rows))
+    ∙ drop-map level_of_queue 1 (items_along position rows)
 
 cmp_levels : (xs ys : List Queue) → slice_cmp queue_cmp xs ys ≡ slice_cmp level_cmp (map level_of_queue xs) (map level_of_queue ys)
 cmp_levels [] [] = refl

@@ -1,4 +1,4 @@
-//! A tree of items, seen as a list of its spots.
+//! A tree of items over any allocator, seen as a list of its spots (`Branch`): changed, tested, copied and served.
 ghost use Rattle.std.specs.Prelude.{◌≡◌, ◌+◌, ◌-◌, ◌≤◌, ◌∷◌, [], ℕ, List, Some, Bool, IfSome, IfOk, OnOk, OnErr, MatchOption, map, length, ◌++◌};
 ghost use Rattle.std.specs.List.{All, slice_get};
 ghost use Rattle.std.specs.Cmp.{IsTotalOrder};

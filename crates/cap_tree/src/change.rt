@@ -1,4 +1,4 @@
-//! The changes of a tree of queues, each at one queue and at those above it.
+//! The changes of a tree, each at one queue and those above it: what a user counts is moved, a queue's state is set.
 ghost use Rattle.std.specs.Prelude.{◌≡◌};
 
 use crate::branch::{Change, Test};

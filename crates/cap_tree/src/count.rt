@@ -1,4 +1,4 @@
-//! What is counted of a queue and of a user in it.
+//! What is counted of a queue and of a user in it, use and active applications, and how a part of it moves (`Count`).
 ghost use Rattle.std.specs.Prelude.{◌≡◌};
 ghost use Rattle.cap_tree.specs.Count.{IsPart, MayMove, count_moved, is_zero_count, zero_count, one_app, use_alone};
 

@@ -1,3 +1,5 @@
+//! What is found at a dotted path (`Found`), and where a queue is in the tree, by child indexes (`Path`).
+
 use smallvec::SmallVec;
 use std::alloc::Allocator;
 

@@ -1,4 +1,4 @@
-//! The limits of the queues on a way, and whether a change of use stays within them.
+//! The limit that a change of use would pass (`OverLimit`), and whether a queue stays within its maximum.
 
 use crate::branch::Test;
 use crate::queue::Queue;

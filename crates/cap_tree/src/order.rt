@@ -1,4 +1,4 @@
-//! The order in which what waits at queues is served.
+//! The order in which what waits at queues is served (`QueueTree::service_order`).
 ghost use Rattle.std.specs.Prelude.{IfOk, map};
 ghost use Rattle.std.specs.List.{All};
 ghost use Rattle.cap_tree.specs.Rows.{AreRows};

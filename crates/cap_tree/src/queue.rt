@@ -1,4 +1,4 @@
-//! What a queue of the tree holds.
+//! One queue of the tree (`Queue`): its settings, what is used and active in it and under it, a leaf's users by hash.
 ghost use Rattle.std.specs.Prelude.{◌≡◌, ◌≤◌, None, IfOk, OnOk, OnErr};
 ghost use Rattle.cap_model.specs.Flat.{name_of};
 ghost use Rattle.cap_tree.specs.Count.{IsPart, MayMove};

@@ -1,4 +1,4 @@
-//! The tree of queues, seen as the list of its rows.
+//! The tree of queues, seen as the list of its rows (`QueueTree`): its reads, and its changes at a queue.
 ghost use Rattle.std.specs.Prelude.{◌≡◌, ◌<◌, ◌≤◌, ◌+◌, length, ◌++◌, ◌∷◌, [], map, None, Some, IfErr, IfOk, IfSome, MatchOption, OnOk, OnErr};
 ghost use Rattle.std.specs.List.{All, slice_get};
 ghost use Rattle.cap_vector.specs.Vector.{IsWithin, amounts_exchanged, sum_max};
@@ -263,9 +263,10 @@ impl<const K: usize, A: Allocator + Copy> QueueTree<K, A> {
         self.root.item().active()
     }
 
-    /// What is used in all, in MiB and vcores.
+    /// What is used in all, in MiB and vcores: the use of `root`. And what is true of every tree, as `find` says it.
     pub fn used(&self) -> Sum<K>
-        ensures { result ≡ root_use self.now }
+        ensures all { result ≡ root_use self.now }
+        ensures rows { AreRows self.now }
     {
         self.root.item().used()
     }

@@ -1,4 +1,4 @@
-//! What waits at the queues of a tree.
+//! What waits at the queues of a tree, to be put into the order of service (`Waiter`).
 ghost use Rattle.std.specs.Prelude.{◌≡◌, ◌∷◌, ◌++◌, [], OnOk};
 
 use cap_model::NoMemory;

@@ -1,3 +1,4 @@
+//! Exact arithmetic on amounts: `fits`, `checked_add`, `minus`, `exchanged`, `fits_exchanged`, `round_up`.
 ghost use Rattle.std.specs.Prelude.{◌≡◌, ◌↔◌, ◌≤◌, IfSome, IsSome, IsTrue, length};
 ghost use Rattle.cap_vector.specs.Vector.{Fits, FitsTimes, IsVector, StaysWithin, amounts_exchanged, plus, less, amount_max};
 ghost use Rattle.cap_vector.specs.Rounding.{raised_amount, round_up};

@@ -1,4 +1,4 @@
-// How full a use makes a guarantee.
+//! Fullness: the shares of a guarantee in use, the dominant share first (`Shares`), and their order (`cmp_shares`).
 ghost use Rattle.std.specs.Prelude.{◌≡◌, ◌∷◌, ◌<◌};
 ghost use Rattle.cap_vector.specs.Fullness.{share_cmp, shares, shares_cmp, greatest_first, put_share};
 

@@ -1,3 +1,4 @@
+//! Amounts of K resources, each bounded (`Amounts`): `Resource` of a container, node or queue, `Sum` of what is used.
 ghost use Rattle.std.specs.Prelude.{◌≡◌, ℕ, ◌↔◌, ◌≤◌, IfSome, IsSome};
 ghost use Rattle.cap_vector.specs.Vector.{IsVector, zeros, is_zero};
 

@@ -1,3 +1,4 @@
+//! Numbers and amounts in words, also those over a limit.
 ghost use Rattle.std.specs.Prelude.{◌≡◌, ◌++◌, OnOk, string_bytes};
 ghost use Rattle.cap_words.specs.Amounts.{amounts_words, over_words};
 

@@ -1,3 +1,4 @@
+//! One line of words for the first fault of property lines: its line, its key, and what is wrong (`describe`).
 ghost use Rattle.std.specs.Prelude.{◌≡◌, ◌++◌, IfOk, OnOk, string_bytes};
 ghost use Rattle.std.specs.Option.{option_map};
 ghost use Rattle.cap_words.specs.Faults.{Describes, heading, line_words, key_words, form_words, limit_words, both_over, detail_words};

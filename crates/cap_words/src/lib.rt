@@ -1,4 +1,4 @@
-//! Words for operators about the settings: what the first fault of property lines is, and the queues of settings without one.
+//! Words for operators about settings: the first fault of property lines, or the table of their queues.
 #![tactic(auto)]
 
 mod amounts;

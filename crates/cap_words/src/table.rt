@@ -1,3 +1,4 @@
+//! The table of the queues of settings, with the limits of the cluster under it (`queue_table`).
 ghost use Rattle.std.specs.Prelude.{◌≡◌, ◌++◌, ◌-◌, IfOk, OnOk, length, replicate, string_bytes};
 ghost use Rattle.std.specs.List.{flat_map};
 ghost use Rattle.cap_words.specs.Table.{table, header, title, cell_words, maximum_words, width_of, widths_of, padded, row_words, state_words, allocation_line, applications_line, limits_words};

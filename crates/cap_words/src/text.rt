@@ -1,3 +1,4 @@
+//! The path of a queue as text (`text_of`).
 ghost use Rattle.std.specs.Prelude.{◌≡◌};
 
 use cap_model::PathText;

@@ -1,4 +1,4 @@
-//! Answering requests together.
+//! The requests of a session that have come, called together under one lock, and answered (`answer_batch`).
 ghost use Rattle.std.specs.Prelude.{◌≡◌, ◌≤◌, List, IfNone, length, vec_capacity, [], None};
 ghost use Rattle.cap_workers.specs.Batches.{CallsAll, IsCalled, IsAnsweredBy, AnsweredAll, IsBatchMade};
 ghost use Rattle.cap_session.specs.Answers.{Call};

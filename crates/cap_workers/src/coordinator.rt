@@ -1,4 +1,4 @@
-//! What the workers and the committer share beside the cluster.
+//! What the workers and the committer of an epoch share beside the cluster (`Coordinator`).
 use crate::gate::{Gate, Outcome, Point};
 use cap_lanes::Committer;
 use std::sync::{Mutex, MutexGuard, Wait};

@@ -1,4 +1,4 @@
-//! Where a worker can be held, and what can be counted there.
+//! Where a worker can be held, and what can be counted there (`Gate`, `Tally`).
 ghost use Rattle.std.specs.Prelude.{◌≡◌};
 ghost use Rattle.cap_workers.specs.Worker.{outcome_by};
 

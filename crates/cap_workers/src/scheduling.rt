@@ -1,4 +1,4 @@
-//! What a worker and the committer do in an epoch.
+//! What a worker and the committer do in an epoch (`schedule`, `schedule_by_lane`, `commit_all`).
 use crate::coordinator::{BATCH, Coordinator, LaneSide, Outcomes};
 use crate::gate::{Gate, Outcome};
 use crate::worker::{Begun, End, Next, OfferEnd, Told, Worker, put};

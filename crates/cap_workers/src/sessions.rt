@@ -1,4 +1,4 @@
-//! Serving a session from a shared cluster.
+//! A session served from a shared cluster: rounds of answering, writing out and reading (`serve_session`).
 ghost use Rattle.std.specs.Prelude.{◌≡◌, ◌≢◌, ℕ, ◌-◌, ◌^◌, List, length, min, None, Some};
 ghost use Rattle.cap_session.specs.Counted.{state_of, inner_of, CanCount};
 ghost use Rattle.cap_session.specs.Session.{after_sent, IsSession};

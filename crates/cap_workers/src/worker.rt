@@ -1,4 +1,4 @@
-//! A worker, and what it does in a turn.
+//! A worker (`Worker`), and what it does in a turn: it copies, proposes, and commits or offers.
 ghost use Rattle.std.specs.Prelude.{◌≡◌, ◌+◌, ◌%◌, ◌^◌, MatchResult};
 ghost use Rattle.cap_model.specs.Candidates.{choice_from};
 ghost use Rattle.cap_copy.specs.Snapshot.{sight_in};

@@ -1,3 +1,4 @@
+//! One connection of a world: its session, and whether it is open (`Connection`, `Standing`).
 ghost use Rattle.std.specs.Prelude.{◌≡◌, IfOk};
 ghost use Rattle.cap_world.specs.Connection.{new_connection, is_open_standing};
 ghost use Rattle.cap_world.specs.Serving.{Feeds};

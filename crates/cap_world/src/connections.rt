@@ -1,4 +1,4 @@
-//! The connections that were ever opened, by number.
+//! The connections that were ever opened, by number, and the steps on them: they open, bring bytes, and end.
 ghost use Rattle.std.specs.Prelude.{◌≡◌, ℕ, List, Ok};
 ghost use Rattle.cap_model.specs.declared.event.Event.{Event};
 ghost use Rattle.cap_model.specs.Flat.{Flat};

@@ -1,5 +1,4 @@
-//! Any order of steps over one cluster: connections that open, bring bytes in pieces, and end; workers that copy it, propose on
-//! their copies, and commit what they propose.
+//! Any order of steps over one cluster: connections open, bring bytes and end; workers copy, propose and commit.
 #![tactic(auto)]
 
 mod connection;

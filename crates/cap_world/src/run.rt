@@ -1,3 +1,4 @@
+//! Steps made one after the other over an opening cluster (`World::run`), with the headline as its contract.
 ghost use Rattle.std.specs.Prelude.{◌≡◌, ◌≤◌, length};
 ghost use Rattle.cap_world.specs.Making.{IsMade};
 ghost use Rattle.cap_world.specs.Hearing.{IsHeadline};

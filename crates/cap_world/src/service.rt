@@ -1,3 +1,4 @@
+//! The requests of a connection that are complete, each made as a call on the cluster and answered (`answer_all`).
 ghost use Rattle.std.specs.Prelude.{◌≡◌, ◌<◌, ◌++◌, ◌∷◌, [], vec_len, vec_capacity, None};
 ghost use Rattle.cap_model.specs.News.{Reply};
 ghost use Rattle.cap_model.specs.Replies.{Replies};

@@ -1,3 +1,5 @@
+//! The steps of a world (`Step`), and what became of one (`Did`).
+
 /// A step of the world.
 #[derive(Clone, Copy, Debug)]
 pub enum Step<'a> {

@@ -1,3 +1,4 @@
+//! One worker of a world: its snapshot, its proposal, and the verdict of its last commit (`Worker`).
 ghost use Rattle.std.specs.Prelude.{◌≡◌, None, Some, option_map};
 ghost use Rattle.cap_model.specs.Candidates.{choice_from};
 ghost use Rattle.cap_copy.specs.Snapshot.{sight_in};

@@ -1,4 +1,4 @@
-//! The workers that ever copied the cluster, by number.
+//! The workers that ever copied the cluster, by number, and the steps on them: they copy, propose and commit.
 ghost use Rattle.std.specs.Prelude.{◌≡◌, ◌++◌, ℕ, List, Ok, IfOk, OnErr, option_map, vec_len, vec_capacity, ◌<◌};
 ghost use Rattle.cap_model.specs.declared.event.Event.{Event};
 ghost use Rattle.cap_model.specs.Flat.{Flat};

@@ -1,3 +1,4 @@
+//! Connections and workers over one cluster, and one step on them (`World`).
 ghost use Rattle.std.specs.Prelude.{◌≡◌, option_map};
 ghost use Rattle.cap_world.specs.World.{Adds, IsWorld, start, is_open, output_of, choice_of, verdict_of};
 ghost use Rattle.cap_world.specs.Steps.{Outcome};

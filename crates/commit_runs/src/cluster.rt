@@ -1,3 +1,5 @@
+//! The cluster of a run: its queues, nodes and applications.
+
 use crate::size::Size;
 use cap_commit::Cluster;
 use cap_masters::{allocate, register_master, submit};

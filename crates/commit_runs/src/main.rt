@@ -1,7 +1,8 @@
-//! Makes as many grants as each line of standard input says, and then ends some of their containers by heartbeats. A line holds five
-//! numbers: nodes, leaf queues, applications, grants and ends. It prints how many were made, and what becomes of one more grant, of a
-//! reservation that fits, and of one that never fits. Three more numbers may follow: how many snapshots are then taken in an arena, one
-//! after the other, and how often how many bytes are copied there. It prints how many bytes the last snapshot takes.
+//! Makes as many grants as each line of standard input says, and then ends some of their containers by heartbeats.
+//! A line holds five numbers: nodes, leaf queues, applications, grants and ends. It prints how many were made, and
+//! what becomes of one more grant, of a reservation that fits, and of one that never fits. Three more numbers may
+//! follow: how many snapshots are then taken in an arena, one after the other, and how often how many bytes are
+//! copied there. It prints how many bytes the last snapshot takes.
 #![tactic(auto)]
 
 mod cluster;

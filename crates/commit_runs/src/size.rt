@@ -1,3 +1,5 @@
+//! The numbers of a line of standard input (`Size`).
+
 use cap_text::number_of;
 
 /// How much there is of what, how many grants and ends are made, how many snapshots are then taken, and how often so many bytes are copied.

@@ -1,3 +1,5 @@
+//! Snapshots that are taken one after the other in one arena, and copies of as many bytes.
+
 use bumpalo::Bump;
 use cap_commit::Cluster;
 use cap_copy::Snapshot;

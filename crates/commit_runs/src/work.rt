@@ -1,3 +1,5 @@
+//! The grants and ends of a run, and what becomes of one more grant and of two reservations (`run`).
+
 use crate::cluster::{CONTAINER, KEY, add_applications, add_nodes, open};
 use crate::size::Size;
 use crate::snapshots::{copy_all, take_all};

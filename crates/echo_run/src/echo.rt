@@ -1,3 +1,5 @@
+//! One connection, whose frames are written back as they came (`accept_and_echo`).
+
 use bytes::BytesMut;
 use cap_frames::{FrameFault, Framer, put_frame};
 use std::alloc::Global;

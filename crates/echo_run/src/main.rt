@@ -1,5 +1,6 @@
-//! The peer that the daemon is measured beside. `echo_run PORT CONNECTIONS` listens on 127.0.0.1, prints `listening PORT`, accepts so
-//! many connections, and writes each frame that comes on one back to it, in a thread for each. It ends when all connections have.
+//! The peer that the daemon is measured beside: it writes each frame back as it came.
+//! `echo_run PORT CONNECTIONS` listens on 127.0.0.1, prints `listening PORT`, accepts so many connections, and writes
+//! each frame that comes on one back to it, in a thread for each. It ends when all connections have.
 #![tactic(auto)]
 
 mod echo;

@@ -1,3 +1,5 @@
+//! Tests of amounts: their bounds, sums and differences, what fits, rounding, and the order of fullness.
+
 use cap_vector::{
     Resource, Shares, Sum, checked_add, cmp_shares, exchanged, fits, fits_exchanged, minus,
     round_up,

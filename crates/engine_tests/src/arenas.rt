@@ -1,3 +1,5 @@
+//! Tests of trees that are copied into arenas and out of them, and of proposals on snapshots in an arena.
+
 use bumpalo::Bump;
 use cap_commit::Cluster;
 use cap_copy::{Snapshot, copy_tree};

@@ -1,3 +1,4 @@
+//! Tests of requests that a session hands out together.
 ghost use Rattle.std.specs.Prelude.{◌≡◌, None};
 ghost use Rattle.cap_session.specs.Ahead.{asked_requests};
 

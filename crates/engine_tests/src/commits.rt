@@ -1,3 +1,5 @@
+//! Tests of proposals that no worker makes: the first reason to reject each, and what is changed where it is made.
+
 use cap_commit::{Cluster, Proposal, ProposalKind, Reason, Verdict};
 use cap_model::Key;
 use cap_testing::{Call, SMALL_QUEUES, WantedContainers, cluster_after, make_call};

@@ -1,3 +1,5 @@
+//! Tests of frames: streams in any cutting, bad lengths, the longest payload, refused memory.
+
 use bytes::BytesMut;
 use cap_frames::{FrameFault, Framer, put_frame};
 use std::test::Fail;

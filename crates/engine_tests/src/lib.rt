@@ -1,5 +1,6 @@
-//! Tests of the engine, of what neither a script nor property lines show: amounts, texts and their pieces, the words for any fault, queues, proposals that no
-//! worker makes, snapshots in an arena, frames, batches, sessions, and steps of a world.
+//! Tests of the engine, of what neither a script nor property lines show.
+//! They are of amounts, texts and their pieces, the words for any fault, queues, proposals that no worker makes,
+//! snapshots in an arena, frames, batches, sessions, and steps of a world.
 #![tactic(auto)]
 
 #[cfg(test)]

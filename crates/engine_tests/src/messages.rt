@@ -1,3 +1,5 @@
+//! Tests of bytes that are no message, and of the words for a fault of one.
+
 use cap_messages::{
     Answer, MessageFault, read_reply, read_request, replies_have_one_spelling,
     requests_have_one_spelling,

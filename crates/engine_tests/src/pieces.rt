@@ -1,3 +1,5 @@
+//! Tests of pieces of texts: cuts at a byte, lines, bytes without spaces round them, and decimal numbers.
+
 use cap_text::{number_of, split_line, split_once, trimmed, without_return};
 
 /// Whether the bytes are cut at their first `=` into these two parts.

@@ -1,3 +1,4 @@
+//! Tests of sessions: streams cut anywhere, bad messages and lengths, what follows the end, refused memory.
 ghost use Rattle.std.specs.Prelude.{◌≡◌, None};
 
 use cap_model::{Refusal, ReplyWith};

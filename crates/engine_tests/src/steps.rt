@@ -1,3 +1,5 @@
+//! Tests of steps of a world, and of what its connections are answered.
+
 use cap_testing::{TWO_QUEUES, cluster, first};
 use cap_world::{Outcome, Step, World};
 use std::alloc::Global;

@@ -1,3 +1,5 @@
+//! Tests of which bytes are a text, and of the numbers of refusals.
+
 use cap_model::{PathText, Refusal, ShortText};
 
 /// Whether these bytes are a text, which then keeps them.

@@ -1,3 +1,4 @@
+//! Tests of the tree of queues: all that is seen of a queue after changes, and the first limit that is passed.
 ghost use Rattle.cap_tree.specs.Spot.{IsPosition};
 
 use cap_model::ShortText;

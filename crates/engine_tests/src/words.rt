@@ -1,3 +1,5 @@
+//! Tests of the words for a fault of property lines, whatever the text, and of the table of many queues.
+
 use cap_config::{ConfigFault, ConfigFaultKind, read_config};
 use cap_words::{describe, queue_table};
 use std::alloc::{AllocError, Global};

@@ -1,3 +1,5 @@
+//! Tests of the lanes: what was not taken is left in order, eight workers share one place, a put waits for room.
+
 use crate::passing::{exchanged, finish_all, proposal, put_while_full};
 use cap_lanes::lanes;
 use cap_model::Proposal;

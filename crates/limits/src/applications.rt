@@ -1,3 +1,5 @@
+//! The limit of active applications: 10,000 are taken in, and one more once one has finished.
+
 use crate::client::Client;
 use cap_testing::Call;
 

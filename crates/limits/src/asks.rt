@@ -1,3 +1,5 @@
+//! The limits of an Allocate: its asks and releases, the keys of an application, and many Allocates in a row.
+
 use crate::client::Client;
 use cap_testing::{Call, WantedContainers};
 use std::alloc::Global;

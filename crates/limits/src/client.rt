@@ -1,3 +1,5 @@
+//! Connection 1 of a world, over which requests are answered one by one (`Client`).
+
 use cap_commit::Cluster;
 use cap_model::Event;
 use cap_testing::{Call, cluster, frame};

@@ -1,4 +1,4 @@
-//! Brings the engine to its limits, and one step past each, over connections of a world; prints what is answered, a line a test.
+//! Brings the engine to its limits, and one step past each, over connections; prints what is answered, a line a test.
 #![tactic(auto)]
 
 mod applications;

@@ -1,3 +1,5 @@
+//! The limit of nodes: 4,096 are registered, and one more once one is removed.
+
 use crate::client::Client;
 use cap_testing::Call;
 use std::alloc::Global;

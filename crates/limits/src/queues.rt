@@ -1,3 +1,5 @@
+//! The limits of settings: the number and the levels of queues, the length of a path, and that of property lines.
+
 use crate::client::Client;
 use cap_config::read_config;
 use cap_testing::Call;

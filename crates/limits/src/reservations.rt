@@ -1,3 +1,5 @@
+//! The most reservations, one on each of 4,096 nodes, and what is proposed and dropped then.
+
 use crate::client::Client;
 use cap_commit::Cluster;
 use cap_model::{Key, Proposal, ProposalKind, Verdict};

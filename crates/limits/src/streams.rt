@@ -1,3 +1,5 @@
+//! The limits of streams: connections, bytes of answers on one, the longest payload, and a bad length.
+
 use crate::client::{Client, capped};
 use cap_world::Step;
 use std::alloc::Global;

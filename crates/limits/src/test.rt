@@ -1,3 +1,5 @@
+//! What is brought to its limit, in a table of tests (`TESTS`).
+
 use crate::client::{Client, spelled};
 use crate::{applications, asks, nodes, queues, reservations, streams};
 use std::alloc::Global;

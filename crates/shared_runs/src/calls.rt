@@ -1,3 +1,5 @@
+//! The calls of a run, made alone or by threads with their seats (`call_alone`, `Calls`).
+
 use crate::work::{Kind, Work};
 use cap_commit::Cluster;
 use cap_masters::{register_master, submit};

@@ -1,6 +1,6 @@
-//! Makes calls of one kind on one cluster: without a lock, or by threads that share the cluster. A line of standard input holds a word
-//! and two numbers: `info` or `allocate`, how many threads (0 for none and no lock), and how many calls each makes. It prints how many
-//! calls were not refused.
+//! Makes calls of one kind on one cluster: without a lock, or by threads that share the cluster.
+//! A line of standard input holds a word and two numbers: `info` or `allocate`, how many threads (0 for none and no
+//! lock), and how many calls each makes. It prints how many calls were not refused.
 #![tactic(auto)]
 
 mod calls;

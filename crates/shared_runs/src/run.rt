@@ -1,3 +1,5 @@
+//! A run on a new cluster, without a lock or by threads that share the cluster (`run`).
+
 use crate::calls::{Calls, add_applications, call_alone};
 use crate::work::Work;
 use cap_commit::Cluster;

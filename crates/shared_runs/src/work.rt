@@ -1,3 +1,5 @@
+//! What a line of standard input asks for: which calls, by how many threads, how many each (`Work`).
+
 use cap_text::number_of;
 
 /// Which call is made.

@@ -1,3 +1,4 @@
+//! Allocate: a master asks for containers, releases some, and is told grants and ends (`allocate`).
 ghost use Rattle.std.specs.Prelude.{◌≡◌, ◌≤◌, ◌+◌, Some, None, IfOk, IfErr, OnOk, OnErr, length, true};
 ghost use Rattle.std.specs.List.{list_any};
 ghost use Rattle.cap_model.specs.declared.request.Request.TheVariants.{Allocate};

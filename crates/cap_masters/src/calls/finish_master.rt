@@ -1,3 +1,4 @@
+//! FinishMaster: a registered application ends, with all that it has (`finish_master`).
 ghost use Rattle.std.specs.Prelude.{◌≡◌, ◌≤◌};
 ghost use Rattle.cap_model.specs.declared.request.Request.TheVariants.{FinishMaster};
 ghost use Rattle.cap_model.specs.Reporting.{HasNumbers, RepliesInFullAlways};

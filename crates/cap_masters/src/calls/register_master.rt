@@ -1,3 +1,4 @@
+//! RegisterMaster: the master of an application reports, once (`register_master`).
 ghost use Rattle.std.specs.Prelude.{◌≡◌};
 ghost use Rattle.cap_model.specs.declared.request.Request.TheVariants.{RegisterMaster};
 ghost use Rattle.cap_model.specs.Reporting.{HasNumbers, RepliesInFullAlways};

@@ -1,3 +1,4 @@
+//! Submit: an application enters a leaf queue (`submit`).
 ghost use Rattle.std.specs.Prelude.{◌≡◌, None, Some, IfOk, IfErr};
 ghost use Rattle.cap_model.specs.declared.request.Request.TheVariants.{Submit};
 ghost use Rattle.cap_model.specs.Reporting.{HasNumbers, RepliesInFull};

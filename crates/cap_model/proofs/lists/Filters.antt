@@ -37,6 +37,14 @@ find_mapped_at g t (x ∷ xs) = by (t (g x)) (find_mapped_at g t xs)
     by true e = refl
     by false e = e
 
+pub filter_mapped : {A B : Type 0} (t : B → Bool) (g : A → B) (xs : List A) → filter t (map g xs) ≡ map g (filter (λ x. t (g x)) xs)
+filter_mapped t g [] = refl
+filter_mapped {A} {B} t g (x ∷ xs) = by (t (g x)) (filter_mapped t g xs)
+  where
+    by : (b : Bool) → filter t (map g xs) ≡ map g (filter (λ y. t (g y)) xs) → cond b (g x ∷ filter t (map g xs)) (filter t (map g xs)) ≡ map g (cond b (x ∷ filter (λ y. t (g y)) xs) (filter (λ y. t (g y)) xs))
+    by true e = ap (λ ys. g x ∷ ys) e
+    by false e = e
+
 pub length-kept : {A : Type 0} (t : A → Bool) (xs : List A) → length (filter t xs) ≤ length xs
 length-kept t xs = omega (arith, length-filter t xs, count_by-le-length t xs)
 

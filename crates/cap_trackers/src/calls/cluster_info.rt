@@ -1,3 +1,4 @@
+//! ClusterInfo: what an operator sees of the cluster (`cluster_info`).
 ghost use Rattle.cap_model.specs.declared.request.Request.TheVariants.{ClusterInfo};
 ghost use Rattle.cap_model.specs.Reporting.{HasNumbers, RepliesInFullAlways};
 

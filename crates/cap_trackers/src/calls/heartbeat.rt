@@ -1,3 +1,4 @@
+//! Heartbeat: a node manager reports which containers have ended on its node (`heartbeat`).
 ghost use Rattle.cap_model.specs.declared.request.Request.TheVariants.{Heartbeat};
 ghost use Rattle.cap_model.specs.Reporting.{HasNumbers, RepliesInFullAlways};
 

@@ -1,3 +1,4 @@
+//! NodeGone: a node is declared lost, and its containers end (`node_gone`).
 ghost use Rattle.cap_model.specs.declared.request.Request.TheVariants.{NodeGone};
 ghost use Rattle.cap_model.specs.Reporting.{HasNumbers, RepliesInFullAlways};
 

@@ -1,3 +1,4 @@
+//! QueueInfo: what an operator sees of a queue (`queue_info`).
 ghost use Rattle.cap_model.specs.declared.request.Request.TheVariants.{QueueInfo};
 ghost use Rattle.cap_model.specs.Reporting.{HasNumbers, RepliesInFullAlways};
 

@@ -1,3 +1,4 @@
+//! RegisterNode: a node manager joins with a host, a rack and a total (`register_node`).
 ghost use Rattle.std.specs.Prelude.{◌≡◌};
 ghost use Rattle.cap_model.specs.declared.request.Request.TheVariants.{RegisterNode};
 ghost use Rattle.cap_model.specs.Reporting.{HasNumbers, RepliesInFull};

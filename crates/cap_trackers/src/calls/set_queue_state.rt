@@ -1,3 +1,4 @@
+//! SetQueueState: an operator starts or stops a queue (`set_queue_state`).
 ghost use Rattle.cap_model.specs.declared.request.Request.TheVariants.{SetQueueState};
 ghost use Rattle.cap_model.specs.Reporting.{HasNumbers, RepliesInFullAlways};
 

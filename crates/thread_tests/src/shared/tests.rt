@@ -1,3 +1,5 @@
+//! Tests of a shared cluster: a full journal, calls of two threads, and a journal of eight threads, played again.
+
 use crate::shared::audit::{has_receipts, is_played, looks_alike};
 use crate::shared::steps::{Counted, Counts, Step, Work};
 use cap_commit::Cluster;

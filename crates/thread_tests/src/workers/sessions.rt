@@ -1,3 +1,5 @@
+//! Tests of sessions over a shared cluster: streams cut anywhere, readers and writers that fail, two epochs.
+
 use crate::workers::epochs::serve_epoch;
 use crate::workers::serving::{Ending, Line, Waiting};
 use crate::workers::streams::{Sink, Source, Stutter};

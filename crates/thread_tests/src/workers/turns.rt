@@ -1,3 +1,5 @@
+//! Tests of turns and offers: two workers that propose the same, starts that wrap, a full journal, the committer.
+
 use crate::workers::epochs::take_turns;
 use crate::workers::offering::{Committing, Offered, Offering};
 use crate::workers::turning::Came;

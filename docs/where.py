@@ -1,0 +1,70 @@
+#!/usr/bin/env python3
+"""Writes the list of crates and files in `docs/ARCHITECTURE.md` out of the first lines of the files themselves: `//! ..` of a source, `-- ..` of a file of specs.
+
+With `--check` it writes nothing, and fails where the document is not what it would write. It fails too where a file does not begin with such a line, one sentence.
+"""
+import difflib
+import os
+import sys
+import textwrap
+
+TOP = os.path.dirname(os.path.dirname(os.path.abspath(__file__)))
+DOCUMENT = f"{TOP}/docs/ARCHITECTURE.md"
+BEGIN, END = "<!-- docs/where.py writes this list -->\n", "<!-- the end of the list -->\n"
+WIDTH = 120
+
+
+def read(path):
+    with open(path, encoding="utf-8") as file:
+        return file.read()
+
+
+def sentence_of(path, mark):
+    """What the first line of a file says, after the mark; the program ends where it says nothing."""
+    line = read(path).partition("\n")[0]
+    if not line.startswith(mark) or not line.endswith("."):
+        sys.exit(f"{os.path.relpath(path, TOP)}:1: the first line is not '{mark}' and a sentence that says what the file holds")
+    return line[len(mark) :]
+
+
+def files_of(folder, ending):
+    """The files of a folder with this ending, those of its own before those of folders in it, by name."""
+    paths = (os.path.join(at, name) for at, _, names in os.walk(folder) for name in names if name.endswith(ending))
+    return sorted((os.path.relpath(path, folder) for path in paths), key=lambda it: (os.path.dirname(it), it))
+
+
+def item(indent, name, says):
+    """An item of a list, wrapped."""
+    words = {"break_long_words": False, "break_on_hyphens": False}
+    return textwrap.fill(f"- {name}: {says}", WIDTH, initial_indent=indent, subsequent_indent=f"{indent}  ", **words)
+
+
+def items_of(crate):
+    """The items of a crate: its own, from its root file, then one for each other source, and one for each file of specs."""
+    src, specs = f"{TOP}/crates/{crate}/src", f"{TOP}/crates/{crate}/specs"
+    root = next(name for name in ("lib.rt", "main.rt") if os.path.exists(f"{src}/{name}"))
+    yield item("", f"**`{crate}`**", sentence_of(f"{src}/{root}", "//! "))
+    for name in files_of(src, ".rt"):
+        if name != root:
+            yield item("  ", f"`{name}`", sentence_of(f"{src}/{name}", "//! "))
+    for name in files_of(specs, ".antt"):
+        if name != "Lib.antt":
+            yield item("  ", f"`specs/{name}`", sentence_of(f"{specs}/{name}", "-- "))
+
+
+def main():
+    crates = [line.partition(":")[0] for line in read(f"{TOP}/crates.txt").splitlines() if not line.startswith("#")]
+    old = read(DOCUMENT)
+    if old.count(BEGIN) != 1 or old.count(END) != 1:
+        sys.exit(f"docs/ARCHITECTURE.md does not have the lines {BEGIN.strip()} and {END.strip()} once")
+    before, after = old.partition(BEGIN)[0], old.partition(END)[2]
+    new = f"{before}{BEGIN}\n" + "\n".join(it for crate in crates for it in items_of(crate)) + f"\n\n{END}{after}"
+    if "--check" not in sys.argv[1:]:
+        with open(DOCUMENT, "w", encoding="utf-8") as file:
+            file.write(new)
+    elif new != old:
+        sys.stdout.writelines(difflib.unified_diff(old.splitlines(True), new.splitlines(True), "docs/ARCHITECTURE.md", "docs/where.py", n=0))
+        sys.exit("docs/ARCHITECTURE.md is not what the files say of themselves: run docs/where.py")
+
+
+main()
