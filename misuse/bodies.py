@@ -2,8 +2,9 @@
 """Tries the wrong bodies of crates/*/wrong-bodies/*.edit: with each of them the function that its file names must not be proved any more.
 
 Such a file has the form of an edit in must-fail/, which `rt ci` tries by a check of the whole crate. Here wrong bodies of different functions are tried in one check,
-of these functions and what they call, over the libraries that `rt ci` has left. A caller stands on what its callee promises and not on its body, so each function
-must have a goal of its own that is not proved. With words of its own this tries the wrong bodies of these names alone."""
+of these functions and what they call, right after `rt ci` has proved the crates, over the libraries that it has left. A caller stands on what its callee promises
+and not on its body, so each function must have a goal of its own that is not proved. Where all that is refused is a name that a proof file misses, that is said.
+With words of its own this tries the wrong bodies of these names alone."""
 import os
 import re
 import shutil
@@ -49,11 +50,13 @@ def read(path):
 
 
 def edits_of(kit, names):
-    """The edits of these names, or all, lowest crates first."""
+    """The edits of these names, or all where none is given."""
     known, edits = {}, []
-    for path in sorted(glob(f"{TOP}/crates/*/wrong-bodies/*.edit")):
-        if names and os.path.basename(path)[: -len(".edit")] not in names:
-            continue
+    paths = {path: os.path.basename(path)[: -len(".edit")] for path in sorted(glob(f"{TOP}/crates/*/wrong-bodies/*.edit"))}
+    lost = set(names) - set(paths.values())
+    if lost:
+        sys.exit(f"there is no wrong body of the name {', '.join(sorted(lost))}")
+    for path in (path for path, name in paths.items() if not names or name in names):
         text = read(path)
         if not ONLY.search(text):
             sys.exit(f"{path} has no line '# only: FUNCTION'")
@@ -128,7 +131,7 @@ def main():
     kit = load_kit()
     edits = edits_of(kit, sys.argv[1:])
     if not edits:
-        sys.exit("there is no wrong body of that name")
+        sys.exit("there are no wrong bodies")
     lacking = {it.name for edit in edits for it in edit.crate.below() if not os.path.isdir(it.rlib)}
     if lacking:
         sys.exit(f"{', '.join(sorted(lacking))}: not built; run rt ci first")
