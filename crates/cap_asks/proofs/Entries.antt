@@ -5,7 +5,7 @@ use Rattle.std.specs.Option.{option_map_or}
 use Rattle.std.specs.Map.{lookup, set_value, remove_entry, values_of}
 use Rattle.std.proofs.lemmas.Bool.Decides.{nat_tests}
 use Rattle.cap_model.specs.Flat.{App}
-use Rattle.cap_model.specs.Bounds.{IsRising}
+use Rattle.cap_base.specs.Members.{IsRising}
 use Rattle.cap_model.specs.FinishMaster.{remove_app}
 use Rattle.cap_asks.specs.Held.{Account, HeldApp, TakesRoom, HasRoom}
 use Rattle.cap_model.specs.Reporting.{reported_of}

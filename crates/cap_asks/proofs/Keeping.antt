@@ -12,9 +12,9 @@ use Rattle.cap_model.specs.Flat.{ask_at}
 use Rattle.cap_model.specs.Asking.{without_key, with_ask, put_ask}
 use Rattle.cap_model.specs.Events.{take_one}
 use Rattle.cap_model.proofs.calls.KeptAsks.{same_key_is, same_key_itself, put_is_found, others_are_found, one_less, not_same_other}
-use Rattle.cap_model.proofs.lists.Tests.{first_is}
+use Rattle.cap_base.proofs.lists.Tests.{first_is}
 use Rattle.cap_asks.specs.Held.{is_before, AreAfter, AreKept, IsKeyIndex, index_of}
-use Rattle.cap_model.specs.Limits.{keys_max}
+use Rattle.cap_base.specs.Limits.{keys_max}
 
 -- the order of keys in numbers
 before_numbers : (a b : Key) → is_before a b ≡ (nat_lt a.priority b.priority || nat_eq a.priority b.priority && nat_lt a.request b.request)

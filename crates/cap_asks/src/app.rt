@@ -1,7 +1,7 @@
 //! One active application (`App`): its leaf queue and user, the state of its master, its asks and its news.
 ghost use Rattle.std.specs.Prelude.{◌≡◌, ◌+◌, ◌<◌, ◌≤◌, [], ◌∷◌, ◌++◌, true, false, Some, is_some, length, option_map, IfSome, IfOk, OnOk, IsOk};
 ghost use Rattle.cap_model.specs.Flat.{ask_at};
-ghost use Rattle.cap_model.specs.Limits.{live_max};
+ghost use Rattle.cap_base.specs.Limits.{live_max};
 ghost use Rattle.cap_model.specs.Asking.{put_ask, reservations_left};
 ghost use Rattle.cap_model.specs.Allocate.{has_too_many_keys, after_telling};
 ghost use Rattle.cap_model.specs.Events.{take_one};
@@ -43,7 +43,7 @@ pub struct App<const K: usize> {
 
 impl<const K: usize> Model for App<K> {
     ghost use Rattle.std.specs.Prelude.{◌<◌, ◌≤◌, option_map};
-    ghost use Rattle.cap_model.specs.Limits.{response_end};
+    ghost use Rattle.cap_base.specs.Limits.{response_end};
     ghost use Rattle.cap_asks.specs.Held.{HeldApp};
 
     ghost Value = { HeldApp };

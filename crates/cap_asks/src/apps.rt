@@ -1,11 +1,11 @@
 //! The active applications by number, and the changes that calls make of one (`Apps`).
 ghost use Rattle.std.specs.Prelude.{◌≡◌, ◌+◌, ◌<◌, ◌≤◌, ◌++◌, ◌∷◌, [], true, Some, length, map, option_map, IfOk, OnOk, OnErr, IsOk, IsSome};
-ghost use Rattle.cap_model.specs.Limits.{live_max, number_end};
+ghost use Rattle.cap_base.specs.Limits.{live_max, number_end};
 ghost use Rattle.std.specs.List.{slice_get};
 ghost use Rattle.std.specs.Option.{option_map_or};
 ghost use Rattle.cap_model.specs.Asking.{put_ask, reservations_left};
 ghost use Rattle.cap_model.specs.Events.{take_one};
-ghost use Rattle.cap_model.specs.Bounds.{IsRising};
+ghost use Rattle.cap_base.specs.Members.{IsRising};
 ghost use Rattle.cap_model.specs.Submit.{add_app};
 ghost use Rattle.cap_model.specs.FinishMaster.{remove_app};
 ghost use Rattle.cap_model.specs.Flat.{change_app, no_apps, app_in};

@@ -3,7 +3,7 @@ ghost use Rattle.std.specs.Prelude.{◌≡◌, ◌+◌, ◌-◌, ◌≤◌, ◌�
 ghost use Rattle.std.specs.List.{fold};
 ghost use Rattle.cap_model.specs.Flat.{ask_at};
 ghost use Rattle.cap_model.specs.Asking.{put_ask};
-ghost use Rattle.cap_model.specs.Limits.{keys_max};
+ghost use Rattle.cap_base.specs.Limits.{keys_max};
 ghost use Rattle.cap_model.specs.Events.{take_one};
 ghost use Rattle.cap_asks.specs.Held.{AreKept, is_before, IsKeyIndex};
 

@@ -1,6 +1,6 @@
 //! Grants, or ends, of one application: those that its last reply reported, and those that wait (`News`).
 ghost use Rattle.std.specs.Prelude.{◌≡◌, ◌+◌, ◌≤◌, [], ◌∷◌, ◌++◌, take, drop, length, OnOk, IsOk};
-ghost use Rattle.cap_model.specs.Limits.{news_max};
+ghost use Rattle.cap_base.specs.Limits.{news_max};
 
 use cap_model::{NEWS_MAX, NoMemory};
 use std::alloc::Global;
@@ -16,7 +16,7 @@ pub(crate) struct News<T> {
 
 impl<T> Model for News<T> {
     ghost use Rattle.std.specs.Prelude.{◌≤◌, ◌-◌, take, drop, length, vec_len, vec_capacity};
-    ghost use Rattle.cap_model.specs.Limits.{news_max};
+    ghost use Rattle.cap_base.specs.Limits.{news_max};
     ghost use Rattle.cap_asks.specs.Held.{HeldNews};
 
     ghost Value = { HeldNews T };

@@ -6,8 +6,8 @@ use Rattle.std.proofs.lemmas.Bool.Decides.{nat_tests}
 use Rattle.cap_model.specs.Asking.{keep_first}
 use Rattle.cap_model.specs.Bounds.{AreApart}
 use Rattle.cap_model.specs.Flat.{Flat, Reservation, with_reserved}
-use Rattle.cap_model.proofs.lists.Members.{IsIn, found, none_in, of_filter}
-use Rattle.cap_model.proofs.lists.Filters.{length-kept}
+use Rattle.cap_base.proofs.lists.Members.{IsIn, found, none_in, of_filter}
+use Rattle.cap_base.proofs.lists.Filters.{length-kept}
 use Rattle.cap_nodes.proofs.Reserved.{is_elsewhere, others_elsewhere}
 use Rattle.cap_commit.specs.Held.{Held}
 

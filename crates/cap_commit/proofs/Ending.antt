@@ -6,27 +6,28 @@ use Rattle.std.proofs.lemmas.Bool.Decides.{nat_tests}
 use Rattle.std.proofs.lemmas.List.{append-nil, length-map}
 use Rattle.std.proofs.lemmas.List.Sums.{count_by-le-length, length-filter}
 use Rattle.std.proofs.lemmas.Slice.Eq.{bytes_eq-Decides}
+use Rattle.cap_base.proofs.lists.Tests.{numbers_turned}
 use Rattle.cap_vector.specs.Vector.{amount}
-use Rattle.cap_model.specs.Settings.{QueueRow}
+use Rattle.cap_base.specs.Settings.{QueueRow}
 use Rattle.cap_model.specs.declared.news.Cause.{Cause}
 use Rattle.cap_model.specs.declared.news.End.{End}
 use Rattle.cap_model.specs.Flat.{Flat, App, AppTable, Container, NodeTable, app_at, change_app, Reservation}
 use Rattle.cap_model.specs.Ending.{is_among, with_ends, after_ends, complete}
 use Rattle.cap_model.proofs.lists.Numbered.{rising_kept}
-use Rattle.cap_model.proofs.lists.Members.{IsIn, found, of_filter, each_of, of_each, of_map}
-use Rattle.cap_model.proofs.calls.Lessening.{change_stands}
+use Rattle.cap_base.proofs.lists.Members.{IsIn, found, of_filter, each_of, of_each, of_map}
+use Rattle.cap_laws.proofs.calls.Lessening.{change_stands}
 use Rattle.cap_model.proofs.uses.Measures.{counts}
-use Rattle.cap_model.proofs.calls.Moves.{KeepsApp, AppsChange, ends_change, only_app}
-use Rattle.cap_model.proofs.uses.Tallies.{count_of, count_changed, ended_amount, same_use, sum_without, used_by}
+use Rattle.cap_laws.proofs.calls.Moves.{KeepsApp, AppsChange, ends_change, only_app}
+use Rattle.cap_laws.proofs.uses.Tallies.{count_of, count_changed, ended_amount, same_use, sum_without, used_by}
 use Rattle.cap_tree.specs.Measure.{Measure}
 use Rattle.cap_tree.specs.Queue.{MayGive}
 use Rattle.cap_tree.specs.Count.{zero_count, use_alone}
 use Rattle.cap_tree.proofs.OneUser.{count_where}
 use Rattle.cap_tree.specs.Rows.{Row, lowered_row, queues_of, user_row_at}
 use Rattle.cap_asks.specs.Apps.{HeldApps, UsesRoom, live_of, position_of}
-use Rattle.cap_nodes.proofs.ByNumber.{turned}
-use Rattle.cap_commit.specs.Held.{AreReserved, Parts, IsHeld, IsInLeaf, flat_of, of_cluster}
-use Rattle.cap_commit.proofs.Counting.{count_positive}
+use Rattle.cap_laws.specs.Reservations.{AreReserved}
+use Rattle.cap_commit.specs.Held.{Parts, IsHeld, IsInLeaf, flat_of, of_cluster}
+use Rattle.cap_laws.proofs.uses.Counting.{count_positive}
 use Rattle.cap_commit.proofs.Holding.{leaf_same, still_placed}
 use Rattle.cap_commit.proofs.Moving.{HasMoved, gives, may_give, moved_settings, moved_stays, tied_moved}
 use Rattle.cap_commit.proofs.Owning.{IsOwned, count_for, owned_stands}
@@ -43,7 +44,7 @@ count_sum t cs = refl
 
 -- its application is to be told of it
 told : (cause : Cause) (c : Container) (app : App) → (if app.number == c.app then record app { ends = app.ends ++ record { container = c.number; cause = cause } ∷ [] } else app) ≡ with_ends cause (c ∷ []) app
-told cause c app = by (app.number == c.app) (c.app == app.number) (turned app.number c.app)
+told cause c app = by (app.number == c.app) (c.app == app.number) (numbers_turned app.number c.app)
   where
     end : End
     end = record { container = c.number; cause = cause }
@@ -143,7 +144,7 @@ module _ {K : ℕ} (p : Parts K) (h : IsHeld p) (number : ℕ) (c : Container) (
               still_placed p q (λ path l. leaf_same old (flat_of q) path settings l)
               (moved_stays K a.leaf a.user (use_alone c.resource) (zero_count K) p.rows)
               x (w.0) (ap (λ (y : App). y.leaf) (sym (w.2)) ∙ keeps.leaf (w.0)) (ap (λ (y : App). y.number) (sym (w.2)) ∙ keeps.number (w.0)) (room.positions (w.0).number) (each_of (IsInLeaf p) p.apps.table.active h.placed (w.0) (w.1)));
-          counted = λ m. (let r = h.counted m in let e = room.live m in let w = count_left nodes' live m in let t : weight (c.app == m) ≡ weight (m == n) = ap weight (turned c.app m) ∙ ap (λ k. weight (m == k)) (sym same) in let z = none_where (m == n) in omega (arith, r, e, w, t, z));
+          counted = λ m. (let r = h.counted m in let e = room.live m in let w = count_left nodes' live m in let t : weight (c.app == m) ≡ weight (m == n) = ap weight (numbers_turned c.app m) ∙ ap (λ k. weight (m == k)) (sym same) in let z = none_where (m == n) in omega (arith, r, e, w, t, z));
           owned = owned_stands (λ (c : Container). c.app) p.nodes.live nodes'.live old (flat_of q) (change_stands old (flat_of q) change) (λ d i. (of_filter (λ x. not (is_among (c ∷ []) x)) p.nodes.live d (subst (IsIn d) live i)).1) h.owned;
           reserved = owned_stands (λ (r : Reservation). r.app) p.nodes.reserved nodes'.reserved old (flat_of q) (change_stands old (flat_of q) change) (λ r i. subst (IsIn r) (ap (λ (t : NodeTable). t.reserved) lift) i) h.reserved;
           reservations = subst (λ (t : NodeTable). AreReserved t.present t.reserved) (sym lift) h.reservations;

@@ -20,15 +20,15 @@ use Rattle.cap_model.specs.Admission.{NodeProposal, is_grant, reason_of}
 use Rattle.cap_model.specs.Events.{after_grant, launch, news_of, take_one}
 use Rattle.cap_model.specs.RegisterNode.{sum_of_totals}
 use Rattle.cap_model.specs.Uses.{held_on}
-use Rattle.cap_model.proofs.lists.Members.{IsIn, each_of, of_each, found, of_filter, of_map, in_either}
+use Rattle.cap_base.proofs.lists.Members.{IsIn, each_of, of_each, found, of_filter, of_map, in_either}
 use Rattle.cap_model.proofs.lists.Numbered.{found_by_number, rising_more}
-use Rattle.cap_model.proofs.lists.Parts.{part_filter}
-use Rattle.cap_model.proofs.lists.Tests.{not_none, value_of}
-use Rattle.cap_model.proofs.calls.Lessening.{change_stands}
-use Rattle.cap_model.proofs.calls.Moves.{AppsChange, KeepsApp, grant_change, only_app}
+use Rattle.cap_laws.proofs.lists.Parts.{part_filter}
+use Rattle.cap_base.proofs.lists.Tests.{not_none, value_of, numbers_turned}
+use Rattle.cap_laws.proofs.calls.Lessening.{change_stands}
+use Rattle.cap_laws.proofs.calls.Moves.{AppsChange, KeepsApp, grant_change, only_app}
 use Rattle.cap_model.proofs.uses.Measures.{amount_of, counts, counted, fits_amounts, use_amount}
-use Rattle.cap_model.proofs.uses.Tallies.{count_changed, count_of, length_used, used_by}
-use Rattle.cap_model.proofs.uses.UseSums.{if_less, on_some_node, reserved_on_nodes, sum_below, taken}
+use Rattle.cap_laws.proofs.uses.Tallies.{count_changed, count_of, length_used, used_by}
+use Rattle.cap_laws.proofs.uses.UseSums.{if_less, on_some_node, reserved_on_nodes, sum_below, taken}
 use Rattle.cap_tree.specs.Measure.{Measure}
 use Rattle.cap_tree.specs.Queue.{MayGive}
 use Rattle.cap_tree.specs.Count.{use_alone}
@@ -36,15 +36,15 @@ use Rattle.cap_tree.specs.Rows.{Row, applied_row, queues_of, root_use, user_row_
 use Rattle.cap_asks.specs.Held.{Account}
 use Rattle.cap_asks.specs.Apps.{HasRooms, HeldApps, UsesRoom, live_of, position_of}
 use Rattle.cap_nodes.specs.Tables.{IsSound}
-use Rattle.cap_nodes.proofs.ByNumber.{turned}
-use Rattle.cap_commit.specs.Held.{AreReserved, Parts, IsHeld, IsInLeaf, IsRowOf, fits_its_node, flat_of, of_cluster}
+use Rattle.cap_laws.specs.Reservations.{AreReserved, fits_its_node}
+use Rattle.cap_commit.specs.Held.{Parts, IsHeld, IsInLeaf, IsRowOf, flat_of, of_cluster}
 use Rattle.cap_commit.specs.Admission.{taken_back}
-use Rattle.cap_commit.proofs.Counting.{count_positive}
+use Rattle.cap_laws.proofs.uses.Counting.{count_positive}
 use Rattle.cap_commit.proofs.Granting.{grants}
 use Rattle.cap_commit.proofs.Holding.{leaf_same, still_placed}
 use Rattle.cap_commit.proofs.Moving.{HasMoved, may_give, moved_settings, moved_stays, tied_moved}
 use Rattle.cap_commit.proofs.Owning.{count_for, live_kept, owned_stands}
-use Rattle.cap_commit.proofs.Reserved.{its_node_there, part_reserved}
+use Rattle.cap_laws.proofs.bounds.ReservedNodes.{its_node_there, part_reserved}
 use Rattle.cap_commit.proofs.RowsAt.{row_at}
 use Rattle.cap_commit.proofs.Ties.{in_queue, of_user_in}
 
@@ -274,9 +274,9 @@ module _ {K : ℕ} (p : Parts K) (h : IsHeld p) (q : NodeProposal) (passes : rea
       resources = h.resources;
     }
       where
-        owner_stays : (o : Option App) → Rattle.cap_model.proofs.calls.Lessening.standing o ≡ Rattle.cap_model.proofs.calls.Lessening.standing (app_at old q.app) → IsSome o
+        owner_stays : (o : Option App) → Rattle.cap_model.proofs.uses.Measures.standing o ≡ Rattle.cap_model.proofs.uses.Measures.standing (app_at old q.app) → IsSome o
         owner_stays (Some x) e = refl
-        owner_stays None e = absurd (let f = ap Rattle.cap_model.proofs.calls.Lessening.standing owner in cc (e, f))
+        owner_stays None e = absurd (let f = ap Rattle.cap_model.proofs.uses.Measures.standing owner in cc (e, f))
 
         no_more : (b : Bool) → (if b then 0 else 0) ≡ (let n : ℕ = 0 in n)
         no_more true = refl
@@ -288,6 +288,6 @@ module _ {K : ℕ} (p : Parts K) (h : IsHeld p) (q : NodeProposal) (passes : rea
             let x = same_room.live m in
             let y = room.live m in
             let push = sum_by_push (λ (c : Container). cond (c.app == m) 1 0) p.nodes.live granted in
-            let t : weight (q.app == m) ≡ weight (m == q.app) = ap weight (turned q.app m) in
+            let t : weight (q.app == m) ≡ weight (m == q.app) = ap weight (numbers_turned q.app m) in
             let z = no_more (m == q.app) in
             omega (arith, r, x, y, push, t, z)

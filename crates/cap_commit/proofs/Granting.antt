@@ -11,18 +11,17 @@ use Rattle.cap_vector.specs.Vector.{Fits, amount, zeros}
 use Rattle.cap_vector.proofs.AmountLemmas.{amount-zeros}
 use Rattle.cap_model.specs.Amounts.{fits}
 use Rattle.cap_model.specs.Flat.{Flat, App, Container, Reservation, app_at, node_in}
-use Rattle.cap_model.specs.Sight.{Sight, sight_of, seen_app, seen_node}
+use Rattle.cap_model.specs.Sight.{Sight, sight_of, seen_app}
 use Rattle.cap_model.specs.Admission.{NodeProposal, IsAdmissible, NeedsOf, is_grant, reason_of}
 use Rattle.cap_model.specs.declared.proposal.ProposalKind.{ProposalKind}
 use Rattle.cap_model.specs.Bounds.{AreApart}
-use Rattle.cap_model.proofs.choice.Proposers.{held_for}
-use Rattle.cap_model.proofs.choice.Reasons.{rejected_exactly}
-use Rattle.cap_model.proofs.lists.Members.{IsIn, found, of_filter, of_map, none_in}
-use Rattle.cap_model.proofs.lists.Filters.{filter_whole}
-use Rattle.cap_model.proofs.lists.Tests.{value_of}
-use Rattle.cap_model.proofs.calls.Lessening.{standing}
-use Rattle.cap_model.proofs.uses.Measures.{counts, counted, fits_amounts, live_part, reserved_part, same_counts, use_amount}
-use Rattle.cap_model.proofs.uses.Tallies.{Test, count_of, length_used, used_by}
+use Rattle.cap_laws.proofs.choice.Proposers.{held_for}
+use Rattle.cap_laws.proofs.choice.Reasons.{rejected_exactly}
+use Rattle.cap_base.proofs.lists.Members.{IsIn, found, of_filter, of_map, none_in}
+use Rattle.cap_base.proofs.lists.Filters.{filter_whole}
+use Rattle.cap_base.proofs.lists.Tests.{value_of}
+use Rattle.cap_model.proofs.uses.Measures.{standing, counts, counted, fits_amounts, live_part, reserved_part, same_counts, use_amount}
+use Rattle.cap_laws.proofs.uses.Tallies.{Test, count_of, length_used, used_by}
 use Rattle.cap_nodes.specs.Tables.{free_on}
 use Rattle.cap_tree.specs.Measure.{Measure}
 use Rattle.cap_tree.specs.Count.{use_alone}
@@ -111,10 +110,10 @@ module _ {K : ℕ} (p : Parts K) (h : IsHeld p) (q : NodeProposal) (passes : rea
       let e = sym (ap (λ b. cond b (fits q.resource (free_on K p.nodes q.node)) false) its_node) ∙ sym (free_seen p h q) ∙ needs.0 in
       fits_amounts q.resource (free_on K p.nodes q.node) e
 
-  pub few_live_yet : length p.nodes.live < Rattle.cap_model.specs.Limits.live_max
+  pub few_live_yet : length p.nodes.live < Rattle.cap_base.specs.Limits.live_max
   few_live_yet = (admissible.0).few_live
 
-  pub numbers_are_left : p.nodes.next_container < Rattle.cap_model.specs.Limits.number_end
+  pub numbers_are_left : p.nodes.next_container < Rattle.cap_base.specs.Limits.number_end
   numbers_are_left = (admissible.0).numbers_left
 
   abbrev kept : List Reservation

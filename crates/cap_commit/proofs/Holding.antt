@@ -8,26 +8,27 @@ use Rattle.std.proofs.lemmas.Bool.Decides.{nat_tests}
 use Rattle.std.proofs.lemmas.List.{append-nil, length-append, length-map, map-id}
 use Rattle.std.proofs.lemmas.Slice.Eq.{bytes_eq-Decides}
 use Rattle.cap_vector.specs.Vector.{amount}
-use Rattle.cap_model.specs.Limits.{applications_max, resources_max}
-use Rattle.cap_model.specs.Settings.{QueueRow}
+use Rattle.cap_base.specs.Limits.{applications_max, resources_max}
+use Rattle.cap_base.specs.Settings.{QueueRow}
 use Rattle.cap_model.specs.Flat.{Flat, App, AppTable, Container, NodeTable, app_at, with_reserved, containers_of, change_app, Reservation}
 use Rattle.cap_model.specs.declared.news.Cause.{Cause}
-use Rattle.cap_model.specs.EngineLaws.{container_numbers}
+use Rattle.cap_laws.specs.EngineLaws.{container_numbers}
 use Rattle.cap_model.specs.Ending.{after_ends, with_ends, without_containers}
 use Rattle.cap_model.specs.FinishMaster.{after_finish_master, remove_app}
 use Rattle.cap_model.specs.Submit.{submit_refusal, new_app, add_app}
-use Rattle.cap_model.specs.Bounds.{IsLeaf, IsRising}
-use Rattle.cap_model.proofs.lists.Members.{IsIn, found, in_either, of_filter, each_of, of_each, of_map}
-use Rattle.cap_model.proofs.lists.Filters.{filter_none, length-kept}
+use Rattle.cap_model.specs.Bounds.{IsLeaf}
+use Rattle.cap_base.specs.Members.{IsRising}
+use Rattle.cap_base.proofs.lists.Members.{IsIn, found, in_either, of_filter, each_of, of_each, of_map}
+use Rattle.cap_base.proofs.lists.Filters.{filter_none, length-kept}
 use Rattle.cap_model.proofs.lists.Numbered.{find_others, find_with_more, rising_to_high}
-use Rattle.cap_model.proofs.lists.Sums.{one_where}
-use Rattle.cap_model.proofs.calls.Lessening.{IsSite, change_stands}
+use Rattle.cap_base.proofs.lists.Sums.{one_where}
+use Rattle.cap_laws.proofs.calls.Lessening.{IsSite, change_stands}
 use Rattle.cap_model.proofs.uses.Measures.{counts}
-use Rattle.cap_model.proofs.calls.Moves.{KeepsApp, AppsChange, only_app}
-use Rattle.cap_model.proofs.calls.Registering.{may_enter}
-use Rattle.cap_model.proofs.bounds.Formed.{unrefused_leaf}
-use Rattle.cap_model.proofs.uses.Tallies.{HoldsSame, count_of, count_changed, same_use, change_holds, coming_holds, going_holds}
-use Rattle.cap_model.proofs.lists.Tests.{kept_if}
+use Rattle.cap_laws.proofs.calls.Moves.{KeepsApp, AppsChange, only_app}
+use Rattle.cap_laws.proofs.calls.Registering.{may_enter}
+use Rattle.cap_laws.proofs.bounds.Formed.{unrefused_leaf}
+use Rattle.cap_laws.proofs.uses.Tallies.{HoldsSame, count_of, count_changed, same_use, change_holds, coming_holds, going_holds}
+use Rattle.cap_base.proofs.lists.Tests.{kept_if}
 use Rattle.cap_tree.specs.Measure.{Measure}
 use Rattle.cap_tree.specs.Queue.{IsUnused, MayLeave}
 use Rattle.cap_vector.proofs.AmountLemmas.{amount-zeros}
@@ -36,10 +37,11 @@ use Rattle.cap_tree.specs.Rows.{Row, IsAt, entered_row, left_row, with_state, qu
 use Rattle.cap_tree.proofs.Listings.{any_kept, path_kept, set_running, same_path, state_in_settings}
 use Rattle.cap_asks.specs.Held.{Account, HeldApp}
 use Rattle.cap_asks.specs.Apps.{HeldApps, UsesRoom, IsEntered, IsLeft, account_of, live_of, position_of}
-use Rattle.cap_commit.specs.Held.{AreReserved, Parts, IsHeld, IsInLeaf, flat_of, of_cluster}
-use Rattle.cap_commit.proofs.Counting.{count_entered, count_without, only_one, unused}
+use Rattle.cap_laws.specs.Reservations.{AreReserved}
+use Rattle.cap_commit.specs.Held.{Parts, IsHeld, IsInLeaf, flat_of, of_cluster}
+use Rattle.cap_laws.proofs.uses.Counting.{count_entered, count_without, only_one, unused}
 use Rattle.cap_commit.proofs.Owning.{IsOwned, IsReservedFor, count_for, live_kept, none_left, none_of, none_reserved, owned_after, owned_stands, sites_owned}
-use Rattle.cap_commit.proofs.Reserved.{none_reserved_yet}
+use Rattle.cap_laws.proofs.bounds.ReservedNodes.{none_reserved_yet}
 use Rattle.cap_commit.proofs.RowsAt.{row_at, still_at}
 use Rattle.cap_commit.proofs.Moving.{HasOneMore, enters, leaves, may_leave, moved_settings, moved_stays, tied_moved}
 use Rattle.cap_commit.proofs.Ties.{of_user_in, unused_tied, tied_stays, tied_state}
@@ -300,7 +302,7 @@ module _ {K : ℕ} where
           let active : apps'.table.active ≡ filter (λ (x : App). not (x.number == n)) p.apps.table.active = ap (λ (t : AppTable). t.active) e in
           let same : (flat_of q).settings.queues ≡ old.settings.queues = moved_settings K a.leaf a.user (one_app K) (zero_count K) p.rows in
           let remains : (k : ℕ) → k == n ≡ false → IsSome (app_at old k) → IsSome (app_at (flat_of q) k) = λ k other there. subst IsSome (sym (ap (find (λ (x : App). x.number == k)) active ∙ find_others (λ (x : App). x.number) n k (turned k n other) p.apps.table.active)) there in
-          let stays : HoldsSame without_it (flat_of q) = record { live = refl; reserved = refl; apps = λ app node s. ap (λ (t : AppTable). Rattle.cap_model.proofs.calls.Lessening.standing (find (λ (x : App). x.number == app) t.active)) e } in
+          let stays : HoldsSame without_it (flat_of q) = record { live = refl; reserved = refl; apps = λ app node s. ap (λ (t : AppTable). Rattle.cap_model.proofs.uses.Measures.standing (find (λ (x : App). x.number == app) t.active)) e } in
           record {
             tied = tied_stays without_it (flat_of q) (record { counts = λ t. ap (count_of t) active; uses = same_use without_it (flat_of q) stays }) q.rows (tied_moved old without_it a.leaf a.user (one_app K) (zero_count K) (leaves without_it old a.leaf a.user one_less) p.rows h.tied);
             placed =

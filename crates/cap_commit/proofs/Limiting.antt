@@ -1,5 +1,5 @@
 -- The limits of queues and users, as the tree tests them and as the sight has them.
-use Rattle.std.proofs.Common.{◌≡◌, ℕ, ◌+◌, ◌-◌, ◌≤◌, ◌<◌, Bool, true, false, cond, List, [], ◌∷◌, ◌++◌, length, map, Some, None, refl, sym, ◌∙◌, ap, subst, inl, inr, arith}
+use Rattle.std.proofs.Common.{◌≡◌, ℕ, ◌+◌, ◌-◌, Bool, true, false, cond, List, [], ◌∷◌, ◌++◌, length, map, Some, None, refl, sym, ◌∙◌, ap, subst, inl, inr, arith}
 use Rattle.std.specs.Prelude.{Option, is_none, unwrap_or, option_map, not, ◌&&◌, nat_lt, filter, find, position, bytes_eq}
 use Rattle.std.specs.Option.{option_map_or}
 use Rattle.std.specs.List.{list_all, prefix_len}
@@ -9,19 +9,20 @@ use Rattle.cap_vector.specs.Vector.{amount, amounts_exchanged, less, plus, zeros
 use Rattle.cap_vector.proofs.AmountLemmas.{amount-exchanged, amount-less, amount-zeros, length-less}
 use Rattle.cap_model.specs.Cascade.{earliest, holds_of}
 use Rattle.cap_model.specs.Amounts.{fits, times}
-use Rattle.cap_model.specs.Settings.{QueueRow}
-use Rattle.cap_model.specs.Flat.{Flat, App, Reservation, is_under}
+use Rattle.cap_base.specs.Settings.{QueueRow}
+use Rattle.cap_model.specs.Flat.{Flat, App, Reservation}
+use Rattle.cap_base.specs.Paths.{is_under}
 use Rattle.cap_model.specs.Uses.{queue_use, user_use}
 use Rattle.cap_model.specs.Sight.{Sight, QueueSight, AppSight, sight_of, queue_sight, app_sight, seen_app, seen_queue, queues_to}
 use Rattle.cap_model.specs.declared.proposal.Reason.{Reason}
 use Rattle.cap_model.specs.declared.proposal.Reason.TheVariants.{OverMaximum, OverUser}
 use Rattle.cap_model.specs.Admission.{NodeProposal, is_grant, is_reserved_for, node_reservation, fits_maximum, fits_user_limit, leaf_path, user_name, use_after, stays_in_maximum, stays_in_maxima, stays_in_user_limit, broken_level, reason_of}
-use Rattle.cap_model.proofs.lists.Members.{IsIn, each_of}
-use Rattle.cap_model.proofs.lists.Filters.{find_mapped_at, map_twice}
-use Rattle.cap_model.proofs.lists.Tests.{same_test}
+use Rattle.cap_base.proofs.lists.Members.{IsIn, each_of}
+use Rattle.cap_base.proofs.lists.Filters.{find_mapped_at, map_twice}
+use Rattle.cap_base.proofs.lists.Tests.{same_test}
 use Rattle.cap_model.proofs.uses.Measures.{amounts_fit, fits_amounts}
 use Rattle.cap_tree.specs.Measure.{Measure}
-use Rattle.cap_tree.specs.Queue.{Queue, use_of, of_user, user_row}
+use Rattle.cap_tree.specs.Queue.{use_of, user_row}
 use Rattle.cap_tree.specs.Queue as tree
 use Rattle.cap_tree.specs.Spot.{item_at, path_at}
 use Rattle.cap_tree.specs.Limits.{over_limit}

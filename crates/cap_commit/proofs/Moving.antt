@@ -8,11 +8,12 @@ use Rattle.std.proofs.lemmas.List.{ext_get_or, get_or_past, length-replicate}
 use Rattle.std.proofs.lemmas.Slice.Eq.{bytes_eq-Decides}
 use Rattle.cap_vector.specs.Vector.{amount, amounts_exchanged, zeros}
 use Rattle.cap_vector.proofs.AmountLemmas.{is_exchanged}
-use Rattle.cap_model.specs.Flat.{Flat, is_under}
-use Rattle.cap_model.proofs.lists.Members.{IsIn, each_of}
-use Rattle.cap_model.proofs.lists.Sums.{one_where}
-use Rattle.cap_model.proofs.uses.Tallies.{Test, count_of, used_by, length_used}
-use Rattle.cap_model.proofs.lists.Tests.{bytes_turned}
+use Rattle.cap_model.specs.Flat.{Flat}
+use Rattle.cap_base.specs.Paths.{is_under}
+use Rattle.cap_base.proofs.lists.Members.{IsIn, each_of}
+use Rattle.cap_base.proofs.lists.Sums.{one_where}
+use Rattle.cap_laws.proofs.uses.Tallies.{Test, count_of, used_by, length_used}
+use Rattle.cap_base.proofs.lists.Tests.{bytes_turned}
 use Rattle.cap_tree.specs.Measure.{Measure}
 use Rattle.cap_tree.specs.Spot.{item_at}
 use Rattle.cap_tree.specs.Count.{Count, IsPart, of_count, zero_count, one_app, use_alone}
@@ -20,7 +21,7 @@ use Rattle.cap_tree.specs.Queue.{Queue, MayGive, MayLeave, count_in, moved_above
 use Rattle.cap_tree.specs.QueueLaws.{zero_counts, user_counts}
 use Rattle.cap_tree.specs.Rows.{Row, IsAt, moved_row, queues_of, user_row_at}
 use Rattle.cap_tree.proofs.Listings.{settings_stay}
-use Rattle.cap_model.proofs.paths.Paths.{under_itself}
+use Rattle.cap_base.proofs.paths.Paths.{under_itself}
 use Rattle.cap_tree.proofs.OneUser.{count_where, moved_own, some_row}
 use Rattle.cap_commit.specs.Held.{IsRowOf, of_cluster}
 use Rattle.cap_commit.proofs.RowsAt.{still_at}

@@ -6,9 +6,10 @@ use Rattle.std.proofs.lemmas.List.Sums.{length-filter}
 use Rattle.cap_model.specs.Flat.{Flat, App, Container, Reservation, app_at, containers_of}
 use Rattle.cap_model.specs.declared.news.Cause.{Cause}
 use Rattle.cap_model.specs.Ending.{after_ends}
-use Rattle.cap_model.proofs.lists.Members.{IsIn, in_filter, each_of, of_each}
-use Rattle.cap_model.proofs.calls.Lessening.{IsSite, change_stands, standing}
-use Rattle.cap_model.proofs.calls.Moves.{ends_change}
+use Rattle.cap_base.proofs.lists.Members.{IsIn, in_filter, each_of, of_each}
+use Rattle.cap_laws.proofs.calls.Lessening.{IsSite, change_stands}
+use Rattle.cap_model.proofs.uses.Measures.{standing}
+use Rattle.cap_laws.proofs.calls.Moves.{ends_change}
 use Rattle.cap_asks.specs.Held.{Account}
 use Rattle.cap_asks.specs.Apps.{UsesRoom, live_of}
 

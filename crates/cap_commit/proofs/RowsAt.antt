@@ -4,12 +4,13 @@ use Rattle.std.specs.Prelude.{bytes_eq, find, is_some, ◌||◌}
 use Rattle.std.specs.List.{list_any}
 use Rattle.std.proofs.lemmas.Slice.Eq.{bytes_eq-Decides}
 use Rattle.std.proofs.lemmas.List.Sums.{count_by-le-length}
-use Rattle.cap_model.specs.Settings.{QueueRow}
-use Rattle.cap_model.specs.Limits.{applications_max}
-use Rattle.cap_model.specs.Flat.{App, is_under}
-use Rattle.cap_model.specs.Bounds.{HasDistinctPaths}
-use Rattle.cap_model.proofs.lists.Members.{IsIn, each_of, in_map}
-use Rattle.cap_model.proofs.lists.Tests.{bytes_itself}
+use Rattle.cap_base.specs.Settings.{QueueRow}
+use Rattle.cap_base.specs.Limits.{applications_max}
+use Rattle.cap_model.specs.Flat.{App}
+use Rattle.cap_base.specs.Paths.{is_under}
+use Rattle.cap_base.specs.Trees.{HasDistinctPaths}
+use Rattle.cap_base.proofs.lists.Members.{IsIn, each_of, in_map}
+use Rattle.cap_base.proofs.lists.Tests.{bytes_itself}
 use Rattle.cap_tree.specs.Spot.{HoldsOfItem, IsPosition, item_at, path_at}
 use Rattle.cap_tree.specs.Rows.{Row, AreRows, IsAt, queues_of, settings_of_row, active_in}
 use Rattle.cap_tree.proofs.RowPaths.{at_position}

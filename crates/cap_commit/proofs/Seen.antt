@@ -6,23 +6,24 @@ use Rattle.cap_vector.specs.Vector.{Fits, less}
 use Rattle.cap_model.specs.Cascade.{holds_of}
 use Rattle.cap_model.specs.Amounts.{fits}
 use Rattle.cap_model.specs.Asks.{Ask}
-use Rattle.cap_model.specs.Bounds.{IsRising}
+use Rattle.cap_base.specs.Members.{IsRising}
 use Rattle.cap_model.specs.Flat.{Flat, App, ClusterNode, Reservation, app_at, node_at, is_for, reservation_on}
 use Rattle.cap_model.specs.Uses.{held_on}
 use Rattle.cap_model.specs.Sight.{AppSight, NodeSight, sight_of, app_sight, node_sight, seen_app, seen_node, still_wanted}
 use Rattle.cap_model.specs.Admission.{NodeProposal, is_grant, is_wanted, node_reservation, proposed_ask, fits_free, fits_total, suits_place, takes_place}
-use Rattle.cap_model.proofs.lists.Members.{IsIn, found, each_of, in_filter}
-use Rattle.cap_model.proofs.lists.Filters.{find_mapped_at}
+use Rattle.cap_base.proofs.lists.Members.{IsIn, found, each_of, in_filter}
+use Rattle.cap_base.proofs.lists.Filters.{find_mapped_at}
 use Rattle.cap_model.proofs.lists.Numbered.{found_by_number, rising_kept}
-use Rattle.cap_model.proofs.lists.Sums.{sum_by_map}
-use Rattle.cap_model.proofs.lists.Tests.{value_of, not_none, same_test}
+use Rattle.cap_base.proofs.lists.Sums.{sum_by_map}
+use Rattle.cap_base.proofs.lists.Tests.{value_of, not_none, same_test}
 use Rattle.cap_model.proofs.uses.Measures.{amounts_fit, fits_amounts}
-use Rattle.cap_model.proofs.choice.Proposers.{seen_is}
-use Rattle.cap_model.proofs.bounds.Wanting.{nodes_on, on_nodes}
+use Rattle.cap_laws.proofs.choice.Proposers.{seen_is}
+use Rattle.cap_laws.proofs.bounds.Wanting.{nodes_on, on_nodes}
 use Rattle.cap_nodes.specs.Tables.{free_on}
-use Rattle.cap_commit.specs.Held.{AreReserved, Parts, IsHeld, flat_of, fits_its_node}
+use Rattle.cap_laws.specs.Reservations.{AreReserved, fits_its_node}
+use Rattle.cap_commit.specs.Held.{Parts, IsHeld, flat_of}
 use Rattle.cap_commit.specs.Admission.{own_reservation}
-use Rattle.cap_commit.proofs.Reserved.{its_node_there}
+use Rattle.cap_laws.proofs.bounds.ReservedNodes.{its_node_there}
 
 -- whether a place suits a node
 abbrev pub suits_node : List ℕ → ClusterNode → Bool

@@ -4,15 +4,16 @@ use Rattle.std.specs.Prelude.{bytes_eq, ◌&&◌, if◌then◌else◌}
 use Rattle.std.specs.List.{All}
 use Rattle.cap_vector.specs.Vector.{amount}
 use Rattle.cap_vector.proofs.AmountLemmas.{amount-zeros}
-use Rattle.cap_model.specs.Flat.{Flat, is_under}
-use Rattle.cap_model.proofs.lists.Members.{each_of, of_each, of_map}
-use Rattle.cap_model.proofs.uses.Tallies.{Test, count_of, used_by}
+use Rattle.cap_model.specs.Flat.{Flat}
+use Rattle.cap_base.specs.Paths.{is_under}
+use Rattle.cap_base.proofs.lists.Members.{each_of, of_each, of_map}
+use Rattle.cap_laws.proofs.uses.Tallies.{Test, count_of, used_by}
 use Rattle.cap_tree.specs.Measure.{Measure}
 use Rattle.cap_tree.specs.Queue.{Queue, IsUnused, of_user, with_running}
 use Rattle.cap_tree.specs.UserLaws.{no_user_counts}
 use Rattle.cap_tree.specs.Rows.{Row, changed_at, with_state}
 use Rattle.cap_commit.specs.Held.{IsRowOf, of_cluster}
-use Rattle.cap_commit.proofs.Idle.{idle_use}
+use Rattle.cap_laws.proofs.uses.Idle.{idle_use}
 
 -- what counts for a queue, and for a user in a leaf
 abbrev pub in_queue : List ℕ → Test

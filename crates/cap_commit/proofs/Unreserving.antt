@@ -5,9 +5,9 @@ use Rattle.std.specs.List.{remove}
 use Rattle.std.proofs.lemmas.List.Sums.{sum_by-remove}
 use Rattle.std.proofs.lemmas.Slice.Eq.{bytes_eq-Decides}
 use Rattle.cap_vector.specs.Vector.{amount}
-use Rattle.cap_model.specs.Settings.{Settings}
+use Rattle.cap_base.specs.Settings.{Settings}
 use Rattle.cap_model.specs.Flat.{Flat, App, NodeTable, Reservation, with_reserved}
-use Rattle.cap_model.proofs.lists.Members.{IsIn, found, each_of, of_each}
+use Rattle.cap_base.proofs.lists.Members.{IsIn, found, each_of, of_each}
 use Rattle.cap_model.proofs.uses.Measures.{counts, counted, use_amount}
 use Rattle.cap_tree.specs.Measure.{Measure}
 use Rattle.cap_tree.specs.Queue.{MayGive}
@@ -18,11 +18,11 @@ use Rattle.cap_asks.specs.Apps.{position_of}
 use Rattle.cap_model.specs.Bounds.{AreApart}
 use Rattle.cap_nodes.proofs.Reserved.{is_elsewhere, others_elsewhere}
 use Rattle.cap_commit.specs.Held.{Parts, IsHeld, IsInLeaf, flat_of, of_cluster}
-use Rattle.cap_commit.proofs.Counting.{count_positive}
+use Rattle.cap_laws.proofs.uses.Counting.{count_positive}
 use Rattle.cap_commit.proofs.Holding.{leaf_same, still_placed}
 use Rattle.cap_commit.proofs.Moving.{HasMoved, gives, may_give, moved_settings, moved_stays, tied_moved}
 use Rattle.cap_commit.proofs.Owning.{IsReservedFor, owned_stands}
-use Rattle.cap_commit.proofs.Reserved.{part_reserved, part_removed}
+use Rattle.cap_laws.proofs.bounds.ReservedNodes.{part_reserved, part_removed}
 use Rattle.cap_commit.proofs.RowsAt.{row_at}
 use Rattle.cap_commit.proofs.Ties.{of_user_in}
 

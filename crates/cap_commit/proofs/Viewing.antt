@@ -11,7 +11,7 @@ use Rattle.cap_model.specs.declared.reply.ReplyWith.TheVariants as Reply
 use Rattle.cap_model.specs.Flat.{Flat, App, AppTable, app_in}
 use Rattle.cap_model.specs.Allocate.{nothing_told}
 use Rattle.cap_model.specs.Reporting.{IfAllocate, NewsRoom, reported_of, full_reply, HasNumbers, HasRoomForReplies, no_news, news_most, reports_most, IsNoAllocate}
-use Rattle.cap_model.proofs.telling.Replying.{some_room, other_room}
+use Rattle.cap_laws.proofs.telling.Replying.{some_room, other_room}
 use Rattle.cap_asks.specs.Apps.{kept_of}
 
 module _ {K : ℕ} (flat : Flat K) where

@@ -1,14 +1,14 @@
 -- What a cluster keeps: its parts, the flat cluster that they are, and what they have to do with each other.
-use Rattle.std.specs.Prelude.{◌≡◌, ℕ, ◌≤◌, ◌&&◌, ◌==◌, Bool, true, IsSome, List, length, find, count_by, bytes_eq}
+use Rattle.std.specs.Prelude.{◌≡◌, ℕ, ◌≤◌, ◌&&◌, ◌==◌, IsSome, List, length, count_by, bytes_eq}
 use Rattle.std.specs.List.{All}
+use Rattle.cap_laws.specs.Reservations.{AreReserved}
 use Rattle.cap_vector.specs.Vector.{amount}
-use Rattle.cap_model.specs.Limits.{applications_max, resources_max, live_max}
-use Rattle.cap_model.specs.Cascade.{holds_of}
-use Rattle.cap_model.specs.Amounts.{fits}
-use Rattle.cap_model.specs.Flat.{Flat, App, ClusterNode, NodeTable, Reservation, app_at, is_under}
+use Rattle.cap_base.specs.Limits.{applications_max, resources_max, live_max}
+use Rattle.cap_model.specs.Flat.{Flat, App, NodeTable, app_at}
+use Rattle.cap_base.specs.Paths.{is_under}
 use Rattle.cap_model.specs.Uses.{queue_use, user_use}
-use Rattle.cap_model.specs.Bounds.{AreApart, IsLeaf}
-use Rattle.cap_model.specs.EngineLaws.{HasDistinctNumbers}
+use Rattle.cap_model.specs.Bounds.{IsLeaf}
+use Rattle.cap_laws.specs.EngineLaws.{HasDistinctNumbers}
 use Rattle.cap_tree.specs.Measure.{Measure}
 use Rattle.cap_tree.specs.Queue.{of_user}
 use Rattle.cap_tree.specs.Rows.{Row, IsAt, queues_of}
@@ -28,15 +28,6 @@ pub record Parts (K : ℕ) : Type 0 where
   pub limits : Limits K
   pub apps : HeldApps
   pub nodes : NodeTable
-
--- whether the node of a reservation is present, and has as much in all
-abbrev pub fits_its_node : List ClusterNode → Reservation → Bool
-fits_its_node present r = holds_of (λ node. fits r.resource node.total) (find (λ node. node.number == r.node) present)
-
--- reservations are on different nodes, each on one that is present and has as much in all
-pub record AreReserved (present : List ClusterNode) (reserved : List Reservation) : Type 0 where
-  pub apart : AreApart reserved
-  pub fit : All (λ r. fits_its_node present r ≡ true) reserved
 
 module _ {K : ℕ} where
   -- the flat cluster of these parts

@@ -1,4 +1,3 @@
 pub mod Held
 pub mod Owners
-pub mod Reservations
 pub mod Admission

@@ -1,7 +1,7 @@
 //! Whether a proposal may be made, and the first reason why not (`Cluster::reason`).
 ghost use Rattle.std.specs.Prelude.{◌≡◌, ◌≤◌, ◌&&◌, Some, None, IfSome, IsSome, is_some, option_map};
 ghost use Rattle.cap_vector.specs.Vector.{IsResource};
-ghost use Rattle.cap_model.specs.Limits.{resources_max};
+ghost use Rattle.cap_base.specs.Limits.{resources_max};
 ghost use Rattle.cap_model.specs.Cascade.{earliest, holds_of};
 ghost use Rattle.cap_model.specs.Flat.{app_at, is_for};
 ghost use Rattle.cap_model.specs.Sight.{app_sight, seen_app, seen_node, sight_of};

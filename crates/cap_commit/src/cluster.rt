@@ -1,26 +1,27 @@
 //! The cluster (`Cluster`): opened from settings, its parts lent for reading, and the changes that calls make of it.
 ghost use Rattle.std.specs.Prelude.{◌≡◌, ◌≤◌, ◌+◌, ◌==◌, ◌&&◌, ◌∷◌, [], Some, None, IfOk, OnOk, OnErr, IsOk, IfSome, IsSome, is_some, length, find, ◌<◌, option_and_then};
 ghost use Rattle.std.specs.List.{All};
-ghost use Rattle.cap_model.specs.Limits.{applications_max, live_max, resources_max};
+ghost use Rattle.cap_base.specs.Limits.{applications_max, live_max, resources_max};
 ghost use Rattle.cap_model.specs.Flat.{opened_cluster, queue_at, app_at, node_at, node_in, with_app, with_node, with_reserved, containers_on, containers_of};
 ghost use Rattle.cap_model.specs.Bounds.{AreApart};
 ghost use Rattle.cap_model.specs.Uses.{queue_use};
 ghost use Rattle.cap_model.specs.Submit.{submit_refusal, after_submit};
 ghost use Rattle.cap_model.specs.RegisterNode.{register_node_refusal, after_register_node};
 ghost use Rattle.cap_model.specs.RegisterMaster.{after_register_master};
-ghost use Rattle.cap_model.specs.QueueCalls.{after_set_queue_state, queue_report, root_path};
+ghost use Rattle.cap_model.specs.QueueCalls.{after_set_queue_state, queue_report};
+ghost use Rattle.cap_base.specs.Paths.{root_path};
 ghost use Rattle.cap_model.specs.Asking.{after_ask, rounded_ask};
 ghost use Rattle.cap_model.specs.Allocate.{after_telling};
 ghost use Rattle.cap_model.specs.Ending.{after_ends};
 ghost use Rattle.cap_model.specs.FinishMaster.{after_finish_master};
-ghost use Rattle.cap_model.specs.EngineLaws.{HasDistinctNumbers};
+ghost use Rattle.cap_laws.specs.EngineLaws.{HasDistinctNumbers};
 ghost use Rattle.cap_model.specs.NodeGone.{without_node};
 ghost use Rattle.cap_model.specs.Heartbeat.{after_beat};
 ghost use Rattle.cap_tree.specs.Rows.{IsAt, queues_of};
 ghost use Rattle.cap_tree.specs.Spot.{IsPosition, path_at};
 ghost use Rattle.cap_asks.specs.Apps.{KeepsNumbers, ask_room, HasRooms, UsesRoom, position_of};
 ghost use Rattle.cap_commit.specs.Held.{IsRowOf};
-ghost use Rattle.cap_commit.specs.Reservations.{kept_by_ask};
+ghost use Rattle.cap_laws.specs.Reservations.{kept_by_ask};
 ghost use Rattle.cap_commit.specs.Owners.{owns, containers_owned, containers_named};
 
 use crate::limits::Limits;

@@ -1,6 +1,6 @@
 //! What an operator sees of a queue of the tree (`report_of`).
 ghost use Rattle.std.specs.Prelude.{◌≡◌, ◌≤◌};
-ghost use Rattle.cap_model.specs.Limits.{applications_max};
+ghost use Rattle.cap_base.specs.Limits.{applications_max};
 
 use cap_model::QueueReport;
 use cap_tree::Queue;

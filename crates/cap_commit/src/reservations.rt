@@ -2,7 +2,7 @@
 ghost use Rattle.std.specs.Prelude.{◌≡◌, Some, find, filter, not, ◌==◌};
 ghost use Rattle.cap_model.specs.Asking.{keep_first};
 ghost use Rattle.cap_model.specs.Flat.{is_for, with_reserved};
-ghost use Rattle.cap_commit.specs.Reservations.{without_reserved};
+ghost use Rattle.cap_laws.specs.Reservations.{without_reserved};
 
 use crate::cluster::Cluster;
 use cap_model::{Key, Reservation};

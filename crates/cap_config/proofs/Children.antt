@@ -8,8 +8,8 @@ use Rattle.std.proofs.lemmas.List.Sums.{sum_by-cons, sum_by-append}
 use Rattle.std.proofs.lemmas.List.Splits.{length-slice_split}
 use Rattle.std.proofs.lemmas.Option.{same_Some, some_pair_parts}
 use Rattle.std.proofs.Math.Seq.{take-append_seam}
-use Rattle.cap_model.specs.Flat.{is_child_of}
-use Rattle.cap_model.proofs.paths.Paths.{IsUnder, has_dot, before_no_dot, its_child}
+use Rattle.cap_base.specs.Paths.{is_child_of}
+use Rattle.cap_base.proofs.paths.Paths.{IsUnder, has_dot, before_no_dot, its_child}
 use Rattle.cap_config.specs.Keys.{last_dot, dot_or, is_dot, is_name, is_name_byte, parts_at_last_dot, parts_round}
 use Rattle.cap_config.specs.Queues.{child}
 use Rattle.cap_config.specs.Tests.{level}

@@ -8,7 +8,7 @@ use Rattle.cap_config.specs.declared.fault.ConfigFaultKind.{ConfigFaultKind}
 use Rattle.cap_config.specs.declared.fault.ConfigFaultKind.TheVariants.{BadLine, UnknownKey, Repeated, BadValue, NoSuchQueue, OverParent, GuaranteeOverMaximum, TooManyQueues, TooDeep, NoChild, NoMemory}
 use Rattle.cap_config.specs.Fault.{FailsBy, fault_at}
 use Rattle.cap_config.specs.Entries.{read_lines}
-use Rattle.cap_model.specs.Settings.{Settings}
+use Rattle.cap_base.specs.Settings.{Settings}
 use Rattle.cap_config.specs.Tests.{or_else, shape_fault, allocation_line, no_child_line, no_such_queue_line, too_deep_line, too_many_line, over_maximum_line, over_parent_line, whole_fault}
 use Rattle.cap_config.specs.Rows.{settings_of}
 use Rattle.cap_config.specs.First.{fault_after, first_fault, AnswersFault, settings_in, settings_after, unless_fault}

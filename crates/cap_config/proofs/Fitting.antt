@@ -4,6 +4,7 @@ use Rattle.std.specs.Prelude.{◌&&◌, ◌||◌}
 use Rattle.std.specs.Str.{bytes_eq}
 use Rattle.std.proofs.lemmas.Bool.Decides.{nat_tests}
 use Rattle.std.proofs.lemmas.Bool.{not-true}
+use Rattle.cap_base.specs.Limits.{resources}
 use Rattle.cap_vector.specs.Vector.{zeros}
 use Rattle.cap_config.specs.declared.entry.Entry.{Entry}
 use Rattle.cap_config.specs.declared.value.Value.{Value}
@@ -24,7 +25,7 @@ for_both false queue path h = absurd (cc h)
 none_less : (a b : ℕ) → (ltb a 0 || ltb b 0) ≡ false
 none_less a b = grind (arith, nat_tests)
 
-zero_fits : (limit : Option (List ℕ)) → exceeds_limit (zeros 2) limit ≡ false
+zero_fits : (limit : Option (List ℕ)) → exceeds_limit (zeros resources) limit ≡ false
 zero_fits (Some most) = none_less (get_or most 0 0) (get_or most 1 0)
 zero_fits None = refl
 

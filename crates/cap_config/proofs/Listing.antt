@@ -6,13 +6,12 @@ use Rattle.std.proofs.lemmas.List.{append-nil}
 use Rattle.std.proofs.lemmas.List.Elements.{All-append, All-nil, All-cons}
 use Rattle.std.proofs.lemmas.List.Splits.{length-slice_split}
 use Rattle.std.specs.Str.Lines.{lines}
-use Rattle.cap_model.specs.Settings.{QueueRow, Settings}
-use Rattle.cap_model.specs.Flat.{is_under}
-use Rattle.cap_model.specs.Bounds.{depth}
-use Rattle.cap_model.specs.QueueCalls.{root_path}
-use Rattle.cap_model.proofs.paths.Paths.{under_is, is_under_it, under_itself}
-use Rattle.cap_model.specs.Listing.{MayFollow, IsListed, IsListedFromRoot, IsListing}
-use Rattle.cap_model.specs.Limits.{factor_max}
+use Rattle.cap_base.specs.Settings.{QueueRow, Settings}
+use Rattle.cap_base.specs.Paths.{is_under, root_path}
+use Rattle.cap_base.specs.Trees.{depth}
+use Rattle.cap_base.proofs.paths.Paths.{under_is, is_under_it, under_itself}
+use Rattle.cap_base.specs.Listing.{MayFollow, IsListed, IsListedFromRoot, IsListing}
+use Rattle.cap_base.specs.Limits.{factor_max}
 use Rattle.cap_config.specs.declared.entry.Entry.{Entry}
 use Rattle.cap_config.specs.Keys.{root, is_dot}
 use Rattle.cap_config.specs.Values.{is_name_under}

@@ -6,9 +6,9 @@ use Rattle.std.specs.Str.{bytes_eq}
 use Rattle.std.specs.Str.Lines.{lines}
 use Rattle.std.proofs.lemmas.Bool.Decides.{nat_tests}
 use Rattle.std.proofs.lemmas.List.Sums.{sum_by-cons, sum_by-append}
-use Rattle.cap_model.specs.Settings.{QueueRow}
-use Rattle.cap_model.proofs.lists.Sums.{sum_of_two}
-use Rattle.cap_model.proofs.lists.Tests.{bytes_turned}
+use Rattle.cap_base.specs.Settings.{QueueRow}
+use Rattle.cap_base.proofs.lists.Sums.{sum_of_two}
+use Rattle.cap_base.proofs.lists.Tests.{bytes_turned}
 use Rattle.cap_config.specs.declared.entry.Entry.{Entry}
 use Rattle.cap_config.specs.declared.value.Value.{Value}
 use Rattle.cap_config.specs.declared.value.Value.TheVariants.{Names, Amounts, Number, Running}

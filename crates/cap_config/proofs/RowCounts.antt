@@ -9,8 +9,8 @@ use Rattle.std.proofs.lemmas.List.Sums.{sum_by-cons, sum_by-append}
 use Rattle.std.proofs.lemmas.List.Folds.{list_any-append}
 use Rattle.std.proofs.lemmas.Slice.Eq.{bytes_eq-Decides}
 use Rattle.std.proofs.lemmas.Bool.{or_parts, false_from_ne_true, not-true}
-use Rattle.cap_model.specs.Settings.{QueueRow}
-use Rattle.cap_model.proofs.paths.Paths.{IsUnder, before_dot, child_to, only_child}
+use Rattle.cap_base.specs.Settings.{QueueRow}
+use Rattle.cap_base.proofs.paths.Paths.{IsUnder, before_dot, child_to, only_child}
 use Rattle.cap_config.specs.declared.entry.Entry.{Entry}
 use Rattle.cap_config.specs.Keys.{root, last_dot}
 use Rattle.cap_config.specs.Seen.{contains_bytes}

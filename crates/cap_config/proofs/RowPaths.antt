@@ -4,8 +4,8 @@ use Rattle.std.specs.Prelude.{◌||◌, map}
 use Rattle.std.specs.List.{flat_map}
 use Rattle.std.specs.Str.{bytes_eq}
 use Rattle.std.specs.Str.Lines.{lines}
-use Rattle.cap_model.specs.Settings.{QueueRow}
-use Rattle.cap_model.proofs.lists.Tests.{same_test, bytes_itself}
+use Rattle.cap_base.specs.Settings.{QueueRow}
+use Rattle.cap_base.proofs.lists.Tests.{same_test, bytes_itself}
 use Rattle.cap_config.specs.declared.entry.Entry.{Entry}
 use Rattle.cap_config.specs.declared.fault.ConfigFault.{ConfigFault}
 use Rattle.cap_config.specs.declared.fault.ConfigFaultKind.{ConfigFaultKind}

@@ -6,9 +6,9 @@ use Rattle.std.specs.Str.{bytes_eq}
 use Rattle.std.specs.Str.Lines.{lines}
 use Rattle.std.proofs.lemmas.List.Sums.{sum_by-cons}
 use Rattle.std.proofs.lemmas.Option.{same_Some}
-use Rattle.cap_model.specs.Settings.{QueueRow, Settings}
-use Rattle.cap_model.specs.Bounds.{IsTree, HasDistinctPaths, has_path}
-use Rattle.cap_model.proofs.lists.Tests.{bytes_itself}
+use Rattle.cap_base.specs.Settings.{QueueRow, Settings}
+use Rattle.cap_base.specs.Trees.{IsTree, HasDistinctPaths, has_path}
+use Rattle.cap_base.proofs.lists.Tests.{bytes_itself}
 use Rattle.cap_config.specs.declared.entry.Entry.{Entry}
 use Rattle.cap_config.specs.declared.fault.ConfigFault.{ConfigFault}
 use Rattle.cap_config.specs.Keys.{root, last_dot, is_dot}

@@ -2,7 +2,7 @@
 use Rattle.std.specs.Prelude.{ℕ, List, [], ◌&&◌, Option, Some, None, Bool, true, nat_le, if◌then◌else◌}
 use Rattle.std.specs.List.{list_all}
 use Rattle.cap_vector.specs.Vector.{amount_max}
-use Rattle.cap_model.specs.Limits.{applications_max, factor_max}
+use Rattle.cap_base.specs.Limits.{applications_max, factor_max}
 use Rattle.cap_config.specs.declared.setting.Setting.{Setting}
 use Rattle.cap_config.specs.declared.setting.Setting.TheVariants.{MaximumApplications, UserLimitFactor}
 use Rattle.cap_config.specs.Queues.{same_setting}

@@ -1,7 +1,7 @@
 -- What there is to say of a fault beyond its line and its kind.
 use Rattle.std.specs.Prelude.{ℕ, ◌+◌, ◌-◌, ◌^◌, List, [], ◌∷◌, find, Option, Some, None, Bool, true, false, ◌==◌, min, slice_index, if◌then◌else◌, Result, Ok, Err}
 use Rattle.std.specs.Str.Lines.{lines}
-use Rattle.cap_model.specs.Texts.{is_text}
+use Rattle.cap_base.specs.Texts.{is_text}
 use Rattle.cap_config.specs.declared.detail.Detail.{Detail}
 use Rattle.cap_config.specs.declared.detail.Detail.TheVariants.{Plain, Earlier, Form, Unlisted, Over}
 use Rattle.cap_config.specs.declared.detail.Limit.{Limit}

@@ -1,7 +1,7 @@
 -- The first fault of a text, and its settings.
 use Rattle.std.specs.Prelude.{List, ℕ, Option, Some, None, Result, Ok, Err}
 use Rattle.std.specs.Str.Lines.{lines}
-use Rattle.cap_model.specs.Settings.{Settings}
+use Rattle.cap_base.specs.Settings.{Settings}
 use Rattle.cap_config.specs.declared.entry.Entry.{Entry}
 use Rattle.cap_config.specs.declared.fault.ConfigFault.{ConfigFault}
 use Rattle.cap_config.specs.Fault.{FailsBy}

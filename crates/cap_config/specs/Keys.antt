@@ -2,7 +2,7 @@
 use Rattle.std.specs.Prelude.{ℕ, ◌+◌, List, [], ◌∷◌, ◌++◌, length, take, drop, find, Option, Some, None, Bool, true, false, not, ◌&&◌, ◌||◌, ◌==◌, nat_lt, nat_le, nat_eq, if◌then◌else◌, codes}
 use Rattle.std.specs.List.{list_all, slice_split, starts_with}
 use Rattle.std.specs.Str.{bytes_eq}
-use Rattle.cap_model.specs.Texts.{is_text, dot}
+use Rattle.cap_base.specs.Texts.{is_text, dot}
 use Rattle.cap_config.specs.declared.key.Key.{Key}
 use Rattle.cap_config.specs.declared.setting.Setting.{Setting}
 use Rattle.cap_config.specs.declared.setting.Setting.TheVariants.{Queues, Capacity, MaximumCapacity, UserLimitFactor, State, MaximumApplications, MinimumMemory, MinimumVcores, MaximumMemory, MaximumVcores}

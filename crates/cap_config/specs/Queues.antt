@@ -5,6 +5,7 @@ use Rattle.std.specs.BTreeMap.{BTreeMap, get_by}
 use Rattle.std.specs.Cmp.Lexicographic.{slice_cmp}
 use Rattle.std.specs.Ordering.{nat_cmp}
 use denote.Ref.{Bor}
+use Rattle.cap_base.specs.Limits.{resources}
 use Rattle.cap_vector.specs.Vector.{zeros}
 use Rattle.cap_config.specs.declared.entry.Entry.{Entry}
 use Rattle.cap_config.specs.declared.value.Value.{Value}
@@ -13,7 +14,7 @@ use Rattle.cap_config.specs.declared.setting.Setting.{Setting}
 use Rattle.cap_config.specs.declared.setting.Setting.TheVariants.{Queues, Capacity, MaximumCapacity, UserLimitFactor, State, MaximumApplications, MinimumMemory, MinimumVcores, MaximumMemory, MaximumVcores}
 use Rattle.cap_config.specs.Keys.{root, is_dot, parts_at_last_dot}
 use Rattle.cap_config.specs.Seen.{contains_bytes}
-use Rattle.cap_model.specs.Texts.{dot}
+use Rattle.cap_base.specs.Texts.{dot}
 
 abbrev pub setting_number : Setting → ℕ
 setting_number Queues = 0
@@ -111,7 +112,7 @@ amounts_at other None = other
 
 abbrev pub or_zero : Option (List ℕ) → List ℕ
 or_zero (Some amounts) = amounts
-or_zero None = zeros 2
+or_zero None = zeros resources
 
 -- what a queue is guaranteed
 abbrev pub guaranteed : List Entry → List ℕ → List ℕ

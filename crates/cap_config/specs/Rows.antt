@@ -1,7 +1,7 @@
 -- The settings that entries without a fault make.
 use Rattle.std.specs.Prelude.{ℕ, zero, suc, List, [], ◌∷◌, Option, Some, None, Bool, true}
 use Rattle.std.specs.List.{flat_map}
-use Rattle.cap_model.specs.Settings.{QueueRow, Settings}
+use Rattle.cap_base.specs.Settings.{QueueRow, Settings}
 use Rattle.cap_config.specs.declared.entry.Entry.{Entry}
 use Rattle.cap_config.specs.declared.value.Value.{Value}
 use Rattle.cap_config.specs.declared.value.Value.TheVariants.{Names, Amounts, Number, Running}

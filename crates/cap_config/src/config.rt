@@ -2,7 +2,7 @@
 ghost use Rattle.std.specs.Prelude.{◌≡◌, ◌≤◌, ◌++◌, ◌∷◌, [], IfOk, None, OnOk, true};
 ghost use Rattle.cap_vector.specs.Vector.{amount_max};
 ghost use Rattle.cap_config.specs.Bounds.{are_bounded, most_of};
-ghost use Rattle.cap_model.specs.Texts.{is_text};
+ghost use Rattle.cap_base.specs.Texts.{is_text};
 ghost use Rattle.cap_config.specs.Queues.{child};
 ghost use Rattle.cap_config.specs.Tests.{cluster_entry, number_or, whole_fault};
 ghost use Rattle.cap_config.specs.Index.{IsIndex};
@@ -14,13 +14,13 @@ use crate::key::ROOT;
 use crate::queues::{LEVELS_MAX, factor, guaranteed, is_running, maximum, names_below, number_or};
 use crate::second_pass::cluster_entry;
 use crate::setting::Setting;
-use cap_model::{Config, PathText, QueueRow, ShortText};
+use cap_base::{Config, PathText, QueueRow, RESOURCES, ShortText};
 use cap_vector::Resource;
 use std::alloc::{AllocError, Global};
 
 /// The settings that lines without a fault make. An error means that an allocation failed.
 #[tactic(auto, unfolding(crate::specs::Rows::settings_of, crate::specs::Keys::root))]
-pub fn config_of(alloc: Global, index: &Index) -> Result<Config<2>, AllocError>
+pub fn config_of(alloc: Global, index: &Index) -> Result<Config<RESOURCES>, AllocError>
     requires index { IsIndex index.now }
     requires bounded { are_bounded index.now.entries.now ≡ true }
     requires whole { whole_fault index.now.entries.now ≡ None }
@@ -57,7 +57,7 @@ fn cluster_number(entries: &[Entry], setting: Setting, default: u64) -> u64
 }
 
 /// These amounts as a resource.
-fn allocation(memory: u64, vcores: u64) -> Resource<2>
+fn allocation(memory: u64, vcores: u64) -> Resource<RESOURCES>
     requires memory { memory ≤ amount_max }
     requires vcores { vcores ≤ amount_max }
     ensures { result ≡ memory ∷ vcores ∷ [] }
@@ -74,7 +74,7 @@ fn add_queues(
     index: &Index,
     path: PathText,
     levels: usize,
-    queues: &mut Vec<QueueRow<2>>,
+    queues: &mut Vec<QueueRow<RESOURCES>>,
 ) -> Result<(), AllocError>
     requires index { IsIndex index.now }
     requires bounded { are_bounded index.now.entries.now ≡ true }
@@ -105,7 +105,7 @@ fn child_path(alloc: Global, path: &PathText, name: &ShortText) -> Result<PathTe
 }
 
 #[tactic(auto, unfolding(crate::specs::Rows::row_of))]
-fn row_of(index: &Index, path: PathText) -> QueueRow<2>
+fn row_of(index: &Index, path: PathText) -> QueueRow<RESOURCES>
     requires { IsIndex index.now }
     ensures { result ≡ row_of index.now.entries.now path }
 {

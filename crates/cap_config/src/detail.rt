@@ -17,7 +17,7 @@ use crate::queues::{amounts_at, guaranteed, lists, maximum, number_or};
 use crate::second_pass::cluster_entry;
 use crate::setting::Setting;
 use crate::value::Value;
-use cap_model::{PathText, ShortText};
+use cap_base::{PathText, RESOURCES, ShortText};
 use cap_vector::Resource;
 use std::alloc::{AllocError, Global};
 
@@ -187,7 +187,11 @@ fn over(limit: Limit, amounts: [u64; 2], most: [u64; 2]) -> Detail
     }
 }
 
-fn over_some(limit: Limit, amounts: &Resource<2>, most: Option<Resource<2>>) -> Detail
+fn over_some(
+    limit: Limit,
+    amounts: &Resource<RESOURCES>,
+    most: Option<Resource<RESOURCES>>,
+) -> Detail
     ensures { result ≡ over_some limit amounts.now most }
 {
     match most {
@@ -249,7 +253,7 @@ fn over_maximum(index: &Index, entry: &Entry) -> Detail
 }
 
 #[tactic(auto, unfolding(crate::specs::Details::over_own))]
-fn over_own(index: &Index, path: &[u8], amounts: &Resource<2>) -> Detail
+fn over_own(index: &Index, path: &[u8], amounts: &Resource<RESOURCES>) -> Detail
     requires { IsIndex index.now }
     ensures { result ≡ over_own index.now.entries.now path.now amounts.now }
 {
@@ -258,7 +262,7 @@ fn over_own(index: &Index, path: &[u8], amounts: &Resource<2>) -> Detail
 }
 
 /// What the capacity of a queue is compared with that has this maximum capacity of its own.
-fn limit_of(own: Option<Resource<2>>) -> Limit
+fn limit_of(own: Option<Resource<RESOURCES>>) -> Limit
     ensures { result ≡ limit_of own }
 {
     match own {
@@ -282,7 +286,7 @@ fn over_parent(alloc: Global, index: &Index, entry: &Entry) -> Result<Detail, Al
     }
 }
 
-fn over_above(index: &Index, amounts: &Resource<2>, path: &[u8]) -> Detail
+fn over_above(index: &Index, amounts: &Resource<RESOURCES>, path: &[u8]) -> Detail
     requires { IsIndex index.now }
     ensures { result ≡ over_above index.now.entries.now amounts.now (parts_at_last_dot path.now) }
 {

@@ -4,7 +4,7 @@ ghost use Rattle.std.specs.Option.{option_map, option_copied};
 
 use crate::setting::Setting;
 use crate::value::Value;
-use cap_model::PathText;
+use cap_base::PathText;
 
 /// A line that sets a property.
 #[derive(Drop)]

@@ -10,7 +10,7 @@ use crate::key::split_last_dot;
 use crate::queues::{guaranteed, is_root, maximum};
 use crate::setting::Setting;
 use crate::value::Value;
-use cap_model::ShortText;
+use cap_base::{RESOURCES, ShortText};
 use cap_vector::Resource;
 use std::alloc::{AllocError, Global};
 
@@ -47,7 +47,7 @@ fn is_over_limit(index: &Index, entry: &Entry) -> bool
     }
 }
 
-fn exceeds_limit(amounts: &Resource<2>, limit: Option<Resource<2>>) -> bool
+fn exceeds_limit(amounts: &Resource<RESOURCES>, limit: Option<Resource<RESOURCES>>) -> bool
     ensures { result ≡ exceeds_limit amounts.now limit }
 {
     match limit {
@@ -93,7 +93,7 @@ fn is_over_parent(alloc: Global, index: &Index, entry: &Entry) -> Result<bool, A
     }
 }
 
-fn is_over_parts(index: &Index, amounts: &Resource<2>, path: &[u8]) -> bool
+fn is_over_parts(index: &Index, amounts: &Resource<RESOURCES>, path: &[u8]) -> bool
     requires { IsIndex index.now }
     ensures { result ≡ is_over_parts index.now.entries.now amounts.now
         (parts_at_last_dot path.now) }

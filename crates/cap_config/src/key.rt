@@ -6,7 +6,7 @@ ghost use Rattle.std.specs.Str.{bytes_eq};
 ghost use Rattle.cap_config.specs.Keys.{key_of, queue_key, key_at, setting_named, takes, parts_at_last_dot, path_of, root, is_name, is_name_byte, names_in};
 
 use crate::setting::{CLUSTER_SETTINGS, QUEUE_SETTINGS, Setting};
-use cap_model::PathText;
+use cap_base::PathText;
 use cap_text::split_once;
 
 /// A key: the queue that it is of, if it is of one, and the property.

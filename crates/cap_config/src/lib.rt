@@ -19,7 +19,7 @@ mod seen;
 mod setting;
 mod value;
 
-pub use cap_model::{Config, QueueRow};
+pub use cap_base::{Config, QueueRow};
 pub use detail::{Detail, Limit, detail_of};
 pub use fault::{ConfigFault, ConfigFaultKind};
 pub use line_keys::line_key;

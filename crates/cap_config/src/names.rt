@@ -5,7 +5,7 @@ ghost use Rattle.cap_config.specs.Values.{names_for, is_next, name_under};
 
 use crate::key::is_name;
 use crate::seen::{add_new, was_seen};
-use cap_model::{PathText, ShortText};
+use cap_base::{PathText, ShortText};
 use cap_text::{split_once, trimmed};
 use std::alloc::{AllocError, Global};
 use std::collections::HashMap;

@@ -13,7 +13,7 @@ use crate::entry::Entry;
 use crate::index::{Index, entry_at};
 use crate::key::{ROOT, split_last_dot};
 use crate::value::Value;
-use cap_model::ShortText;
+use cap_base::{RESOURCES, ShortText};
 use cap_vector::Resource;
 
 /// How many levels of queues there may be, root's being the first.
@@ -97,7 +97,7 @@ fn dots(path: &[u8]) -> usize
 }
 
 /// What a queue is guaranteed: its `capacity`, or nothing.
-pub fn guaranteed(index: &Index, path: &[u8]) -> Resource<2>
+pub fn guaranteed(index: &Index, path: &[u8]) -> Resource<RESOURCES>
     requires { IsIndex index.now }
     ensures { result ≡ guaranteed index.now.entries.now path.now }
 {
@@ -108,7 +108,7 @@ pub fn guaranteed(index: &Index, path: &[u8]) -> Resource<2>
 }
 
 /// The amounts that an entry sets.
-pub fn amounts_at(entry: Option<&Entry>) -> Option<Resource<2>>
+pub fn amounts_at(entry: Option<&Entry>) -> Option<Resource<RESOURCES>>
     ensures { result ≡ amounts_at None (option_copied entry.entry) }
 {
     match entry {
@@ -121,7 +121,7 @@ pub fn amounts_at(entry: Option<&Entry>) -> Option<Resource<2>>
 }
 
 /// How far a queue may grow: by its own `maximum-capacity`, or else that of the nearest queue above that has one.
-pub fn maximum(index: &Index, path: &[u8]) -> Option<Resource<2>>
+pub fn maximum(index: &Index, path: &[u8]) -> Option<Resource<RESOURCES>>
     requires { IsIndex index.now }
     ensures { result ≡ maximum index.now.entries.now path.now }
 {

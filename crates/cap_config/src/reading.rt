@@ -7,7 +7,7 @@ use crate::fault::ConfigFault;
 use crate::first_pass::read_lines;
 use crate::index::index_of;
 use crate::second_pass::check;
-use cap_model::Config;
+use cap_base::{Config, RESOURCES};
 use std::alloc::Global;
 
 /// The settings that property lines make, or the first fault in them: first of each line in turn, and then of the whole
@@ -17,7 +17,7 @@ use std::alloc::Global;
 /// `yarn.scheduler.capacity.<queue-path>` with `.queues`, `.capacity`, `.maximum-capacity`, `.user-limit-factor` or
 /// `.state`, `yarn.scheduler.capacity.maximum-applications`, and `yarn.scheduler.minimum-allocation-mb`, its `-vcores`,
 /// and the same of `maximum`.
-pub fn read_config(alloc: Global, text: &[u8]) -> Result<Config<2>, ConfigFault>
+pub fn read_config(alloc: Global, text: &[u8]) -> Result<Config<RESOURCES>, ConfigFault>
     ensures fault { AnswersFault (first_fault text.now) result }
     ensures settings { IfOk result (λ config. settings_in text.now ≡ Some config) }
 {

@@ -6,7 +6,7 @@ ghost use Rattle.cap_config.specs.Values.{value_of, listed_names, as_amounts, nu
 use crate::key::Key;
 use crate::names::{Names, names_for};
 use crate::setting::Setting;
-use cap_model::PathText;
+use cap_base::{PathText, RESOURCES};
 use cap_text::{number_of, split_once, trimmed};
 use cap_vector::{AMOUNT_MAX, Resource};
 use std::alloc::{AllocError, Global};
@@ -26,7 +26,7 @@ pub enum Value<'t> {
     /// The names of the queues below.
     Names(Names<'t>),
     /// Memory in MiB, and vcores.
-    Amounts(Resource<2>),
+    Amounts(Resource<RESOURCES>),
     Number(u64),
     /// RUNNING, and not STOPPED.
     Running(bool),
@@ -71,7 +71,7 @@ fn listed<'t>(
     }
 }
 
-fn as_amounts<'t>(amounts: Option<Resource<2>>) -> Option<Value<'t>>
+fn as_amounts<'t>(amounts: Option<Resource<RESOURCES>>) -> Option<Value<'t>>
     ensures { result ≡ as_amounts amounts }
 {
     match amounts {
@@ -106,7 +106,7 @@ fn state_of<'t>(bytes: &[u8]) -> Option<Value<'t>>
 
 /// `[memory=N,vcores=N]`, the two in either order, with spaces allowed round each.
 #[tactic(auto, unfolding(crate::specs::Values::amounts_of))]
-fn amounts_of(bytes: &[u8]) -> Option<Resource<2>>
+fn amounts_of(bytes: &[u8]) -> Option<Resource<RESOURCES>>
     ensures { result ≡ amounts_of bytes.now }
 {
     match in_brackets(bytes) {
@@ -120,7 +120,7 @@ fn amounts_of(bytes: &[u8]) -> Option<Resource<2>>
 
 /// Memory and vcores, in either order.
 #[tactic(auto, unfolding(crate::specs::Values::amounts_in))]
-fn amounts_in(first: &[u8], second: &[u8]) -> Option<Resource<2>>
+fn amounts_in(first: &[u8], second: &[u8]) -> Option<Resource<RESOURCES>>
     ensures { result ≡ amounts_in first.now second.now }
 {
     if first.starts_with(b"memory=") {
@@ -138,7 +138,7 @@ fn amounts_in(first: &[u8], second: &[u8]) -> Option<Resource<2>>
 
 /// A resource of these amounts, each at most the greatest.
 #[tactic(auto, unfolding(crate::specs::Values::resource))]
-fn resource(memory: Option<u64>, vcores: Option<u64>) -> Option<Resource<2>>
+fn resource(memory: Option<u64>, vcores: Option<u64>) -> Option<Resource<RESOURCES>>
     ensures { result ≡ resource memory vcores }
 {
     match (memory, vcores) {

@@ -8,11 +8,11 @@ use Rattle.std.proofs.lemmas.List.{append-nil, map-id}
 use Rattle.std.proofs.lemmas.List.Concat.{flat_map-cons}
 use Rattle.std.proofs.lemmas.List.Elements.{filter-append}
 use Rattle.std.proofs.lemmas.Option.{same_Some}
-use Rattle.cap_model.specs.Bounds.{IsRising}
+use Rattle.cap_base.specs.Members.{IsRising}
 use Rattle.cap_model.specs.Flat.{App, NodeTable}
-use Rattle.cap_model.proofs.lists.Filters.{map_twice}
+use Rattle.cap_base.proofs.lists.Filters.{map_twice}
 use Rattle.cap_model.proofs.lists.Numbered.{rising_from_low}
-use Rattle.cap_model.proofs.lists.Tests.{same_test}
+use Rattle.cap_base.proofs.lists.Tests.{same_test}
 use Rattle.cap_copy.specs.Entries.{ask_entries, ask_entry, asks_at, asks_of}
 use Rattle.cap_copy.specs.Snapshot.{AskEntry, asks_for}
 use Rattle.cap_copy.proofs.Steps.{slice_get_in}

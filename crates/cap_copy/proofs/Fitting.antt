@@ -2,7 +2,7 @@
 use Rattle.std.proofs.Common.{ℕ, ◌≤◌, arith}
 use Rattle.std.specs.Mem.{FitsInMemory}
 use denote.Param.{number, param}
-use Rattle.cap_model.specs.Limits.{resources_max}
+use Rattle.cap_base.specs.Limits.{resources_max}
 use Rattle.cap_model.specs.contracts.ask.Ask as ask
 use Rattle.cap_model.specs.contracts.container.Reservation as reservation
 use Rattle.cap_nodes.specs.contracts.nodes.Nodes as nodes

@@ -1,5 +1,5 @@
 -- A snapshot of the parts of a cluster is whole, and its sight is that of the parts.
-use Rattle.std.proofs.Common.{◌≡◌, ℕ, suc, ◌<◌, ◌≤◌, Bool, true, false, List, [], ◌∷◌, refl, sym, subst, ◌∙◌, ap, inl, inr, length, arith}
+use Rattle.std.proofs.Common.{◌≡◌, ℕ, suc, ◌<◌, ◌≤◌, List, [], ◌∷◌, refl, sym, subst, ◌∙◌, ap, inl, inr, length, arith}
 use Rattle.std.specs.Prelude.{Option, Some, None, IsSome, bytes_eq, cond, count_by, drop, filter, find, map, option_map, unwrap_or, ◌==◌}
 use Rattle.std.specs.List.{All, slice_get}
 use Rattle.std.specs.Option.{option_map_or}
@@ -7,18 +7,20 @@ use Rattle.std.proofs.lemmas.Bool.Decides.{nat_tests}
 use Rattle.std.proofs.lemmas.List.{drop-map, length-map}
 use Rattle.std.proofs.lemmas.Option.{same_Some, slice_get-map, slice_get_within}
 use Rattle.cap_model.specs.Asks.{Ask, same_key}
-use Rattle.cap_model.specs.Bounds.{AreApart, IsRising}
+use Rattle.cap_model.specs.Bounds.{AreApart}
+use Rattle.cap_base.specs.Members.{IsRising}
 use Rattle.cap_model.specs.Cascade.{holds_of}
 use Rattle.cap_model.specs.Choice.{level_of}
-use Rattle.cap_model.specs.Flat.{App, AppTable, ClusterNode, NodeTable, Reservation, ask_at, is_for, is_under, node_in}
+use Rattle.cap_model.specs.Flat.{App, AppTable, ClusterNode, NodeTable, Reservation, ask_at, is_for, node_in}
+use Rattle.cap_base.specs.Paths.{is_under}
 use Rattle.cap_model.specs.Sight.{AppSight, NodeSight, QueueSight, app_sight, queues_to, seen_app, still_wanted}
-use Rattle.cap_model.proofs.bounds.Wanting.{nodes_on, on_nodes}
+use Rattle.cap_laws.proofs.bounds.Wanting.{nodes_on, on_nodes}
 use Rattle.cap_model.proofs.calls.KeptAsks.{same_key_itself}
-use Rattle.cap_model.proofs.lists.Filters.{filter_mapped, find_mapped_at, length-kept, map_twice}
-use Rattle.cap_model.proofs.lists.Members.{IsIn, each_of, found, in_map, of_each, of_filter, of_map}
+use Rattle.cap_base.proofs.lists.Filters.{filter_mapped, find_mapped_at, length-kept, map_twice}
+use Rattle.cap_base.proofs.lists.Members.{IsIn, each_of, found, in_map, of_each, of_filter, of_map}
 use Rattle.cap_model.proofs.lists.Numbered.{found_by_number, rising_kept}
-use Rattle.cap_model.proofs.lists.Sums.{sum_by_map}
-use Rattle.cap_model.proofs.lists.Tests.{value_of}
+use Rattle.cap_base.proofs.lists.Sums.{sum_by_map}
+use Rattle.cap_base.proofs.lists.Tests.{value_of}
 use Rattle.cap_tree.specs.Queue.{Queue}
 use Rattle.cap_tree.specs.Rows.{AreRows, IsAt, Row, items_to, rows_to}
 use Rattle.cap_tree.specs.Service.{levels_at}

@@ -8,7 +8,7 @@ use Rattle.std.proofs.lemmas.List.Elements.{All-push, filter-append}
 use Rattle.std.proofs.lemmas.Grind.{flat_map-append}
 use Rattle.std.proofs.lemmas.Option.{get_or_from_slice_get, slice_get_within, same_Some}
 use Rattle.cap_model.specs.Flat.{App, NodeTable}
-use Rattle.cap_model.proofs.lists.Members.{IsIn}
+use Rattle.cap_base.proofs.lists.Members.{IsIn}
 use Rattle.cap_copy.specs.Entries.{ask_entries, asks_at, asks_of, registered_of}
 
 module _ {A : Type 0} where

@@ -1,6 +1,6 @@
 -- The sight of the parts of a cluster, which a snapshot of them is.
 use Rattle.std.specs.Prelude.{◌≡◌, ℕ, List, map, filter, find, length, ◌==◌}
-use Rattle.cap_model.specs.Bounds.{IsRising}
+use Rattle.cap_base.specs.Members.{IsRising}
 use Rattle.cap_model.specs.Flat.{AppTable, ClusterNode, NodeTable}
 use Rattle.cap_model.specs.Sight.{Sight, NodeSight, app_sight}
 use Rattle.cap_tree.specs.Rows.{Row}

@@ -1,7 +1,7 @@
 //! The asks of a snapshot, in the order of service and in one piece of memory (`seen_asks`).
 ghost use Rattle.std.specs.Prelude.{◌≡◌, ◌<◌, ◌≤◌, ◌++◌, IfOk, OnOk, length, map};
 ghost use Rattle.std.specs.List.{All};
-ghost use Rattle.cap_model.specs.Limits.{resources_max};
+ghost use Rattle.cap_base.specs.Limits.{resources_max};
 ghost use Rattle.cap_asks.specs.Held.{AreKept};
 ghost use Rattle.cap_copy.specs.Entries.{ask_entries, asks_of, wanted_of};
 

@@ -2,7 +2,7 @@
 ghost use Rattle.std.specs.Prelude.{◌≡◌, ◌<◌, ◌≤◌, ◌-◌, IfOk, OnOk, length, map, slice_index_or, true};
 ghost use Rattle.std.specs.List.{All, slice_get};
 ghost use Rattle.cap_model.specs.Cascade.{holds_of};
-ghost use Rattle.cap_model.specs.Limits.{resources_max};
+ghost use Rattle.cap_base.specs.Limits.{resources_max};
 ghost use Rattle.cap_copy.specs.Limits.{IsEachOnce, IsLast, IsUserAdded, IsUserSeen, limit_of, queue_use};
 ghost use Rattle.cap_copy.specs.Snapshot.{stays_within};
 ghost use Rattle.cap_tree.specs.Spot.{IsPosition};

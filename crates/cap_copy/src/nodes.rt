@@ -1,6 +1,6 @@
 //! The nodes of a snapshot, in order of number and in one piece of memory (`seen_nodes`).
 ghost use Rattle.std.specs.Prelude.{◌≡◌, IfOk, map};
-ghost use Rattle.cap_model.specs.Bounds.{IsRising};
+ghost use Rattle.cap_base.specs.Members.{IsRising};
 ghost use Rattle.cap_copy.specs.Taking.{node_seen};
 
 use crate::seen::SeenNode;

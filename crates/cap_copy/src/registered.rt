@@ -1,8 +1,8 @@
 //! The registered applications of a cluster, by reference, and where they wait (`Registered`, `waiters`).
 ghost use Rattle.std.specs.Prelude.{◌≡◌, ◌≤◌, Some, IfOk, length, map};
 ghost use Rattle.std.specs.List.{All};
-ghost use Rattle.cap_model.specs.Bounds.{IsRising};
-ghost use Rattle.cap_model.specs.Limits.{applications_max};
+ghost use Rattle.cap_base.specs.Members.{IsRising};
+ghost use Rattle.cap_base.specs.Limits.{applications_max};
 ghost use Rattle.cap_asks.specs.Apps.{account_of};
 ghost use Rattle.cap_copy.specs.Entries.{registered_of};
 ghost use Rattle.cap_tree.specs.Serving.{AreNumbered};

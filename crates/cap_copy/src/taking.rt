@@ -1,7 +1,7 @@
 //! Taking a snapshot of a tree, applications and nodes (`Snapshot::take`), and copying a tree (`copy_tree`).
 ghost use Rattle.std.specs.Prelude.{◌≡◌, ◌≤◌, IsSome, IfOk, length};
 ghost use Rattle.std.specs.List.{All};
-ghost use Rattle.cap_model.specs.Limits.{applications_max, resources_max};
+ghost use Rattle.cap_base.specs.Limits.{applications_max, resources_max};
 ghost use Rattle.cap_model.specs.Bounds.{AreApart};
 ghost use Rattle.cap_model.specs.Flat.{node_in};
 ghost use Rattle.cap_tree.specs.Rows.{IsAt};

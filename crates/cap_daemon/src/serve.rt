@@ -4,6 +4,7 @@ ghost use Rattle.cap_server.specs.Bounds.{IsAllowed};
 ghost use Rattle.cap_session.specs.Counted.{state_of, CanCount};
 
 use crate::texts::{complain, print};
+use cap_base::RESOURCES;
 use cap_config::{Config, ConfigFault, ConfigFaultKind, read_config};
 use cap_server::{Sizes, serve_on};
 use cap_session::Counted;
@@ -140,7 +141,7 @@ fn read_settings<H: Files + AllocGlobal, W: Write>(
     path: &str,
     writer: &mut Counted<W>,
     complaint: &mut String,
-) -> Result<Config<2>, u8>
+) -> Result<Config<RESOURCES>, u8>
     requires writer { CanCount (state_of writer.old) }
     ensures status { IfErr result (λ status. status < 4) }
     ensures failed { (state_of writer.old).failures < (state_of writer.new).failures
@@ -172,7 +173,7 @@ fn serve_settings<
 >(
     rt: &H,
     words: &Words<'_>,
-    config: &Config<2>,
+    config: &Config<RESOURCES>,
     writer: &mut Counted<W>,
     complaint: &mut String,
 ) -> u8

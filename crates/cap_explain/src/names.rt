@@ -1,5 +1,6 @@
 //! Words for kinds of request, refusals, causes of an end, keys and amounts.
 
+use cap_base::RESOURCES;
 use cap_model::{Cause, Key, Refusal};
 use cap_vector::Amounts;
 use std::alloc::AllocError;
@@ -22,7 +23,7 @@ pub(crate) fn put_count(words: &mut String, count: u64, name: &str) -> Result<()
 /// Amounts, in MiB and vcores.
 pub(crate) fn put_amounts<const MAX: u64>(
     words: &mut String,
-    amounts: &Amounts<2, MAX>,
+    amounts: &Amounts<RESOURCES, MAX>,
 ) -> Result<(), AllocError> {
     let [memory, vcores] = amounts.amounts();
     write!(words, "[{memory} MiB, ")?;

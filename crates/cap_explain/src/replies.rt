@@ -1,6 +1,7 @@
 //! Replies in words (`put_answer`).
 
 use crate::names::{cause_words, kind_name, put_amounts, put_count, put_key, refusal_words, shown};
+use cap_base::RESOURCES;
 use cap_grammar::Answer;
 use cap_model::{
     AllocateReply, ClusterReport, End, Grant, HeartbeatReply, OwnedReply, QueueReport, ReplyWith,
@@ -31,7 +32,7 @@ pub(crate) fn put_answer(words: &mut String, answer: &Answer) -> Result<(), Allo
 }
 
 /// What a reply says.
-fn put_reply(words: &mut String, reply: &OwnedReply<2>) -> Result<(), AllocError> {
+fn put_reply(words: &mut String, reply: &OwnedReply<RESOURCES>) -> Result<(), AllocError> {
     match reply {
         ReplyWith::Refused(refusal) => {
             let (status, why) = (refusal.status(), refusal_words(*refusal));
@@ -55,8 +56,8 @@ fn put_reply(words: &mut String, reply: &OwnedReply<2>) -> Result<(), AllocError
 /// The least and the most that a container may have.
 fn put_range(
     words: &mut String,
-    minimum: &Resource<2>,
-    maximum: &Resource<2>,
+    minimum: &Resource<RESOURCES>,
+    maximum: &Resource<RESOURCES>,
 ) -> Result<(), AllocError> {
     words.push_str("containers from ")?;
     put_amounts(words, minimum)?;
@@ -65,7 +66,7 @@ fn put_range(
 }
 
 /// What an Allocate is answered.
-fn put_allocated(words: &mut String, reply: &AllocateReply<2>) -> Result<(), AllocError> {
+fn put_allocated(words: &mut String, reply: &AllocateReply<RESOURCES>) -> Result<(), AllocError> {
     write!(
         words,
         "response {}, {} ignored",
@@ -76,7 +77,7 @@ fn put_allocated(words: &mut String, reply: &AllocateReply<2>) -> Result<(), All
 }
 
 /// What is granted.
-fn put_grants(words: &mut String, grants: &[Grant<2>]) -> Result<(), AllocError> {
+fn put_grants(words: &mut String, grants: &[Grant<RESOURCES>]) -> Result<(), AllocError> {
     for grant in grants {
         let (container, node, host) = (grant.container(), grant.node(), grant.host());
         let host = shown(host.as_bytes());
@@ -111,7 +112,7 @@ fn put_beat(words: &mut String, reply: &HeartbeatReply) -> Result<(), AllocError
 }
 
 /// What is shown of a queue.
-fn put_queue(words: &mut String, report: &QueueReport<2>) -> Result<(), AllocError> {
+fn put_queue(words: &mut String, report: &QueueReport<RESOURCES>) -> Result<(), AllocError> {
     words.push_str(if report.running { "RUNNING" } else { "STOPPED" })?;
     words.push_str(if report.leaf { ", leaf" } else { ", parent" })?;
     words.push_str(", capacity ")?;
@@ -130,7 +131,7 @@ fn put_queue(words: &mut String, report: &QueueReport<2>) -> Result<(), AllocErr
 }
 
 /// What is shown of the cluster.
-fn put_cluster(words: &mut String, report: &ClusterReport<2>) -> Result<(), AllocError> {
+fn put_cluster(words: &mut String, report: &ClusterReport<RESOURCES>) -> Result<(), AllocError> {
     put_count(words, u64::from(report.nodes), "node")?;
     words.push_str(", ")?;
     put_count(words, u64::from(report.apps), "application")?;

@@ -1,6 +1,7 @@
 //! Requests in words (`put_request`).
 
 use crate::names::{kind_name, put_amounts, put_key, shown};
+use cap_base::RESOURCES;
 use cap_grammar::kind;
 use cap_model::{Ask, Request};
 use std::alloc::AllocError;
@@ -9,7 +10,7 @@ use std::alloc::AllocError;
 pub(crate) fn put_request(
     words: &mut String,
     call_id: u32,
-    request: &Request<2>,
+    request: &Request<RESOURCES>,
 ) -> Result<(), AllocError> {
     write!(words, "{} {call_id}", kind_name(kind(request)))?;
     match request {
@@ -54,7 +55,7 @@ pub(crate) fn put_request(
 }
 
 /// The asks of an Allocate.
-fn put_asks(words: &mut String, asks: &[Ask<2>]) -> Result<(), AllocError> {
+fn put_asks(words: &mut String, asks: &[Ask<RESOURCES>]) -> Result<(), AllocError> {
     for ask in asks {
         write!(words, ", ask {} x ", ask.count())?;
         put_amounts(words, &ask.resource())?;

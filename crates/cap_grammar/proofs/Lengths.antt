@@ -5,8 +5,9 @@ use Rattle.std.specs.List.{flat_map, list_all, AllByRecursion}
 use Rattle.std.specs.Int.{w32, w64, to_be_bytes}
 use Rattle.std.proofs.lemmas.Bool.{and_parts}
 use Rattle.std.proofs.lemmas.Bool.Decides.{nat_tests}
+use Rattle.cap_base.specs.Limits.{resources}
 use Rattle.cap_vector.specs.Vector.{IsResource}
-use Rattle.cap_model.specs.Texts.{is_graphic}
+use Rattle.cap_base.specs.Texts.{is_graphic}
 use Rattle.cap_model.specs.News.{Grant}
 use Rattle.cap_model.specs.declared.news.End.{End}
 use Rattle.cap_grammar.specs.Texts.{is_place}
@@ -16,7 +17,7 @@ length_amounts : (v : List ℕ) → length (flat_map (to_be_bytes w64) v) ≡ 8 
 length_amounts [] = omega arith
 length_amounts (n ∷ v) = omega (arith, length-append (to_be_bytes w64 n) (flat_map (to_be_bytes w64) v), length_amounts v)
 
-length_resource : (v : List ℕ) → IsResource 2 v → length (resource v) ≡ 16
+length_resource : (v : List ℕ) → IsResource resources v → length (resource v) ≡ 16
 unfolding resource
 length_resource v is = let two = is.count in omega (arith, length_amounts v, two)
 

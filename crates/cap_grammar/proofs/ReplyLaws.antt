@@ -8,14 +8,13 @@ use Rattle.cap_vector.specs.Vector.{IsResource, IsSum, amount, amount_max, sum_m
 use Rattle.cap_model.specs.Refusals.{status_of}
 use Rattle.cap_model.specs.declared.refusal.Refusal.{Refusal}
 use Rattle.cap_model.specs.declared.refusal.Refusal.TheVariants.{UnknownQueue, NotLeaf, QueueStopped, TooManyApplications, UnknownApplication, AlreadyRegistered, NotRegistered, BadResponseId, AskTooLarge, TooManyAsks, UnknownNode, HostTaken, TotalTooLarge, TooManyNodes, ZeroResource, NumbersSpent, NoMemory}
-use Rattle.cap_model.specs.News.{Reply}
+use Rattle.cap_model.specs.News.{Reply, Grant, AllocateReply, cause_number}
 use Rattle.cap_model.specs.declared.reply.ReplyWith.TheVariants.{Refused, Submit, RegisterMaster, Allocate, FinishMaster, RegisterNode, Heartbeat, NodeGone, QueueInfo, SetQueueState, ClusterInfo}
-use Rattle.cap_model.specs.News.{Grant, AllocateReply, cause_number}
 use Rattle.cap_model.specs.declared.news.End.{End}
 use Rattle.cap_model.specs.declared.news.Cause.{Cause}
 use Rattle.cap_model.specs.declared.replies.HeartbeatReply.{HeartbeatReply}
 use Rattle.cap_grammar.specs.Texts.{is_place}
-use Rattle.cap_model.specs.Limits.{news_max}
+use Rattle.cap_base.specs.Limits.{news_max, resources}
 use Rattle.cap_grammar.specs.Spelling.{counted_list, FitsListed, grant, FitsGrant, end, FitsEnd, allocate_bytes, FitsAllocated, beat, FitsBeat, text, resource, flag, queue_report, cluster_report, reply_body, IsOfKind, FitsReply, IsReply, fault_reply}
 use Rattle.cap_grammar.specs.Answers.{Says}
 use Rattle.cap_grammar.specs.declared.answers.Answer as declared
@@ -55,33 +54,33 @@ abbrev Limit : Type 0
 Limit = Bool × List ℕ
 
 abbrev FitsLimit : Limit → Type 0
-FitsLimit x = Unit {0} × IsResource 2 x.1
+FitsLimit x = Unit {0} × IsResource resources x.1
 
 abbrev limit_of : Limit → List ℕ
 limit_of x = flag x.0 ++ resource x.1
 
 abbrev limit_at : List ℕ → Option (Limit × List ℕ)
-limit_at bytes = pair_at flag_at (amounts_at 2 amount_max) bytes
+limit_at bytes = pair_at flag_at (amounts_at resources amount_max) bytes
 
 is_limit : IsField limit_at limit_of FitsLimit
-is_limit = is_pair flag_at flag (λ holds. Unit {0}) (amounts_at 2 amount_max) resource (IsResource 2) is_flag (is_amounts 2 amount_max (omega arith))
+is_limit = is_pair flag_at flag (λ holds. Unit {0}) (amounts_at resources amount_max) resource (IsResource resources) is_flag (is_amounts resources amount_max (omega arith))
 
 abbrev maximum_of : Limit → Option (List ℕ)
 maximum_of x = if x.0 then Some x.1 else None
 
 abbrev limit_to : Option (List ℕ) → Limit
-limit_to maximum = (is_some maximum, unwrap_or maximum (zeros 2))
+limit_to maximum = (is_some maximum, unwrap_or maximum (zeros resources))
 
 maximum_again : (maximum : Option (List ℕ)) → maximum_of (limit_to maximum) ≡ maximum
 maximum_again None = refl
 maximum_again (Some amounts) = refl
 
-zeros_within : (k : ℕ) → amount (zeros 2) k ≤ amount_max
+zeros_within : (k : ℕ) → amount (zeros resources) k ≤ amount_max
 zeros_within zero = omega arith
 zeros_within (suc zero) = omega arith
 zeros_within (suc (suc k)) = omega arith
 
-limit_fits : (maximum : Option (List ℕ)) → IfSome maximum (IsResource 2) → FitsLimit (limit_to maximum)
+limit_fits : (maximum : Option (List ℕ)) → IfSome maximum (IsResource resources) → FitsLimit (limit_to maximum)
 limit_fits None fits = (tt, record { count = refl; within = zeros_within })
 limit_fits (Some amounts) fits = (tt, fits)
 
@@ -90,7 +89,7 @@ abbrev Report : Type 0
 Report = ((((Bool × Bool) × List ℕ) × Limit) × List ℕ) × ℕ
 
 abbrev FitsReport : Report → Type 0
-FitsReport x = ((((Unit {0} × Unit {0}) × IsResource 2 x.0.0.0.1) × FitsLimit x.0.0.1) × IsSum 2 x.0.1) × (x.1 < 2 ^ 32)
+FitsReport x = ((((Unit {0} × Unit {0}) × IsResource resources x.0.0.0.1) × FitsLimit x.0.0.1) × IsSum resources x.0.1) × (x.1 < 2 ^ 32)
 
 abbrev report_of : Report → List ℕ
 report_of x = ((((flag x.0.0.0.0.0 ++ flag x.0.0.0.0.1) ++ resource x.0.0.0.1) ++ limit_of x.0.0.1) ++ resource x.0.1) ++ to_be_bytes w32 x.1
@@ -99,13 +98,13 @@ abbrev flags_at : List ℕ → Option ((Bool × Bool) × List ℕ)
 flags_at bytes = pair_at flag_at flag_at bytes
 
 abbrev guarantee_at : List ℕ → Option (((Bool × Bool) × List ℕ) × List ℕ)
-guarantee_at bytes = pair_at flags_at (amounts_at 2 amount_max) bytes
+guarantee_at bytes = pair_at flags_at (amounts_at resources amount_max) bytes
 
 abbrev limits_at : List ℕ → Option ((((Bool × Bool) × List ℕ) × Limit) × List ℕ)
 limits_at bytes = pair_at guarantee_at limit_at bytes
 
 abbrev uses_at : List ℕ → Option (((((Bool × Bool) × List ℕ) × Limit) × List ℕ) × List ℕ)
-uses_at bytes = pair_at limits_at (amounts_at 2 sum_max) bytes
+uses_at bytes = pair_at limits_at (amounts_at resources sum_max) bytes
 
 abbrev report_at : List ℕ → Option (Report × List ℕ)
 report_at bytes = pair_at uses_at (number_at w32) bytes
@@ -118,9 +117,9 @@ is_report =
     is_pair _ _ _ _ _ _
     (is_pair _ _ _ _ _ _
     (is_pair _ _ _ _ _ _
-    (is_pair _ _ _ _ _ _ is_flags (is_amounts 2 amount_max (omega arith)))
+    (is_pair _ _ _ _ _ _ is_flags (is_amounts resources amount_max (omega arith)))
     is_limit)
-    (is_amounts 2 sum_max (omega arith)))
+    (is_amounts resources sum_max (omega arith)))
     is_u32
 
 -- ---- the bounds of a container
@@ -129,16 +128,16 @@ abbrev Bounds : Type 0
 Bounds = List ℕ × List ℕ
 
 abbrev bounds_at : List ℕ → Option (Bounds × List ℕ)
-bounds_at bytes = pair_at (amounts_at 2 amount_max) (amounts_at 2 amount_max) bytes
+bounds_at bytes = pair_at (amounts_at resources amount_max) (amounts_at resources amount_max) bytes
 
 abbrev bounds_of : Bounds → List ℕ
 bounds_of x = resource x.0 ++ resource x.1
 
 abbrev FitsBounds : Bounds → Type 0
-FitsBounds x = IsResource 2 x.0 × IsResource 2 x.1
+FitsBounds x = IsResource resources x.0 × IsResource resources x.1
 
 is_bounds : IsField bounds_at bounds_of FitsBounds
-is_bounds = is_pair (amounts_at 2 amount_max) resource (IsResource 2) (amounts_at 2 amount_max) resource (IsResource 2) (is_amounts 2 amount_max (omega arith)) (is_amounts 2 amount_max (omega arith))
+is_bounds = is_pair (amounts_at resources amount_max) resource (IsResource resources) (amounts_at resources amount_max) resource (IsResource resources) (is_amounts resources amount_max (omega arith)) (is_amounts resources amount_max (omega arith))
 
 -- ---- lists with their length in one byte
 
@@ -156,13 +155,13 @@ abbrev GrantParts : Type 0
 GrantParts = ℕ × (ℕ × (ℕ × (ℕ × (List ℕ × List ℕ))))
 
 abbrev FitsGrantParts : GrantParts → Type 0
-FitsGrantParts x = (x.0 < 2 ^ 64) × ((x.1.0 < 2 ^ 32) × ((x.1.1.0 < 2 ^ 64) × ((x.1.1.1.0 < 2 ^ 64) × ((is_place x.1.1.1.1.0 ≡ true) × IsResource 2 x.1.1.1.1.1))))
+FitsGrantParts x = (x.0 < 2 ^ 64) × ((x.1.0 < 2 ^ 32) × ((x.1.1.0 < 2 ^ 64) × ((x.1.1.1.0 < 2 ^ 64) × ((is_place x.1.1.1.1.0 ≡ true) × IsResource resources x.1.1.1.1.1))))
 
 abbrev grant_parts : GrantParts → List ℕ
 grant_parts x = to_be_bytes w64 x.0 ++ (to_be_bytes w32 x.1.0 ++ (to_be_bytes w64 x.1.1.0 ++ (to_be_bytes w64 x.1.1.1.0 ++ (text x.1.1.1.1.0 ++ resource x.1.1.1.1.1))))
 
 abbrev grant_parts_at : List ℕ → Option (GrantParts × List ℕ)
-grant_parts_at bytes = pair_at (number_at w64) (pair_at (number_at w32) (pair_at (number_at w64) (pair_at (number_at w64) (pair_at (passing_at is_place text_at) (amounts_at 2 amount_max))))) bytes
+grant_parts_at bytes = pair_at (number_at w64) (pair_at (number_at w32) (pair_at (number_at w64) (pair_at (number_at w64) (pair_at (passing_at is_place text_at) (amounts_at resources amount_max))))) bytes
 
 is_grant_parts : IsField grant_parts_at grant_parts FitsGrantParts
 is_grant_parts =
@@ -170,7 +169,7 @@ is_grant_parts =
     (is_pair _ _ _ _ _ _ is_u32
     (is_pair _ _ _ _ _ _ is_u64
     (is_pair _ _ _ _ _ _ is_u64
-    (is_pair (passing_at is_place text_at) text (λ t. is_place t ≡ true) (amounts_at 2 amount_max) resource (IsResource 2) (is_text_passing is_place) (is_amounts 2 amount_max (omega arith))))))
+    (is_pair (passing_at is_place text_at) text (λ t. is_place t ≡ true) (amounts_at resources amount_max) resource (IsResource resources) (is_text_passing is_place) (is_amounts resources amount_max (omega arith))))))
 
 abbrev grant_from : GrantParts → Grant
 grant_from x = record { container = x.0; key = record { priority = x.1.0; request = x.1.1.0 }; node = x.1.1.1.0; host = x.1.1.1.1.0; resource = x.1.1.1.1.1 }
@@ -262,7 +261,7 @@ allocated_again response ignored grants ends r i g e =
     ∙ ap (from_grants response ignored) (told_again grant_at grant FitsGrant is_grant grants (counted_list end ends) g)
     ∙ ap (from_ends response ignored grants) (ap (times_at (length ends) end_at) (sym (append-nil (flat_map end ends))) ∙ ends_again ends [] e.each)
 
-abbrev reply_from : Allocated → Reply 2
+abbrev reply_from : Allocated → Reply resources
 reply_from x = Allocate (record { response = x.0.0; ignored = x.0.1; grants = x.1.0; ends = x.1.1 })
 
 -- ---- what a Heartbeat gives
@@ -289,13 +288,13 @@ abbrev Info : Type 0
 Info = (((ℕ × ℕ) × ℕ) × List ℕ) × List ℕ
 
 abbrev FitsInfo : Info → Type 0
-FitsInfo x = ((((x.0.0.0.0 < 2 ^ 32) × (x.0.0.0.1 < 2 ^ 32)) × (x.0.0.1 < 2 ^ 32)) × IsResource 2 x.0.1) × IsSum 2 x.1
+FitsInfo x = ((((x.0.0.0.0 < 2 ^ 32) × (x.0.0.0.1 < 2 ^ 32)) × (x.0.0.1 < 2 ^ 32)) × IsResource resources x.0.1) × IsSum resources x.1
 
 abbrev info_of : Info → List ℕ
 info_of x = (((to_be_bytes w32 x.0.0.0.0 ++ to_be_bytes w32 x.0.0.0.1) ++ to_be_bytes w32 x.0.0.1) ++ resource x.0.1) ++ resource x.1
 
 abbrev info_at : List ℕ → Option (Info × List ℕ)
-info_at bytes = pair_at (pair_at (pair_at (pair_at (number_at w32) (number_at w32)) (number_at w32)) (amounts_at 2 amount_max)) (amounts_at 2 sum_max) bytes
+info_at bytes = pair_at (pair_at (pair_at (pair_at (number_at w32) (number_at w32)) (number_at w32)) (amounts_at resources amount_max)) (amounts_at resources sum_max) bytes
 
 is_info : IsField info_at info_of FitsInfo
 is_info =
@@ -304,30 +303,30 @@ is_info =
     (is_pair _ _ _ _ _ _
     (is_pair (number_at w32) (to_be_bytes w32) (λ n. n < 2 ^ 32) (number_at w32) (to_be_bytes w32) (λ n. n < 2 ^ 32) is_u32 is_u32)
     is_u32)
-    (is_amounts 2 amount_max (omega arith)))
-    (is_amounts 2 sum_max (omega arith))
+    (is_amounts resources amount_max (omega arith)))
+    (is_amounts resources sum_max (omega arith))
 
 -- ---- what follows the status
 
-abbrev submitted : ℕ → Option (Reply 2)
+abbrev submitted : ℕ → Option (Reply resources)
 submitted app = Some (Submit app)
 
-abbrev registered : ℕ → Option (Reply 2)
+abbrev registered : ℕ → Option (Reply resources)
 registered node = Some (RegisterNode node)
 
-abbrev finished : ℕ → Option (Reply 2)
+abbrev finished : ℕ → Option (Reply resources)
 finished ended = Some (FinishMaster ended)
 
-abbrev lost : ℕ → Option (Reply 2)
+abbrev lost : ℕ → Option (Reply resources)
 lost ended = Some (NodeGone ended)
 
-abbrev reported : Report → Option (Reply 2)
+abbrev reported : Report → Option (Reply resources)
 reported x = Some (QueueInfo (record { running = x.0.0.0.0.0; leaf = x.0.0.0.0.1; guaranteed = x.0.0.0.1; maximum = maximum_of x.0.0.1; used = x.0.1; apps = x.1 }))
 
-abbrev informed : Info → Option (Reply 2)
+abbrev informed : Info → Option (Reply resources)
 informed x = Some (ClusterInfo (record { nodes = x.0.0.0.0; apps = x.0.0.0.1; containers = x.0.0.1; totals = x.0.1; used = x.1 }))
 
-abbrev granted_at : ℕ → List ℕ → Option (Reply 2)
+abbrev granted_at : ℕ → List ℕ → Option (Reply resources)
 granted_at kind bytes =
     if kind == 1 then (all_at (number_at w64) bytes >>= submitted) else
     if kind == 2 then (all_at bounds_at bytes >>= λ x. Some (RegisterMaster x.0 x.1)) else
@@ -341,7 +340,7 @@ granted_at kind bytes =
     if kind == 10 then (all_at info_at bytes >>= informed) else
     None
 
-abbrev reply_body_at : ℕ → List ℕ → Option (Reply 2)
+abbrev reply_body_at : ℕ → List ℕ → Option (Reply resources)
 reply_body_at kind bytes = do
   status ← byte_at bytes
   if status.0 == 0 then granted_at kind status.1 else (refusal_at status.0 >>= λ refusal. Some (Refused refusal))
@@ -356,7 +355,7 @@ node_again node fits = ap (λ (o : Option ℕ). o >>= registered) (all_again (nu
 app_again : (app : ℕ) → app < 2 ^ 64 → granted_at 1 (to_be_bytes w64 app) ≡ Some (Submit app)
 app_again app fits = ap (λ (o : Option ℕ). o >>= submitted) (all_again (number_at w64) (to_be_bytes w64) (λ n. n < 2 ^ 64) is_u64 app fits)
 
-bounds_again : (minimum maximum : List ℕ) → IsResource 2 minimum → IsResource 2 maximum → granted_at 2 (resource minimum ++ resource maximum) ≡ Some (RegisterMaster minimum maximum)
+bounds_again : (minimum maximum : List ℕ) → IsResource resources minimum → IsResource resources maximum → granted_at 2 (resource minimum ++ resource maximum) ≡ Some (RegisterMaster minimum maximum)
 bounds_again minimum maximum a b =
     let x : Bounds = (minimum, maximum) in
     ap (λ (o : Option Bounds). o >>= λ x. Some (RegisterMaster x.0 x.1)) (all_again bounds_at bounds_of FitsBounds is_bounds x (a, b))
@@ -385,7 +384,7 @@ report_again x fits = ap (λ (o : Option Report). o >>= reported) (all_again rep
 info_again : (x : Info) → FitsInfo x → granted_at 10 (info_of x) ≡ informed x
 info_again x fits = ap (λ (o : Option Info). o >>= informed) (all_again info_at info_of FitsInfo is_info x fits)
 
-reply_body_again : (kind : ℕ) (reply : Reply 2) → IsOfKind kind reply → FitsReply reply → reply_body_at kind (reply_body reply) ≡ Some reply
+reply_body_again : (kind : ℕ) (reply : Reply resources) → IsOfKind kind reply → FitsReply reply → reply_body_at kind (reply_body reply) ≡ Some reply
 unfolding queue_report cluster_report
 reply_body_again kind (Refused refusal) of_kind fits = refused_again kind refusal
 reply_body_again kind (Submit app) of_kind fits = rw of_kind (app_again app fits)
@@ -406,7 +405,7 @@ reply_body_again kind (ClusterInfo r) of_kind fits =
 -- ---- the whole
 
 abbrev Answer : Type 0
-Answer = ℕ × (ℕ × Reply 2)
+Answer = ℕ × (ℕ × Reply resources)
 
 -- call id, kind and reply
 abbrev reply_at : List ℕ → Option Answer
@@ -415,19 +414,19 @@ reply_at bytes = do
   reply ← reply_body_at h.0.1.0 h.1
   Some (h.0.1.1, (h.0.1.0, reply))
 
-reply_again : (bytes : List ℕ) (id kind : ℕ) (reply : Reply 2) → IsReply bytes id kind reply → reply_at bytes ≡ Some (id, (kind, reply))
+reply_again : (bytes : List ℕ) (id kind : ℕ) (reply : Reply resources) → IsReply bytes id kind reply → reply_at bytes ≡ Some (id, (kind, reply))
 reply_again bytes id kind reply is =
     let h : ℕ × (ℕ × ℕ) = (1, (kind, id)) in
     let ok : FitsHead h = (omega arith, (omega (arith, is.is_kind.1), is.id_fits)) in
     ap reply_at is.spelled ∙ rw (is_head.again h (reply_body reply) ok, reply_body_again kind reply is.of_kind is.fits) refl
 
-pub one_reply : (bytes : List ℕ) (id id' kind kind' : ℕ) (reply reply' : Reply 2) → IsReply bytes id kind reply → IsReply bytes id' kind' reply' → (id ≡ id') × (kind ≡ kind') × (reply ≡ reply')
+pub one_reply : (bytes : List ℕ) (id id' kind kind' : ℕ) (reply reply' : Reply resources) → IsReply bytes id kind reply → IsReply bytes id' kind' reply' → (id ≡ id') × (kind ≡ kind') × (reply ≡ reply')
 one_reply bytes id id' kind kind' reply reply' is is' =
     let same : (id, (kind, reply)) ≡ (id', (kind', reply')) = some_is (id, (kind, reply)) (id', (kind', reply')) (reply_at bytes) (reply_again bytes id kind reply is) (reply_again bytes id' kind' reply' is') in
     (ap (λ (p : Answer). p.0) same, ap (λ (p : Answer). p.1.0) same, ap (λ (p : Answer). p.1.1) same)
 
 -- a fault's reply is none to a request
-pub no_fault : (status id kind : ℕ) (reply : Reply 2) → IsReply (fault_reply status) id kind reply → ⊥
+pub no_fault : (status id kind : ℕ) (reply : Reply resources) → IsReply (fault_reply status) id kind reply → ⊥
 no_fault status id kind reply is =
     let none : 0 ≡ kind = cc (is.spelled) in
     omega (arith, is.is_kind.0)

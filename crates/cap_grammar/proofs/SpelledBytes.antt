@@ -7,21 +7,20 @@ use Rattle.std.proofs.lemmas.Bool.{and_parts}
 use Rattle.std.proofs.lemmas.Bool.Decides.{nat_tests}
 use Rattle.std.proofs.lemmas.List.Elements.{All-nil, All-cons, All-append, All-from_recursion}
 use Rattle.cap_vector.specs.Vector.{zeros}
-use Rattle.cap_model.specs.Texts.{is_graphic, is_text}
+use Rattle.cap_base.specs.Texts.{is_graphic, is_text}
 use Rattle.cap_model.specs.Refusals.{status_of}
 use Rattle.cap_model.specs.declared.refusal.Refusal.{Refusal}
 use Rattle.cap_model.specs.declared.request.Request.{Request}
 use Rattle.cap_model.specs.declared.reply.ReplyWith.TheVariants as Reply
-use Rattle.cap_model.specs.News.{Reply}
+use Rattle.cap_model.specs.News.{Reply, Grant, AllocateReply, cause_number}
 use Rattle.cap_grammar.specs.Texts.{is_host, is_rack}
 use Rattle.cap_model.specs.Asks.{Ask}
-use Rattle.cap_model.specs.News.{Grant, AllocateReply, cause_number}
 use Rattle.cap_model.specs.declared.report.QueueReport.{QueueReport}
 use Rattle.cap_model.specs.declared.report.ClusterReport.{ClusterReport}
 use Rattle.cap_model.specs.declared.news.End.{End}
 use Rattle.cap_model.specs.declared.news.Cause.{Cause}
 use Rattle.cap_model.specs.declared.replies.HeartbeatReply.{HeartbeatReply}
-use Rattle.cap_model.specs.Limits.{news_max}
+use Rattle.cap_base.specs.Limits.{news_max, resources}
 use Rattle.cap_grammar.specs.Spelling.{list_bytes, FitsListed, ask, FitsAsk, counted_list, grant, FitsGrant, end, FitsEnd, allocate_bytes, FitsAllocated, beat, FitsReply, text, resource, flag, limit, queue_report, cluster_report, kind_of, request_body, request_bytes, FitsRequest, reply_body, reply_bytes}
 use Rattle.cap_frames.specs.Stream.{IsBytes}
 use Rattle.cap_grammar.proofs.RequestLaws.{kind_fits}
@@ -76,9 +75,9 @@ a_flag false = one 0 [] (omega arith) (All-nil Small)
 a_flag true = one 1 [] (omega arith) (All-nil Small)
 
 a_limit : (maximum : Option (List ℕ)) → IsBytes (limit maximum)
-a_limit maximum = both (flag (is_some maximum)) (resource (unwrap_or maximum (zeros 2))) (a_flag (is_some maximum)) (amounts (unwrap_or maximum (zeros 2)))
+a_limit maximum = both (flag (is_some maximum)) (resource (unwrap_or maximum (zeros resources))) (a_flag (is_some maximum)) (amounts (unwrap_or maximum (zeros resources)))
 
-a_queue : (r : QueueReport 2) → IsBytes (queue_report r)
+a_queue : (r : QueueReport resources) → IsBytes (queue_report r)
 unfolding queue_report
 a_queue r =
     let flags = flag r.running ++ flag r.leaf in
@@ -90,7 +89,7 @@ a_queue r =
     (amounts r.used))
     (word r.apps)
 
-a_cluster : (r : ClusterReport 2) → IsBytes (cluster_report r)
+a_cluster : (r : ClusterReport resources) → IsBytes (cluster_report r)
 unfolding cluster_report
 a_cluster r =
     let counts = to_be_bytes w32 r.nodes ++ to_be_bytes w32 r.apps ++ to_be_bytes w32 r.containers in
@@ -153,7 +152,7 @@ a_beat : (r : HeartbeatReply) → IsBytes (beat r)
 unfolding beat
 a_beat r = both (to_be_bytes w32 r.response) (to_be_bytes w16 r.ignored ++ to_be_bytes w32 r.live) (word r.response) (both (to_be_bytes w16 r.ignored) (to_be_bytes w32 r.live) (two r.ignored) (word r.live))
 
-body_bytes : (r : Request 2) → FitsRequest r → IsBytes (request_body r)
+body_bytes : (r : Request resources) → FitsRequest r → IsBytes (request_body r)
 body_bytes (Request.Submit path user) fits = both (text path) (text user) (a_text 255 path (omega arith) fits.0) (a_text 64 user (omega arith) fits.1)
 body_bytes (Request.RegisterMaster app) fits = long app
 body_bytes (Request.Allocate app response asks releases) fits =
@@ -170,14 +169,14 @@ body_bytes (Request.QueueInfo path) fits = a_text 255 path (omega arith) fits
 body_bytes (Request.SetQueueState path running) fits = both (text path) (flag running) (a_text 255 path (omega arith) fits) (a_flag running)
 body_bytes Request.ClusterInfo fits = All-nil Small
 
-pub request_is_bytes : (id : ℕ) (r : Request 2) → FitsRequest r → IsBytes (request_bytes id r)
+pub request_is_bytes : (id : ℕ) (r : Request resources) → FitsRequest r → IsBytes (request_bytes id r)
 request_is_bytes id r fits = one 1 (kind_of r ∷ to_be_bytes w32 id ++ request_body r) (omega arith) (one (kind_of r) (to_be_bytes w32 id ++ request_body r) (kind_fits r) (both (to_be_bytes w32 id) (request_body r) (word id) (body_bytes r fits)))
 
 status_small : (refusal : Refusal) → status_of refusal < 256
 status_small Refusal.NoMemory = omega arith
 status_small _ = omega arith
 
-reply_body_bytes : (r : Reply 2) → FitsReply r → IsBytes (reply_body r)
+reply_body_bytes : (r : Reply resources) → FitsReply r → IsBytes (reply_body r)
 reply_body_bytes (Reply.Refused refusal) fits = one (status_of refusal) [] (status_small refusal) (All-nil Small)
 reply_body_bytes (Reply.Submit app) fits = one 0 (to_be_bytes w64 app) (omega arith) (long app)
 reply_body_bytes (Reply.RegisterMaster minimum maximum) fits = one 0 (resource minimum ++ resource maximum) (omega arith) (both (resource minimum) (resource maximum) (amounts minimum) (amounts maximum))
@@ -190,5 +189,5 @@ reply_body_bytes (Reply.QueueInfo report) fits = one 0 (queue_report report) (om
 reply_body_bytes Reply.SetQueueState fits = one 0 [] (omega arith) (All-nil Small)
 reply_body_bytes (Reply.ClusterInfo report) fits = one 0 (cluster_report report) (omega arith) (a_cluster report)
 
-pub reply_is_bytes : (id kind : ℕ) (r : Reply 2) → kind < 256 → FitsReply r → IsBytes (reply_bytes id kind r)
+pub reply_is_bytes : (id kind : ℕ) (r : Reply resources) → kind < 256 → FitsReply r → IsBytes (reply_bytes id kind r)
 reply_is_bytes id kind r lt fits = one 1 (kind ∷ to_be_bytes w32 id ++ reply_body r) (omega arith) (one kind (to_be_bytes w32 id ++ reply_body r) lt (both (to_be_bytes w32 id) (reply_body r) (word id) (reply_body_bytes r fits)))

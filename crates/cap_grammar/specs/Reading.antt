@@ -1,6 +1,7 @@
 -- Reading a request from left to right.
 use Rattle.std.specs.Prelude.{◌≡◌, ◌⊎◌, ℕ, List, Option, Some, None, Result, Ok, Err, ◌==◌, if◌then◌else◌, nat_lt, true, drop, slice_index}
 use Rattle.std.specs.Int.{w16, w32}
+use Rattle.cap_base.specs.Limits.{resources}
 use Rattle.cap_model.specs.Cascade.{holds_of}
 use Rattle.cap_model.specs.declared.request.Request.{Request}
 use Rattle.cap_grammar.specs.declared.fault.MessageFault.{MessageFault}
@@ -40,7 +41,7 @@ unfoldable pub head_at : List ℕ → Option ((ℕ × (ℕ × ℕ)) × List ℕ)
 head_at bytes = pair_at byte_at (pair_at byte_at (number_at w32)) bytes
 
 -- the body of a request of this kind, all of the bytes
-unfoldable pub body_at : ℕ → List ℕ → Option (Request 2)
+unfoldable pub body_at : ℕ → List ℕ → Option (Request resources)
 body_at kind bytes =
     if kind == 1 then submit_at bytes else
     if kind == 2 then register_master_at bytes else
@@ -55,7 +56,7 @@ body_at kind bytes =
     None
 
 -- the call id and the request, all of the bytes
-unfoldable pub request_at : List ℕ → Option (ℕ × Request 2)
+unfoldable pub request_at : List ℕ → Option (ℕ × Request resources)
 request_at bytes = do
   head ← head_at bytes
   if head.0.0 == 1 then (body_at head.0.1.0 head.1 >>= λ request. Some (head.0.1.1, request)) else None

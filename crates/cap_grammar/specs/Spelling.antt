@@ -5,15 +5,14 @@ use Rattle.std.specs.Int.{w16, w32, w64, to_be_bytes}
 use Rattle.cap_vector.specs.Vector.{IsResource, IsSum, zeros}
 use Rattle.cap_model.specs.Refusals.{status_of}
 use Rattle.cap_model.specs.Asks.{Ask}
-use Rattle.cap_model.specs.Limits.{asks_max, numbers_max, news_max}
-use Rattle.cap_model.specs.News.{Grant, AllocateReply, cause_number}
+use Rattle.cap_base.specs.Limits.{asks_max, numbers_max, news_max, resources}
+use Rattle.cap_model.specs.News.{Grant, AllocateReply, cause_number, Reply}
 use Rattle.cap_model.specs.declared.news.End.{End}
 use Rattle.cap_model.specs.declared.replies.HeartbeatReply.{HeartbeatReply}
 use Rattle.cap_model.specs.declared.report.QueueReport.{QueueReport}
 use Rattle.cap_model.specs.declared.report.ClusterReport.{ClusterReport}
 use Rattle.cap_model.specs.declared.request.Request.{Request}
 use Rattle.cap_model.specs.declared.reply.ReplyWith.TheVariants as Reply
-use Rattle.cap_model.specs.News.{Reply}
 use Rattle.cap_grammar.specs.Texts.{is_host, is_rack, is_path, is_user, is_place}
 
 -- a text: its length and its bytes
@@ -30,7 +29,7 @@ flag holds = (if holds then 1 else 0) ∷ []
 
 -- whether there is a maximum, and the maximum, zeros where there is none
 abbrev pub limit : Option (List ℕ) → List ℕ
-limit maximum = flag (is_some maximum) ++ resource (unwrap_or maximum (zeros 2))
+limit maximum = flag (is_some maximum) ++ resource (unwrap_or maximum (zeros resources))
 
 -- ---- requests
 
@@ -51,13 +50,13 @@ pub record FitsAsk (a : Ask) : Type 0 where
   pub priority : a.key.priority < 2 ^ 32
   pub request : a.key.request < 2 ^ 64
   pub count : a.count < 2 ^ 32
-  pub resource : IsResource 2 a.resource
+  pub resource : IsResource resources a.resource
   pub place : is_place a.place ≡ true
 
 abbrev pub FitsNumber : ℕ → Type 0
 FitsNumber n = n < 2 ^ 64
 
-abbrev pub kind_of : Request 2 → ℕ
+abbrev pub kind_of : Request resources → ℕ
 kind_of (Request.Submit path user) = 1
 kind_of (Request.RegisterMaster app) = 2
 kind_of (Request.Allocate app response asks releases) = 3
@@ -69,7 +68,7 @@ kind_of (Request.QueueInfo path) = 8
 kind_of (Request.SetQueueState path running) = 9
 kind_of Request.ClusterInfo = 10
 
-abbrev pub request_body : Request 2 → List ℕ
+abbrev pub request_body : Request resources → List ℕ
 request_body (Request.Submit path user) = text path ++ text user
 request_body (Request.RegisterMaster app) = to_be_bytes w64 app
 request_body (Request.Allocate app response asks releases) = to_be_bytes w64 app ++ (to_be_bytes w32 response ++ (list_bytes ask asks ++ list_bytes (to_be_bytes w64) releases))
@@ -82,13 +81,13 @@ request_body (Request.SetQueueState path running) = text path ++ flag running
 request_body Request.ClusterInfo = []
 
 -- its texts and numbers are within their bounds
-abbrev pub FitsRequest : Request 2 → Type 0
+abbrev pub FitsRequest : Request resources → Type 0
 FitsRequest (Request.Submit path user) = (is_path path ≡ true) × (is_user user ≡ true)
 FitsRequest (Request.RegisterMaster app) = app < 2 ^ 64
 FitsRequest (Request.Allocate app response asks releases) =
     (app < 2 ^ 64) × (response < 2 ^ 32) × FitsListed asks_max FitsAsk asks × FitsListed numbers_max FitsNumber releases
 FitsRequest (Request.FinishMaster app) = app < 2 ^ 64
-FitsRequest (Request.RegisterNode host rack total) = (is_host host ≡ true) × (is_rack rack ≡ true) × IsResource 2 total
+FitsRequest (Request.RegisterNode host rack total) = (is_host host ≡ true) × (is_rack rack ≡ true) × IsResource resources total
 FitsRequest (Request.Heartbeat node response ended) = (node < 2 ^ 64) × (response < 2 ^ 32) × FitsListed numbers_max FitsNumber ended
 FitsRequest (Request.NodeGone node) = node < 2 ^ 64
 FitsRequest (Request.QueueInfo path) = is_path path ≡ true
@@ -96,40 +95,40 @@ FitsRequest (Request.SetQueueState path running) = is_path path ≡ true
 FitsRequest Request.ClusterInfo = Unit {0}
 
 -- version, kind, call id and body
-abbrev pub request_bytes : ℕ → Request 2 → List ℕ
+abbrev pub request_bytes : ℕ → Request resources → List ℕ
 request_bytes id request = 1 ∷ kind_of request ∷ to_be_bytes w32 id ++ request_body request
 
 -- the bytes spell the request
-pub record IsRequest (bytes : List ℕ) (id : ℕ) (request : Request 2) : Type 0 where
+pub record IsRequest (bytes : List ℕ) (id : ℕ) (request : Request resources) : Type 0 where
   pub spelled : bytes ≡ request_bytes id request
   pub id_fits : id < 2 ^ 32
   pub fits : FitsRequest request
 
 abbrev pub IsNoRequest : List ℕ → Type 0
-IsNoRequest bytes = (id : ℕ) (request : Request 2) → IsRequest bytes id request → ⊥
+IsNoRequest bytes = (id : ℕ) (request : Request resources) → IsRequest bytes id request → ⊥
 
 -- ---- replies
 
 -- whether it runs, whether it is a leaf, guarantee, maximum, use and active applications of a queue
-unfoldable pub queue_report : QueueReport 2 → List ℕ
+unfoldable pub queue_report : QueueReport resources → List ℕ
 queue_report r = flag r.running ++ flag r.leaf ++ resource r.guaranteed ++ limit r.maximum ++ resource r.used ++ to_be_bytes w32 r.apps
 
-pub record FitsQueueReport (r : QueueReport 2) : Type 0 where
-  pub guaranteed : IsResource 2 r.guaranteed
-  pub maximum : IfSome r.maximum (IsResource 2)
-  pub used : IsSum 2 r.used
+pub record FitsQueueReport (r : QueueReport resources) : Type 0 where
+  pub guaranteed : IsResource resources r.guaranteed
+  pub maximum : IfSome r.maximum (IsResource resources)
+  pub used : IsSum resources r.used
   pub apps : r.apps < 2 ^ 32
 
 -- how many nodes, active applications and live containers, what the nodes have, and what is used
-unfoldable pub cluster_report : ClusterReport 2 → List ℕ
+unfoldable pub cluster_report : ClusterReport resources → List ℕ
 cluster_report r = to_be_bytes w32 r.nodes ++ to_be_bytes w32 r.apps ++ to_be_bytes w32 r.containers ++ resource r.totals ++ resource r.used
 
-pub record FitsClusterReport (r : ClusterReport 2) : Type 0 where
+pub record FitsClusterReport (r : ClusterReport resources) : Type 0 where
   pub nodes : r.nodes < 2 ^ 32
   pub apps : r.apps < 2 ^ 32
   pub containers : r.containers < 2 ^ 32
-  pub totals : IsResource 2 r.totals
-  pub used : IsSum 2 r.used
+  pub totals : IsResource resources r.totals
+  pub used : IsSum resources r.used
 
 -- a list with its length before it in one byte
 abbrev pub counted_list : {A : Type 0} → (A → List ℕ) → List A → List ℕ
@@ -146,7 +145,7 @@ pub record FitsGrant (g : Grant) : Type 0 where
   pub request : g.key.request < 2 ^ 64
   pub node : g.node < 2 ^ 64
   pub host : is_place g.host ≡ true
-  pub resource : IsResource 2 g.resource
+  pub resource : IsResource resources g.resource
 
 -- container and cause
 unfoldable pub end : End → List ℕ
@@ -175,7 +174,7 @@ pub record FitsBeat (r : HeartbeatReply) : Type 0 where
   pub live : r.live < 2 ^ 32
 
 -- the status, which is 0 or a refusal's number, and what follows it
-abbrev pub reply_body : Reply 2 → List ℕ
+abbrev pub reply_body : Reply resources → List ℕ
 reply_body (Reply.Refused refusal) = status_of refusal ∷ []
 reply_body (Reply.Submit app) = 0 ∷ to_be_bytes w64 app
 reply_body (Reply.RegisterMaster minimum maximum) = 0 ∷ resource minimum ++ resource maximum
@@ -189,11 +188,11 @@ reply_body Reply.SetQueueState = 0 ∷ []
 reply_body (Reply.ClusterInfo report) = 0 ∷ cluster_report report
 
 -- a reply under the call id and the kind of its request
-abbrev pub reply_bytes : ℕ → ℕ → Reply 2 → List ℕ
+abbrev pub reply_bytes : ℕ → ℕ → Reply resources → List ℕ
 reply_bytes id kind reply = 1 ∷ kind ∷ to_be_bytes w32 id ++ reply_body reply
 
 -- a refusal, or a reply of this kind
-abbrev pub IsOfKind : ℕ → Reply 2 → Type 0
+abbrev pub IsOfKind : ℕ → Reply resources → Type 0
 IsOfKind kind (Reply.Refused refusal) = Unit {0}
 IsOfKind kind (Reply.Submit app) = kind ≡ 1
 IsOfKind kind (Reply.RegisterMaster minimum maximum) = kind ≡ 2
@@ -207,10 +206,10 @@ IsOfKind kind Reply.SetQueueState = kind ≡ 9
 IsOfKind kind (Reply.ClusterInfo report) = kind ≡ 10
 
 -- its numbers are within their bounds
-abbrev pub FitsReply : Reply 2 → Type 0
+abbrev pub FitsReply : Reply resources → Type 0
 FitsReply (Reply.Refused refusal) = Unit {0}
 FitsReply (Reply.Submit app) = app < 2 ^ 64
-FitsReply (Reply.RegisterMaster minimum maximum) = IsResource 2 minimum × IsResource 2 maximum
+FitsReply (Reply.RegisterMaster minimum maximum) = IsResource resources minimum × IsResource resources maximum
 FitsReply (Reply.Allocate reply) = FitsAllocated reply
 FitsReply (Reply.FinishMaster ended) = ended < 2 ^ 32
 FitsReply (Reply.RegisterNode node) = node < 2 ^ 64
@@ -225,7 +224,7 @@ abbrev pub IsKind : ℕ → Type 0
 IsKind kind = (1 ≤ kind) × (kind ≤ 10)
 
 -- the bytes spell the reply to a request of this call id and kind
-pub record IsReply (bytes : List ℕ) (id kind : ℕ) (reply : Reply 2) : Type 0 where
+pub record IsReply (bytes : List ℕ) (id kind : ℕ) (reply : Reply resources) : Type 0 where
   pub spelled : bytes ≡ reply_bytes id kind reply
   pub id_fits : id < 2 ^ 32
   pub is_kind : IsKind kind

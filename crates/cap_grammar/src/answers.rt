@@ -13,6 +13,7 @@ use crate::output::{Out, REPLY_ROOM};
 use crate::replies::{BAD_LENGTH, BAD_MESSAGE, write_fault, write_reply};
 use crate::reported::{amounts_in, ends_of, grants_of, pair_of};
 use crate::requests::head_of;
+use cap_base::RESOURCES;
 use cap_model::{
     AllocateReply, ClusterReport, HeartbeatReply, NEWS_MAX, OwnedReply, QueueReport, Refusal,
     ReplyWith,
@@ -47,7 +48,7 @@ pub enum Answer {
     Reply {
         call_id: u32,
         kind: u8,
-        reply: OwnedReply<2>,
+        reply: OwnedReply<RESOURCES>,
     },
     /// The reply to a payload or a frame that is no request: its status, `BAD_LENGTH` or `BAD_MESSAGE`.
     Fault(u8),
@@ -111,7 +112,7 @@ fn reply_of(
     kind: u8,
     status: u8,
     bytes: &[u8],
-) -> Result<OwnedReply<2>, MessageFault>
+) -> Result<OwnedReply<RESOURCES>, MessageFault>
     ensures { IfOk result (λ reply. IsOfKind kind reply) }
 {
     if status != 0 {
@@ -152,7 +153,7 @@ fn refusal_of(status: u8) -> Option<Refusal> {
 }
 
 /// What a RegisterMaster gives.
-fn registered(bytes: &[u8]) -> Result<OwnedReply<2>, MessageFault>
+fn registered(bytes: &[u8]) -> Result<OwnedReply<RESOURCES>, MessageFault>
     ensures { IfOk result (λ reply. IsOfKind 2 reply) }
 {
     let (minimum, rest) = pair_of(bytes)?;
@@ -164,7 +165,7 @@ fn registered(bytes: &[u8]) -> Result<OwnedReply<2>, MessageFault>
 }
 
 /// What an Allocate gives.
-fn allocated(alloc: Global, bytes: &[u8]) -> Result<OwnedReply<2>, MessageFault>
+fn allocated(alloc: Global, bytes: &[u8]) -> Result<OwnedReply<RESOURCES>, MessageFault>
     ensures { IfOk result (λ reply. IsOfKind 3 reply) }
 {
     let (response, rest) = u32_of(bytes)?;
@@ -185,7 +186,7 @@ fn allocated(alloc: Global, bytes: &[u8]) -> Result<OwnedReply<2>, MessageFault>
 }
 
 /// What a Heartbeat gives.
-fn beaten(bytes: &[u8]) -> Result<OwnedReply<2>, MessageFault>
+fn beaten(bytes: &[u8]) -> Result<OwnedReply<RESOURCES>, MessageFault>
     ensures { IfOk result (λ reply. IsOfKind 6 reply) }
 {
     let (response, rest) = u32_of(bytes)?;
@@ -201,7 +202,7 @@ fn beaten(bytes: &[u8]) -> Result<OwnedReply<2>, MessageFault>
 }
 
 /// What a QueueInfo gives.
-fn queue_shown(bytes: &[u8]) -> Result<OwnedReply<2>, MessageFault>
+fn queue_shown(bytes: &[u8]) -> Result<OwnedReply<RESOURCES>, MessageFault>
     ensures { IfOk result (λ reply. IsOfKind 8 reply) }
 {
     let (running, rest) = flag_of(bytes)?;
@@ -225,7 +226,7 @@ fn queue_shown(bytes: &[u8]) -> Result<OwnedReply<2>, MessageFault>
 }
 
 /// What a ClusterInfo gives.
-fn cluster_shown(bytes: &[u8]) -> Result<OwnedReply<2>, MessageFault>
+fn cluster_shown(bytes: &[u8]) -> Result<OwnedReply<RESOURCES>, MessageFault>
     ensures { IfOk result (λ reply. IsOfKind 10 reply) }
 {
     let (nodes, rest) = u32_of(bytes)?;

@@ -6,11 +6,12 @@ ghost use Rattle.cap_grammar.specs.Spelling.{cluster_report, FitsClusterReport};
 
 use crate::fault::MessageFault;
 use crate::output::{Out, put_amounts};
+use cap_base::RESOURCES;
 use cap_model::{ClusterReport, Request};
 
 // The body of a ClusterInfo, which is empty.
 #[tactic(auto, unfolding(crate::specs::ClusterInfo::cluster_info_at))]
-pub(crate) fn cluster_info_of(bytes: &[u8]) -> Result<Request<2>, MessageFault>
+pub(crate) fn cluster_info_of(bytes: &[u8]) -> Result<Request<RESOURCES>, MessageFault>
     ensures { Gives (λ x. x) result (cluster_info_at bytes.now) }
 {
     if !bytes.is_empty() {
@@ -21,7 +22,7 @@ pub(crate) fn cluster_info_of(bytes: &[u8]) -> Result<Request<2>, MessageFault>
 
 // What a ClusterInfo gives.
 #[tactic(auto, unfolding(crate::specs::Spelling::cluster_report))]
-pub(crate) fn put_cluster_report(report: &ClusterReport<2>, out: &mut Out)
+pub(crate) fn put_cluster_report(report: &ClusterReport<RESOURCES>, out: &mut Out)
     requires { 44 ≤ out.old.spare }
     ensures appends { out.new.items ≡ out.old.items ++ cluster_report report.now }
     ensures spare { out.new.spare + 44 ≡ out.old.spare }

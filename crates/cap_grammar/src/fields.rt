@@ -1,6 +1,7 @@
 //! Fields at the front of bytes, each read with the bytes after it: numbers, flags, a text's bytes, amounts.
 ghost use Rattle.std.specs.Prelude.{◌≡◌, ◌≤◌, ◌<◌, ◌^◌, IfOk};
 ghost use Rattle.std.specs.Int.{w16, w32, w64};
+ghost use Rattle.cap_base.specs.Limits.{resources};
 ghost use Rattle.cap_vector.specs.Vector.{amount_max, IsResource};
 ghost use Rattle.cap_grammar.specs.Fields.{Gives, byte_at, flag_at, number_at, text_at, amount_at, amounts_at};
 
@@ -89,8 +90,8 @@ fn amount_of(bytes: &[u8]) -> Result<(u64, &[u8]), MessageFault>
 
 #[tactic(auto, unfolding(crate::specs::Fields::amounts_at))]
 pub(crate) fn amounts_of(bytes: &[u8]) -> Result<([u64; 2], &[u8]), MessageFault>
-    ensures gives { Gives (λ x. (x.0, x.1.now)) result (amounts_at 2 amount_max bytes.now) }
-    ensures vector { IfOk result (λ x. IsResource 2 x.0) }
+    ensures gives { Gives (λ x. (x.0, x.1.now)) result (amounts_at resources amount_max bytes.now) }
+    ensures vector { IfOk result (λ x. IsResource resources x.0) }
 {
     let (memory, rest) = amount_of(bytes)?;
     let (vcores, rest) = amount_of(rest)?;

@@ -2,6 +2,7 @@
 ghost use Rattle.std.specs.Prelude.{◌≡◌};
 ghost use Rattle.cap_grammar.specs.Spelling.{kind_of};
 
+use cap_base::RESOURCES;
 use cap_model::Request;
 
 pub(crate) const SUBMIT: u8 = 1;
@@ -27,7 +28,7 @@ pub(crate) const CLUSTER_INFO: u8 = 10;
 /// The number of the request's kind, which its reply repeats: 1 for Submit, 2 for RegisterMaster, 3 for Allocate,
 /// 4 for FinishMaster, 5 for RegisterNode, 6 for Heartbeat, 7 for NodeGone, 8 for QueueInfo, 9 for SetQueueState,
 /// 10 for ClusterInfo.
-pub fn kind(request: &Request<2>) -> u8
+pub fn kind(request: &Request<RESOURCES>) -> u8
     ensures { result ≡ kind_of request.now }
 {
     match request {

@@ -4,11 +4,12 @@ ghost use Rattle.std.specs.Int.{w16, w64};
 ghost use Rattle.cap_grammar.specs.Fields.{Gives, counted_at, number_at, passing_at};
 ghost use Rattle.cap_grammar.specs.MasterCalls.{ask_at};
 ghost use Rattle.cap_grammar.specs.Reading.{GivesInMemory, HasItemsAt};
-ghost use Rattle.cap_model.specs.Limits.{asks_max, numbers_max};
+ghost use Rattle.cap_base.specs.Limits.{asks_max, numbers_max};
 
 use crate::fault::MessageFault;
 use crate::fields::{amounts_of, text_of, u16_of, u32_of, u64_of};
 use crate::texts::place_from;
+use cap_base::RESOURCES;
 use cap_model::{Ask, Asks, Key, List, Numbers};
 use cap_vector::Resource;
 use std::alloc::Global;
@@ -60,7 +61,7 @@ pub(crate) fn numbers_of(alloc: Global, bytes: &[u8]) -> Result<(Numbers, &[u8])
 }
 
 // Asks.
-pub(crate) fn asks_of(alloc: Global, bytes: &[u8]) -> Result<(Asks<2>, &[u8]), MessageFault>
+pub(crate) fn asks_of(alloc: Global, bytes: &[u8]) -> Result<(Asks<RESOURCES>, &[u8]), MessageFault>
     ensures gives { GivesInMemory (λ x. (x.0, x.1.now))
         result (counted_at asks_max ask_at bytes.now) }
     ensures memory { IsErrOf result MessageFault.NoMemory → HasItemsAt 0 bytes.now }
@@ -88,7 +89,7 @@ pub(crate) fn asks_of(alloc: Global, bytes: &[u8]) -> Result<(Asks<2>, &[u8]), M
 
 // One ask: priority, request id, count, resource and place.
 #[tactic(auto, unfolding(crate::specs::MasterCalls::ask_at))]
-fn ask_of(bytes: &[u8]) -> Result<(Ask<2>, &[u8]), MessageFault>
+fn ask_of(bytes: &[u8]) -> Result<(Ask<RESOURCES>, &[u8]), MessageFault>
     ensures { Gives (λ x. (x.0, x.1.now)) result (ask_at bytes.now) }
 {
     let (priority, rest) = u32_of(bytes)?;

@@ -7,12 +7,13 @@ ghost use Rattle.cap_grammar.specs.MasterCalls.{register_master_at, allocate_at,
 use crate::fault::MessageFault;
 use crate::fields::{u32_of, u64_of};
 use crate::lists::{asks_of, numbers_of};
+use cap_base::RESOURCES;
 use cap_model::Request;
 use std::alloc::Global;
 
 // The body of a RegisterMaster, all of the bytes.
 #[tactic(auto, unfolding(crate::specs::MasterCalls::register_master_at))]
-pub(crate) fn register_master_of(bytes: &[u8]) -> Result<Request<2>, MessageFault>
+pub(crate) fn register_master_of(bytes: &[u8]) -> Result<Request<RESOURCES>, MessageFault>
     ensures { Gives (λ x. x) result (register_master_at bytes.now) }
 {
     let (app, rest) = u64_of(bytes)?;
@@ -24,7 +25,7 @@ pub(crate) fn register_master_of(bytes: &[u8]) -> Result<Request<2>, MessageFaul
 
 // The body of an Allocate, all of the bytes.
 #[tactic(auto, unfolding(crate::specs::MasterCalls::allocate_at))]
-pub(crate) fn allocate_of(alloc: Global, bytes: &[u8]) -> Result<Request<2>, MessageFault>
+pub(crate) fn allocate_of(alloc: Global, bytes: &[u8]) -> Result<Request<RESOURCES>, MessageFault>
     ensures gives { GivesInMemory (λ x. x) result (allocate_at bytes.now) }
     ensures memory { IsErrOf result MessageFault.NoMemory
         → HasItemsAt 12 bytes.now ⊎ HasItemsAt 14 bytes.now }
@@ -46,7 +47,7 @@ pub(crate) fn allocate_of(alloc: Global, bytes: &[u8]) -> Result<Request<2>, Mes
 
 // The body of a FinishMaster, all of the bytes.
 #[tactic(auto, unfolding(crate::specs::MasterCalls::finish_master_at))]
-pub(crate) fn finish_master_of(bytes: &[u8]) -> Result<Request<2>, MessageFault>
+pub(crate) fn finish_master_of(bytes: &[u8]) -> Result<Request<RESOURCES>, MessageFault>
     ensures { Gives (λ x. x) result (finish_master_at bytes.now) }
 {
     let (app, rest) = u64_of(bytes)?;

@@ -4,11 +4,12 @@ ghost use Rattle.std.specs.List.{flat_map, AllByRecursion};
 ghost use Rattle.cap_grammar.specs.Spelling.{grant, end, counted_list, allocate_bytes, beat, FitsGrant, FitsEnd, FitsAllocated, FitsBeat};
 
 use crate::output::{Out, put_amounts};
+use cap_base::RESOURCES;
 use cap_model::{AllocateView, End, Grant, HeartbeatReply};
 
 // One grant.
 #[tactic(auto, unfolding(crate::specs::Spelling::grant))]
-fn put_grant(told: &Grant<2>, out: &mut Out)
+fn put_grant(told: &Grant<RESOURCES>, out: &mut Out)
     requires { 109 ≤ out.old.spare }
     ensures appends { out.new.items ≡ out.old.items ++ grant told.now }
     ensures spare { out.new.spare + length (grant told.now) ≡ out.old.spare }
@@ -28,7 +29,7 @@ fn put_grant(told: &Grant<2>, out: &mut Out)
 }
 
 // Grants, one after the other.
-fn put_grants(grants: &[Grant<2>], out: &mut Out)
+fn put_grants(grants: &[Grant<RESOURCES>], out: &mut Out)
     requires { 109 * length grants.now ≤ out.old.spare }
     ensures appends { out.new.items ≡ out.old.items ++ flat_map grant grants.now }
     ensures spare { out.new.spare + length (flat_map grant grants.now) ≡ out.old.spare }
@@ -68,7 +69,7 @@ fn put_ends(ends: &[End], out: &mut Out)
 
 // What an Allocate gives.
 #[tactic(auto, unfolding(crate::specs::Spelling::allocate_bytes))]
-pub(crate) fn put_allocated(reply: &AllocateView<'_, 2>, out: &mut Out)
+pub(crate) fn put_allocated(reply: &AllocateView<'_, RESOURCES>, out: &mut Out)
     requires { 7560 ≤ out.old.spare }
     ensures appends { out.new.items ≡ out.old.items ++ allocate_bytes reply.now }
     ensures spare { out.new.spare + length (allocate_bytes reply.now) ≡ out.old.spare }

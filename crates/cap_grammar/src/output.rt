@@ -1,9 +1,11 @@
 //! What replies are written into (`Out`), the room that they take (`REPLY_ROOM`, `FAULT_ROOM`), and amounts written.
 ghost use Rattle.std.specs.Prelude.{◌≡◌, ◌≤◌, ◌+◌, ◌++◌, length};
+ghost use Rattle.cap_base.specs.Limits.{resources};
 ghost use Rattle.cap_vector.specs.Vector.{IsVector};
 ghost use Rattle.cap_grammar.specs.Spelling.{resource};
 
 use bytes::BytesMut;
+use cap_base::RESOURCES;
 use cap_vector::Amounts;
 
 /// What replies are written into.
@@ -18,12 +20,12 @@ pub const FAULT_ROOM: usize = 7;
 const _: () = prove!(REPLY_ROOM == 7_571 && FAULT_ROOM == 7);
 
 #[tactic(auto, unfolding(crate::specs::Spelling::resource))]
-pub(crate) fn put_amounts<const MAX: u64>(amounts: &Amounts<2, MAX>, out: &mut Out)
+pub(crate) fn put_amounts<const MAX: u64>(amounts: &Amounts<RESOURCES, MAX>, out: &mut Out)
     requires { 16 ≤ out.old.spare }
     ensures appends { out.new.items ≡ out.old.items ++ resource amounts.now }
     ensures spare { out.new.spare + 16 ≡ out.old.spare }
     ensures len { length (resource amounts.now) ≡ 16 }
-    ensures vector { IsVector 2 MAX amounts.now }
+    ensures vector { IsVector resources MAX amounts.now }
 {
     let [memory, vcores] = amounts.amounts();
     out.extend_reserved(&memory.to_be_bytes());

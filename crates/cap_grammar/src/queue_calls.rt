@@ -1,5 +1,6 @@
 //! QueueInfo and SetQueueState in bytes: the bodies of their requests read, and the report of a queue written.
 ghost use Rattle.std.specs.Prelude.{◌≡◌, ◌≤◌, ◌+◌, ◌++◌, length, IfSome};
+ghost use Rattle.cap_base.specs.Limits.{resources};
 ghost use Rattle.cap_vector.specs.Vector.{IsResource};
 ghost use Rattle.cap_grammar.specs.Fields.{Gives};
 ghost use Rattle.cap_grammar.specs.QueueCalls.{queue_info_at, set_queue_state_at};
@@ -9,12 +10,13 @@ use crate::fault::MessageFault;
 use crate::fields::{flag_of, text_of};
 use crate::output::{Out, put_amounts};
 use crate::texts::path_from;
+use cap_base::RESOURCES;
 use cap_model::{QueueReport, Request};
 use cap_vector::Resource;
 
 // The body of a QueueInfo, all of the bytes.
 #[tactic(auto, unfolding(crate::specs::QueueCalls::queue_info_at))]
-pub(crate) fn queue_info_of(bytes: &[u8]) -> Result<Request<2>, MessageFault>
+pub(crate) fn queue_info_of(bytes: &[u8]) -> Result<Request<RESOURCES>, MessageFault>
     ensures { Gives (λ x. x) result (queue_info_at bytes.now) }
 {
     let (path, rest) = text_of(bytes)?;
@@ -27,7 +29,7 @@ pub(crate) fn queue_info_of(bytes: &[u8]) -> Result<Request<2>, MessageFault>
 
 // The body of a SetQueueState, all of the bytes.
 #[tactic(auto, unfolding(crate::specs::QueueCalls::set_queue_state_at))]
-pub(crate) fn set_queue_state_of(bytes: &[u8]) -> Result<Request<2>, MessageFault>
+pub(crate) fn set_queue_state_of(bytes: &[u8]) -> Result<Request<RESOURCES>, MessageFault>
     ensures { Gives (λ x. x) result (set_queue_state_at bytes.now) }
 {
     let (path, rest) = text_of(bytes)?;
@@ -40,12 +42,12 @@ pub(crate) fn set_queue_state_of(bytes: &[u8]) -> Result<Request<2>, MessageFaul
 }
 
 // Whether a queue has a maximum, and the maximum, zeros where it has none.
-fn put_limit(maximum: &Option<Resource<2>>, out: &mut Out)
+fn put_limit(maximum: &Option<Resource<RESOURCES>>, out: &mut Out)
     requires { 17 ≤ out.old.spare }
     ensures appends { out.new.items ≡ out.old.items ++ limit maximum.now }
     ensures spare { out.new.spare + 17 ≡ out.old.spare }
     ensures len { length (limit maximum.now) ≡ 17 }
-    ensures fits { IfSome maximum.now (IsResource 2) }
+    ensures fits { IfSome maximum.now (IsResource resources) }
 {
     match maximum {
         Some(amounts) => {
@@ -61,7 +63,7 @@ fn put_limit(maximum: &Option<Resource<2>>, out: &mut Out)
 
 // What a QueueInfo gives.
 #[tactic(auto, unfolding(crate::specs::Spelling::queue_report))]
-pub(crate) fn put_queue_report(report: &QueueReport<2>, out: &mut Out)
+pub(crate) fn put_queue_report(report: &QueueReport<RESOURCES>, out: &mut Out)
     requires { 55 ≤ out.old.spare }
     ensures appends { out.new.items ≡ out.old.items ++ queue_report report.now }
     ensures spare { out.new.spare + 55 ≡ out.old.spare }

@@ -5,12 +5,13 @@ ghost use Rattle.cap_grammar.specs.RegisterNode.{register_node_at};
 use crate::fault::MessageFault;
 use crate::fields::{amounts_of, text_of};
 use crate::texts::{host_from, rack_from};
+use cap_base::RESOURCES;
 use cap_model::Request;
 use cap_vector::Resource;
 
 // The body of a RegisterNode, all of the bytes.
 #[tactic(auto, unfolding(crate::specs::RegisterNode::register_node_at))]
-pub(crate) fn register_node_of(bytes: &[u8]) -> Result<Request<2>, MessageFault>
+pub(crate) fn register_node_of(bytes: &[u8]) -> Result<Request<RESOURCES>, MessageFault>
     ensures { Gives (λ x. x) result (register_node_at bytes.now) }
 {
     let (host, rest) = text_of(bytes)?;

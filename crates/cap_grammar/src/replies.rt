@@ -7,6 +7,7 @@ use crate::cluster_info::put_cluster_report;
 use crate::news::{put_allocated, put_beat};
 use crate::output::{FAULT_ROOM, Out, REPLY_ROOM, put_amounts};
 use crate::queue_calls::put_queue_report;
+use cap_base::RESOURCES;
 use cap_model::{ReplyView, ReplyWith};
 
 /// The status of the reply to a length that no frame has.
@@ -16,7 +17,7 @@ pub const BAD_LENGTH: u8 = 40;
 pub const BAD_MESSAGE: u8 = 41;
 
 // The status and what follows it, after the 10 bytes of a frame's length and a reply's head.
-fn put_reply_body(reply: &ReplyView<'_, 2>, out: &mut Out)
+fn put_reply_body(reply: &ReplyView<'_, RESOURCES>, out: &mut Out)
     requires { REPLY_ROOM ≤ out.old.spare + 10 }
     ensures appends { out.new.items ≡ out.old.items ++ reply_body reply.now }
     ensures spare { out.new.spare + length (reply_body reply.now) ≡ out.old.spare }
@@ -76,7 +77,7 @@ fn put_count(count: u32, out: &mut Out)
 
 /// Appends the one spelling of a reply to a request of this call id and kind: the kind is one that `kind` gives, the reply
 /// is a refusal or one of the kind, and `REPLY_ROOM` bytes of `out` are free. It takes no memory and cannot fail; what `out` held stays.
-pub fn write_reply(call_id: u32, kind: u8, reply: &ReplyView<'_, 2>, out: &mut Out)
+pub fn write_reply(call_id: u32, kind: u8, reply: &ReplyView<'_, RESOURCES>, out: &mut Out)
     requires table { IsKind kind }
     requires kind { IsOfKind kind reply.now }
     requires room { REPLY_ROOM ≤ out.old.spare }

@@ -3,6 +3,7 @@
 use crate::fault::MessageFault;
 use crate::fields::{byte_of, text_of, u32_of, u64_of};
 use crate::texts::place_from;
+use cap_base::RESOURCES;
 use cap_model::{Cause, End, Grant, Key};
 use cap_vector::Amounts;
 use std::alloc::Global;
@@ -17,7 +18,7 @@ pub(crate) fn pair_of(bytes: &[u8]) -> Result<([u64; 2], &[u8]), MessageFault> {
 /// The amounts, each at most `MAX`.
 pub(crate) fn amounts_in<const MAX: u64>(
     amounts: [u64; 2],
-) -> Result<Amounts<2, MAX>, MessageFault> {
+) -> Result<Amounts<RESOURCES, MAX>, MessageFault> {
     match Amounts::new(amounts) {
         Some(amounts) => Ok(amounts),
         None => Err(MessageFault::Bad),
@@ -28,7 +29,7 @@ pub(crate) fn amounts_in<const MAX: u64>(
 pub(crate) fn grants_of(
     alloc: Global,
     bytes: &[u8],
-) -> Result<(Vec<Grant<2>>, &[u8]), MessageFault> {
+) -> Result<(Vec<Grant<RESOURCES>>, &[u8]), MessageFault> {
     let (length, mut rest) = byte_of(bytes)?;
     let Ok(mut grants) = Vec::with_capacity(alloc, length as usize) else {
         return Err(MessageFault::NoMemory);
@@ -46,7 +47,7 @@ pub(crate) fn grants_of(
 }
 
 /// One grant.
-fn grant_of(bytes: &[u8]) -> Result<(Grant<2>, &[u8]), MessageFault> {
+fn grant_of(bytes: &[u8]) -> Result<(Grant<RESOURCES>, &[u8]), MessageFault> {
     let (container, rest) = u64_of(bytes)?;
     let (priority, rest) = u32_of(rest)?;
     let (request, rest) = u64_of(rest)?;

@@ -1,5 +1,6 @@
 //! A payload read as a request of one of the ten kinds (`read_request`).
 ghost use Rattle.std.specs.Prelude.{◌≡◌, ℕ, IfOk, IsErrOf};
+ghost use Rattle.cap_base.specs.Limits.{resources};
 ghost use Rattle.cap_model.specs.declared.request.Request.{Request};
 ghost use Rattle.cap_grammar.specs.Spelling.{IsRequest, IsNoRequest};
 ghost use Rattle.cap_grammar.specs.Fields.{Gives};
@@ -17,6 +18,7 @@ use crate::node_calls::{heartbeat_of, node_gone_of};
 use crate::queue_calls::{queue_info_of, set_queue_state_of};
 use crate::register_node::register_node_of;
 use crate::submit::submit_of;
+use cap_base::RESOURCES;
 use cap_model::Request;
 use std::alloc::Global;
 
@@ -32,7 +34,7 @@ pub(crate) fn head_of(bytes: &[u8]) -> Result<((u8, u8, u32), &[u8]), MessageFau
 }
 
 #[tactic(auto, unfolding(crate::specs::Reading::body_at))]
-fn body_of(alloc: Global, kind: u8, bytes: &[u8]) -> Result<Request<2>, MessageFault>
+fn body_of(alloc: Global, kind: u8, bytes: &[u8]) -> Result<Request<RESOURCES>, MessageFault>
     ensures gives { GivesInMemory (λ x. x) result (body_at kind bytes.now) }
     ensures memory { IsErrOf result MessageFault.NoMemory → ListsItems kind bytes.now }
 {
@@ -52,7 +54,7 @@ fn body_of(alloc: Global, kind: u8, bytes: &[u8]) -> Result<Request<2>, MessageF
 }
 
 #[tactic(auto, unfolding(crate::specs::Reading::request_at))]
-fn request_of(alloc: Global, bytes: &[u8]) -> Result<(u32, Request<2>), MessageFault>
+fn request_of(alloc: Global, bytes: &[u8]) -> Result<(u32, Request<RESOURCES>), MessageFault>
     ensures gives { GivesInMemory (λ x. (x.0, x.1)) result (request_at bytes.now) }
     ensures memory { IsErrOf result MessageFault.NoMemory → CarriesItems bytes.now }
 {
@@ -69,11 +71,11 @@ fn request_of(alloc: Global, bytes: &[u8]) -> Result<(u32, Request<2>), MessageF
 /// that is `*` or begins with `/`, a rack that does not, a state other than 0 and 1, bytes missing or left over. `NoMemory` if an
 /// allocation fails, which only a payload of version 1 with a list that is not empty can meet. Amounts are in MiB of memory and in
 /// vcores.
-pub fn read_request(alloc: Global, bytes: &[u8]) -> Result<(u32, Request<2>), MessageFault>
+pub fn read_request(alloc: Global, bytes: &[u8]) -> Result<(u32, Request<RESOURCES>), MessageFault>
     // What is read is spelled so.
     ensures found { IfOk result (λ x. IsRequest bytes.now x.0 x.1) }
     // What is spelled so is read, and nothing else.
-    ensures only { (id : ℕ) (request : Request 2) → IsRequest bytes.now id request
+    ensures only { (id : ℕ) (request : Request resources) → IsRequest bytes.now id request
         → IfOk result (λ x. (x.0 ≡ id) × (x.1 ≡ request)) }
     ensures bad { IsErrOf result MessageFault.Bad → IsNoRequest bytes.now }
     ensures memory { IsErrOf result MessageFault.NoMemory → CarriesItems bytes.now }

@@ -6,6 +6,7 @@ ghost use Rattle.cap_lanes.specs.Sides.{AllOf, AllOver, IsTakenNext, StayOver, e
 use crate::putter::Ended;
 use crate::putting::{Back, LanePass};
 use crate::taking::{Front, all_over, gather_all, take_at_once, take_next, take_rest};
+use cap_base::RESOURCES;
 use cap_model::Proposal;
 use std::marker::Model;
 use std::sync::Wait;
@@ -18,7 +19,7 @@ pub struct Committer {
     pub(crate) front: Front,
     pub(crate) pass: LanePass,
     pub(crate) over: [bool; 8],
-    pub(crate) left: Vec<(u32, Proposal<2>)>,
+    pub(crate) left: Vec<(u32, Proposal<RESOURCES>)>,
 }
 
 impl Model for Committer {
@@ -44,13 +45,13 @@ impl Model for Committer {
 /// the order in which it put them.
 #[derive(Drop)]
 pub struct LanesClosed {
-    pub left: Vec<(u32, Proposal<2>)>,
+    pub left: Vec<(u32, Proposal<RESOURCES>)>,
 }
 
 impl Committer {
     /// Takes the next proposal, with the number of the worker that put it, and waits for it. None once the ends of all eight workers
     /// were taken. It takes no memory.
-    pub fn take<R: Wait>(&mut self, rt: &R) -> Option<(u32, Proposal<2>)>
+    pub fn take<R: Wait>(&mut self, rt: &R) -> Option<(u32, Proposal<RESOURCES>)>
         ensures lanes { self.new.lanes ≡ self.old.lanes }
         ensures some { IfSome result (IsTakenNext self.old self.new) }
         ensures none { IfNone result ((self.new.taken ≡ self.old.taken) × AllOver self.new.over) }
@@ -61,7 +62,7 @@ impl Committer {
 
     /// Takes what comes next if it has come, and does not wait for it: a proposal, with the number of the worker that put it. None if nothing
     /// has come, or if it is the end of a worker. It takes no memory.
-    pub fn try_take<R: Wait>(&mut self, rt: &R) -> Option<(u32, Proposal<2>)>
+    pub fn try_take<R: Wait>(&mut self, rt: &R) -> Option<(u32, Proposal<RESOURCES>)>
         ensures lanes { self.new.lanes ≡ self.old.lanes }
         ensures some { IfSome result (IsTakenNext self.old self.new) }
         ensures none { IfNone result (self.new.taken ≡ self.old.taken) }

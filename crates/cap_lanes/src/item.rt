@@ -2,12 +2,13 @@
 ghost use Rattle.std.specs.Prelude.{◌≡◌, IfSome, IfNone};
 ghost use Rattle.cap_lanes.specs.declared.item.Message.TheVariants.{Put, End};
 
+use cap_base::RESOURCES;
 use cap_model::Proposal;
 
 /// What a worker puts: a proposal, or its end, after which it puts nothing.
 #[derive(Clone, Copy, Drop)]
 pub enum Message {
-    Put(Proposal<2>),
+    Put(Proposal<RESOURCES>),
     End,
 }
 
@@ -20,7 +21,7 @@ pub struct Item {
 
 impl Message {
     /// The proposal. None where it is the worker's end.
-    pub fn proposal(&self) -> Option<Proposal<2>>
+    pub fn proposal(&self) -> Option<Proposal<RESOURCES>>
         ensures some { IfSome result (λ proposal. self.now ≡ Put proposal) }
         ensures none { IfNone result (self.now ≡ End) }
     {

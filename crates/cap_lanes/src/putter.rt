@@ -4,6 +4,7 @@ ghost use Rattle.cap_lanes.specs.Sides.{after_put};
 
 use crate::faults::PutFault;
 use crate::putting::{Back, LanePass, put_end, put_proposal};
+use cap_base::RESOURCES;
 use cap_model::Proposal;
 use std::marker::Model;
 use std::sync::Wait;
@@ -69,7 +70,7 @@ impl Putter {
 
     /// Puts a proposal behind all that this worker put. Waits while the channel is full. An error hands the proposal back, and
     /// nothing changes.
-    pub fn put<R: Wait>(&mut self, rt: &R, proposal: Proposal<2>) -> Result<(), PutFault>
+    pub fn put<R: Wait>(&mut self, rt: &R, proposal: Proposal<RESOURCES>) -> Result<(), PutFault>
         ensures { MatchResult result
             (λ _. self.new ≡ after_put self.old proposal)
             (λ e. (e.back ≡ proposal) × (self.new ≡ self.old)) }

@@ -7,6 +7,7 @@ use crate::faults::PutFault;
 use crate::item::{Item, Message};
 use crate::rule::{LanesRule, Puts};
 use crate::view::View;
+use cap_base::RESOURCES;
 use cap_model::Proposal;
 use crossbeam_channel::{Pass, RuledSender};
 use std::alloc::Global;
@@ -24,7 +25,7 @@ pub(crate) fn put_proposal<R: Wait>(
     back: &Back,
     pass: &mut LanePass,
     worker: u32,
-    proposal: Proposal<2>,
+    proposal: Proposal<RESOURCES>,
 ) -> Result<(), PutFault>
     requires { IsOpen (sends_on back.now) worker pass.old }
     ensures is { IsOpen (sends_on back.now) worker pass.new }

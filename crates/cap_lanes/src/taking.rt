@@ -11,6 +11,7 @@ use crate::putter::Ended;
 use crate::putting::{Back, LanePass};
 use crate::rule::{Handover, LanesRule, Takes};
 use crate::view::View;
+use cap_base::RESOURCES;
 use cap_model::Proposal;
 use crossbeam_channel::RuledReceiver;
 use std::alloc::Global;
@@ -32,7 +33,7 @@ pub(crate) fn take_next<R: Wait>(
     front: &Front,
     pass: &mut LanePass,
     over: &mut [bool; 8],
-) -> Option<(u32, Proposal<2>)>
+) -> Option<(u32, Proposal<RESOURCES>)>
     requires seat { IsSeatAt (receives_on front.now) pass.old }
     requires takes { view pass.old ≡ taker (view pass.old).took [] }
     requires flags { Flags over.old (view pass.old).took }
@@ -65,7 +66,7 @@ pub(crate) fn take_at_once<R: Wait>(
     front: &Front,
     pass: &mut LanePass,
     over: &mut [bool; 8],
-) -> Option<(u32, Proposal<2>)>
+) -> Option<(u32, Proposal<RESOURCES>)>
     requires seat { IsSeatAt (receives_on front.now) pass.old }
     requires takes { view pass.old ≡ taker (view pass.old).took [] }
     requires flags { Flags over.old (view pass.old).took }
@@ -125,7 +126,7 @@ pub(crate) fn take_rest<R: Wait>(
     back: &Back,
     front: &Front,
     pass: &mut LanePass,
-    left: &mut Vec<(u32, Proposal<2>)>,
+    left: &mut Vec<(u32, Proposal<RESOURCES>)>,
 )
     requires back { IsSeatAt (sends_on back.now) pass.old }
     requires front { IsSeatAt (receives_on front.now) pass.old }

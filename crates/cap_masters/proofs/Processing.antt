@@ -17,11 +17,11 @@ use Rattle.cap_model.specs.ResponseIds.{is_current, is_repeated, is_bad_id}
 use Rattle.cap_model.specs.Asking.{after_asks, after_ask, rounded_ask, put_ask}
 use Rattle.cap_model.specs.Ending.{after_ends, with_ends, named_among}
 use Rattle.cap_model.specs.Allocate.{allocate_refusal, is_repeated_allocate, is_too_large, has_too_many_keys, released_by, after_wishes, after_telling, after_allocate, kept_reply, after_processed_allocate}
-use Rattle.cap_model.specs.Replies.{refused_or, reply_to, after_request}
+use Rattle.cap_model.specs.Replies.{refused_or}
 use Rattle.cap_model.specs.Replies as flat_replies
 use Rattle.cap_model.proofs.lists.Numbered.{find_changed}
-use Rattle.cap_model.proofs.numbers.ContainerNumbers.{asks_keep}
-use Rattle.cap_model.proofs.lists.Tests.{first_holds, kept_if}
+use Rattle.cap_laws.proofs.numbers.ContainerNumbers.{asks_keep}
+use Rattle.cap_base.proofs.lists.Tests.{first_holds, kept_if}
 use Rattle.cap_model.specs.declared.replies.Reported.{Reported}
 use Rattle.cap_asks.specs.Held.{repeated_numbers}
 use Rattle.cap_model.specs.Reporting.{reported_of}

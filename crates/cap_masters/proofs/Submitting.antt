@@ -5,9 +5,10 @@ use Rattle.std.specs.List.{list_all, list_any, starts_with}
 use Rattle.std.proofs.lemmas.Bool.Decides.{nat_tests}
 use Rattle.cap_model.specs.declared.refusal.Refusal.{Refusal}
 use Rattle.cap_model.specs.Cascade.{earliest}
-use Rattle.cap_model.specs.Limits.{number_end}
-use Rattle.cap_model.specs.Settings.{QueueRow}
-use Rattle.cap_model.specs.Flat.{Flat, is_under, queue_at}
+use Rattle.cap_base.specs.Limits.{number_end}
+use Rattle.cap_base.specs.Settings.{QueueRow}
+use Rattle.cap_model.specs.Flat.{Flat, queue_at}
+use Rattle.cap_base.specs.Paths.{is_under}
 use Rattle.cap_model.specs.Submit.{submit_refusal, has_children, is_running}
 use Rattle.cap_tree.specs.Rows.{Row, IsAt, queues_of}
 use Rattle.cap_tree.specs.Rows as rows_of

@@ -8,7 +8,7 @@ use Rattle.cap_model.specs.Amounts.{fits}
 use Rattle.cap_model.specs.Asks.{Ask}
 use Rattle.cap_model.specs.Flat.{Flat}
 use Rattle.cap_model.specs.Allocate.{is_too_large}
-use Rattle.cap_model.proofs.lists.Tests.{and_false}
+use Rattle.cap_base.proofs.lists.Tests.{and_false}
 use Rattle.cap_masters.proofs.Refused.{fits_is}
 
 step : {A : Type 0} (test : A → Bool) (xs : List A) (i : ℕ) (x : A) → i < length xs → x ≡ get_or xs i x → list_any test (drop i xs) ≡ (test x || list_any test (drop (i + 1) xs))

@@ -2,6 +2,7 @@
 ghost use Rattle.cap_model.specs.Reporting.{HasNumbers, RepliesInFull, full_reply};
 ghost use Rattle.cap_grammar.specs.Spelling.{IsOfKind, kind_of};
 
+use cap_base::RESOURCES;
 use cap_commit::Cluster;
 use cap_masters::{allocate, finish_master, register_master, submit};
 use cap_model::{Reply, Request};
@@ -12,7 +13,11 @@ use std::alloc::Global;
 
 /// Makes the call that the request names, and answers it; `Cluster::view` lends the reply in full. A refusal changes nothing, and
 /// neither does a failed allocation.
-pub fn dispatch(_alloc: Global, cluster: &mut Cluster<2>, request: &Request<2>) -> Reply<2>
+pub fn dispatch(
+    _alloc: Global,
+    cluster: &mut Cluster<RESOURCES>,
+    request: &Request<RESOURCES>,
+) -> Reply<RESOURCES>
     ensures replies { RepliesInFull cluster.old.flat request.now result cluster.new.flat }
     ensures numbers { HasNumbers cluster.new.flat result }
     ensures kind { IsOfKind (kind_of request.now) (full_reply cluster.new.flat result) }

@@ -1,9 +1,5 @@
-pub mod bounds
+pub mod SameReplies
 pub mod calls
 pub mod choice
-pub mod ending
 pub mod lists
-pub mod numbers
-pub mod paths
-pub mod telling
 pub mod uses

@@ -1,5 +1,2 @@
--- What calls and steps change of applications, asks, containers and nodes.
+-- What calls change of asks.
 pub mod KeptAsks
-pub mod Lessening
-pub mod Moves
-pub mod Registering

@@ -1,6 +1,2 @@
--- Proposals: their reasons to be rejected, their order, and the choice among them.
-pub mod Choosing
+-- The order in which proposals are served.
 pub mod Orders
-pub mod Proposers
-pub mod Ranks
-pub mod Reasons

@@ -1,8 +1,2 @@
--- Lists: members, parts, filters, sums, numbers in order; and the Boolean tests and options that go with them.
-pub mod Filters
-pub mod Members
+-- Lists of what is numbered, in order of number.
 pub mod Numbered
-pub mod Padding
-pub mod Parts
-pub mod Sums
-pub mod Tests

@@ -3,13 +3,12 @@ use Rattle.std.specs.Prelude.{ℕ, ◌-◌, Bool, not, ◌&&◌, List, [], ◌�
 use Rattle.std.specs.List.{fold, list_any}
 use Rattle.cap_model.specs.Cascade.{earliest, holds_of}
 use Rattle.cap_model.specs.Amounts.{fits}
-use Rattle.cap_model.specs.Limits.{keys_max, news_max}
+use Rattle.cap_base.specs.Limits.{keys_max, news_max}
 use Rattle.cap_model.specs.Asks.{Ask}
 use Rattle.cap_model.specs.declared.news.Cause.{Cause}
-use Rattle.cap_model.specs.News.{AllocateReply}
+use Rattle.cap_model.specs.News.{AllocateReply, Reply}
 use Rattle.cap_model.specs.declared.refusal.Refusal.{Refusal}
 use Rattle.cap_model.specs.declared.reply.ReplyWith.TheVariants as Reply
-use Rattle.cap_model.specs.News.{Reply}
 use Rattle.cap_model.specs.Flat.{Flat, App, Container, app_at, containers_of, with_app}
 use Rattle.cap_model.specs.ResponseIds.{next_response, is_repeated, is_bad_id}
 use Rattle.cap_model.specs.Ending.{named_among, after_ends}

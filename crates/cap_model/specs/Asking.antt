@@ -5,7 +5,7 @@ use Rattle.std.specs.Option.{option_map_or}
 use Rattle.std.specs.Ordering.{is_lt}
 use Rattle.cap_model.specs.Cascade.{holds_of}
 use Rattle.cap_vector.specs.Rounding.{round_up}
-use Rattle.cap_model.specs.Settings.{Settings}
+use Rattle.cap_base.specs.Settings.{Settings}
 use Rattle.cap_model.specs.declared.ask.Key.{Key}
 use Rattle.cap_model.specs.Asks.{same_key, ask_key_cmp, Ask}
 use Rattle.cap_model.specs.Flat.{Flat, App, is_for, ask_at, app_at, with_app, with_reserved}

@@ -1,22 +1,19 @@
 -- The bounds that hold in every state of a run.
-use Rattle.std.specs.Prelude.{◌≡◌, ℕ, ◌+◌, ◌≤◌, Bool, true, false, not, ◌&&◌, is_some, if◌then◌else◌, List, [], ◌∷◌, ◌++◌, Option, Some, None, IsSome, map, find, filter, length, count_by, ◌==◌, nat_le, bytes_eq}
-use Rattle.std.specs.List.{All, list_any, list_all}
+use Rattle.cap_base.specs.Trees.{IsTree, StandBelow}
+use Rattle.std.specs.Prelude.{◌≡◌, ℕ, ◌≤◌, Bool, true, false, List, [], ◌∷◌, Option, Some, None, IsSome, map, filter, length, ◌==◌, nat_le}
+use Rattle.std.specs.List.{All, list_any}
+use Rattle.cap_base.specs.Members.{IsRising}
 use Rattle.cap_vector.specs.Vector.{amount_max, IsWithin}
-use Rattle.cap_model.specs.Texts.{dot}
 use Rattle.cap_model.specs.Cascade.{holds_of}
 use Rattle.cap_model.specs.Amounts.{fits, times, sum_where}
-use Rattle.cap_model.specs.Settings.{QueueRow}
+use Rattle.cap_base.specs.Settings.{QueueRow}
 use Rattle.cap_model.specs.declared.ask.Key.{Key}
-use Rattle.cap_model.specs.Flat.{Flat, ClusterNode, Reservation, is_for, ask_at, app_at, node_at, queue_at, is_under, is_child_of}
-use Rattle.cap_model.specs.Limits.{nodes_max, live_max, number_end}
+use Rattle.cap_model.specs.Flat.{Flat, ClusterNode, Reservation, is_for, ask_at, app_at, node_at, queue_at}
+use Rattle.cap_base.specs.Paths.{is_child_of}
+use Rattle.cap_base.specs.Limits.{nodes_max, live_max, number_end}
 use Rattle.cap_model.specs.Submit.{has_children}
 use Rattle.cap_model.specs.RegisterNode.{total_of_nodes}
 use Rattle.cap_model.specs.Uses.{queue_use, user_use, node_held}
-
--- numbers that rise, each at least the lower bound and below the upper one
-abbrev pub IsRising : ℕ → List ℕ → ℕ → Type 0
-IsRising low [] high = low ≤ high
-IsRising low (n ∷ ns) high = (low ≤ n) × IsRising (n + 1) ns high
 
 -- a use within a maximum, where there is one
 abbrev pub FitsMaximum : List ℕ → Option (List ℕ) → Type 0
@@ -27,45 +24,6 @@ FitsMaximum used (Some most) = fits used most ≡ true
 abbrev pub AreApart : List Reservation → Type 0
 AreApart [] = Unit {0}
 AreApart (r ∷ rs) = (list_any (λ s. r.node == s.node) rs ≡ Bool.false) × AreApart rs
-
--- no path stands in a list of queues twice
-abbrev pub HasDistinctPaths : List QueueRow → Type 0
-HasDistinctPaths [] = Unit {0}
-HasDistinctPaths (q ∷ queues) = (list_any (λ r. bytes_eq r.path q.path) queues ≡ false) × HasDistinctPaths queues
-
--- whether a queue of that path is there
-abbrev pub has_path : List QueueRow → List ℕ → Bool
-has_path queues path = is_some (find (λ r. bytes_eq r.path path) queues)
-
--- queues that are a tree: no path stands there twice, and where a path is there, so is each beginning of it that ends before a dot
-pub record IsTree (queues : List QueueRow) : Type 0 where
-  pub distinct : HasDistinctPaths queues
-  pub above : All (λ q. (front rest : List ℕ) → q.path ≡ front ++ dot ∷ rest → has_path queues front ≡ true) queues
-
--- each queue of a list stands before those under it
-abbrev pub StandBelow : List QueueRow → Type 0
-StandBelow [] = Unit {0}
-StandBelow (q ∷ queues) = (list_any (λ r. is_under r.path q.path) queues ≡ false) × StandBelow queues
-
--- how far down a queue is: the dots of its path
-abbrev pub depth : List ℕ → ℕ
-depth path = count_by (λ b. b == dot) path
-
--- the beginnings of a path that end before a dot
-abbrev pub fronts : List ℕ → List (List ℕ)
-fronts [] = []
-fronts (b ∷ path) =
-    let longer = map (λ front. b ∷ front) (fronts path) in
-    if b == dot then [] ∷ longer else longer
-
--- whether no path stands in a list of queues twice
-abbrev pub has_distinct_paths : List QueueRow → Bool
-has_distinct_paths [] = true
-has_distinct_paths (q ∷ queues) = not (list_any (λ r. bytes_eq r.path q.path) queues) && has_distinct_paths queues
-
--- whether queues are a tree
-abbrev pub is_tree : List QueueRow → Bool
-is_tree queues = has_distinct_paths queues && list_all (λ q. list_all (has_path queues) (fronts q.path)) queues
 
 module _ {K : ℕ} where
   -- a queue without children

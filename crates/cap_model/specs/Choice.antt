@@ -7,7 +7,7 @@ use Rattle.cap_vector.specs.declared.fullness.Share.{Share}
 use Rattle.cap_vector.specs.Fullness.{shares, shares_cmp}
 use Rattle.cap_model.specs.declared.ask.Key.{Key}
 use Rattle.cap_model.specs.Asks.{ask_key_cmp}
-use Rattle.cap_model.specs.Flat.{name_of}
+use Rattle.cap_base.specs.Paths.{name_of}
 use Rattle.cap_model.specs.Sight.{Sight, QueueSight, NodeSight, queues_to}
 use Rattle.cap_model.specs.Admission.{NodeProposal, IsAdmissible, leaf_path}
 

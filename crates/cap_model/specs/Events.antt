@@ -2,9 +2,8 @@
 use Rattle.std.specs.Prelude.{◌≡◌, ℕ, ◌+◌, ◌-◌, Bool, not, List, [], ◌∷◌, ◌++◌, filter, map, option_map, unwrap_or, flat_map, ◌==◌, if◌then◌else◌}
 use Rattle.cap_model.specs.declared.ask.Key.{Key}
 use Rattle.cap_model.specs.Asks.{same_key, Ask}
-use Rattle.cap_model.specs.News.{Grant}
+use Rattle.cap_model.specs.News.{Grant, Reply}
 use Rattle.cap_model.specs.declared.reply.ReplyWith.TheVariants as Reply
-use Rattle.cap_model.specs.News.{Reply}
 use Rattle.cap_model.specs.declared.refusal.Refusal.{Refusal}
 use Rattle.cap_model.specs.Flat.{Flat, Container, NodeTable, Reservation, node_at, with_app, with_reserved}
 use Rattle.cap_model.specs.Ending.{is_among}

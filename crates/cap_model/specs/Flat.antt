@@ -1,9 +1,6 @@
 -- The flat cluster of the whole engine: plain lists of all that is there, by part.
-use Rattle.std.specs.Prelude.{ℕ, Bool, List, [], ◌∷◌, Option, map, filter, find, ◌==◌, ◌&&◌, bytes_eq, if◌then◌else◌}
-use Rattle.std.specs.List.{starts_with, list_any}
-use Rattle.std.specs.Prelude.{nat_eq, ◌||◌, ◌++◌}
-use Rattle.cap_model.specs.Texts.{dot}
-use Rattle.cap_model.specs.Settings.{Settings, QueueRow}
+use Rattle.std.specs.Prelude.{ℕ, Bool, List, [], Option, map, filter, find, ◌==◌, ◌&&◌, bytes_eq, if◌then◌else◌}
+use Rattle.cap_base.specs.Settings.{Settings, QueueRow}
 use Rattle.cap_model.specs.declared.ask.Key.{Key}
 use Rattle.cap_model.specs.Asks.{same_key, Ask}
 use Rattle.cap_model.specs.News.{Grant, AllocateReply}
@@ -64,19 +61,6 @@ pub record Flat (K : ℕ) : Type 0 where
   pub settings : Settings
   pub apps : AppTable
   pub nodes : NodeTable
-
--- whether a queue is the one of this path, or stands under it
-abbrev pub is_under : List ℕ → List ℕ → Bool
-is_under path queue = bytes_eq path queue || starts_with nat_eq queue (path ++ dot ∷ [])
-
--- the last name of a dotted path
-abbrev pub name_of : List ℕ → List ℕ
-name_of [] = []
-name_of (b ∷ path) = if list_any (λ x. x == dot) (b ∷ path) then name_of path else b ∷ path
-
--- whether a queue is a child of another
-abbrev pub is_child_of : List ℕ → List ℕ → Bool
-is_child_of parent queue = bytes_eq queue (parent ++ dot ∷ name_of queue)
 
 -- whether a reservation is for this key of this application
 abbrev pub is_for : ℕ → Key → Reservation → Bool

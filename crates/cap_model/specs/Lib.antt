@@ -1,9 +1,4 @@
-pub mod Texts
 pub mod Refusals
-pub mod Settings
-pub mod Limits
-pub mod Listing
-pub mod Members
 pub mod Cascade
 pub mod Amounts
 pub mod Asks
@@ -30,10 +25,3 @@ pub mod Reporting
 pub mod Events
 pub mod Verdicts
 pub mod Bounds
-pub mod ExampleClusters
-pub mod ExampleShares
-pub mod ExampleProposals
-pub mod ExampleCalls
-pub mod EngineLaws
-pub mod NewsLaws
-pub mod BoundLaws

@@ -1,21 +1,18 @@
 -- QueueInfo, SetQueueState and ClusterInfo: what an operator sees and sets.
-use Rattle.std.specs.Prelude.{ℕ, Bool, not, List, [], ◌∷◌, Option, length, is_none, map, count_by, option_and_then, option_map, unwrap_or, bytes_eq, codes, if◌then◌else◌}
+use Rattle.cap_base.specs.Paths.{root_path, is_under}
+use Rattle.std.specs.Prelude.{ℕ, Bool, not, List, [], ◌∷◌, Option, length, is_none, map, count_by, option_and_then, option_map, unwrap_or, bytes_eq, if◌then◌else◌}
 use Rattle.cap_vector.specs.Vector.{zeros}
-use Rattle.cap_model.specs.Settings.{QueueRow}
+use Rattle.cap_base.specs.Settings.{QueueRow}
 use Rattle.cap_model.specs.Cascade.{earliest}
 use Rattle.cap_model.specs.declared.report.QueueReport.{QueueReport}
 use Rattle.cap_model.specs.declared.report.ClusterReport.{ClusterReport}
 use Rattle.cap_model.specs.declared.refusal.Refusal.{Refusal}
 use Rattle.cap_model.specs.declared.reply.ReplyWith.TheVariants as Reply
 use Rattle.cap_model.specs.News.{Reply}
-use Rattle.cap_model.specs.Flat.{Flat, is_under, queue_at}
+use Rattle.cap_model.specs.Flat.{Flat, queue_at}
 use Rattle.cap_model.specs.Uses.{queue_use}
 use Rattle.cap_model.specs.Submit.{has_children, is_running}
 use Rattle.cap_model.specs.RegisterNode.{total_of_nodes}
-
--- the path of the queue above all others
-abbrev pub root_path : List ℕ
-root_path = codes "root"
 
 module _ {K : ℕ} where
   -- why a call that names a queue is refused

@@ -2,7 +2,7 @@
 use Rattle.std.specs.Prelude.{ℕ, ◌+◌, List, [], ◌∷◌, ◌++◌, true, Option, None, length, not, nat_le, bytes_eq}
 use Rattle.std.specs.List.{list_any}
 use Rattle.cap_vector.specs.Vector.{amount_max, plus, is_zero, is_within}
-use Rattle.cap_model.specs.Limits.{number_end, nodes_max}
+use Rattle.cap_base.specs.Limits.{number_end, nodes_max}
 use Rattle.cap_model.specs.Cascade.{earliest}
 use Rattle.cap_model.specs.Amounts.{sum_where}
 use Rattle.cap_model.specs.declared.refusal.Refusal.{Refusal}

@@ -1,7 +1,7 @@
 -- The reply that a call gives, in numbers; the reply in full, whose grants and ends lie with its application; and room to own them.
 use Rattle.std.specs.Prelude.{◌≡◌, ℕ, ◌≤◌, ◌+◌, min, Some, length, option_map, option_and_then, if◌then◌else◌}
 use Rattle.std.specs.Option.{option_map_or}
-use Rattle.cap_model.specs.Limits.{news_max}
+use Rattle.cap_base.specs.Limits.{news_max}
 use Rattle.cap_model.specs.ResponseIds.{is_repeated}
 use Rattle.cap_model.specs.declared.request.Request.{Request}
 use Rattle.cap_model.specs.declared.replies.Reported.{Reported}

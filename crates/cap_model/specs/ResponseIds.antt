@@ -1,6 +1,6 @@
 -- Response ids: which request is the next one, and which repeats the last.
 use Rattle.std.specs.Prelude.{ℕ, ◌+◌, ◌%◌, Bool, ◌&&◌, not, ◌||◌, Option, is_some, nat_lt, ◌==◌}
-use Rattle.cap_model.specs.Limits.{response_end}
+use Rattle.cap_base.specs.Limits.{response_end}
 
 -- the response id that answers a processed request of this id
 abbrev pub next_response : ℕ → ℕ

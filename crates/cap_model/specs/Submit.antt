@@ -1,13 +1,14 @@
 -- Submit: an application enters a leaf queue.
 use Rattle.std.specs.Prelude.{ℕ, ◌+◌, Bool, List, [], ◌∷◌, ◌++◌, Option, None, length, not, is_none, filter, nat_eq, nat_le}
 use Rattle.std.specs.List.{list_any, list_all, starts_with}
-use Rattle.cap_model.specs.Texts.{dot}
-use Rattle.cap_model.specs.Limits.{number_end}
+use Rattle.cap_base.specs.Texts.{dot}
+use Rattle.cap_base.specs.Limits.{number_end}
 use Rattle.cap_model.specs.Cascade.{earliest}
 use Rattle.cap_model.specs.declared.refusal.Refusal.{Refusal}
 use Rattle.cap_model.specs.declared.reply.ReplyWith.TheVariants as Reply
 use Rattle.cap_model.specs.News.{Reply}
-use Rattle.cap_model.specs.Flat.{Flat, App, AppTable, is_under, queue_at}
+use Rattle.cap_model.specs.Flat.{Flat, App, AppTable, queue_at}
+use Rattle.cap_base.specs.Paths.{is_under}
 
 -- an application that enters, of this number, not yet registered
 abbrev pub new_app : ℕ → List ℕ → List ℕ → App

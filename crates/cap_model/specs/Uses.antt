@@ -4,7 +4,8 @@ use Rattle.cap_vector.specs.Vector.{less}
 use Rattle.cap_model.specs.Cascade.{holds_of}
 use Rattle.cap_model.specs.Amounts.{sum_where}
 use Rattle.cap_model.specs.Asks.{Ask}
-use Rattle.cap_model.specs.Flat.{Flat, App, ClusterNode, Container, NodeTable, Reservation, app_at, is_under, is_for}
+use Rattle.cap_model.specs.Flat.{Flat, App, ClusterNode, Container, NodeTable, Reservation, app_at, is_for}
+use Rattle.cap_base.specs.Paths.{is_under}
 
 -- what a live container or a reservation counts for: its application and its resource
 pub record Holding : Type 0 where

@@ -1,10 +1,10 @@
 //! Asks (resource requests) of an application (`Ask`), their keys (`Key`), and which places they take (`takes_place`).
 ghost use Rattle.std.specs.Prelude.{◌≡◌, ◌==◌, ◌&&◌, ◌||◌, ◌∷◌, [], bytes_eq};
-ghost use Rattle.cap_model.specs.Texts.{star};
+ghost use Rattle.cap_base.specs.Texts.{star};
 ghost use Rattle.cap_model.specs.Asks.{same_key};
 ghost use Rattle.cap_model.specs.Asking.{is_changed};
 
-use crate::text::ShortText;
+use cap_base::ShortText;
 use cap_vector::Resource;
 use std::marker::Model;
 

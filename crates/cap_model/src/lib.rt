@@ -6,11 +6,9 @@
 mod ask;
 mod container;
 mod event;
-pub mod examples;
 pub mod laws;
 mod list;
 mod news;
-mod no_memory;
 mod owned;
 mod proposal;
 mod refusal;
@@ -19,15 +17,13 @@ mod reply;
 mod report;
 mod request;
 mod response_ids;
-mod settings;
-mod text;
 
 pub use ask::{Ask, Key, takes_place};
+pub use cap_base::{Config, NoMemory, PathText, QueueRow, ShortText, Text};
 pub use container::{Container, Reservation};
 pub use event::Event;
 pub use list::{Asks, List, Numbers};
 pub use news::{Cause, End, Grant};
-pub use no_memory::NoMemory;
 pub use owned::ReplyRoom;
 pub use proposal::{Proposal, ProposalKind, Reason, Verdict, first_reason};
 pub use refusal::{Refusal, first_refusal};
@@ -38,8 +34,6 @@ pub use reply::{OwnedReply, Reply, ReplyView, ReplyWith};
 pub use report::{ClusterReport, QueueReport};
 pub use request::Request;
 pub use response_ids::{is_bad, next_response, repeats};
-pub use settings::{Config, QueueRow};
-pub use text::{PathText, ShortText, Text};
 
 /// Node, application and container numbers begin at 1 and stay below this.
 pub const NUMBER_END: u64 = 1 << 62;

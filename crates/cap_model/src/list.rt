@@ -2,7 +2,7 @@
 ghost use Rattle.std.specs.Prelude.{◌≡◌, ◌≤◌, length, IfOk};
 
 use crate::ask::Ask;
-use crate::no_memory::NoMemory;
+use cap_base::NoMemory;
 use std::alloc::Global;
 use std::marker::Model;
 

@@ -3,7 +3,7 @@ ghost use Rattle.std.specs.Prelude.{◌≡◌};
 ghost use Rattle.cap_model.specs.News.{cause_number};
 
 use crate::ask::Key;
-use crate::text::ShortText;
+use cap_base::ShortText;
 use cap_vector::Resource;
 use std::marker::Model;
 

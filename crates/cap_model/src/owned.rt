@@ -3,9 +3,9 @@ ghost use Rattle.std.specs.Prelude.{◌≡◌, ◌≤◌, IfOk};
 ghost use Rattle.cap_model.specs.Reporting.{HasRoomFor};
 
 use crate::news::{End, Grant};
-use crate::no_memory::NoMemory;
 use crate::replies::AllocateReply;
 use crate::reply::{OwnedReply, ReplyView, ReplyWith};
+use cap_base::NoMemory;
 use std::alloc::Global;
 use std::marker::Model;
 

@@ -1,6 +1,6 @@
 //! The answers to an Allocate, in numbers, lent and owned (`AllocateReply`), and to a Heartbeat (`HeartbeatReply`).
 ghost use Rattle.std.specs.Prelude.{◌≡◌, ◌≤◌, length};
-ghost use Rattle.cap_model.specs.Limits.{news_max};
+ghost use Rattle.cap_base.specs.Limits.{news_max};
 
 use crate::news::{End, Grant};
 use std::marker::Model;
@@ -44,7 +44,7 @@ pub struct AllocateView<'a, const K: usize> {
 
 impl<'a, const K: usize> Model for AllocateView<'a, K> {
     ghost use Rattle.std.specs.Prelude.{◌≤◌, length};
-    ghost use Rattle.cap_model.specs.Limits.{news_max};
+    ghost use Rattle.cap_base.specs.Limits.{news_max};
     ghost use Rattle.cap_model.specs.News.{AllocateReply as Told};
 
     ghost Value = { Told };
@@ -92,7 +92,7 @@ pub struct AllocateReply<const K: usize> {
 
 impl<const K: usize> Model for AllocateReply<K> {
     ghost use Rattle.std.specs.Prelude.{◌≤◌, length};
-    ghost use Rattle.cap_model.specs.Limits.{news_max};
+    ghost use Rattle.cap_base.specs.Limits.{news_max};
     ghost use Rattle.cap_model.specs.News.{AllocateReply as Told};
 
     ghost Value = { Told };

@@ -2,8 +2,7 @@
 ghost use Rattle.std.specs.Prelude.{◌≡◌, IfOk};
 
 use crate::list::{Asks, Numbers};
-use crate::no_memory::NoMemory;
-use crate::text::{PathText, ShortText};
+use cap_base::{NoMemory, PathText, ShortText};
 use cap_vector::Resource;
 use std::alloc::Global;
 

@@ -1,6 +1,6 @@
 //! Response ids: the next one, and whether a request repeats the last processed one (`next_response`, `repeats`).
 ghost use Rattle.std.specs.Prelude.{◌≡◌, ◌<◌};
-ghost use Rattle.cap_model.specs.Limits.{response_end};
+ghost use Rattle.cap_base.specs.Limits.{response_end};
 ghost use Rattle.cap_model.specs.ResponseIds.{next_response, repeats, is_bad};
 
 /// Response ids stay below this, and begin again at 0.

@@ -1,16 +1,15 @@
 -- The live containers by number, as one more comes and one goes.
-use Rattle.std.proofs.Common.{◌≡◌, ℕ, ◌+◌, ◌≤◌, ◌<◌, Bool, true, false, refl, List, [], ◌∷◌, ◌++◌, length, length-append, map, not, sym, ap, ◌∙◌, arith, subst, Option, None, Some}
-use Rattle.std.specs.Prelude.{filter, find, ◌==◌, ◌||◌, IfSome}
+use Rattle.std.proofs.Common.{◌≡◌, ℕ, ◌+◌, ◌≤◌, ◌<◌, List, [], ◌∷◌, ◌++◌, length, length-append, map, not, sym, ap, ◌∙◌, arith, subst, Option, None, Some}
+use Rattle.std.specs.Prelude.{filter, find, ◌==◌, IfSome}
 use Rattle.std.specs.Ordering.{nat_cmp}
 use Rattle.std.specs.BTreeMap.{insert_entry, is_at}
 use Rattle.std.specs.Map.{lookup, remove_entry, values_of}
-use Rattle.cap_model.specs.Limits.{live_max}
-use Rattle.cap_model.specs.Bounds.{IsRising}
+use Rattle.cap_base.specs.Limits.{live_max}
+use Rattle.cap_base.specs.Members.{IsRising}
 use Rattle.cap_model.specs.Flat.{Container}
 use Rattle.cap_model.proofs.lists.Numbered.{rising_kept, rising_more}
-use Rattle.cap_model.proofs.lists.Filters.{length-kept, filter_same}
-use Rattle.cap_model.proofs.lists.Members.{found as passes_found}
-use Rattle.cap_model.specs.Ending.{is_among}
+use Rattle.cap_base.proofs.lists.Filters.{length-kept}
+use Rattle.cap_base.proofs.lists.Members.{found as passes_found}
 use Rattle.std.proofs.lemmas.Bool.Decides.{nat_tests}
 use Rattle.cap_nodes.specs.Loads.{tagged_items, IsContainerTable}
 use Rattle.cap_nodes.proofs.Numbered.{remove-tagged, insert-tagged, same_tie, lookup-tagged, none_at_end, values-tagged}
@@ -61,20 +60,3 @@ found_by_its_own live n (Some c) e =
     let t = (passes_found (λ (d : Container). d.number == n) live c (sym e)).1 in
     let is : c.number ≡ n = grind (arith, nat_tests, t) in
     ap (λ k. find (λ (d : Container). d.number == k) live) is ∙ sym e
-
-pub turned : (a b : ℕ) → a == b ≡ b == a
-turned a b = by (a == b) (b == a) refl refl
-  where
-    by : (c d : Bool) → a == b ≡ c → b == a ≡ d → c ≡ d
-    by true true e f = refl
-    by false false e f = refl
-    by true false e f = absurd (grind (arith, nat_tests, e, f))
-    by false true e f = absurd (grind (arith, nat_tests, e, f))
-
--- the containers without the one of a number are those without this one
-pub one_completed : (c : Container) (live : List Container) → filter (λ d. not (d.number == c.number)) live ≡ filter (λ d. not (is_among (c ∷ []) d)) live
-one_completed c live = filter_same (λ d. not (d.number == c.number)) (λ d. not (is_among (c ∷ []) d)) live (λ d m. ap not (turned d.number c.number ∙ or_none (c.number == d.number)))
-  where
-    or_none : (b : Bool) → b ≡ b || false
-    or_none true = refl
-    or_none false = refl

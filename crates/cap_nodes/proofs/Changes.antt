@@ -11,7 +11,7 @@ use Rattle.std.proofs.lemmas.List.{ext_get_or}
 use Rattle.std.proofs.lemmas.Option.{slice_get-map}
 use Rattle.cap_vector.specs.Vector.{amount, plus, less, Fits, IsWithin, amount_max, zeros}
 use Rattle.cap_model.specs.Amounts.{fits, sum_where}
-use Rattle.cap_model.specs.Bounds.{IsRising}
+use Rattle.cap_base.specs.Members.{IsRising}
 use Rattle.cap_model.specs.declared.replies.HeartbeatReply.{HeartbeatReply}
 use Rattle.cap_model.specs.Flat.{ClusterNode, Container}
 use Rattle.cap_model.specs.RegisterNode.{sum_of_totals}

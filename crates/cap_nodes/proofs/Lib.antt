@@ -9,3 +9,4 @@ pub mod Changes
 pub mod Walked
 pub mod Reserved
 pub mod Sizes
+pub mod NodeTotals

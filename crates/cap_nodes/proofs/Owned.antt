@@ -2,7 +2,7 @@
 use Rattle.std.proofs.Common.{◌≡◌, ℕ, ◌+◌, ◌≤◌, ◌<◌, Bool, true, false, cond, List, [], ◌∷◌, ◌++◌, map, not, sym, ap, ◌∙◌, arith, subst, refl, Some, None}
 use Rattle.std.specs.Prelude.{filter, find, ◌==◌, ◌&&◌, ◌||◌, nat_lt}
 use Rattle.std.proofs.lemmas.Bool.Decides.{nat_tests}
-use Rattle.cap_model.specs.Bounds.{IsRising}
+use Rattle.cap_base.specs.Members.{IsRising}
 use Rattle.cap_model.specs.Flat.{Container}
 use Rattle.cap_model.proofs.lists.Numbered.{none_before}
 use Rattle.cap_nodes.specs.Loads.{IsOwnerIndex, is_of, has_pair, HasMore, HasLess}

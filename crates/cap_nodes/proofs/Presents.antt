@@ -3,11 +3,11 @@ use Rattle.std.proofs.Common.{◌≡◌, ℕ, ◌+◌, ◌≤◌, ◌<◌, List,
 use Rattle.std.specs.Prelude.{filter, ◌==◌, nat_eq, IfSome, IsSome}
 use Rattle.std.proofs.lemmas.Option.{same_Some}
 use Rattle.std.specs.Map.{lookup, remove_entry, set_value, values_of}
-use Rattle.cap_model.specs.Bounds.{IsRising}
-use Rattle.cap_model.specs.Limits.{nodes_max}
-use Rattle.cap_model.proofs.lists.Members.{IsIn}
+use Rattle.cap_base.specs.Members.{IsRising}
+use Rattle.cap_base.specs.Limits.{nodes_max}
+use Rattle.cap_base.proofs.lists.Members.{IsIn}
 use Rattle.cap_model.proofs.lists.Numbered.{rising_kept, rising_more, found_by_number}
-use Rattle.cap_model.proofs.lists.Filters.{length-kept}
+use Rattle.cap_base.proofs.lists.Filters.{length-kept}
 use Rattle.cap_nodes.specs.Loads.{Load, tagged_items, load_at, change_load}
 use Rattle.cap_nodes.proofs.Numbered.{remove-tagged, push-tagged, set-tagged, lookup-tagged, same_number, values-tagged, length-change, numbers-change, none_at_end}
 

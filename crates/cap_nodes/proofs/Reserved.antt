@@ -4,9 +4,10 @@ use Rattle.std.specs.Prelude.{filter, find, not, nat_lt, ◌==◌, ◌&&◌}
 use Rattle.std.specs.List.{list_any}
 use Rattle.std.proofs.lemmas.Bool.Decides.{nat_tests}
 use Rattle.cap_model.specs.Flat.{Container, Reservation}
-use Rattle.cap_model.specs.Bounds.{AreApart, IsRising}
-use Rattle.cap_model.proofs.lists.Members.{found, none_in}
-use Rattle.cap_model.proofs.lists.Filters.{filter_whole}
+use Rattle.cap_model.specs.Bounds.{AreApart}
+use Rattle.cap_base.specs.Members.{IsRising}
+use Rattle.cap_base.proofs.lists.Members.{found, none_in}
+use Rattle.cap_base.proofs.lists.Filters.{filter_whole}
 use Rattle.cap_model.proofs.lists.Numbered.{rising_from_low}
 use Rattle.cap_nodes.specs.Loads.{reservation_of}
 use Rattle.cap_nodes.proofs.Numbered.{not_later}

@@ -7,11 +7,11 @@ use Rattle.std.proofs.lemmas.Bool.Decides.{nat_tests}
 use Rattle.std.proofs.lemmas.List.Sums.{count_by-le-length}
 use Rattle.cap_vector.specs.Vector.{plus, less, Fits}
 use Rattle.cap_vector.proofs.AmountLemmas.{amount-plus, amount-less}
-use Rattle.cap_model.specs.Limits.{live_max}
+use Rattle.cap_base.specs.Limits.{live_max}
 use Rattle.cap_model.specs.Amounts.{sum_where}
-use Rattle.cap_model.specs.Bounds.{IsRising}
+use Rattle.cap_base.specs.Members.{IsRising}
 use Rattle.cap_model.specs.Flat.{Container}
-use Rattle.cap_model.proofs.lists.Sums.{one_where}
+use Rattle.cap_base.proofs.lists.Sums.{one_where}
 use Rattle.cap_nodes.specs.Loads.{Load, IsTied, load_at, change_load, held_more, held_less, CanHold, HasOne}
 use Rattle.cap_nodes.proofs.Sums.{where-push-other, where-push-own, where-less-other, where-less-own, where-had, sum-without, count-push}
 

@@ -7,10 +7,10 @@ use Rattle.std.proofs.lemmas.List.{length-map}
 use Rattle.std.proofs.lemmas.Bool.Decides.{nat_tests}
 use Rattle.cap_model.specs.declared.ask.Key.{Key}
 use Rattle.cap_model.specs.Asks.{same_key}
-use Rattle.cap_model.specs.Bounds.{IsRising}
+use Rattle.cap_base.specs.Members.{IsRising}
 use Rattle.cap_model.specs.Flat.{Container, Reservation, is_for}
-use Rattle.cap_model.proofs.lists.Members.{IsIn, found}
-use Rattle.cap_model.proofs.lists.Filters.{filter_whole, find_mapped_at}
+use Rattle.cap_base.proofs.lists.Members.{IsIn, found}
+use Rattle.cap_base.proofs.lists.Filters.{filter_whole, find_mapped_at}
 use Rattle.cap_model.proofs.lists.Numbered.{rising_from_low, rising_to_high}
 use Rattle.cap_nodes.specs.Loads.{is_kept_for, reservation_of}
 

@@ -1,8 +1,8 @@
 //! Containers by number, found by their application and by their node too: the live ones, or the reservations.
 ghost use Rattle.std.specs.Prelude.{◌≡◌, ℕ, ◌+◌, ◌<◌, ◌≤◌, [], ◌==◌, ◌&&◌, nat_lt, length, map, find, filter, not, IfOk, OnErr};
 ghost use Rattle.std.specs.List.{slice_get};
-ghost use Rattle.cap_model.specs.Limits.{live_max, number_end};
-ghost use Rattle.cap_model.specs.Bounds.{IsRising};
+ghost use Rattle.cap_base.specs.Limits.{live_max, number_end};
+ghost use Rattle.cap_base.specs.Members.{IsRising};
 ghost use Rattle.cap_nodes.specs.Loads.{push_container, is_kept_for};
 
 use crate::owners::Owners;

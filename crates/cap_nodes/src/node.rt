@@ -24,7 +24,7 @@ impl<const K: usize> Model for Node<K> {
     ghost use Rattle.std.specs.Prelude.{◌<◌};
     ghost use Rattle.cap_model.specs.Flat.{ClusterNode};
     ghost use Rattle.cap_vector.specs.Vector.{IsResource};
-    ghost use Rattle.cap_model.specs.Limits.{response_end};
+    ghost use Rattle.cap_base.specs.Limits.{response_end};
 
     ghost Value = { ClusterNode };
 

@@ -3,9 +3,10 @@ ghost use Rattle.std.specs.Prelude.{◌≡◌, ◌+◌, ◌<◌, ◌≤◌, ◌=
 ghost use Rattle.std.specs.List.{All, list_any, slice_get};
 ghost use Rattle.std.specs.Option.{option_copied};
 ghost use Rattle.cap_vector.specs.Vector.{Fits, IsWithin, amount_max, plus};
-ghost use Rattle.cap_model.specs.Limits.{live_max, nodes_max, number_end};
+ghost use Rattle.cap_base.specs.Limits.{live_max, nodes_max, number_end};
 ghost use Rattle.cap_model.specs.Amounts.{fits};
-ghost use Rattle.cap_model.specs.Bounds.{AreApart, IsRising};
+ghost use Rattle.cap_model.specs.Bounds.{AreApart};
+ghost use Rattle.cap_base.specs.Members.{IsRising};
 ghost use Rattle.cap_model.specs.RegisterNode.{sum_of_totals, add_node};
 ghost use Rattle.cap_model.specs.Flat.{no_nodes, node_in, container_in, containers_on, is_for};
 ghost use Rattle.cap_model.specs.Events.{add_reservation};
@@ -40,7 +41,7 @@ impl<const K: usize> Model for Nodes<K> {
     ghost use Rattle.std.specs.Prelude.{◌≡◌, [], map};
     ghost use Rattle.cap_model.specs.Flat.{NodeTable};
     ghost use Rattle.cap_model.specs.RegisterNode.{sum_of_totals};
-    ghost use Rattle.cap_model.specs.Bounds.{IsRising};
+    ghost use Rattle.cap_base.specs.Members.{IsRising};
     ghost use Rattle.cap_vector.specs.Vector.{IsWithin, amount_max};
     ghost use Rattle.cap_nodes.specs.Loads.{AreTied, reservation_of};
 

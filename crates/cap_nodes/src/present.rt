@@ -3,8 +3,8 @@ ghost use Rattle.std.specs.Prelude.{◌≡◌, ◌+◌, ◌<◌, ◌≤◌, [], 
 ghost use Rattle.std.specs.List.{list_any, slice_get};
 ghost use Rattle.std.specs.Option.{option_copied};
 ghost use Rattle.cap_vector.specs.Vector.{plus};
-ghost use Rattle.cap_model.specs.Bounds.{IsRising};
-ghost use Rattle.cap_model.specs.Limits.{nodes_max, number_end};
+ghost use Rattle.cap_base.specs.Members.{IsRising};
+ghost use Rattle.cap_base.specs.Limits.{nodes_max, number_end};
 ghost use Rattle.cap_nodes.specs.Loads.{CanHold, HasOne, load_at, held_more, held_less, beaten_load, add_load, with_load};
 
 use crate::load::Load;
@@ -27,8 +27,8 @@ pub(crate) struct Present<const K: usize> {
 impl<const K: usize> Model for Present<K> {
     ghost use Rattle.std.specs.Prelude.{◌≡◌, ◌≤◌, length, map};
     ghost use Rattle.std.specs.HashMap.{values};
-    ghost use Rattle.cap_model.specs.Bounds.{IsRising};
-    ghost use Rattle.cap_model.specs.Limits.{nodes_max};
+    ghost use Rattle.cap_base.specs.Members.{IsRising};
+    ghost use Rattle.cap_base.specs.Limits.{nodes_max};
     ghost use Rattle.cap_nodes.specs.Loads.{LoadTable, tagged_items};
 
     ghost Value = { LoadTable };

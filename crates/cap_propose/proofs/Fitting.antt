@@ -3,7 +3,7 @@ use Rattle.std.proofs.Common.{◌≡◌, List, ℕ, Bool, ◌∙◌}
 use Rattle.std.specs.Prelude.{◌↔◌, IsTrue}
 use Rattle.cap_vector.specs.Vector.{Fits}
 use Rattle.cap_model.specs.Amounts.{fits}
-use Rattle.cap_model.proofs.lists.Tests.{same_test}
+use Rattle.cap_base.proofs.lists.Tests.{same_test}
 use Rattle.cap_model.proofs.uses.Measures.{amounts_fit, fits_amounts}
 
 pub fits_is : (b : Bool) (v most r m : List ℕ) → (IsTrue b ↔ Fits v most) → v ≡ r → most ≡ m → b ≡ fits r m

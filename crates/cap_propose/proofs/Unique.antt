@@ -8,7 +8,7 @@ use Rattle.cap_model.specs.Sight.{Sight, NodeSight}
 use Rattle.cap_model.specs.Admission.{NodeProposal}
 use Rattle.cap_model.specs.Choice.{rank_cmp, rank_of, ring_from, IsNodeChoice, IsFirstChoice}
 use Rattle.cap_model.proofs.choice.Orders.{rank_cmp_total}
-use Rattle.cap_model.proofs.choice.Ranks.{one_of_each_rank}
+use Rattle.cap_laws.proofs.choice.Ranks.{one_of_each_rank}
 use Rattle.cap_propose.specs.Proposing.{NodeChoiceIsUnique, ChoiceFromIsUnique}
 
 -- neither after the other

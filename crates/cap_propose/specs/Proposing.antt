@@ -3,7 +3,7 @@ use Rattle.std.specs.Prelude.{◌≡◌, ℕ, ◌+◌, ◌-◌, ◌<◌, Bool, t
 use Rattle.std.specs.Option.{option_map_or}
 use Rattle.std.specs.List.{slice_get}
 use Rattle.cap_vector.specs.Vector.{zeros}
-use Rattle.cap_model.specs.Limits.{live_max, number_end}
+use Rattle.cap_base.specs.Limits.{live_max, number_end}
 use Rattle.cap_model.specs.Cascade.{holds_of}
 use Rattle.cap_model.specs.Amounts.{fits}
 use Rattle.cap_model.specs.declared.proposal.ProposalKind.{ProposalKind}

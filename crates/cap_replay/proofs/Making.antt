@@ -3,6 +3,7 @@ use Rattle.std.proofs.Common.{◌≡◌, ℕ, List, [], ◌∷◌, ◌++◌, Ok,
 use Rattle.std.proofs.lemmas.List.{append_cancel_left}
 use Rattle.std.specs.List.{All}
 use Rattle.std.proofs.lemmas.List.Elements.{All-head, All-tail}
+use Rattle.cap_base.specs.Limits.{resources}
 use Rattle.cap_model.specs.declared.event.Event.{Event}
 use Rattle.cap_model.specs.Flat.{Flat}
 use Rattle.cap_world.specs.Answers.{as_events}
@@ -20,20 +21,20 @@ use Rattle.cap_replay.specs.Script.{IsOpeningLine}
 use Rattle.cap_replay.specs.World.{BringSteps, at_start, passed, brought, IsStepOf}
 
 -- one more step
-pub makes_more : (made : List Step) (step : Step) (did : Did) (old mid new : WorldState) (before between after : List (Event 2)) → Makes made old mid before between → Outcome step (Ok did) mid new between after → Makes (made ++ step ∷ []) old new before after
+pub makes_more : (made : List Step) (step : Step) (did : Did) (old mid new : WorldState) (before between after : List (Event resources)) → Makes made old mid before between → Outcome step (Ok did) mid new between after → Makes (made ++ step ∷ []) old new before after
 makes_more [] step did old mid new before between after m o =
-    let one : Outcome step (Ok did) old new before after = subst (λ (s : WorldState). Outcome step (Ok did) s new before after) m.0 (subst (λ (es : List (Event 2)). Outcome step (Ok did) mid new es after) m.1 o) in
+    let one : Outcome step (Ok did) old new before after = subst (λ (s : WorldState). Outcome step (Ok did) s new before after) m.0 (subst (λ (es : List (Event resources)). Outcome step (Ok did) mid new es after) m.1 o) in
     (new, after, did, one, (refl, refl))
 makes_more (s ∷ made) step did old mid new before between after m o =
     (m.0, m.1, m.2, m.3, makes_more made step did m.0 mid new m.1 between after m.4 o)
 
-nothing_more : (before after more : List (Event 2)) → after ≡ before ++ more → after ≡ before → more ≡ []
+nothing_more : (before after more : List (Event resources)) → after ≡ before ++ more → after ≡ before → more ≡ []
 nothing_more before after more grows same = append_cancel_left before more [] (sym grows ∙ same ∙ sym (append-nil before))
 
-same_events : (before after more base : List (Event 2)) → after ≡ before ++ more → after ≡ before → base ++ more ≡ base
-same_events before after more base grows same = ap (λ (es : List (Event 2)). base ++ es) (nothing_more before after more grows same) ∙ append-nil base
+same_events : (before after more base : List (Event resources)) → after ≡ before ++ more → after ≡ before → base ++ more ≡ base
+same_events before after more base grows same = ap (λ (es : List (Event resources)). base ++ es) (nothing_more before after more grows same) ∙ append-nil base
 
-feeds_from : (c : ℕ) (piece : List ℕ) (from to : Flat 2) (before after more base : List (Event 2)) (was is : Connection) → after ≡ before ++ more → Feeds c piece from to before after was is → Feeds c piece from to base (base ++ more) was is
+feeds_from : (c : ℕ) (piece : List ℕ) (from to : Flat resources) (before after more base : List (Event resources)) (was is : Connection) → after ≡ before ++ more → Feeds c piece from to before after was is → Feeds c piece from to base (base ++ more) was is
 feeds_from c piece from to before after more base was is grows feeds = record {
   more = feeds.more;
   last = feeds.last;
@@ -42,7 +43,7 @@ feeds_from c piece from to before after more base was is grows feeds = record {
   serves = record {
     calls = feeds.serves.calls;
     continues = feeds.serves.continues;
-    events = ap (λ (es : List (Event 2)). base ++ es) (append_cancel_left before more (as_events c feeds.serves.calls) (sym grows ∙ feeds.serves.events));
+    events = ap (λ (es : List (Event resources)). base ++ es) (append_cancel_left before more (as_events c feeds.serves.calls) (sym grows ∙ feeds.serves.events));
     run = feeds.serves.run;
   };
   stands = feeds.stands;
@@ -50,7 +51,7 @@ feeds_from c piece from to before after more base was is grows feeds = record {
   sent = feeds.sent;
 }
 
-tried_from : (w : ℕ) (old new : WorldState) (before after more base : List (Event 2)) → after ≡ before ++ more → Tried w old new before after → Tried w old new base (base ++ more)
+tried_from : (w : ℕ) (old new : WorldState) (before after more base : List (Event resources)) → after ≡ before ++ more → Tried w old new before after → Tried w old new base (base ++ more)
 tried_from w old new before after more base grows tried = record {
   below = tried.below;
   was = tried.was;
@@ -61,11 +62,11 @@ tried_from w old new before after more base grows tried = record {
   is = tried.is;
   change = tried.change;
   connections = tried.connections;
-  events = ap (λ (es : List (Event 2)). base ++ es) (append_cancel_left before more (made_by tried.verdict) (sym grows ∙ tried.events));
+  events = ap (λ (es : List (Event resources)). base ++ es) (append_cancel_left before more (made_by tried.verdict) (sym grows ∙ tried.events));
 }
 
 -- the same step, after other events
-outcome_from : (step : Step) (did : Did) (old new : WorldState) (before after more base : List (Event 2)) → after ≡ before ++ more → Outcome step (Ok did) old new before after → Outcome step (Ok did) old new base (base ++ more)
+outcome_from : (step : Step) (did : Did) (old new : WorldState) (before after more base : List (Event resources)) → after ≡ before ++ more → Outcome step (Ok did) old new before after → Outcome step (Ok did) old new base (base ++ more)
 outcome_from step dids.Idle old new before after more base grows o = (o.0, o.1, same_events before after more base grows o.2)
 outcome_from (steps.Open c) dids.Done old new before after more base grows o = (o.0, o.1, o.2, o.3, same_events before after more base grows o.4)
 outcome_from (steps.End c) dids.Done old new before after more base grows o = (o.0, o.1, o.2, same_events before after more base grows o.3)
@@ -77,9 +78,9 @@ outcome_from (steps.Propose w start) dids.Done old new before after more base gr
 outcome_from (steps.Commit w) dids.Done old new before after more base grows o = tried_from w old new before after more base grows o
 
 -- a step by the events that the world keeps
-pub outcome_kept : (step : Step) (did : Did) (old new : Known) (before after : List (Event 2)) → Adds old new before after → Outcome step (Ok did) old.sight new.sight before after → Outcome step (Ok did) old.sight new.sight old.events new.events
+pub outcome_kept : (step : Step) (did : Did) (old new : Known) (before after : List (Event resources)) → Adds old new before after → Outcome step (Ok did) old.sight new.sight before after → Outcome step (Ok did) old.sight new.sight old.events new.events
 outcome_kept step did old new before after adds o =
-    subst (λ (es : List (Event 2)). Outcome step (Ok did) old.sight new.sight old.events es) (sym adds.kept) (outcome_from step did old.sight new.sight before after adds.more old.events adds.lent o)
+    subst (λ (es : List (Event resources)). Outcome step (Ok did) old.sight new.sight old.events es) (sym adds.kept) (outcome_from step did old.sight new.sight before after adds.more old.events adds.lent o)
 
 -- opening lines bring no step
 pub bring_none : (done : List (List ℕ)) → All IsOpeningLine done → BringSteps done []

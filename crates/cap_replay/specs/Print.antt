@@ -3,6 +3,7 @@ use Rattle.std.specs.Prelude.{ℕ, List, [], ◌∷◌, ◌++◌, codes, decimal
 use Rattle.std.specs.Prelude.{Option, Some, None}
 use Rattle.std.specs.List.{flat_map}
 use Rattle.hex.specs.Hex.{encode_lower}
+use Rattle.cap_base.specs.Limits.{resources}
 use Rattle.cap_model.specs.declared.event.Event.{Event}
 use Rattle.cap_model.specs.declared.proposal.ProposalKind.{ProposalKind}
 use Rattle.cap_model.specs.declared.proposal.ProposalKind.TheVariants.{Grant, Reserve}
@@ -45,7 +46,7 @@ abbrev pub choice_line : ℕ → Option NodeProposal → List ℕ
 choice_line worker choice = codes "proposed" ++ blanked (worker ∷ []) ++ choice_words choice ++ 10 ∷ []
 
 -- what was made of a proposal
-abbrev pub made_words : Event 2 → List ℕ
+abbrev pub made_words : Event resources → List ℕ
 made_words (Event.Call by request reply) = []
 made_words (Event.Grant container) = codes " grant" ++ blanked (container.number ∷ [])
 made_words (Event.Reserve reservation) = codes " reserve"
@@ -59,6 +60,6 @@ abbrev pub reason_words : Reason → List ℕ
 reason_words reason = blanked (reason_number reason ∷ level_words reason)
 
 -- what became of a proposal, and the line that says it
-abbrev pub verdict_line : ℕ → Verdict 2 → List ℕ
+abbrev pub verdict_line : ℕ → Verdict resources → List ℕ
 verdict_line worker (Done event) = codes "done" ++ blanked (worker ∷ []) ++ made_words event ++ 10 ∷ []
 verdict_line worker (Rejected reason) = codes "rejected" ++ blanked (worker ∷ []) ++ reason_words reason ++ 10 ∷ []

@@ -2,7 +2,8 @@
 use Rattle.std.specs.Prelude.{◌≡◌, ◌<◌, ℕ, List, [], ◌∷◌, Option, None, Some, Ok, length}
 use Rattle.std.specs.List.{All}
 use Rattle.hex.specs.Hex.{decode_of}
-use Rattle.cap_model.specs.Settings.{Settings}
+use Rattle.cap_base.specs.Limits.{resources}
+use Rattle.cap_base.specs.Settings.{Settings}
 use Rattle.cap_model.specs.Flat.{Flat, opened_cluster}
 use Rattle.cap_config.specs.declared.fault.ConfigFault.{ConfigFault}
 use Rattle.cap_config.specs.First.{first_fault, settings_in}
@@ -49,7 +50,7 @@ pub data BringSteps : List (List ℕ) → List Step → Type 0 where
   brought : {line : List ℕ} {step : Step} {lines : List (List ℕ)} {made : List Step} → IsStepOf line step → BringSteps lines made → BringSteps (line ∷ lines) (step ∷ made)
 
 -- the settings of the text have no fault, and this is the cluster that they open
-pub record IsOpenedBy (text : List ℕ) (opening : Flat 2) : Type 0 where
+pub record IsOpenedBy (text : List ℕ) (opening : Flat resources) : Type 0 where
   pub sound : first_fault text ≡ None
   pub settings : Settings
   pub read : settings_in text ≡ Some settings

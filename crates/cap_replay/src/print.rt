@@ -5,6 +5,7 @@ ghost use Rattle.hex.specs.Hex.{encode_lower};
 ghost use Rattle.cap_model.specs.Admission.{reason_number};
 ghost use Rattle.cap_replay.specs.Print.{number_line, fault_line, frame_line, blanked, choice_line, proposal_words, verdict_line, made_words, reason_words};
 
+use cap_base::RESOURCES;
 use cap_model::{Event, Proposal, Reason, Verdict};
 use itoa::{Buffer, Integer};
 use std::alloc::AllocError;
@@ -73,7 +74,7 @@ fn put_numbers(line: &mut Vec<u8>, words: &[u8], numbers: &[u64]) -> Result<(), 
 pub(crate) fn print_choice(
     printed: &mut Vec<u8>,
     worker: u32,
-    choice: Option<Proposal<2>>,
+    choice: Option<Proposal<RESOURCES>>,
 ) -> Result<(), AllocError>
     ensures ok { OnOk result (printed.new.items ≡ printed.old.items ++ choice_line worker choice) }
     ensures err { OnErr result (printed.new.items ≡ printed.old.items) }
@@ -87,7 +88,7 @@ pub(crate) fn print_choice(
 fn put_choice(
     line: &mut Vec<u8>,
     worker: u32,
-    choice: Option<Proposal<2>>,
+    choice: Option<Proposal<RESOURCES>>,
 ) -> Result<(), AllocError>
     ensures { OnOk result (line.new.items ≡ line.old.items ++ choice_line worker choice) }
 {
@@ -100,7 +101,7 @@ fn put_choice(
 }
 
 /// Puts a proposal: its kind, application, priority, allocation request id and node, and its MiB and vcores.
-fn put_proposal(line: &mut Vec<u8>, proposal: &Proposal<2>) -> Result<(), AllocError>
+fn put_proposal(line: &mut Vec<u8>, proposal: &Proposal<RESOURCES>) -> Result<(), AllocError>
     ensures { OnOk result (line.new.items
         ≡ line.old.items ++ proposal_words proposal.now) }
 {
@@ -126,7 +127,7 @@ fn put_proposal(line: &mut Vec<u8>, proposal: &Proposal<2>) -> Result<(), AllocE
 pub(crate) fn print_verdict(
     printed: &mut Vec<u8>,
     worker: u32,
-    verdict: &Verdict<2>,
+    verdict: &Verdict<RESOURCES>,
 ) -> Result<(), AllocError>
     ensures ok { OnOk result (printed.new.items
         ≡ printed.old.items ++ verdict_line worker verdict.now) }
@@ -138,7 +139,11 @@ pub(crate) fn print_verdict(
 }
 
 /// Puts the line of what a worker's commit came to.
-fn put_verdict(line: &mut Vec<u8>, worker: u32, verdict: &Verdict<2>) -> Result<(), AllocError>
+fn put_verdict(
+    line: &mut Vec<u8>,
+    worker: u32,
+    verdict: &Verdict<RESOURCES>,
+) -> Result<(), AllocError>
     ensures { OnOk result (line.new.items
         ≡ line.old.items ++ verdict_line worker verdict.now) }
 {
@@ -156,7 +161,7 @@ fn put_verdict(line: &mut Vec<u8>, worker: u32, verdict: &Verdict<2>) -> Result<
 }
 
 /// Puts the event of a proposal that was made.
-fn put_made(line: &mut Vec<u8>, event: &Event<2>) -> Result<(), AllocError>
+fn put_made(line: &mut Vec<u8>, event: &Event<RESOURCES>) -> Result<(), AllocError>
     ensures { OnOk result (line.new.items ≡ line.old.items ++ made_words event.now) }
 {
     match event {

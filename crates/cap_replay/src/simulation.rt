@@ -8,6 +8,7 @@ ghost use Rattle.cap_replay.specs.World.{Begins, FailsToBegin, Advances};
 
 use crate::settings::Settings;
 use crate::stop::Stop;
+use cap_base::RESOURCES;
 use cap_model::{Event, NoMemory, Proposal, Verdict};
 use cap_world::{Did, Step, World};
 use std::alloc::{AllocError, Global};
@@ -17,7 +18,7 @@ pub(crate) struct Simulation {
     settings: Settings,
     world: Option<World>,
     // The events of one step, printed by nobody.
-    events: Vec<Event<2>>,
+    events: Vec<Event<RESOURCES>>,
 }
 
 impl Drop for Simulation {
@@ -134,7 +135,7 @@ impl Simulation {
     }
 
     /// The proposal of a worker that is not committed yet, if any.
-    pub(crate) fn choice(&self, worker: u32) -> Option<Proposal<2>> {
+    pub(crate) fn choice(&self, worker: u32) -> Option<Proposal<RESOURCES>> {
         match &self.world {
             Some(world) => world.choice(worker),
             None => None,
@@ -142,7 +143,7 @@ impl Simulation {
     }
 
     /// The verdict of a worker's last commit, if any.
-    pub(crate) fn verdict(&self, worker: u32) -> Option<&Verdict<2>> {
+    pub(crate) fn verdict(&self, worker: u32) -> Option<&Verdict<RESOURCES>> {
         match &self.world {
             Some(world) => world.verdict(worker),
             None => None,

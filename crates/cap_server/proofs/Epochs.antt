@@ -1,17 +1,17 @@
 -- Epochs one after the other.
-use Rattle.std.proofs.Common.{◌≡◌, ℕ, ◌+◌, ◌≤◌, List, [], ◌∷◌, ◌++◌, length, length-append, map, min, refl, sym, subst, arith}
+use Rattle.std.proofs.Common.{◌≡◌, ℕ, ◌+◌, ◌≤◌, List, [], ◌∷◌, ◌++◌, length, length-append, min, refl, sym, subst, arith}
 use Rattle.std.specs.List.{flat_map}
 use Rattle.std.proofs.lemmas.List.{flat_map_more}
 use Rattle.std.proofs.lemmas.List.Elements.{All-nil, All-push}
+use Rattle.cap_base.specs.Limits.{resources}
 use Rattle.cap_model.specs.Flat.{Flat}
-use Rattle.cap_model.specs.Events.{Step}
 use Rattle.cap_shared.specs.declared.entry.Entry.{Entry}
 use Rattle.cap_shared.specs.Journal.{Replays}
 use Rattle.cap_server.specs.declared.serving.Totals.{Totals}
 use Rattle.cap_server.specs.Epochs.{LeadsTo, LeadsThrough, count_max, one_more, totals_of}
 
-Replays-append : (es fs : List Entry) (a b c : Flat 2) → Replays a es b → Replays b fs c → Replays a (es ++ fs) c
-Replays-append [] fs a b c r s = subst (λ (x : Flat 2). Replays x fs c) (sym r) s
+Replays-append : (es fs : List Entry) (a b c : Flat resources) → Replays a es b → Replays b fs c → Replays a (es ++ fs) c
+Replays-append [] fs a b c r s = subst (λ (x : Flat resources). Replays x fs c) (sym r) s
 Replays-append (e ∷ es) fs a b c r s = (r.0, r.1, Replays-append es fs r.0 b c r.2 s)
 
 min_more : (a b m : ℕ) → min (min a m + b) m ≡ min (a + b) m
@@ -27,11 +27,11 @@ totals_more journals journal totals n is count =
     rw (is, all, epochs, min_more (length journals) 1 count_max, min_more (length (flat_map (λ it. it) journals)) n count_max) refl
 
 -- before the first epoch
-pub through_none : (limit : ℕ) (s : Flat 2) → LeadsThrough limit s (record { epochs = 0; entries = 0 }) s
+pub through_none : (limit : ℕ) (s : Flat resources) → LeadsThrough limit s (record { epochs = 0; entries = 0 }) s
 through_none limit s = record { journals = []; run = refl; counts = refl; within = All-nil (λ it. length it ≤ limit) }
 
 -- one epoch more
-pub through_more : (limit n : ℕ) (s m t : Flat 2) (totals : Totals) → LeadsThrough limit s totals m → LeadsTo limit m n t
+pub through_more : (limit n : ℕ) (s m t : Flat resources) (totals : Totals) → LeadsThrough limit s totals m → LeadsTo limit m n t
     → LeadsThrough limit s (one_more totals n) t
 through_more limit n s m t totals h k = record {
   journals = h.journals ++ k.journal ∷ [];

@@ -6,6 +6,7 @@ ghost use Rattle.cap_workers.specs.Sessions.{pending_request, IsServed};
 use crate::poller::Poller;
 use crate::signal::EndSignal;
 use crate::streams::{Backlog, Incoming, Outgoing, Sender};
+use cap_base::RESOURCES;
 use cap_model::Request;
 use cap_session::{Counted, Session};
 use cap_shared::{Naming, Seat, Shared};
@@ -33,25 +34,17 @@ struct ClientSocket {
 }
 
 /// A session that has not ended, and its open request, if it has one.
+#[derive(Drop)]
 struct OpenSession {
     session: Session,
-    pending: Option<Request<2>>,
+    pending: Option<Request<RESOURCES>>,
     ghost goes_on: { session.ended ≡ None },
     ghost open: { pending ≡ pending_request session.open_request },
 }
 
-impl Drop for OpenSession {
-    fn drop(self) {
-        let OpenSession {
-            session: _,
-            pending: _,
-        } = self;
-    }
-}
-
 impl OpenSession {
     /// Its session, and the open request.
-    fn into_parts(self) -> (Session, Option<Request<2>>)
+    fn into_parts(self) -> (Session, Option<Request<RESOURCES>>)
         ensures goes_on { result.0.ended ≡ None }
         ensures open { result.1 ≡ pending_request result.0.open_request }
     {
@@ -298,7 +291,7 @@ fn serve_stream<'x, J: Naming, H: Wait + Clock>(
     shared: &Shared<J>,
     seat: &mut Seat<J>,
     session: Session,
-    pending: Option<Request<2>>,
+    pending: Option<Request<RESOURCES>>,
     stream: &'x TcpStream,
     poller: &'x mut Poller,
     taking: &'x mut Poller,

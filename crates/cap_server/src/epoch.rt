@@ -6,6 +6,7 @@ use crate::participants::{EpochThreads, Lanes, Participants};
 use crate::state::SharedState;
 use crate::task::Records;
 use crate::threads::run_threads;
+use cap_base::RESOURCES;
 use cap_commit::Cluster;
 use cap_model::NoMemory;
 use cap_shared::{Blank, Closed, Naming, Seat, Shared};
@@ -18,25 +19,16 @@ use std::thread::Threads;
 use std::time::Clock;
 
 /// What goes from one epoch to the next: the cluster, and who works on it; and how many entries the last journal had.
+#[derive(Drop)]
 pub(crate) struct Carried<'a> {
-    pub cluster: Cluster<2>,
+    pub cluster: Cluster<RESOURCES>,
     pub participants: Participants<'a>,
     pub entries: usize,
 }
 
-impl Drop for Carried<'_> {
-    fn drop(self) {
-        let Carried {
-            cluster: _,
-            participants: _,
-            entries: _,
-        } = self;
-    }
-}
-
 impl<'a> Carried<'a> {
     /// The cluster, and who works on it.
-    fn into_parts(self) -> (Cluster<2>, Participants<'a>)
+    fn into_parts(self) -> (Cluster<RESOURCES>, Participants<'a>)
         ensures { result.0.flat ≡ self.entry.cluster.flat }
     {
         let Carried {
@@ -78,7 +70,7 @@ fn named_epoch<
     rt: &H,
     alloc: Global,
     blank: Blank,
-    cluster: Cluster<2>,
+    cluster: Cluster<RESOURCES>,
     participants: Participants<'a>,
     state: &SharedState<'_, G>,
 ) -> Result<Carried<'a>, NoMemory>

@@ -13,22 +13,12 @@ use std::sync::Wait;
 use std::thread::{JoinHandle, Threads};
 
 /// Who works on from epoch to epoch, and what is left of the last one.
+#[derive(Drop)]
 pub(crate) struct Participants<'a> {
     pub acceptor: Acceptor<'a>,
     pub connections: Vec<Connection>,
     pub workers: Vec<Worker>,
     pub records: Option<Records>,
-}
-
-impl Drop for Participants<'_> {
-    fn drop(self) {
-        let Participants {
-            acceptor: _,
-            connections: _,
-            workers: _,
-            records: _,
-        } = self;
-    }
 }
 
 impl<'a> Participants<'a> {
@@ -63,18 +53,10 @@ impl<'a> Participants<'a> {
 }
 
 /// Both ends of the lanes of an epoch, or nothing.
+#[derive(Drop)]
 pub(crate) struct Lanes {
     pub committer: Option<Committer>,
     pub putters: Vec<Putter>,
-}
-
-impl Drop for Lanes {
-    fn drop(self) {
-        let Lanes {
-            committer: _,
-            putters: _,
-        } = self;
-    }
 }
 
 impl Lanes {
@@ -106,6 +88,7 @@ impl Lanes {
 }
 
 /// The threads of an epoch, and what is to be given back when it ends.
+#[derive(Drop)]
 pub(crate) struct EpochThreads<J: Naming> {
     /// Those that nobody has.
     pub seats: Vec<Seat<J>>,
@@ -117,19 +100,6 @@ pub(crate) struct EpochThreads<J: Naming> {
     pub workers: Vec<Worker>,
     /// Whether an allocation failed, or a thread could not be made.
     pub has_failed: bool,
-}
-
-impl<J: Naming> Drop for EpochThreads<J> {
-    fn drop(self) {
-        let EpochThreads {
-            seats: _,
-            threads: _,
-            waiting: _,
-            connections: _,
-            workers: _,
-            has_failed: _,
-        } = self;
-    }
 }
 
 impl<J: Naming> EpochThreads<J> {

@@ -9,6 +9,7 @@ use crate::epoch::{Carried, epoch};
 use crate::participants::Participants;
 use crate::signal::EndSignal;
 use crate::state::SharedState;
+use cap_base::RESOURCES;
 use cap_commit::Cluster;
 use cap_config::Config;
 use cap_model::NoMemory;
@@ -82,7 +83,7 @@ pub fn serve_on<H: Net + Threads + Wait + Clock + Eprint + Sync, G: Gate + Sync,
     alloc: Global,
     listener: &TcpListener,
     sizes: &Sizes,
-    config: &Config<2>,
+    config: &Config<RESOURCES>,
     gate: &G,
     writer: &mut Counted<W>,
 ) -> u8
@@ -208,7 +209,7 @@ fn port_of(listener: &TcpListener) -> Option<u16> {
 /// The cluster of the settings, and the workers. An error means that an allocation failed.
 fn begin<'a>(
     alloc: Global,
-    config: &Config<2>,
+    config: &Config<RESOURCES>,
     sizes: &Sizes,
     acceptor: Acceptor<'a>,
 ) -> Result<Carried<'a>, NoMemory> {

@@ -10,18 +10,10 @@ use std::sync::Wait;
 use std::time::Clock;
 
 /// What is left of a closed epoch beside its cluster.
+#[derive(Drop)]
 pub(crate) struct Records {
     pub journal: Vec<Entry>,
     pub seats: Vec<SeatReport>,
-}
-
-impl Drop for Records {
-    fn drop(self) {
-        let Records {
-            journal: _,
-            seats: _,
-        } = self;
-    }
 }
 
 /// What a thread does in an epoch that serves no connection.
@@ -43,18 +35,10 @@ pub(crate) enum Remains {
 }
 
 /// A task that was done in an epoch, and the seat that it was done with.
+#[derive(Drop)]
 pub(crate) struct Done<J: Naming> {
     pub remains: Remains,
     pub seat: Seat<J>,
-}
-
-impl<J: Naming> Drop for Done<J> {
-    fn drop(self) {
-        let Done {
-            remains: _,
-            seat: _,
-        } = self;
-    }
 }
 
 impl<J: Naming> Done<J> {

@@ -1,6 +1,7 @@
 -- What was answered answers what was fed, whatever comes next.
 use Rattle.std.proofs.Common.{◌≡◌, ℕ, List, [], ◌∷◌, ◌++◌, Option, Some, None, refl, ap, ap₂, sym, ◌∙◌, subst, append_assoc, append-nil, take, drop}
 use Rattle.std.proofs.lemmas.List.{take-append-drop}
+use Rattle.cap_base.specs.Limits.{resources}
 use Rattle.cap_model.specs.News.{Reply}
 use Rattle.cap_frames.specs.Stream.{frame_of, fault, IsStream}
 use Rattle.cap_grammar.specs.Spelling.{IsNoRequest, fault_reply}
@@ -22,7 +23,7 @@ answers_more {qs} {ds} {more} (refused {payload} {payloads} {calls} {output} is 
 pub one_refused : (payload : List ℕ) → IsNoRequest payload → Answers (payload ∷ []) [] (frame_of (fault_reply 41))
 one_refused payload is = subst (λ (x : List ℕ). Answers (payload ∷ []) [] x) (append-nil (frame_of (fault_reply 41))) (refused is nothing)
 
-pub one_replied : (o : OpenRequest) (reply : Reply 2) → SpellsAnswer (Some o) reply → Answers (o.payload ∷ []) (record { request = o.request; reply = reply } ∷ []) (frame_of (answer_bytes o reply))
+pub one_replied : (o : OpenRequest) (reply : Reply resources) → SpellsAnswer (Some o) reply → Answers (o.payload ∷ []) (record { request = o.request; reply = reply } ∷ []) (frame_of (answer_bytes o reply))
 one_replied o reply is =
     subst (λ (x : List ℕ). Answers (o.payload ∷ []) (record { request = o.request; reply = reply } ∷ []) x) (append-nil (frame_of (answer_bytes o reply))) (replied {call = record { request = o.request; reply = reply }} is.0 is.1 nothing)
 
@@ -73,13 +74,13 @@ answered_fault s t payloads frames after old answers done calls sent unsent ende
     )
 
 -- an answer
-answers_one : (s t : SessionState) (o : OpenRequest) (reply : Reply 2) → Answers s.answered s.calls (all_answers s) → SpellsAnswer (Some o) reply → t ≡ with_answer s (Some o) reply → Answers t.answered t.calls (all_answers t)
+answers_one : (s t : SessionState) (o : OpenRequest) (reply : Reply resources) → Answers s.answered s.calls (all_answers s) → SpellsAnswer (Some o) reply → t ≡ with_answer s (Some o) reply → Answers t.answered t.calls (all_answers t)
 answers_one s t o reply old is now =
     subst (λ (v : SessionState). Answers v.answered v.calls (all_answers v)) (sym now)
     (subst (λ (x : List ℕ). Answers (s.answered ++ o.payload ∷ []) (s.calls ++ record { request = o.request; reply = reply } ∷ []) x) (append_assoc s.sent s.unsent (frame_of (answer_bytes o reply))) (answers_more old (one_replied o reply is)))
 
 -- the open request is answered; none is open after a length that no frame has
-pub answered_answer : (c : Option Cause) (s t : SessionState) (o : OpenRequest) (reply : Reply 2) → (c ≡ Some causes.BadLength → ⊥) → AnswersBy c s → SpellsAnswer (Some o) reply → t ≡ with_answer s (Some o) reply → AnswersBy c t
+pub answered_answer : (c : Option Cause) (s t : SessionState) (o : OpenRequest) (reply : Reply resources) → (c ≡ Some causes.BadLength → ⊥) → AnswersBy c s → SpellsAnswer (Some o) reply → t ≡ with_answer s (Some o) reply → AnswersBy c t
 answered_answer None s t o reply none old is now = answers_one s t o reply old is now
 answered_answer (Some causes.NoMemory) s t o reply none old is now = answers_one s t o reply old is now
 answered_answer (Some causes.WriteFault) s t o reply none old is now = answers_one s t o reply old is now

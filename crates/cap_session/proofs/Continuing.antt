@@ -1,5 +1,6 @@
 -- What was fed and answered since, whatever comes next.
 use Rattle.std.proofs.Common.{◌≡◌, ℕ, List, [], ◌∷◌, ◌++◌, Some, refl, ap, ap₂, sym, ◌∙◌, subst, append_assoc, append-nil}
+use Rattle.cap_base.specs.Limits.{resources}
 use Rattle.cap_model.specs.News.{Reply}
 use Rattle.cap_frames.specs.Stream.{frame_of}
 use Rattle.cap_session.specs.Answers.{Call, Answers, nothing}
@@ -43,7 +44,7 @@ continues_bad s t payloads frames last answers fed answered calls sent unsent = 
 }
 
 -- the open request was answered
-pub continues_answer : (s t : SessionState) (o : OpenRequest) (reply : Reply 2) → SpellsAnswer (Some o) reply → t ≡ with_answer s (Some o) reply → Continues s t [] (record { request = o.request; reply = reply } ∷ []) []
+pub continues_answer : (s t : SessionState) (o : OpenRequest) (reply : Reply resources) → SpellsAnswer (Some o) reply → t ≡ with_answer s (Some o) reply → Continues s t [] (record { request = o.request; reply = reply } ∷ []) []
 continues_answer s t o reply spells now = subst (λ (x : SessionState). Continues s x [] (record { request = o.request; reply = reply } ∷ []) []) (sym now) (record {
   payloads = o.payload ∷ [];
   frames = frame_of (answer_bytes o reply);

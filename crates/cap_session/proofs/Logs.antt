@@ -3,23 +3,24 @@ use Rattle.std.proofs.Common.{◌≡◌, ℕ, List, [], ◌∷◌, ◌++◌, Som
 use Rattle.std.proofs.lemmas.List.{flat_map_more}
 use Rattle.bytes.specs.Filled.{Filled}
 use Rattle.http_server.specs.declared.log.Log.{Log}
+use Rattle.cap_base.specs.Limits.{resources}
 use Rattle.cap_model.specs.declared.request.Request.{Request}
 use Rattle.cap_model.specs.News.{Reply}
 use Rattle.cap_session.specs.declared.asked.Head.{Head}
 use Rattle.cap_session.specs.Kept.{AnswerLog, calls_in, answered_in, calls_of, open_of, sent_in, IsHeadOf}
 use Rattle.cap_session.specs.Asked.{ReadResult, PayloadLog, payloads_in}
 
-pub answered_more : (log : AnswerLog) (l : Log Filled ReadResult) (r : Log (Reply 2) (Unit {0})) → answered_in (log ++ (l, r) ∷ []) ≡ answered_in log ++ payloads_in l.items
-answered_more log l r = sym (flat_map_more (λ (e : Log Filled ReadResult × Log (Reply 2) (Unit {0})). payloads_in e.0.items) [] log (l, r))
+pub answered_more : (log : AnswerLog) (l : Log Filled ReadResult) (r : Log (Reply resources) (Unit {0})) → answered_in (log ++ (l, r) ∷ []) ≡ answered_in log ++ payloads_in l.items
+answered_more log l r = sym (flat_map_more (λ (e : Log Filled ReadResult × Log (Reply resources) (Unit {0})). payloads_in e.0.items) [] log (l, r))
 
-pub calls_more : (log : AnswerLog) (l : Log Filled ReadResult) (r : Log (Reply 2) (Unit {0})) → calls_of (log ++ (l, r) ∷ []) ≡ calls_of log ++ calls_in l.items r.items
-calls_more log l r = sym (flat_map_more (λ (e : Log Filled ReadResult × Log (Reply 2) (Unit {0})). calls_in e.0.items e.1.items) [] log (l, r))
+pub calls_more : (log : AnswerLog) (l : Log Filled ReadResult) (r : Log (Reply resources) (Unit {0})) → calls_of (log ++ (l, r) ∷ []) ≡ calls_of log ++ calls_in l.items r.items
+calls_more log l r = sym (flat_map_more (λ (e : Log Filled ReadResult × Log (Reply resources) (Unit {0})). calls_in e.0.items e.1.items) [] log (l, r))
 
 pub sent_more : (log : List (Filled × ℕ)) (b : Filled) (n : ℕ) → sent_in (log ++ (b, n) ∷ []) ≡ sent_in log ++ take n b.items
 sent_more log b n = sym (flat_map_more (λ (e : Filled × ℕ). take e.1 e.0.items) [] log (b, n))
 
 -- the one payload that is open
-pub opened_is : (head : Head) (log : PayloadLog) → IsHeadOf (open_of (Some head) log) (Some head) → (p : Filled) × (x : ℕ × Request 2) × (log ≡ (p, Ok x) ∷ [])
+pub opened_is : (head : Head) (log : PayloadLog) → IsHeadOf (open_of (Some head) log) (Some head) → (p : Filled) × (x : ℕ × Request resources) × (log ≡ (p, Ok x) ∷ [])
 opened_is head [] h = absurd h
 opened_is head ((p, Err e) ∷ []) h = absurd h
 opened_is head ((p, Err e) ∷ (q ∷ log)) h = absurd h

@@ -2,6 +2,7 @@
 use Rattle.std.proofs.Common.{◌≡◌, ℕ, ◌-◌, ◌≤◌, List, [], ◌∷◌, ◌++◌, Bool, true, false, Option, Some, None, Result, Ok, Err, IfOk, IsErrOf, OnOk, OnErr, ◌↔◌, arith, rules, refl, ap, ap₂, sym, ◌∙◌, subst, append_assoc, append-nil, length, length-append, take}
 use Rattle.std.proofs.lemmas.List.{map-append}
 use Rattle.bytes.specs.Filled.{Filled}
+use Rattle.cap_base.specs.Limits.{resources}
 use Rattle.cap_model.specs.declared.request.Request.{Request}
 use Rattle.cap_frames.specs.Stream.{rest, fault, IsStream}
 use Rattle.cap_frames.specs.declared.fault.FrameFault.{FrameFault}
@@ -66,11 +67,11 @@ takes_asked a b given first has was f r = record {
 }
 
 -- a request that was read ahead spells what was read
-pub opens_asked : (o : OpenRequest) (head : Head) (opened : PayloadLog) (q : Request 2) → HasParts o head opened → q ≡ o.request → (is : IsOpened opened (Ok (head.call_id, q))) × (o.payload ≡ is.payload.items)
+pub opens_asked : (o : OpenRequest) (head : Head) (opened : PayloadLog) (q : Request resources) → HasParts o head opened → q ≡ o.request → (is : IsOpened opened (Ok (head.call_id, q))) × (o.payload ≡ is.payload.items)
 opens_asked o head opened q has same = (
   record {
     payload = has.payload;
-    one = has.one ∙ ap (λ (x : Request 2). (has.payload, Ok (head.call_id, x)) ∷ []) (sym same);
+    one = has.one ∙ ap (λ (x : Request resources). (has.payload, Ok (head.call_id, x)) ∷ []) (sym same);
     reads = rw (← has.payload_is, ← has.call_id, same) has.reads;
   },
   has.payload_is,
@@ -142,14 +143,14 @@ opens p bytes read none opened same found bad empty is = record {
   reads = subst (λ (x : List ℕ). IsReadFrom x read) same (read_from bytes read found bad);
 }
 
-pub reads_none : (h : History) (asked : List OpenRequest) (requests : List (Request 2)) → ReadsAhead h h asked asked requests requests None
+pub reads_none : (h : History) (asked : List OpenRequest) (requests : List (Request resources)) → ReadsAhead h h asked asked requests requests None
 reads_none h asked requests = record { more = []; asked = sym (append-nil asked); requests = sym (append-nil requests); fed = refl; given = sym (append-nil h.given) }
 
-pub reads_more : {h k : History} {old was : List OpenRequest} {had has : List (Request 2)} (m : History) (o : OpenRequest) (now : List OpenRequest) (have : List (Request 2)) → ReadsAhead h k old was had has None → m ≡ after_gift k o.payload → now ≡ was ++ o ∷ [] → have ≡ has ++ o.request ∷ [] → ReadsAhead h m old now had have None
+pub reads_more : {h k : History} {old was : List OpenRequest} {had has : List (Request resources)} (m : History) (o : OpenRequest) (now : List OpenRequest) (have : List (Request resources)) → ReadsAhead h k old was had has None → m ≡ after_gift k o.payload → now ≡ was ++ o ∷ [] → have ≡ has ++ o.request ∷ [] → ReadsAhead h m old now had have None
 reads_more {h} {k} {old} {was} {had} {has} m o now have r gift added requested = record {
   more = r.more ++ o ∷ [];
   asked = added ∙ ap (λ (x : List OpenRequest). x ++ o ∷ []) r.asked ∙ append_assoc old r.more (o ∷ []);
-  requests = requested ∙ ap (λ (x : List (Request 2)). x ++ o.request ∷ []) r.requests ∙ append_assoc had (asked_requests r.more) (o.request ∷ []) ∙ ap (λ (x : List (Request 2)). had ++ x) (sym (map-append (λ (x : OpenRequest). x.request) r.more (o ∷ [])));
+  requests = requested ∙ ap (λ (x : List (Request resources)). x ++ o.request ∷ []) r.requests ∙ append_assoc had (asked_requests r.more) (o.request ∷ []) ∙ ap (λ (x : List (Request resources)). had ++ x) (sym (map-append (λ (x : OpenRequest). x.request) r.more (o ∷ [])));
   fed = ap (λ (x : History). x.fed) gift ∙ r.fed;
   given = ap (λ (x : History). x.given) gift ∙ ap (λ (x : List (List ℕ)). x ++ o.payload ∷ []) r.given ∙ ap (λ (x : List (List ℕ)). (h.given ++ x) ++ o.payload ∷ []) (append-nil (asked_payloads r.more))
       ∙ append_assoc h.given (asked_payloads r.more) (o.payload ∷ []) ∙ ap (λ (x : List (List ℕ)). h.given ++ x) (sym (append-nil (asked_payloads r.more ++ o.payload ∷ [])) ∙ ap (λ (x : List (List ℕ)). x ++ []) (sym (map-append (λ (x : OpenRequest). x.payload) r.more (o ∷ []))));

@@ -2,6 +2,7 @@
 use Rattle.std.proofs.Common.{◌≡◌, ℕ, false, List, [], ◌∷◌, ◌++◌, Option, Some, None, Err, refl, ap, ap₂, sym, ◌∙◌, subst, append_assoc, append-nil}
 use Rattle.bytes.specs.Filled.{Filled}
 use Rattle.http_server.specs.declared.log.Log.{Log}
+use Rattle.cap_base.specs.Limits.{resources}
 use Rattle.cap_model.specs.declared.request.Request.{Request}
 use Rattle.cap_model.specs.News.{Reply}
 use Rattle.cap_frames.specs.Stream.{frame_of, rest, fault, IsStream}
@@ -42,7 +43,7 @@ bad_given {h} {k} m p r gift = (
 )
 
 -- and answered
-pub bad_more : {h k : History} {u v : List ℕ} {old log : AnswerLog} (m : History) (w : List ℕ) (new : AnswerLog) (p : Filled) (e : MessageFault) (l : Log Filled ReadResult) (none : Log (Reply 2) (Unit {0})) → AnswersAllBad h k u v old log → m ≡ after_gift k p.items → IsNoRequest p.items → w ≡ v ++ frame_of (fault_reply 41)
+pub bad_more : {h k : History} {u v : List ℕ} {old log : AnswerLog} (m : History) (w : List ℕ) (new : AnswerLog) (p : Filled) (e : MessageFault) (l : Log Filled ReadResult) (none : Log (Reply resources) (Unit {0})) → AnswersAllBad h k u v old log → m ≡ after_gift k p.items → IsNoRequest p.items → w ≡ v ++ frame_of (fault_reply 41)
     → l.items ≡ (p, Err e) ∷ [] → none.items ≡ [] → new ≡ log ++ (l, none) ∷ [] → AnswersAllBad h m u w old new
 bad_more {h} {k} {u} {v} {old} {log} m w new p e l none r gift is said one empty more =
     let given = bad_given m p.items r gift in
@@ -131,7 +132,7 @@ still_none s t kept none i o =
 given_none : (t : Inside) (lost : List (List ℕ)) → NoneOpen t → t.payloads.given ≡ answered_in t.answered.items ++ lost → t.payloads.given ≡ answered_in t.answered.items ++ (open_payload (open_of t.head t.opened.items) ++ lost)
 given_none t lost is given = given ∙ ap (λ (o : Option OpenRequest). answered_in t.answered.items ++ (open_payload o ++ lost)) (sym is.none)
 
-pub asks : (s t : Inside) (head : Head) (opened : Log Filled ReadResult) (request : Request 2) → IsKept s → s.ended ≡ None → open_of s.head s.opened.items ≡ None → Finds s.payloads t.payloads s.unsent t.unsent s.answered.items t.answered.items (found.Request head opened request)
+pub asks : (s t : Inside) (head : Head) (opened : Log Filled ReadResult) (request : Request resources) → IsKept s → s.ended ≡ None → open_of s.head s.opened.items ≡ None → Finds s.payloads t.payloads s.unsent t.unsent s.answered.items t.answered.items (found.Request head opened request)
     → t.head ≡ Some head → t.opened ≡ opened → t.ended ≡ s.ended → t.sent ≡ s.sent → IsKept t × NextGives (state_inside s) (state_inside t) (nexts.Request request)
 asks s t head opened request kept over none (payloads, frames, p, step, given, ready, reading, one, is, kind, room) i o e g =
     let now_open : OpenRequest = record { payload = p.items; call_id = head.call_id; request = request } in
@@ -232,7 +233,7 @@ rests s t kept over none (all, at) i o e g =
 
 -- what is open, by its head and the log of its payload
 pub opens : (s : Inside) (head : Head) → IsKept s → s.head ≡ Some head → (o : OpenRequest) × (open_of s.head s.opened.items ≡ Some o) × (head.call_id ≡ o.call_id) × (head.kind ≡ kind_of o.request) × (payloads_in s.opened.items ≡ o.payload ∷ [])
-    × ((r : Reply 2) → calls_in s.opened.items ((r, tt) ∷ []) ≡ record { request = o.request; reply = r } ∷ [])
+    × ((r : Reply resources) → calls_in s.opened.items ((r, tt) ∷ []) ≡ record { request = o.request; reply = r } ∷ [])
 opens s head kept i =
     let of : IsHeadOf (open_of (Some head) s.opened.items) (Some head) = subst (λ (x : Option Head). IsHeadOf (open_of x s.opened.items) x) i kept.head in
     let one = opened_is head s.opened.items of in
@@ -244,13 +245,13 @@ opens s head kept i =
 some_none : (o : OpenRequest) → Some o ≡ None → ⊥
 some_none o is = cc
 
-pub answers_it : (s t : Inside) (head : Head) (o : OpenRequest) (reply : Reply 2) (replies : Log (Reply 2) (Unit {0})) → IsKept s → open_of s.head s.opened.items ≡ Some o → payloads_in s.opened.items ≡ o.payload ∷ [] → calls_in s.opened.items ((reply, tt) ∷ []) ≡ record { request = o.request; reply = reply } ∷ [] → SpellsAnswer (Some o) reply
+pub answers_it : (s t : Inside) (head : Head) (o : OpenRequest) (reply : Reply resources) (replies : Log (Reply resources) (Unit {0})) → IsKept s → open_of s.head s.opened.items ≡ Some o → payloads_in s.opened.items ≡ o.payload ∷ [] → calls_in s.opened.items ((reply, tt) ∷ []) ≡ record { request = o.request; reply = reply } ∷ [] → SpellsAnswer (Some o) reply
     → t.payloads ≡ s.payloads → t.head ≡ None → t.ended ≡ s.ended → replies.items ≡ (reply, tt) ∷ [] → t.answered.items ≡ s.answered.items ++ (s.opened, replies) ∷ [] → t.sent ≡ s.sent → t.unsent.items ≡ s.unsent.items ++ frame_of (answer_bytes o reply) → IsKept t × (state_inside t ≡ after_answer (state_inside s) reply)
 answers_it s t head o reply replies kept opens payload call spells f none e r d g u =
     let empty : open_of t.head t.opened.items ≡ None = ap (λ (x : Option Head). open_of x t.opened.items) none in
     let answered : answered_in t.answered.items ≡ answered_in s.answered.items ++ o.payload ∷ [] = ap answered_in d ∙ answered_more s.answered.items s.opened replies ∙ ap (λ (x : List (List ℕ)). answered_in s.answered.items ++ x) payload in
     let calls : calls_of t.answered.items ≡ calls_of s.answered.items ++ record { request = o.request; reply = reply } ∷ [] =
-    ap calls_of d ∙ calls_more s.answered.items s.opened replies ∙ ap (λ (x : List (Reply 2 × Unit {0})). calls_of s.answered.items ++ calls_in s.opened.items x) r ∙ ap (λ x. calls_of s.answered.items ++ x) call in
+    ap calls_of d ∙ calls_more s.answered.items s.opened replies ∙ ap (λ (x : List (Reply resources × Unit {0})). calls_of s.answered.items ++ calls_in s.opened.items x) r ∙ ap (λ x. calls_of s.answered.items ++ x) call in
     let fed : t.payloads.fed ≡ s.payloads.fed = ap (λ (h : History). h.fed) f in
     let sent : sent_in t.sent.items ≡ sent_in s.sent.items = ap (λ (l : Log Filled ℕ). sent_in l.items) g in
     let now : state_inside t ≡ with_answer (state_inside s) (Some o) reply = cc in (

@@ -1,5 +1,6 @@
 -- What was read ahead of a stream.
 use Rattle.std.specs.Prelude.{◌≡◌, ℕ, ◌-◌, ◌≤◌, ◌++◌, ◌∷◌, List, [], Option, Some, None, false, length, map, take}
+use Rattle.cap_base.specs.Limits.{resources}
 use Rattle.cap_model.specs.declared.request.Request.{Request}
 use Rattle.cap_frames.specs.History.{History, IsReading}
 use Rattle.cap_session.specs.Session.{OpenRequest}
@@ -10,7 +11,7 @@ use Rattle.cap_session.specs.declared.payloads.TheConstants.{AHEAD_MAX}
 abbrev pub asked_payloads : List OpenRequest → List (List ℕ)
 asked_payloads asked = map (λ o. o.payload) asked
 
-abbrev pub asked_requests : List OpenRequest → List (Request 2)
+abbrev pub asked_requests : List OpenRequest → List (Request resources)
 asked_requests asked = map (λ o. o.request) asked
 
 abbrev pub refused_payloads : Option (List ℕ) → List (List ℕ)
@@ -32,5 +33,5 @@ pub record HasGiven (given : List (List ℕ)) (a : Ahead) : Type 0 where
   pub reading : IsReading a.framer
 
 -- these requests were read ahead
-abbrev pub HasRequests : Ahead → List (Request 2) → Type 0
+abbrev pub HasRequests : Ahead → List (Request resources) → Type 0
 HasRequests a requests = requests ≡ asked_requests a.asked.items

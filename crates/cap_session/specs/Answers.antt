@@ -1,5 +1,6 @@
 -- What a connection is answered.
 use Rattle.std.specs.Prelude.{◌≡◌, ℕ, List, [], ◌∷◌, ◌++◌}
+use Rattle.cap_base.specs.Limits.{resources}
 use Rattle.cap_model.specs.declared.request.Request.{Request}
 use Rattle.cap_model.specs.News.{Reply}
 use Rattle.cap_frames.specs.Stream.{frame_of, Tail, rest, fault}
@@ -7,8 +8,8 @@ use Rattle.cap_grammar.specs.Spelling.{IsRequest, IsNoRequest, IsReply, kind_of,
 
 -- a request with its reply
 pub record Call : Type 0 where
-  pub request : Request 2
-  pub reply : Reply 2
+  pub request : Request resources
+  pub reply : Reply resources
 
 -- The frames that answer these payloads, one each. A payload that is a request is the next call's, and the frame spells that call's
 -- reply under the payload's call id and kind; for a payload that is none the frame is the fault reply 41. No call is left over.

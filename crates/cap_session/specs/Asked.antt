@@ -1,6 +1,7 @@
 -- What was read from payloads.
 use Rattle.std.specs.Prelude.{◌≡◌, ℕ, ◌∷◌, List, [], Result, Ok, Err, map}
 use Rattle.bytes.specs.Filled.{Filled}
+use Rattle.cap_base.specs.Limits.{resources}
 use Rattle.cap_model.specs.declared.request.Request.{Request}
 use Rattle.cap_model.specs.declared.request.Request.TheVariants as requests
 use Rattle.cap_grammar.specs.declared.fault.MessageFault.{MessageFault}
@@ -11,7 +12,7 @@ use Rattle.cap_session.specs.declared.asked.Head.{Head}
 
 -- what was read from a payload
 abbrev pub ReadResult : Type 0
-ReadResult = Result (ℕ × Request 2) MessageFault
+ReadResult = Result (ℕ × Request resources) MessageFault
 
 -- payloads with what was read from them
 abbrev pub PayloadLog : Type 0
@@ -45,7 +46,7 @@ first_payload opened = []
 -- a log has one payload, which is a request of this head
 pub record IsAsked (opened : PayloadLog) (head : Head) : Type 0 where
   pub payload : Filled
-  pub request : Request 2
+  pub request : Request resources
   pub one : opened ≡ (payload, Ok (head.call_id, request)) ∷ []
   pub reads : IsRequest payload.items head.call_id request
   pub kind : head.kind ≡ kind_of request

@@ -1,5 +1,6 @@
 -- A session whose requests were handed out together.
 use Rattle.std.specs.Prelude.{◌≡◌, ℕ, ◌*◌, ◌≤◌, ◌++◌, ◌∷◌, List, [], Some, length}
+use Rattle.cap_base.specs.Limits.{resources}
 use Rattle.cap_model.specs.declared.request.Request.{Request}
 use Rattle.cap_model.specs.News.{Reply}
 use Rattle.cap_grammar.specs.Spelling.{IsOfKind, kind_of}
@@ -28,28 +29,28 @@ pub record IsBatch (b : Inside) : Type 0 where
   pub answers : Answers (answered_in b.answered.items) (calls_of b.answered.items) (sent_in b.sent.items ++ b.unsent.items)
 
 -- the session with its requests, which were handed out, and a list with room for their replies
-pub record HandsOut (s : SessionState) (b : BatchState) (handed : List (Request 2)) (replies : List (Reply 2)) (free : ℕ) : Type 0 where
+pub record HandsOut (s : SessionState) (b : BatchState) (handed : List (Request resources)) (replies : List (Reply resources)) (free : ℕ) : Type 0 where
   pub session : b.session ≡ s
   pub requests : handed ≡ asked_requests b.asked
   pub none_yet : replies ≡ []
   pub room : length handed ≤ free
 
 -- the reply is a refusal or one of the first request's kind
-abbrev pub MayAnswerFirst : List OpenRequest → Reply 2 → Type 0
+abbrev pub MayAnswerFirst : List OpenRequest → Reply resources → Type 0
 MayAnswerFirst [] reply = ⊥
 MayAnswerFirst (o ∷ asked) reply = IsOfKind (kind_of o.request) reply
 
 -- the first request was answered
-abbrev pub after_first : SessionState → List OpenRequest → Reply 2 → BatchState
+abbrev pub after_first : SessionState → List OpenRequest → Reply resources → BatchState
 after_first s [] reply = record { session = s; asked = [] }
 after_first s (o ∷ asked) reply = record { session = with_answer s (Some o) reply; asked = asked }
 
-abbrev pub SpellsFirst : List OpenRequest → Reply 2 → Type 0
+abbrev pub SpellsFirst : List OpenRequest → Reply resources → Type 0
 SpellsFirst [] reply = ⊥
 SpellsFirst (o ∷ asked) reply = SpellsAnswer (Some o) reply
 
 -- these are the requests after the first
-abbrev pub IsFirstOf : List OpenRequest → List (Request 2) → Type 0
+abbrev pub IsFirstOf : List OpenRequest → List (Request resources) → Type 0
 IsFirstOf [] requests = ⊥
 IsFirstOf (o ∷ asked) requests = requests ≡ asked_requests asked
 

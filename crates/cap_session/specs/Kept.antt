@@ -2,6 +2,7 @@
 use Rattle.std.specs.Prelude.{◌≡◌, ℕ, ◌≤◌, List, [], ◌∷◌, ◌++◌, Option, Some, None, Ok, false, flat_map, take}
 use Rattle.bytes.specs.Filled.{Filled}
 use Rattle.http_server.specs.declared.log.Log.{Log}
+use Rattle.cap_base.specs.Limits.{resources}
 use Rattle.cap_model.specs.News.{Reply}
 use Rattle.cap_frames.specs.Stream.{frame_of}
 use Rattle.cap_frames.specs.History.{History, IsReading, IsAtRest, IsAtFault}
@@ -17,11 +18,11 @@ use Rattle.cap_session.specs.declared.find.Found.{Found}
 use Rattle.cap_session.specs.declared.find.Found.TheVariants as found
 
 abbrev pub ReplyLog : Type 0
-ReplyLog = List (Reply 2 × Unit {0})
+ReplyLog = List (Reply resources × Unit {0})
 
 -- payloads that were answered, with the reply to each that is a request
 abbrev pub AnswerLog : Type 0
-AnswerLog = List (Log Filled ReadResult × Log (Reply 2) (Unit {0}))
+AnswerLog = List (Log Filled ReadResult × Log (Reply resources) (Unit {0}))
 
 -- the call of a request with a reply
 abbrev pub calls_in : PayloadLog → ReplyLog → List Call

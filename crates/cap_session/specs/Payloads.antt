@@ -2,6 +2,7 @@
 use Rattle.std.specs.Prelude.{◌≡◌, ℕ, ◌++◌, List, Option, Some, None, Result, Ok, Err, false}
 use Rattle.bytes.specs.Filled.{Filled}
 use Rattle.http_server.specs.declared.log.Log.{Log}
+use Rattle.cap_base.specs.Limits.{resources}
 use Rattle.cap_model.specs.declared.request.Request.{Request}
 use Rattle.cap_frames.specs.declared.fault.FrameFault.{FrameFault}
 use Rattle.cap_frames.specs.declared.fault.FrameFault.TheVariants as frame_faults
@@ -28,7 +29,7 @@ GivesNext h k (Err frame_faults.BadLength) = (k ≡ h) × IsAtFault h
 GivesNext h k (Err frame_faults.NoMemory) = k ≡ h
 
 -- some more requests were read, and perhaps a payload that is none, which are what the framer gave
-pub record ReadsAhead (h k : History) (old new : List OpenRequest) (had has : List (Request 2)) (refused : Option (List ℕ)) : Type 0 where
+pub record ReadsAhead (h k : History) (old new : List OpenRequest) (had has : List (Request resources)) (refused : Option (List ℕ)) : Type 0 where
   pub more : List OpenRequest
   pub asked : new ≡ old ++ more
   pub requests : has ≡ had ++ asked_requests more
@@ -36,7 +37,7 @@ pub record ReadsAhead (h k : History) (old new : List OpenRequest) (had has : Li
   pub given : k.given ≡ h.given ++ (asked_payloads more ++ refused_payloads refused)
 
 -- these are its parts
-pub record IsParted (h : History) (a : Ahead) (asked : List (Request 2)) : Type 0 where
+pub record IsParted (h : History) (a : Ahead) (asked : List (Request resources)) : Type 0 where
   pub fed : h.fed ≡ a.framer.fed
   pub given : HasGiven h.given a
   pub requests : HasRequests a asked

@@ -1,5 +1,6 @@
 -- A session, as far as anybody can see it, and what its calls do.
 use Rattle.std.specs.Prelude.{◌≡◌, ◌⊎◌, ℕ, ◌-◌, List, [], ◌∷◌, ◌++◌, length, take, drop, Option, Some, None}
+use Rattle.cap_base.specs.Limits.{resources}
 use Rattle.cap_model.specs.declared.request.Request.{Request}
 use Rattle.cap_model.specs.News.{Reply}
 use Rattle.cap_frames.specs.Stream.{frame_of, frames_of, Tail, rest, fault, IsStream}
@@ -19,7 +20,7 @@ use Rattle.cap_session.specs.declared.counted.Sent.TheVariants as sents
 pub record OpenRequest : Type 0 where
   pub payload : List ℕ
   pub call_id : ℕ
-  pub request : Request 2
+  pub request : Request resources
 
 -- the bytes that were fed, the payloads that were answered, the request that is open, the calls, the bytes of answers that were
 -- written out and those that were not yet, and why it has ended
@@ -112,24 +113,24 @@ NextGives old new (nexts.Ended cause) = ((old.ended ≡ Some cause) × (new ≡ 
 -- ---- an answer
 
 -- a request is open, and the reply is a refusal or one of its kind
-abbrev pub MayAnswer : Option OpenRequest → Reply 2 → Type 0
+abbrev pub MayAnswer : Option OpenRequest → Reply resources → Type 0
 MayAnswer None reply = ⊥
 MayAnswer (Some o) reply = IsOfKind (kind_of o.request) reply
 
 -- the bytes of a reply to an open request
-abbrev pub answer_bytes : OpenRequest → Reply 2 → List ℕ
+abbrev pub answer_bytes : OpenRequest → Reply resources → List ℕ
 answer_bytes o reply = reply_bytes o.call_id (kind_of o.request) reply
 
 -- the open request was answered
-abbrev pub with_answer : SessionState → Option OpenRequest → Reply 2 → SessionState
+abbrev pub with_answer : SessionState → Option OpenRequest → Reply resources → SessionState
 with_answer s None reply = s
 with_answer s (Some o) reply = record s { answered = s.answered ++ o.payload ∷ []; open_request = None; calls = s.calls ++ record { request = o.request; reply = reply } ∷ []; unsent = s.unsent ++ frame_of (answer_bytes o reply) }
 
-abbrev pub after_answer : SessionState → Reply 2 → SessionState
+abbrev pub after_answer : SessionState → Reply resources → SessionState
 after_answer s reply = with_answer s s.open_request reply
 
 -- the payload of the open request spells it, and the answer spells the reply
-abbrev pub SpellsAnswer : Option OpenRequest → Reply 2 → Type 0
+abbrev pub SpellsAnswer : Option OpenRequest → Reply resources → Type 0
 SpellsAnswer None reply = ⊥
 SpellsAnswer (Some o) reply = IsRequest o.payload o.call_id o.request × IsReply (answer_bytes o reply) o.call_id (kind_of o.request) reply
 

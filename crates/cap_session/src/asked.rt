@@ -2,6 +2,7 @@
 ghost use Rattle.std.specs.Prelude.{◌≡◌};
 ghost use Rattle.cap_session.specs.Asked.{IsAsked, IsRefused, first_open, first_payload, HasParts, HasRefused};
 
+use cap_base::RESOURCES;
 use cap_frames::Frame;
 use cap_grammar::MessageFault;
 use cap_model::Request;
@@ -9,7 +10,7 @@ use http_server::Log;
 use std::marker::Model;
 
 /// What was read from a payload: a call id and a request, if it is one.
-pub(crate) type ReadResult = Result<(u32, Request<2>), MessageFault>;
+pub(crate) type ReadResult = Result<(u32, Request<RESOURCES>), MessageFault>;
 
 /// A payload with what was read from it. It exists for contracts alone.
 pub(crate) type ReadPayload = Log<Frame, ReadResult>;

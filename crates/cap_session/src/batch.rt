@@ -7,6 +7,7 @@ use crate::find::{Answered, put_reply};
 use crate::payloads::{Ahead, Payloads};
 use crate::session::Session;
 use bytes::BytesMut;
+use cap_base::RESOURCES;
 use cap_model::{OwnedReply, Request};
 use http_server::Log;
 use std::collections::VecDeque;
@@ -46,7 +47,7 @@ impl Model for Batch {
 impl Batch {
     /// Answers the first request that is not answered yet with a reply that is a refusal or one of its kind. It takes no memory and cannot
     /// fail.
-    pub fn answer(&mut self, reply: &OwnedReply<2>)
+    pub fn answer(&mut self, reply: &OwnedReply<RESOURCES>)
         requires { MayAnswerFirst self.old.asked reply.now }
         ensures answered { self.new ≡ after_first self.old.session self.old.asked reply.now }
         ensures spells { SpellsFirst self.old.asked reply.now }
@@ -60,7 +61,7 @@ impl Batch {
     }
 
     /// The session again, with the requests that are not answered yet: `next_request` gives them.
-    pub fn finish(self, requests: VecDeque<Request<2>>) -> Session
+    pub fn finish(self, requests: VecDeque<Request<RESOURCES>>) -> Session
         requires { requests.items ≡ asked_requests self.asked }
         ensures { result ≡ self.session }
     {
@@ -75,7 +76,7 @@ impl Batch {
 
     /// The session again, with the first request that is not answered yet as its open request, whatever became of it, and with the
     /// others: `next_request` gives these.
-    pub fn suspend(self, requests: VecDeque<Request<2>>) -> Session
+    pub fn suspend(self, requests: VecDeque<Request<RESOURCES>>) -> Session
         requires { IsFirstOf self.asked requests.items }
         ensures { result ≡ with_first_open self.session self.asked }
     {

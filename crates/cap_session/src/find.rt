@@ -7,6 +7,7 @@ ghost use Rattle.cap_session.specs.Kept.{Finds, EndsWith};
 use crate::asked::{Head, ReadPayload};
 use crate::payloads::Payloads;
 use bytes::BytesMut;
+use cap_base::RESOURCES;
 use cap_frames::{FrameFault, close_frame, open_frame};
 use cap_grammar::{
     BAD_LENGTH, BAD_MESSAGE, FAULT_ROOM, MessageFault, REPLY_ROOM, kind, write_fault, write_reply,
@@ -18,11 +19,11 @@ use http_server::Log;
 pub(crate) const FRAME_ROOM: usize = 4 + REPLY_ROOM;
 
 /// The payloads that were answered, each with the reply to its request, if it is one. It exists for contracts alone.
-pub(crate) type Answered = Log<ReadPayload, Log<OwnedReply<2>, ()>>;
+pub(crate) type Answered = Log<ReadPayload, Log<OwnedReply<RESOURCES>, ()>>;
 
 /// What comes next.
 pub(crate) enum Found {
-    Request(Head, ReadPayload, Request<2>),
+    Request(Head, ReadPayload, Request<RESOURCES>),
     /// Less than a frame.
     Rest,
     /// A length that no frame has.
@@ -87,7 +88,7 @@ fn put_fault(status: u8, unsent: &mut BytesMut) -> Result<(), NoMemory>
 }
 
 /// Appends the frame of a reply to the request of this head. All room has been made.
-pub(crate) fn put_reply(head: Head, reply: &OwnedReply<2>, unsent: &mut BytesMut)
+pub(crate) fn put_reply(head: Head, reply: &OwnedReply<RESOURCES>, unsent: &mut BytesMut)
     requires table { IsKind head.kind }
     requires kind { IsOfKind head.kind reply.now }
     requires room { FRAME_ROOM ≤ unsent.old.spare }

@@ -5,6 +5,7 @@ ghost use Rattle.cap_session.specs.Ahead.{HasGiven, HasRequests};
 ghost use Rattle.cap_session.specs.Payloads.{GivesNext, ReadsAhead, IsParted, IsOfParts};
 
 use crate::asked::{Asked, Head, ReadPayload, ReadResult, Refused};
+use cap_base::RESOURCES;
 use cap_frames::{FrameFault, Framer};
 use cap_grammar::{kind, read_request};
 use cap_model::{NoMemory, Request};
@@ -42,7 +43,7 @@ impl Drop for Ahead {
 pub(crate) struct Payloads {
     ahead: Ahead,
     // The requests that were read ahead.
-    requests: VecDeque<Request<2>>,
+    requests: VecDeque<Request<RESOURCES>>,
 }
 
 impl Drop for Payloads {
@@ -135,7 +136,7 @@ impl Payloads {
     }
 
     /// Its parts, with the requests that were read ahead.
-    pub(crate) fn into_parts(self) -> (Ahead, VecDeque<Request<2>>)
+    pub(crate) fn into_parts(self) -> (Ahead, VecDeque<Request<RESOURCES>>)
         ensures { IsParted self result.0 result.1.items }
     {
         let Payloads { ahead, requests } = self;
@@ -143,7 +144,7 @@ impl Payloads {
     }
 
     /// The payloads of these parts, of which the framer gave all but those that were read ahead.
-    pub(crate) fn from_parts(ahead: Ahead, requests: VecDeque<Request<2>>) -> Payloads
+    pub(crate) fn from_parts(ahead: Ahead, requests: VecDeque<Request<RESOURCES>>) -> Payloads
         requires given { (given : List (List ℕ)) × HasGiven given ahead }
         requires requests { HasRequests ahead requests.items }
         ensures { IsOfParts result ahead }
@@ -157,7 +158,7 @@ fn read_all(
     alloc: Global,
     framer: &mut Framer,
     asked: &mut VecDeque<Asked>,
-    requests: &mut VecDeque<Request<2>>,
+    requests: &mut VecDeque<Request<RESOURCES>>,
 ) -> Option<Refused>
     requires reading { IsReading framer.old }
     requires few { length asked.old.items ≤ AHEAD_MAX }

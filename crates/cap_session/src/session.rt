@@ -14,6 +14,7 @@ use crate::counted::{Counted, Sent};
 use crate::find::{Answered, FRAME_ROOM, Found, find, put_reply};
 use crate::payloads::{Ahead, Payloads};
 use bytes::BytesMut;
+use cap_base::RESOURCES;
 use cap_model::{NoMemory, OwnedReply, Request};
 use http_server::Log;
 use std::alloc::Global;
@@ -45,7 +46,7 @@ pub enum Fed {
 #[derive(Drop)]
 pub enum Next {
     /// A request, which is open until it is answered.
-    Request(Request<2>),
+    Request(Request<RESOURCES>),
     /// More bytes are needed.
     Need,
     /// Nothing more: the session has ended.
@@ -138,7 +139,16 @@ impl Session {
 
     /// The requests that were read ahead, all at once, with room for their replies, and an empty list for these, which has room too. If
     /// there are none, or if an allocation fails, the session comes back as it was.
-    pub fn batch(self) -> Result<(Batch, VecDeque<Request<2>>, Vec<OwnedReply<2>>), Session>
+    pub fn batch(
+        self,
+    ) -> Result<
+        (
+            Batch,
+            VecDeque<Request<RESOURCES>>,
+            Vec<OwnedReply<RESOURCES>>,
+        ),
+        Session,
+    >
         requires none_open { self.open_request ≡ None }
         requires goes_on { self.ended ≡ None }
         ensures ok { IfOk result
@@ -174,7 +184,7 @@ impl Session {
     /// A session that has not ended and of which no request is open, of these parts.
     pub(crate) fn resting(
         ahead: Ahead,
-        requests: VecDeque<Request<2>>,
+        requests: VecDeque<Request<RESOURCES>>,
         unsent: BytesMut,
         answered: Answered,
         sent: Log<BytesMut, usize>,
@@ -227,7 +237,7 @@ impl Session {
     }
 
     /// Answers the open request with a reply that is a refusal or one of its kind. It takes no memory and cannot fail.
-    pub fn answer(&mut self, reply: &OwnedReply<2>)
+    pub fn answer(&mut self, reply: &OwnedReply<RESOURCES>)
         requires { MayAnswer self.old.open_request reply.now }
         ensures answered { self.new ≡ after_answer self.old reply.now }
         ensures spells { SpellsAnswer self.old.open_request reply.now }

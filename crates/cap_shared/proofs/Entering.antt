@@ -1,6 +1,7 @@
 -- What a call and a proposal come to, as events and receipts.
 use Rattle.std.proofs.Common.{◌≡◌, ℕ, [], ◌∷◌, ◌++◌, refl, ap, sym, ◌∙◌, subst}
 use Rattle.atomic_table.specs.Table.{Me}
+use Rattle.cap_base.specs.Limits.{resources}
 use Rattle.cap_model.specs.Flat.{Flat}
 use Rattle.cap_model.specs.News.{Reply}
 use Rattle.cap_model.specs.Events.{Step}
@@ -21,25 +22,25 @@ use Rattle.cap_shared.specs.Making.{event_of_made}
 use Rattle.cap_shared.specs.Passes.{Pass}
 use Rattle.cap_shared.specs.Rule.{sitter, sitting, sitting_of}
 
-pub call_step : (old new : Flat 2) (by : ℕ) (request q : Request 2) (reply r : Reply 2) (e : Event 2) → Replies old request reply new → q ≡ request → r ≡ reply → e ≡ event.Call by q r → Step old e new
-call_step old new by request q reply r e is same_q same_r e_is = subst (λ (x : Event 2). Step old x new) (sym (e_is ∙ ap (λ (x : Request 2). event.Call by x r) same_q ∙ ap (λ (x : Reply 2). event.Call by request x) same_r)) is
+pub call_step : (old new : Flat resources) (by : ℕ) (request q : Request resources) (reply r : Reply resources) (e : Event resources) → Replies old request reply new → q ≡ request → r ≡ reply → e ≡ event.Call by q r → Step old e new
+call_step old new by request q reply r e is same_q same_r e_is = subst (λ (x : Event resources). Step old x new) (sym (e_is ∙ ap (λ (x : Request resources). event.Call by x r) same_q ∙ ap (λ (x : Reply resources). event.Call by request x) same_r)) is
 
-pub call_by : (by : ℕ) (q : Request 2) (r : Reply 2) (e : Event 2) → e ≡ event.Call by q r → IsBy by e
-call_by by q r e e_is = subst (λ (x : Event 2). IsBy by x) (sym e_is) refl
+pub call_by : (by : ℕ) (q : Request resources) (r : Reply resources) (e : Event resources) → e ≡ event.Call by q r → IsBy by e
+call_by by q r e e_is = subst (λ (x : Event resources). IsBy by x) (sym e_is) refl
 
 made_by : (n : ℕ) (m : Made) → IsBy n (event_of_made m)
 made_by n (made.Grant c) = tt
 made_by n (made.Reserve r) = tt
 
-pub event_by : (n : ℕ) (m : Made) (e : Event 2) → e ≡ event_of_made m → IsBy n e
-event_by n m e is = subst (λ (x : Event 2). IsBy n x) (sym is) (made_by n m)
+pub event_by : (n : ℕ) (m : Made) (e : Event resources) → e ≡ event_of_made m → IsBy n e
+event_by n m e is = subst (λ (x : Event resources). IsBy n x) (sym is) (made_by n m)
 
 made_receipt : (n : ℕ) (m : Made) → receipt_for n (event_of_made m) ≡ receipt.Commit n (event_of_made m)
 made_receipt n (made.Grant c) = refl
 made_receipt n (made.Reserve r) = refl
 
-pub event_receipt : (n : ℕ) (m : Made) (e f : Event 2) → e ≡ event_of_made m → f ≡ event_of_made m → receipt.Commit n f ≡ receipt_for n e
-event_receipt n m e f e_is f_is = ap (λ (x : Event 2). receipt.Commit n x) f_is ∙ sym (made_receipt n m) ∙ ap (λ (x : Event 2). receipt_for n x) (sym e_is)
+pub event_receipt : (n : ℕ) (m : Made) (e f : Event resources) → e ≡ event_of_made m → f ≡ event_of_made m → receipt.Commit n f ≡ receipt_for n e
+event_receipt n m e f e_is f_is = ap (λ (x : Event resources). receipt.Commit n x) f_is ∙ sym (made_receipt n m) ∙ ap (λ (x : Event resources). receipt_for n x) (sym e_is)
 
 -- the sitting of a pass, with one moment more
 pub one_more : (s s' : Pass) (x : Sitting) (m n : Moment) → sitting_of s.me.0 ≡ x → s'.me ≡ (sitter (sitting (sitting_of s.me.0).seat ((sitting_of s.me.0).past ++ m ∷ [])), []) → m ≡ n → HasMore x (sitting_of s'.me.0) (n ∷ [])

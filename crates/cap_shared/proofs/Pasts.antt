@@ -4,6 +4,7 @@ use Rattle.std.specs.Prelude.{if◌then◌else◌}
 use mathlib.Core.List.{IsPrefix}
 use Rattle.atomic_table.specs.Table.{Me}
 use Rattle.atomic_table.specs.Seated.{TableId}
+use Rattle.cap_base.specs.Limits.{resources}
 use Rattle.cap_model.specs.Flat.{Flat}
 use Rattle.cap_model.specs.Events.{Step}
 use Rattle.cap_model.specs.declared.event.Event.{Event}
@@ -22,8 +23,8 @@ use Rattle.cap_shared.specs.Parts.{IsSeat, IsDesk}
 use Rattle.cap_shared.specs.Passes.{Pass, IsNoted, IsEntered}
 use Rattle.cap_shared.proofs.Lists.{receipts_in-told, receipts_in-noted}
 
-pub Replays-push : (s m t : Flat 2) (es : List Entry) (e : Entry) → Replays s es m → Step m e.event t → Replays s (es ++ e ∷ []) t
-Replays-push s m t [] e r h = (t, subst (λ (x : Flat 2). Step x e.event t) (sym r) h, refl)
+pub Replays-push : (s m t : Flat resources) (es : List Entry) (e : Entry) → Replays s es m → Step m e.event t → Replays s (es ++ e ∷ []) t
+Replays-push s m t [] e r h = (t, subst (λ (x : Flat resources). Step x e.event t) (sym r) h, refl)
 Replays-push s m t (d ∷ es) e r h = (r.0, r.1, Replays-push r.0 m t es e r.2 h)
 
 pub TagsBelow-push : (n : ℕ) (es : List Entry) (e : Entry) → TagsBelow n es → (e.seat < n) × IsBy e.seat e.event → TagsBelow n (es ++ e ∷ [])
@@ -39,12 +40,12 @@ abbrev Within : ℕ → List Receipt → Type 0
 Within n [] = Unit {0}
 Within n (r ∷ rs) = (position_of r < n) × Within n rs
 
-position_is : (n : ℕ) (e : Event 2) → position_of (receipt_for n e) ≡ n
+position_is : (n : ℕ) (e : Event resources) → position_of (receipt_for n e) ≡ n
 position_is n (event.Call by q r) = refl
 position_is n (event.Grant c) = refl
 position_is n (event.Reserve v) = refl
 
-within_if : (b : Bool) (n k : ℕ) (e : Event 2) (rs : List Receipt) → k < n → Within n rs → Within n (if b then (receipt_for k e ∷ rs) else rs)
+within_if : (b : Bool) (n k : ℕ) (e : Event resources) (rs : List Receipt) → k < n → Within n rs → Within n (if b then (receipt_for k e ∷ rs) else rs)
 within_if true n k e rs l h = (rw (position_is k e) l, h)
 within_if false n k e rs l h = h
 
@@ -67,18 +68,18 @@ fits_ends log s h = ends log 0 s.past (omega arith) (subst (λ (rs : List Receip
 pub met_less : (log : List Entry) (s x : Sitting) (limit : ℕ) → Fits log s → s ≡ x → length log < limit → end_after 0 x.past < limit
 met_less log s x limit h is less = subst (λ (y : Sitting). end_after 0 y.past < limit) is (let e = fits_ends log s h in omega arith)
 
-NotesHold-told : (o : Flat 2) (limit : ℕ) (ms : List Moment) (r : Receipt) → NotesHold o limit ms → NotesHold o limit (ms ++ Entered r ∷ [])
+NotesHold-told : (o : Flat resources) (limit : ℕ) (ms : List Moment) (r : Receipt) → NotesHold o limit ms → NotesHold o limit (ms ++ Entered r ∷ [])
 NotesHold-told o limit [] r h = tt
 NotesHold-told o limit (Entered q ∷ ms) r h = NotesHold-told o limit ms r h
 NotesHold-told o limit (Noted es a ∷ ms) r h = (h.0, NotesHold-told o limit ms r h.1)
 
-NotesHold-noted : (o : Flat 2) (limit : ℕ) (ms : List Moment) (es : List Entry) (a : Answer) → NotesHold o limit ms → NoteHolds o limit es a → NotesHold o limit (ms ++ Noted es a ∷ [])
+NotesHold-noted : (o : Flat resources) (limit : ℕ) (ms : List Moment) (es : List Entry) (a : Answer) → NotesHold o limit ms → NoteHolds o limit es a → NotesHold o limit (ms ++ Noted es a ∷ [])
 NotesHold-noted o limit [] es a h k = (k, tt)
 NotesHold-noted o limit (Entered q ∷ ms) es a h k = NotesHold-noted o limit ms es a h k
 NotesHold-noted o limit (Noted fs b ∷ ms) es a h k = (h.0, NotesHold-noted o limit ms es a h.1 k)
 
 -- the seat after a receipt, and after a note
-module _ (T : TableId) (o : Flat 2) (limit seats n : ℕ) (rs : List Receipt) (at : TableId) (me : Me Mark View) (h : IsSeat T o limit seats n rs at me) (log : List Entry) (f : Fits log (sitting_of me.0)) (at' : TableId) (same : at' ≡ at) where
+module _ (T : TableId) (o : Flat resources) (limit seats n : ℕ) (rs : List Receipt) (at : TableId) (me : Me Mark View) (h : IsSeat T o limit seats n rs at me) (log : List Entry) (f : Fits log (sitting_of me.0)) (at' : TableId) (same : at' ≡ at) where
   pub seat_told : (r : Receipt) (rs' : List Receipt) (me' : Me Mark View) → position_of r ≡ length log → rs' ≡ rs ++ r ∷ [] → me' ≡ (sitter (sitting (sitting_of me.0).seat ((sitting_of me.0).past ++ Entered r ∷ [])), [])
       → IsSeat T o limit seats n rs' at' me'
   seat_told r rs' me' p rs_is me_is =
@@ -112,7 +113,7 @@ module _ (T : TableId) (o : Flat 2) (limit seats n : ℕ) (rs : List Receipt) (a
       subst (λ (m : Me Mark View). IsSeat T o limit seats n rs' at' m) (sym me_is) new
 
 -- the desk after an entry
-pub desk_entered : (T : TableId) (o : Flat 2) (limit seats : ℕ) (s t : Flat 2) (log log' : List Entry) (at at' : TableId) (me me' : Me Mark View) (bound room room' : ℕ) (e : Entry)
+pub desk_entered : (T : TableId) (o : Flat resources) (limit seats : ℕ) (s t : Flat resources) (log log' : List Entry) (at at' : TableId) (me me' : Me Mark View) (bound room room' : ℕ) (e : Entry)
     → IsDesk T o limit seats s log at me bound room → Step s e.event t → (e.seat < seats) × IsBy e.seat e.event → length log < bound → log' ≡ log ++ e ∷ [] → at' ≡ at → me' ≡ (keeper log', []) → room' ≡ room
     → IsDesk T o limit seats t log' at' me' bound room'
 desk_entered T o limit seats s t log log' at at' me me' bound room room' e h step below less log_is same me_is room_is =
@@ -127,11 +128,11 @@ desk_entered T o limit seats s t log log' at at' me me' bound room room' e h ste
     }
 
 -- the same from what was added under the lock
-module _ (T : TableId) (o : Flat 2) (limit seats : ℕ) (log : List Entry) (d d' s s' : Pass) where
+module _ (T : TableId) (o : Flat resources) (limit seats : ℕ) (log : List Entry) (d d' s s' : Pass) where
   pub noted_seat : (n : ℕ) (rs rs' : List Receipt) (a : Answer) → IsSeat T o limit seats n rs s.table_id s.me → IsNoted log a d d' s s' → rs' ≡ rs → NoteHolds o limit log a → IsSeat T o limit seats n rs' s'.table_id s'.me
   noted_seat n rs rs' a h m same holds = seat_noted T o limit seats n rs s.table_id s.me h log m.fits s'.table_id m.seat_table a rs' s'.me same holds m.sits
 
-  pub noted_desk : (cluster : Flat 2) (bound room : ℕ) (a : Answer) → IsDesk T o limit seats cluster log d.table_id d.me bound room → IsNoted log a d d' s s' → IsDesk T o limit seats cluster log d'.table_id d'.me bound room
+  pub noted_desk : (cluster : Flat resources) (bound room : ℕ) (a : Answer) → IsDesk T o limit seats cluster log d.table_id d.me bound room → IsNoted log a d d' s s' → IsDesk T o limit seats cluster log d'.table_id d'.me bound room
   noted_desk cluster bound room a h m = record {
     same = m.desk_table ∙ h.same;
     keeps = m.keeps;
@@ -145,17 +146,17 @@ module _ (T : TableId) (o : Flat 2) (limit seats : ℕ) (log : List Entry) (d d'
   pub entered_seat : (n : ℕ) (rs rs' : List Receipt) (e : Entry) (r : Receipt) → IsSeat T o limit seats n rs s.table_id s.me → IsEntered log e r d d' s s' → position_of r ≡ length log → rs' ≡ rs ++ r ∷ [] → IsSeat T o limit seats n rs' s'.table_id s'.me
   entered_seat n rs rs' e r h m at more = seat_told T o limit seats n rs s.table_id s.me h log m.fits s'.table_id m.seat_table r rs' s'.me at more m.sits
 
-  pub entered_desk : (old new : Flat 2) (bound room room' : ℕ) (e : Entry) (r : Receipt) (log' : List Entry) → IsDesk T o limit seats old log d.table_id d.me bound room → IsEntered log e r d d' s s' → Step old e.event new
+  pub entered_desk : (old new : Flat resources) (bound room room' : ℕ) (e : Entry) (r : Receipt) (log' : List Entry) → IsDesk T o limit seats old log d.table_id d.me bound room → IsEntered log e r d d' s s' → Step old e.event new
       → (e.seat < seats) × IsBy e.seat e.event → length log < bound → log' ≡ log ++ e ∷ [] → room' ≡ room → IsDesk T o limit seats new log' d'.table_id d'.me bound room'
   entered_desk old new bound room room' e r log' h m step below less log_is room_is =
       desk_entered T o limit seats old new log log' d.table_id d'.table_id d.me d'.me bound room room' e h step below less log_is m.desk_table (m.keeps ∙ ap (λ (l : List Entry). (keeper l, [])) (sym log_is)) room_is
 
 -- a seat that was answered nothing
-pub seat_fresh : (T : TableId) (o : Flat 2) (limit seats n : ℕ) (rs : List Receipt) (at : TableId) (me : Me Mark View) → at ≡ T → me ≡ (sitter (sitting n []), []) → n < seats → rs ≡ [] → IsSeat T o limit seats n rs at me
+pub seat_fresh : (T : TableId) (o : Flat resources) (limit seats n : ℕ) (rs : List Receipt) (at : TableId) (me : Me Mark View) → at ≡ T → me ≡ (sitter (sitting n []), []) → n < seats → rs ≡ [] → IsSeat T o limit seats n rs at me
 seat_fresh T o limit seats n rs at me same me_is below none =
     subst (λ (m : Me Mark View). IsSeat T o limit seats n rs at m) (sym me_is)
     (record { same = same; sits = refl; number_is = refl; below = below; receipts_are = none; rises = tt; notes = tt })
 
-pub honest-push : (o : Flat 2) (limit : ℕ) (ss : List Sitting) (s : Sitting) → AllHonest o limit ss → Rises 0 s.past → NotesHold o limit s.past → AllHonest o limit (ss ++ s ∷ [])
+pub honest-push : (o : Flat resources) (limit : ℕ) (ss : List Sitting) (s : Sitting) → AllHonest o limit ss → Rises 0 s.past → NotesHold o limit s.past → AllHonest o limit (ss ++ s ∷ [])
 honest-push o limit [] s h r n = ((r, n), tt)
 honest-push o limit (t ∷ ss) s h r n = (h.0, honest-push o limit ss s h.1 r n)

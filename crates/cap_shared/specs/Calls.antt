@@ -1,5 +1,6 @@
 -- What each call of a seat adds to what it was answered.
 use Rattle.std.specs.Prelude.{◌≡◌, ℕ, ◌<◌, ◌≤◌, List, [], ◌∷◌, ◌++◌, length, false}
+use Rattle.cap_base.specs.Limits.{resources}
 use Rattle.cap_model.specs.Flat.{Flat}
 use Rattle.cap_model.specs.Sight.{sight_of}
 use Rattle.cap_model.specs.News.{Reply}
@@ -32,19 +33,19 @@ abbrev pub HasMore : Sitting → Sitting → List Moment → Type 0
 HasMore old new moments = new ≡ sitting old.seat (old.past ++ moments)
 
 -- a call that is answered has a receipt of its own; the reply is a refusal, never that no memory was found, or of the request's kind
-abbrev pub CallsOk : Request 2 → Sitting → Sitting → Reply 2 → Type 0
+abbrev pub CallsOk : Request resources → Sitting → Sitting → Reply resources → Type 0
 CallsOk request old new reply =
     (is_no_memory reply ≡ false) × ((n : ℕ) × HasMore old new (Entered (receipt.Call n request reply) ∷ [])) × IsOfKind (kind_of request) reply
 
 -- that a full journal kept the call from being made is noted
-abbrev pub IsSealedCall : Request 2 → ℕ → Sitting → Sitting → Type 0
+abbrev pub IsSealedCall : Request resources → ℕ → Sitting → Sitting → Type 0
 IsSealedCall request limit old new = (es : List Entry) × (length es ≡ limit) × HasMore old new (Noted es (answer.SealedCall request) ∷ [])
 
 -- the call changed nothing, and the seat has met no full journal
 abbrev pub IsStarvedCall : ℕ → Sitting → Sitting → Type 0
 IsStarvedCall limit old new = (new ≡ old) × (end_after 0 old.past < limit)
 
-abbrev pub CallMisses : Request 2 → ℕ → Sitting → Sitting → Fault → Type 0
+abbrev pub CallMisses : Request resources → ℕ → Sitting → Sitting → Fault → Type 0
 CallMisses request limit old new missed.Sealed = IsSealedCall request limit old new
 CallMisses request limit old new missed.NoMemory = IsStarvedCall limit old new
 
@@ -54,12 +55,12 @@ TellsFull limit log missed.Sealed = limit ≤ length log
 TellsFull limit log missed.NoMemory = length log < limit
 
 -- a call that is not made gives its request back; where an allocation failed, nothing changed
-abbrev pub CallsBack : Request 2 → ℕ → Sitting → Sitting → CallFault → Type 0
+abbrev pub CallsBack : Request resources → ℕ → Sitting → Sitting → CallFault → Type 0
 CallsBack request limit old new (fault.Sealed back) = (back ≡ request) × IsSealedCall request limit old new
 CallsBack request limit old new (fault.NoMemory back) = (back ≡ request) × IsStarvedCall limit old new
 
 -- a proposal that is made has a receipt of an event of its kind, application, key, node and resource; a rejection is noted
-abbrev pub CommitAnswers : NodeProposal → Sitting → Sitting → Verdict 2 → Type 0
+abbrev pub CommitAnswers : NodeProposal → Sitting → Sitting → Verdict resources → Type 0
 CommitAnswers p old new (verdict.Done event) = IsOf p event × ((n : ℕ) × HasMore old new (Entered (receipt_for n event) ∷ []))
 CommitAnswers p old new (verdict.Rejected reason) = (es : List Entry) × HasMore old new (Noted es (answer.Rejected p reason) ∷ [])
 
@@ -76,6 +77,6 @@ TellsFullFirst limit log (refusal.Sealed back) = limit ≤ length log
 TellsFullFirst limit log (refusal.NoMemory back) = length log < limit
 
 -- a copy shows what the cluster showed after the entries of its note
-abbrev pub CopyIs : Flat 2 → Sitting → Sitting → Seen → Type 0
+abbrev pub CopyIs : Flat resources → Sitting → Sitting → Seen → Type 0
 CopyIs opening old new snapshot =
-    (es : List Entry) × (mid : Flat 2) × Replays opening es mid × ShowTheSame (sight_in 2 snapshot) (sight_of mid) × HasMore old new (Noted es answer.Copied ∷ [])
+    (es : List Entry) × (mid : Flat resources) × Replays opening es mid × ShowTheSame (sight_in resources snapshot) (sight_of mid) × HasMore old new (Noted es answer.Copied ∷ [])

@@ -1,5 +1,6 @@
 -- Journals, what of a journal is a seat's, and what holds of all that a seat was answered.
 use Rattle.std.specs.Prelude.{◌≡◌, ℕ, suc, ◌<◌, ◌≤◌, ◌==◌, List, [], ◌∷◌, length, map, if◌then◌else◌, Some}
+use Rattle.cap_base.specs.Limits.{resources}
 use Rattle.cap_model.specs.Flat.{Flat}
 use Rattle.cap_model.specs.Sight.{sight_of}
 use Rattle.cap_model.specs.Admission.{IsAdmissible, reason_of}
@@ -15,15 +16,15 @@ use Rattle.cap_shared.specs.declared.history.Moment.{Moment}
 use Rattle.cap_shared.specs.declared.history.Moment.TheVariants.{Entered, Noted}
 use Rattle.cap_shared.specs.declared.history.Sitting.{Sitting}
 
-abbrev pub events_in : List Entry → List (Event 2)
+abbrev pub events_in : List Entry → List (Event resources)
 events_in entries = map (λ e. e.event) entries
 
 -- the events of the entries lead from old to new, one step each
-abbrev pub Replays : Flat 2 → List Entry → Flat 2 → Type 0
+abbrev pub Replays : Flat resources → List Entry → Flat resources → Type 0
 Replays old entries new = Run old (events_in entries) new
 
 -- the receipt for an event that is entered at a position
-abbrev pub receipt_for : ℕ → Event 2 → Receipt
+abbrev pub receipt_for : ℕ → Event resources → Receipt
 receipt_for n (event.Call by request reply) = receipt.Call n request reply
 receipt_for n (event.Grant container) = receipt.Commit n (event.Grant container)
 receipt_for n (event.Reserve reservation) = receipt.Commit n (event.Reserve reservation)
@@ -64,20 +65,20 @@ Rises n (m ∷ ms) = (n ≤ start_of m) × Rises (end_of m) ms
 
 -- What an answer without an entry says of the cluster after the entries of then: a proposal is rejected for that reason, or is admissible;
 -- or it says that the journal was full.
-abbrev pub NoteHolds : Flat 2 → ℕ → List Entry → Answer → Type 0
-NoteHolds opening limit es (Rejected p reason) = (mid : Flat 2) × Replays opening es mid × (reason_of (sight_of mid) p ≡ Some reason)
+abbrev pub NoteHolds : Flat resources → ℕ → List Entry → Answer → Type 0
+NoteHolds opening limit es (Rejected p reason) = (mid : Flat resources) × Replays opening es mid × (reason_of (sight_of mid) p ≡ Some reason)
 NoteHolds opening limit es (SealedCall request) = length es ≡ limit
 NoteHolds opening limit es (SealedCommit p) = length es ≡ limit
-NoteHolds opening limit es (NoMemory p) = (mid : Flat 2) × Replays opening es mid × IsAdmissible (sight_of mid) p
-NoteHolds opening limit es Copied = (mid : Flat 2) × Replays opening es mid
+NoteHolds opening limit es (NoMemory p) = (mid : Flat resources) × Replays opening es mid × IsAdmissible (sight_of mid) p
+NoteHolds opening limit es Copied = (mid : Flat resources) × Replays opening es mid
 
-abbrev pub NotesHold : Flat 2 → ℕ → List Moment → Type 0
+abbrev pub NotesHold : Flat resources → ℕ → List Moment → Type 0
 NotesHold opening limit [] = Unit {0}
 NotesHold opening limit (Entered r ∷ ms) = NotesHold opening limit ms
 NotesHold opening limit (Noted es a ∷ ms) = NoteHolds opening limit es a × NotesHold opening limit ms
 
 -- a call is by the seat that made its entry
-abbrev pub IsBy : ℕ → Event 2 → Type 0
+abbrev pub IsBy : ℕ → Event resources → Type 0
 IsBy seat (event.Call by request reply) = by ≡ seat
 IsBy seat (event.Grant container) = Unit {0}
 IsBy seat (event.Reserve reservation) = Unit {0}
@@ -88,6 +89,6 @@ TagsBelow n [] = Unit {0}
 TagsBelow n (e ∷ es) = ((e.seat < n) × IsBy e.seat e.event) × TagsBelow n es
 
 -- what each seat was answered stands in order of the journal, and its notes hold
-abbrev pub AllHonest : Flat 2 → ℕ → List Sitting → Type 0
+abbrev pub AllHonest : Flat resources → ℕ → List Sitting → Type 0
 AllHonest opening limit [] = Unit {0}
 AllHonest opening limit (s ∷ ss) = (Rises 0 s.past × NotesHold opening limit s.past) × AllHonest opening limit ss

@@ -1,6 +1,9 @@
 -- Laws of journals.
 use Rattle.std.specs.Prelude.{List, ◌++◌}
-use Rattle.cap_model.specs.Flat.{Flat}
+use Rattle.cap_base.specs.Limits.{resources}
+use Rattle.cap_base.specs.Settings.{Settings}
+use Rattle.cap_base.specs.Listing.{IsListing}
+use Rattle.cap_model.specs.Flat.{Flat, opened_cluster}
 use Rattle.cap_model.specs.Bounds.{IsBounded}
 use Rattle.cap_shared.specs.declared.entry.Entry.{Entry}
 use Rattle.cap_shared.specs.Journal.{Replays}
@@ -8,5 +11,11 @@ use Rattle.cap_shared.specs.Journal.{Replays}
 -- where a journal leads from a bounded cluster to another, the state after each beginning of it is bounded, and so is the last
 abbrev pub JournalsStayBounded : Type 0
 JournalsStayBounded =
-    (opening closing : Flat 2) (first rest : List Entry) → IsBounded opening → Replays opening (first ++ rest) closing →
-    (mid : Flat 2) × Replays opening first mid × Replays mid rest closing × IsBounded mid × IsBounded closing
+    (opening closing : Flat resources) (first rest : List Entry) → IsBounded opening → Replays opening (first ++ rest) closing →
+    (mid : Flat resources) × Replays opening first mid × Replays mid rest closing × IsBounded mid × IsBounded closing
+
+-- so it is of the first journal of a daemon, whose opening has the queues of its settings and nothing else
+abbrev pub FirstJournalsStayBounded : Type 0
+FirstJournalsStayBounded =
+    (settings : Settings) (closing : Flat resources) (first rest : List Entry) → IsListing settings.queues → Replays (opened_cluster settings) (first ++ rest) closing →
+    (mid : Flat resources) × Replays (opened_cluster settings) first mid × Replays mid rest closing × IsBounded mid × IsBounded closing

@@ -2,6 +2,7 @@
 use Rattle.std.specs.Prelude.{◌≡◌, ℕ, ◌<◌, ◌≤◌, List, [], length}
 use Rattle.atomic_table.specs.Table.{Me}
 use Rattle.atomic_table.specs.Seated.{TableId}
+use Rattle.cap_base.specs.Limits.{resources}
 use Rattle.cap_model.specs.Flat.{Flat}
 use Rattle.cap_shared.specs.declared.entry.Entry.{Entry}
 use Rattle.cap_shared.specs.declared.entry.Receipt.{Receipt}
@@ -12,7 +13,7 @@ use Rattle.cap_shared.specs.Journal.{Replays, receipts_in, Rises, NotesHold, Tag
 use Rattle.cap_shared.specs.Rule.{keeper, sitting_of, IsSitter}
 
 -- a seat: its number, its receipts, and the pass that knows all that it was answered
-pub record IsSeat (table : TableId) (opening : Flat 2) (limit seats number : ℕ) (receipts : List Receipt) (at : TableId) (me : Me Mark View) : Type 0 where
+pub record IsSeat (table : TableId) (opening : Flat resources) (limit seats number : ℕ) (receipts : List Receipt) (at : TableId) (me : Me Mark View) : Type 0 where
   pub same : at ≡ table
   pub sits : IsSitter me
   pub number_is : number ≡ (sitting_of me.0).seat
@@ -22,7 +23,7 @@ pub record IsSeat (table : TableId) (opening : Flat 2) (limit seats number : ℕ
   pub notes : NotesHold opening limit (sitting_of me.0).past
 
 -- the journal and the cluster under the lock, with the pass that knows the journal
-pub record IsDesk (table : TableId) (opening : Flat 2) (limit seats : ℕ) (cluster : Flat 2) (log : List Entry) (at : TableId) (me : Me Mark View) (bound room : ℕ) : Type 0 where
+pub record IsDesk (table : TableId) (opening : Flat resources) (limit seats : ℕ) (cluster : Flat resources) (log : List Entry) (at : TableId) (me : Me Mark View) (bound room : ℕ) : Type 0 where
   pub same : at ≡ table
   pub keeps : me ≡ (keeper log, [])
   pub run : Replays opening log cluster
@@ -33,7 +34,7 @@ pub record IsDesk (table : TableId) (opening : Flat 2) (limit seats : ℕ) (clus
 
 -- what is seen of the desk: the cluster and the journal
 pub record Content : Type 0 where
-  pub cluster : Flat 2
+  pub cluster : Flat resources
   pub log : List Entry
 
 -- what is seen of a seat that has been closed

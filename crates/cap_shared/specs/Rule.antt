@@ -5,7 +5,8 @@ use mathlib.Core.List.{IsPrefix}
 use lib.ListN.{get_elem?}
 use Rattle.atomic_table.specs.Table.{State, Me, Step}
 use Rattle.atomic_table.specs.Seated.{TableId}
-use Rattle.cap_model.specs.Settings.{Settings}
+use Rattle.cap_base.specs.Limits.{resources}
+use Rattle.cap_base.specs.Settings.{Settings}
 use Rattle.cap_model.specs.Flat.{Flat, opened_cluster}
 use Rattle.cap_shared.specs.declared.entry.Entry.{Entry}
 use Rattle.cap_shared.specs.declared.history.Answer.{Answer}
@@ -25,7 +26,7 @@ no_table = record { words = 0; slots = 0; views_name = 0; atom = 0; block = 0; o
 abbrev pub no_settings : Settings
 no_settings = record { queues = []; minimum_allocation = []; maximum_allocation = []; application_limit = 0 }
 
-abbrev pub no_cluster : Flat 2
+abbrev pub no_cluster : Flat resources
 no_cluster = opened_cluster no_settings
 
 abbrev pub sitting : ℕ → List Moment → Sitting

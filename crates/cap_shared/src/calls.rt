@@ -1,5 +1,6 @@
 //! What a call needs beside what the cluster itself needs: room for its entry, its receipt and its reply (`CallRoom`).
 ghost use Rattle.std.specs.Prelude.{◌≡◌, ◌<◌, true, IfOk, OnOk, vec_len, vec_capacity};
+ghost use Rattle.cap_base.specs.Limits.{resources};
 ghost use Rattle.cap_model.specs.Flat.{Flat};
 ghost use Rattle.cap_model.specs.Events.{is_no_memory};
 ghost use Rattle.cap_model.specs.Reporting.{HasNumbers, full_reply};
@@ -7,6 +8,7 @@ ghost use Rattle.cap_shared.specs.Rooms.{IsRoomFor, AreRoomsFor, HasRoomsFor, Ar
 
 use crate::entry::Receipt;
 use crate::request::{CompactRequest, TextCopy, text_copy};
+use cap_base::RESOURCES;
 use cap_commit::Cluster;
 use cap_model::{
     AllocateReply, NoMemory, OwnedReply, Refusal, Reply, ReplyRoom, ReplyWith, Request,
@@ -16,25 +18,25 @@ use std::alloc::Global;
 /// Room for the lists of the replies to an Allocate: in its entry, in its receipt, and the one that is given.
 #[derive(Drop)]
 pub struct NewsRooms {
-    pub entry: ReplyRoom<2>,
-    pub receipt: ReplyRoom<2>,
-    pub given: ReplyRoom<2>,
+    pub entry: ReplyRoom<RESOURCES>,
+    pub receipt: ReplyRoom<RESOURCES>,
+    pub given: ReplyRoom<RESOURCES>,
 }
 
 /// A reply three times: in its entry, in its receipt, and the one that is given.
 #[derive(Drop)]
 pub struct ReplyCopies {
-    pub entry: OwnedReply<2>,
-    pub receipt: OwnedReply<2>,
-    pub given: OwnedReply<2>,
+    pub entry: OwnedReply<RESOURCES>,
+    pub receipt: OwnedReply<RESOURCES>,
+    pub given: OwnedReply<RESOURCES>,
 }
 
 /// Room for the replies to an Allocate, whatever it is answered now; the reply to any other call needs none. If an allocation fails
 /// there is none.
 fn news_rooms(
     alloc: Global,
-    cluster: &Cluster<2>,
-    request: &Request<2>,
+    cluster: &Cluster<RESOURCES>,
+    request: &Request<RESOURCES>,
 ) -> Result<Option<NewsRooms>, NoMemory>
     ensures { IfOk result (AreRoomsFor cluster.now.flat request.now) }
 {
@@ -62,8 +64,8 @@ fn news_rooms(
 pub(crate) fn own_copies(
     alloc: Global,
     news: Option<NewsRooms>,
-    cluster: &Cluster<2>,
-    reply: &Reply<2>,
+    cluster: &Cluster<RESOURCES>,
+    reply: &Reply<RESOURCES>,
 ) -> ReplyCopies
     requires numbers { HasNumbers cluster.now.flat reply.now }
     requires room { HasRoomsFor (full_reply cluster.now.flat reply.now) news }
@@ -86,7 +88,7 @@ pub(crate) fn own_copies(
 }
 
 /// Whether a reply reports no grant and no end.
-fn tells_nothing(reply: &Reply<2>) -> bool
+fn tells_nothing(reply: &Reply<RESOURCES>) -> bool
     ensures { result ≡ tells_nothing reply.now }
 {
     match reply {
@@ -96,9 +98,9 @@ fn tells_nothing(reply: &Reply<2>) -> bool
 }
 
 /// The reply that a cluster has just given, where it reports no grant and no end. It takes no memory.
-fn own_without_lists(alloc: Global, reply: &Reply<2>) -> OwnedReply<2>
+fn own_without_lists(alloc: Global, reply: &Reply<RESOURCES>) -> OwnedReply<RESOURCES>
     requires { tells_nothing reply.now ≡ true }
-    ensures { (cluster : Flat 2) → HasNumbers cluster reply.now
+    ensures { (cluster : Flat resources) → HasNumbers cluster reply.now
         → result ≡ full_reply cluster reply.now }
 {
     let ReplyWith::Allocate { reply } = reply else {
@@ -126,9 +128,9 @@ impl CallRoom {
     /// The memory for a call, whatever it is answered now, with room for its receipt. If an allocation fails there is none.
     pub fn of(
         alloc: Global,
-        cluster: &Cluster<2>,
+        cluster: &Cluster<RESOURCES>,
         receipts: &mut Vec<Receipt>,
-        request: &Request<2>,
+        request: &Request<RESOURCES>,
     ) -> Result<CallRoom, NoMemory>
         ensures ok { IfOk result (IsRoomFor cluster.now.flat request.now) }
         ensures room { OnOk result (vec_len receipts.new < vec_capacity receipts.new) }
@@ -146,8 +148,8 @@ impl CallRoom {
 }
 
 /// Whether a reply says that no memory was found, so that the call changed nothing.
-pub(crate) fn is_no_memory(reply: &Reply<2>) -> bool
-    ensures { (cluster : Flat 2) → result ≡ is_no_memory (full_reply cluster reply.now) }
+pub(crate) fn is_no_memory(reply: &Reply<RESOURCES>) -> bool
+    ensures { (cluster : Flat resources) → result ≡ is_no_memory (full_reply cluster reply.now) }
 {
     match reply {
         ReplyWith::Refused(Refusal::NoMemory) => true,

@@ -2,6 +2,7 @@
 ghost use Rattle.std.specs.Prelude.{◌≡◌};
 
 use crate::entry::{Entry, Receipt};
+use cap_base::RESOURCES;
 use cap_commit::Cluster;
 use std::marker::Model;
 
@@ -54,7 +55,7 @@ impl SeatReport {
 /// A closed epoch: the cluster as it was left, the journal, and the receipts of each seat.
 #[derive(Drop)]
 pub struct Closed {
-    pub cluster: Cluster<2>,
+    pub cluster: Cluster<RESOURCES>,
     pub journal: Vec<Entry>,
     pub seats: Vec<SeatReport>,
 }

@@ -17,6 +17,7 @@ use crate::passes::{Pass, Word};
 use crate::request::CompactRequest;
 use crate::seat::{Naming, Seat};
 use bumpalo::Bump;
+use cap_base::RESOURCES;
 use cap_commit::Cluster;
 use cap_copy::Snapshot;
 use cap_messages::dispatch;
@@ -28,7 +29,7 @@ use std::marker::{Model, PhantomData};
 /// The cluster and its journal, with the pass that knows the journal.
 #[derive(Drop)]
 pub struct Desk<J: Naming> {
-    pub(crate) cluster: Cluster<2>,
+    pub(crate) cluster: Cluster<RESOURCES>,
     pub(crate) journal: Vec<Entry>,
     pub(crate) limit: usize,
     pub(crate) pass: Pass,
@@ -69,8 +70,8 @@ impl<J: Naming> Desk<J> {
         alloc: Global,
         word: &Word,
         seat: &mut Seat<J>,
-        request: &mut Request<2>,
-    ) -> Result<OwnedReply<2>, Fault>
+        request: &mut Request<RESOURCES>,
+    ) -> Result<OwnedReply<RESOURCES>, Fault>
         requires word { (word.now.table_id ≡ J.table) × (0 < word.now.table_id.words) }
         ensures answer { MatchResult result (CallsOk request.old seat.old seat.new)
             (CallMisses request.old J.limit seat.old seat.new) }
@@ -94,8 +95,8 @@ impl<J: Naming> Desk<J> {
         alloc: Global,
         word: &Word,
         seat: &mut Seat<J>,
-        request: &mut Request<2>,
-    ) -> Result<OwnedReply<2>, NoMemory>
+        request: &mut Request<RESOURCES>,
+    ) -> Result<OwnedReply<RESOURCES>, NoMemory>
         requires word { (word.now.table_id ≡ J.table) × (0 < word.now.table_id.words) }
         requires room { length self.old.log < J.limit }
         ensures answer { MatchResult result (CallsOk request.old seat.old seat.new)
@@ -140,8 +141,8 @@ impl<J: Naming> Desk<J> {
         &mut self,
         word: &Word,
         seat: &mut Seat<J>,
-        proposal: Proposal<2>,
-    ) -> Result<Verdict<2>, CommitFault>
+        proposal: Proposal<RESOURCES>,
+    ) -> Result<Verdict<RESOURCES>, CommitFault>
         requires word { (word.now.table_id ≡ J.table) × (0 < word.now.table_id.words) }
         ensures answer { MatchResult result (CommitAnswers proposal seat.old seat.new)
             (CommitsBack proposal J.limit seat.old seat.new) }
@@ -176,8 +177,8 @@ impl<J: Naming> Desk<J> {
         &mut self,
         word: &Word,
         seat: &mut Seat<J>,
-        proposal: Proposal<2>,
-    ) -> Result<Verdict<2>, CommitFault>
+        proposal: Proposal<RESOURCES>,
+    ) -> Result<Verdict<RESOURCES>, CommitFault>
         requires word { (word.now.table_id ≡ J.table) × (0 < word.now.table_id.words) }
         requires room { length self.old.log < J.limit }
         requires admitted { reason_of (sight_of self.old.cluster) proposal ≡ None }
@@ -221,7 +222,7 @@ impl<J: Naming> Desk<J> {
         arena: &'a Bump,
         word: &Word,
         seat: &mut Seat<J>,
-    ) -> Result<Snapshot<2, &'a Bump>, NoMemory>
+    ) -> Result<Snapshot<RESOURCES, &'a Bump>, NoMemory>
         requires word { (word.now.table_id ≡ J.table) × (0 < word.now.table_id.words) }
         ensures { MatchResult result (CopyIs J.opening seat.old seat.new)
             (λ _. seat.new ≡ seat.old) }

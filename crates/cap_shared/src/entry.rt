@@ -1,6 +1,7 @@
 //! What a journal holds (`Entry`), and what a seat keeps of its own entries (`Receipt`).
 use crate::event::CompactEvent;
 use crate::request::CompactRequest;
+use cap_base::RESOURCES;
 use cap_model::OwnedReply;
 
 /// One entry of the journal: an event, and the number of the seat that made it.
@@ -17,7 +18,7 @@ pub enum Receipt {
     Call {
         position: u64,
         request: CompactRequest,
-        reply: OwnedReply<2>,
+        reply: OwnedReply<RESOURCES>,
     },
     Commit {
         position: u64,

@@ -4,6 +4,7 @@ ghost use Rattle.cap_model.specs.declared.event.Event.TheVariants as event;
 ghost use Rattle.cap_shared.specs.Events.{event_of};
 
 use crate::request::CompactRequest;
+use cap_base::RESOURCES;
 use cap_model::{Container, OwnedReply, Reservation};
 use std::marker::Model;
 
@@ -14,15 +15,15 @@ pub enum EventForm {
     Call {
         by: u32,
         request: CompactRequest,
-        reply: OwnedReply<2>,
+        reply: OwnedReply<RESOURCES>,
     },
     /// A container was granted, and is live from then on.
     Grant {
-        container: Container<2>,
+        container: Container<RESOURCES>,
     },
     /// Room was reserved on a node.
     Reserve {
-        reservation: Reservation<2>,
+        reservation: Reservation<RESOURCES>,
     },
 }
 
@@ -38,10 +39,11 @@ impl Drop for CompactEvent {
 }
 
 impl Model for CompactEvent {
+    ghost use Rattle.cap_base.specs.Limits.{resources};
     ghost use Rattle.cap_model.specs.declared.event.Event.{Event};
     ghost use Rattle.cap_shared.specs.Events.{event_of as event_in};
 
-    ghost Value = { Event 2 };
+    ghost Value = { Event resources };
 
     ghost view = { λ e. event_in e.form };
 }

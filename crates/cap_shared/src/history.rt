@@ -1,5 +1,6 @@
 //! What a seat was answered (`Sitting`), and what passes know of it (`View`). These types exist for contracts alone.
 use crate::entry::{Entry, Receipt};
+use cap_base::RESOURCES;
 use cap_model::{Proposal, Reason, Request};
 use http_server::Log;
 use std::collections::LinkedList;
@@ -8,13 +9,13 @@ use std::collections::LinkedList;
 #[derive(Drop)]
 pub enum Answer {
     /// A proposal was rejected.
-    Rejected(Proposal<2>, Reason),
+    Rejected(Proposal<RESOURCES>, Reason),
     /// The journal was full when the call was to be made.
-    SealedCall(Request<2>),
+    SealedCall(Request<RESOURCES>),
     /// The journal was full when the proposal was to be made.
-    SealedCommit(Proposal<2>),
+    SealedCommit(Proposal<RESOURCES>),
     /// An allocation failed when the proposal was to be made.
-    NoMemory(Proposal<2>),
+    NoMemory(Proposal<RESOURCES>),
     /// The cluster was copied.
     Copied,
 }
@@ -42,10 +43,10 @@ pub struct View {
 #[derive(Drop)]
 pub enum Mark {
     Entry(Log<Entry, ()>),
-    Rejected(Log<Proposal<2>, Reason>),
-    SealedCall(Log<Request<2>, ()>),
-    SealedCommit(Log<Proposal<2>, ()>),
-    NoMemory(Log<Proposal<2>, ()>),
+    Rejected(Log<Proposal<RESOURCES>, Reason>),
+    SealedCall(Log<Request<RESOURCES>, ()>),
+    SealedCommit(Log<Proposal<RESOURCES>, ()>),
+    NoMemory(Log<Proposal<RESOURCES>, ()>),
     Copied,
     Nothing,
 }

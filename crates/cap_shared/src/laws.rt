@@ -1,9 +1,11 @@
 //! Laws of journals, for callers to cite. The function does nothing.
-ghost use Rattle.cap_shared.specs.Laws.{JournalsStayBounded};
+ghost use Rattle.cap_shared.specs.Laws.{FirstJournalsStayBounded, JournalsStayBounded};
 
 /// Whatever threads do, every state of the cluster is bounded, where the opening is: each queue's use is within its maximum, each
 /// user's within the user limit, no node is over its total, reservations are on different nodes, and no container number is there
-/// twice. So the closing cluster opens the next epoch.
+/// twice. So the closing cluster opens the next epoch; and the first opens with the queues of a daemon's settings and nothing else,
+/// which is bounded.
 pub fn journals_stay_bounded()
-    ensures { JournalsStayBounded }
+    ensures further { JournalsStayBounded }
+    ensures first { FirstJournalsStayBounded }
 {}

@@ -8,14 +8,15 @@ ghost use Rattle.cap_shared.specs.Making.{event_of_made};
 
 use crate::entry::Receipt;
 use crate::event::{CompactEvent, EventForm};
+use cap_base::RESOURCES;
 use cap_commit::Cluster;
 use cap_model::{Container, Event, NoMemory, Proposal, Reservation, Verdict};
 
 /// What a proposal came to that was made.
 #[derive(Clone, Copy, Drop)]
 pub enum Made {
-    Grant(Container<2>),
-    Reserve(Reservation<2>),
+    Grant(Container<RESOURCES>),
+    Reserve(Reservation<RESOURCES>),
 }
 
 impl Made {
@@ -34,7 +35,7 @@ impl Made {
     }
 
     /// Its event.
-    pub(crate) fn event(&self) -> Event<2>
+    pub(crate) fn event(&self) -> Event<RESOURCES>
         ensures { result ≡ event_of_made self.now }
     {
         match self {
@@ -50,9 +51,9 @@ impl Made {
 
 /// Makes a proposal that is admissible, with room for its receipt. If an allocation fails nothing changes but room.
 pub(crate) fn make_proposed(
-    cluster: &mut Cluster<2>,
+    cluster: &mut Cluster<RESOURCES>,
     receipts: &mut Vec<Receipt>,
-    proposal: &Proposal<2>,
+    proposal: &Proposal<RESOURCES>,
 ) -> Result<Made, NoMemory>
     requires { reason_of (sight_of cluster.old.flat) proposal.now ≡ None }
     ensures of { IfOk result (λ made. IsOf proposal.now (event_of_made made)) }

@@ -8,6 +8,7 @@ ghost use Rattle.cap_shared.specs.Passes.{AreHere, IsCompared, IsEntered, IsNote
 use crate::entry::{Entry, Receipt};
 use crate::history::Mark;
 use crate::passes::{Pass, Word, add};
+use cap_base::RESOURCES;
 use cap_model::{Proposal, Reason, Request};
 use http_server::Log;
 
@@ -43,7 +44,7 @@ pub(crate) fn note_sealed_call(
     desk: &mut Pass,
     journal: &Vec<Entry>,
     seat: &mut Pass,
-    request: &Request<2>,
+    request: &Request<RESOURCES>,
 )
     requires { AreHere word.now.table_id journal.now.items desk.old seat.old }
     ensures { IsNoted journal.now.items (answer.SealedCall request.now)
@@ -60,7 +61,7 @@ pub(crate) fn note_sealed_commit(
     desk: &mut Pass,
     journal: &Vec<Entry>,
     seat: &mut Pass,
-    proposal: &Proposal<2>,
+    proposal: &Proposal<RESOURCES>,
 )
     requires { AreHere word.now.table_id journal.now.items desk.old seat.old }
     ensures { IsNoted journal.now.items (answer.SealedCommit proposal.now)
@@ -77,7 +78,7 @@ pub(crate) fn note_rejected(
     desk: &mut Pass,
     journal: &Vec<Entry>,
     seat: &mut Pass,
-    proposal: &Proposal<2>,
+    proposal: &Proposal<RESOURCES>,
     reason: &Reason,
 )
     requires { AreHere word.now.table_id journal.now.items desk.old seat.old }
@@ -95,7 +96,7 @@ pub(crate) fn note_no_memory(
     desk: &mut Pass,
     journal: &Vec<Entry>,
     seat: &mut Pass,
-    proposal: &Proposal<2>,
+    proposal: &Proposal<RESOURCES>,
 )
     requires { AreHere word.now.table_id journal.now.items desk.old seat.old }
     ensures { IsNoted journal.now.items (answer.NoMemory proposal.now)

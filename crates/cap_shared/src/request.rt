@@ -2,6 +2,7 @@
 ghost use Rattle.std.specs.Prelude.{◌≡◌, IfOk};
 ghost use Rattle.cap_shared.specs.Requests.{IsCopyIfTexts};
 
+use cap_base::RESOURCES;
 use cap_model::{Asks, List, NoMemory, Numbers, Request};
 use std::alloc::Global;
 use std::marker::Model;
@@ -16,7 +17,7 @@ pub enum RequestForm {
     Allocate {
         response: u32,
         app: u64,
-        asks: Asks<2>,
+        asks: Asks<RESOURCES>,
         releases: Numbers,
     },
     FinishMaster {
@@ -31,7 +32,7 @@ pub enum RequestForm {
         node: u64,
     },
     ClusterInfo,
-    WithTexts(Box<Request<2>>),
+    WithTexts(Box<Request<RESOURCES>>),
 }
 
 /// A request, in at most 80 bytes and what its lists and texts take. Contracts see the request.
@@ -46,17 +47,18 @@ impl Drop for CompactRequest {
 }
 
 impl Model for CompactRequest {
+    ghost use Rattle.cap_base.specs.Limits.{resources};
     ghost use Rattle.cap_model.specs.declared.request.Request.{Request};
     ghost use Rattle.cap_shared.specs.Requests.{request_of};
 
-    ghost Value = { Request 2 };
+    ghost Value = { Request resources };
 
     ghost view = { λ r. request_of r.form };
 }
 
 impl CompactRequest {
     /// The same request, in memory of its own. If an allocation fails there is none.
-    pub fn of(alloc: Global, request: &Request<2>) -> Result<CompactRequest, NoMemory>
+    pub fn of(alloc: Global, request: &Request<RESOURCES>) -> Result<CompactRequest, NoMemory>
         ensures { IfOk result (λ copy. copy ≡ request.now) }
     {
         let form = match request {
@@ -92,7 +94,7 @@ impl CompactRequest {
     /// The same request: its lists are taken out of it, and one with texts is its copy. It takes no memory.
     pub(crate) fn moved(
         alloc: Global,
-        request: &mut Request<2>,
+        request: &mut Request<RESOURCES>,
         copy: Option<TextCopy>,
     ) -> CompactRequest
         requires { IsCopyIfTexts request.old copy }
@@ -134,7 +136,7 @@ impl CompactRequest {
     }
 
     /// The request, in memory of its own. If an allocation fails there is none.
-    pub fn request(&self, alloc: Global) -> Result<Request<2>, NoMemory>
+    pub fn request(&self, alloc: Global) -> Result<Request<RESOURCES>, NoMemory>
         ensures { IfOk result (λ request. request ≡ self.now) }
     {
         match &self.form {
@@ -170,11 +172,14 @@ impl CompactRequest {
 /// A copy of a request with texts.
 #[derive(Drop)]
 pub struct TextCopy {
-    pub request: Box<Request<2>>,
+    pub request: Box<Request<RESOURCES>>,
 }
 
 /// A copy of the request, where it has texts. If an allocation fails there is none.
-pub(crate) fn text_copy(alloc: Global, request: &Request<2>) -> Result<Option<TextCopy>, NoMemory>
+pub(crate) fn text_copy(
+    alloc: Global,
+    request: &Request<RESOURCES>,
+) -> Result<Option<TextCopy>, NoMemory>
     ensures { IfOk result (IsCopyIfTexts request.now) }
 {
     match request {
@@ -189,7 +194,7 @@ pub(crate) fn text_copy(alloc: Global, request: &Request<2>) -> Result<Option<Te
 }
 
 /// A copy of a request behind a pointer. If an allocation fails there is none.
-fn boxed(alloc: Global, request: &Request<2>) -> Result<Box<Request<2>>, NoMemory>
+fn boxed(alloc: Global, request: &Request<RESOURCES>) -> Result<Box<Request<RESOURCES>>, NoMemory>
     ensures { IfOk result (λ copy. copy.value ≡ request.now) }
 {
     let copy = request.copy(alloc)?;

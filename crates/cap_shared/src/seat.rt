@@ -1,5 +1,6 @@
 //! A seat, with which one thread calls (`Seat`), and what names an epoch (`Naming`).
 ghost use Rattle.std.specs.Prelude.{◌≡◌, ◌<◌};
+ghost use Rattle.cap_base.specs.Limits.{resources};
 ghost use Rattle.cap_shared.specs.Journal.{receipts_in, Rises, NotesHold};
 ghost use Rattle.cap_shared.specs.Parts.{IsSeat};
 ghost use Rattle.cap_shared.specs.Rule.{sitting_of};
@@ -17,7 +18,7 @@ pub trait Naming {
 
     ghost table: { TableId };
 
-    ghost opening: { Flat 2 };
+    ghost opening: { Flat resources };
 
     ghost limit: { ℕ };
 

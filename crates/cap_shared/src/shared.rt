@@ -17,6 +17,7 @@ use crate::seat::{Naming, Seat};
 use crate::turnstile::{Place, Turnstile};
 use atomic_table::Table;
 use bumpalo::Bump;
+use cap_base::RESOURCES;
 use cap_commit::Cluster;
 use cap_copy::Snapshot;
 use cap_model::{NoMemory, OwnedReply, Proposal, Request, Verdict};
@@ -77,8 +78,8 @@ impl<'a, J: Naming> Held<'a, J> {
     pub fn call(
         &mut self,
         seat: &mut Seat<J>,
-        request: &mut Request<2>,
-    ) -> Result<OwnedReply<2>, Fault>
+        request: &mut Request<RESOURCES>,
+    ) -> Result<OwnedReply<RESOURCES>, Fault>
         ensures answer { MatchResult result (CallsOk request.old seat.old seat.new)
             (CallMisses request.old J.limit seat.old seat.new) }
         ensures back { OnErr result (request.new ≡ request.old) }
@@ -90,8 +91,8 @@ impl<'a, J: Naming> Held<'a, J> {
     pub fn commit(
         &mut self,
         seat: &mut Seat<J>,
-        proposal: Proposal<2>,
-    ) -> Result<Verdict<2>, CommitFault>
+        proposal: Proposal<RESOURCES>,
+    ) -> Result<Verdict<RESOURCES>, CommitFault>
         ensures { MatchResult result (CommitAnswers proposal seat.old seat.new)
             (CommitsBack proposal J.limit seat.old seat.new) }
     {
@@ -103,7 +104,7 @@ impl<'a, J: Naming> Held<'a, J> {
         &mut self,
         arena: &'b Bump,
         seat: &mut Seat<J>,
-    ) -> Result<Snapshot<2, &'b Bump>, NoMemory>
+    ) -> Result<Snapshot<RESOURCES, &'b Bump>, NoMemory>
         ensures { MatchResult result (CopyIs J.opening seat.old seat.new)
             (λ _. seat.new ≡ seat.old) }
     {
@@ -128,8 +129,8 @@ impl<J: Naming> Shared<J> {
         &self,
         rt: &R,
         seat: &mut Seat<J>,
-        request: Request<2>,
-    ) -> Result<OwnedReply<2>, CallFault>
+        request: Request<RESOURCES>,
+    ) -> Result<OwnedReply<RESOURCES>, CallFault>
         ensures { MatchResult result (CallsOk request seat.old seat.new)
             (CallsBack request J.limit seat.old seat.new) }
     {
@@ -178,8 +179,8 @@ impl<J: Naming> Shared<J> {
         &self,
         rt: &R,
         seat: &mut Seat<J>,
-        proposal: Proposal<2>,
-    ) -> Result<Verdict<2>, CommitFault>
+        proposal: Proposal<RESOURCES>,
+    ) -> Result<Verdict<RESOURCES>, CommitFault>
         ensures { MatchResult result (CommitAnswers proposal seat.old seat.new)
             (CommitsBack proposal J.limit seat.old seat.new) }
     {
@@ -192,7 +193,7 @@ impl<J: Naming> Shared<J> {
         rt: &R,
         arena: &'a Bump,
         seat: &mut Seat<J>,
-    ) -> Result<Snapshot<2, &'a Bump>, NoMemory>
+    ) -> Result<Snapshot<RESOURCES, &'a Bump>, NoMemory>
         ensures { MatchResult result (CopyIs J.opening seat.old seat.new)
             (λ _. seat.new ≡ seat.old) }
     {
@@ -215,7 +216,7 @@ impl<J: Naming> Shared<J> {
     pub fn open(
         alloc: Global,
         blank: Blank,
-        cluster: Cluster<2>,
+        cluster: Cluster<RESOURCES>,
         limit: usize,
     ) -> Result<(Shared<J>, Vec<Seat<J>>), NoMemory>
         requires named { blank.0 ≡ J.table }

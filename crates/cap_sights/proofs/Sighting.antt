@@ -4,12 +4,12 @@ use Rattle.std.specs.Prelude.{Some, IfOk, bytes_eq, find}
 use Rattle.std.specs.List.{All}
 use Rattle.std.specs.Option.{option_map_or}
 use Rattle.cap_vector.specs.Vector.{amount}
-use Rattle.cap_model.specs.Bounds.{IsRising}
-use Rattle.cap_model.specs.declared.no_memory.NoMemory.{NoMemory}
+use Rattle.cap_base.specs.Members.{IsRising}
+use Rattle.cap_base.specs.declared.no_memory.NoMemory.{NoMemory}
 use Rattle.cap_model.specs.Flat.{Flat, AppTable, ClusterNode, NodeTable, node_in}
 use Rattle.cap_model.specs.Uses.{user_use, held_on}
 use Rattle.cap_model.specs.Sight.{Sight, QueueSight, sight_of, queue_sight, node_sight}
-use Rattle.cap_model.proofs.lists.Members.{IsIn, each_of}
+use Rattle.cap_base.proofs.lists.Members.{IsIn, each_of}
 use Rattle.cap_model.proofs.lists.Numbered.{found_by_number}
 use Rattle.cap_tree.specs.Measure.{Measure}
 use Rattle.cap_tree.specs.Queue.{use_of, user_row}
@@ -62,10 +62,10 @@ module _ {K : ℕ} (flat : Flat K) where
   }
 
 -- a snapshot of the parts of a cluster, if there was memory for it
-pub snapshot_shows : (flat : Flat 2) (held tree : List Row) (apps : AppTable) (nodes : NodeTable) → tree ≡ held → apps ≡ flat.apps → nodes ≡ flat.nodes → queues_of held ≡ flat.settings.queues → All (IsRowOf flat) held
-    → (r : Result Seen NoMemory) → IfOk r (λ seen. IsSnapshotOf 2 tree apps nodes seen) → IfOk r (λ seen. ShowTheSame {K = 2} (sight_in 2 seen) (sight_of flat))
-snapshot_shows flat held tree apps nodes t a n queues tied (Err e) is = tt
-snapshot_shows flat held tree apps nodes t a n queues tied (Ok seen) is =
-    let same : sight_in 2 seen ≡ sight_of_parts 2 held flat.apps flat.nodes = is.sight ∙ (λ i. sight_of_parts 2 (t i) (a i) (n i)) in
+pub snapshot_shows : {K : ℕ} (flat : Flat K) (held tree : List Row) (apps : AppTable) (nodes : NodeTable) → tree ≡ held → apps ≡ flat.apps → nodes ≡ flat.nodes → queues_of held ≡ flat.settings.queues → All (IsRowOf flat) held
+    → (r : Result Seen NoMemory) → IfOk r (λ seen. IsSnapshotOf K tree apps nodes seen) → IfOk r (λ seen. ShowTheSame (sight_in K seen) (sight_of flat))
+snapshot_shows {K} flat held tree apps nodes t a n queues tied (Err e) is = tt
+snapshot_shows {K} flat held tree apps nodes t a n queues tied (Ok seen) is =
+    let same : sight_in K seen ≡ sight_of_parts K held flat.apps flat.nodes = is.sight ∙ (λ i. sight_of_parts K (t i) (a i) (n i)) in
     let numbers = subst (λ (x : NodeTable). IsRising 1 (map (λ node. node.number) x.present) x.next_node) n is.numbers in
-    subst (λ (s : Sight 2). ShowTheSame s (sight_of flat)) (sym same) (parts_same flat held queues (λ r m. each_of (IsRowOf flat) held tied r m) numbers)
+    subst (λ (s : Sight K). ShowTheSame s (sight_of flat)) (sym same) (parts_same flat held queues (λ r m. each_of (IsRowOf flat) held tied r m) numbers)

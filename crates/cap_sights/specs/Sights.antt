@@ -2,7 +2,7 @@
 use Rattle.std.specs.Prelude.{◌≡◌, ℕ, List, [], map}
 use Rattle.std.specs.Option.{option_map_or}
 use Rattle.cap_vector.specs.Vector.{amount}
-use Rattle.cap_model.specs.Settings.{QueueRow}
+use Rattle.cap_base.specs.Settings.{QueueRow}
 use Rattle.cap_model.specs.Sight.{Sight, QueueSight, seen_queue}
 
 -- what two sights show of a queue: its settings and its use

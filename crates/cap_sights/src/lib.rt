@@ -1,4 +1,4 @@
-//! Snapshots of a whole cluster of two resources: `snapshot_of`, and `snapshot_in` an arena.
+//! Snapshots of a whole cluster: `snapshot_of`, and `snapshot_in` an arena.
 #![tactic(auto)]
 
 ghost use Rattle.std.specs.Prelude.{IfOk};
@@ -13,20 +13,23 @@ use cap_model::NoMemory;
 use std::alloc::Global;
 
 /// A snapshot of the cluster, which shows the same as the cluster. If an allocation fails there is none.
-pub fn snapshot_of(alloc: Global, cluster: &Cluster<2>) -> Result<Snapshot<2, Global>, NoMemory>
+pub fn snapshot_of<const K: usize>(
+    alloc: Global,
+    cluster: &Cluster<K>,
+) -> Result<Snapshot<K, Global>, NoMemory>
     ensures { IfOk result (λ snapshot.
-        ShowTheSame (sight_in 2 snapshot) (sight_of cluster.now.flat)) }
+        ShowTheSame (sight_in K snapshot) (sight_of cluster.now.flat)) }
 {
     Snapshot::take(alloc, cluster.tree(), cluster.apps(), cluster.nodes())
 }
 
 /// The same in an arena.
-pub fn snapshot_in<'a>(
+pub fn snapshot_in<'a, const K: usize>(
     arena: &'a Bump,
-    cluster: &Cluster<2>,
-) -> Result<Snapshot<2, &'a Bump>, NoMemory>
+    cluster: &Cluster<K>,
+) -> Result<Snapshot<K, &'a Bump>, NoMemory>
     ensures { IfOk result (λ snapshot.
-        ShowTheSame (sight_in 2 snapshot) (sight_of cluster.now.flat)) }
+        ShowTheSame (sight_in K snapshot) (sight_of cluster.now.flat)) }
 {
     Snapshot::take(arena, cluster.tree(), cluster.apps(), cluster.nodes())
 }

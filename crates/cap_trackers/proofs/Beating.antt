@@ -10,19 +10,19 @@ use Rattle.cap_model.specs.declared.reply.ReplyWith.TheVariants as Reply
 use Rattle.cap_model.specs.declared.refusal.Refusal.{Refusal}
 use Rattle.cap_model.specs.Flat.{Flat, ClusterNode, Container, NodeTable, node_at, with_node, node_in, containers_on}
 use Rattle.cap_model.specs.declared.replies.HeartbeatReply.{HeartbeatReply}
-use Rattle.cap_model.specs.Bounds.{IsRising}
+use Rattle.cap_base.specs.Members.{IsRising}
 use Rattle.cap_model.specs.Cascade.{earliest}
 use Rattle.cap_model.specs.ResponseIds.{next_response, is_current, is_repeated, is_bad_id}
 use Rattle.cap_model.specs.Ending.{is_among, after_ends}
 use Rattle.cap_model.specs.Heartbeat.{heartbeat_refusal, is_repeated_heartbeat, ended_by, beat_of, after_processed_heartbeat, after_heartbeat, no_beat, after_beat}
-use Rattle.cap_model.specs.EngineLaws.{HasDistinctNumbers}
+use Rattle.cap_laws.specs.EngineLaws.{HasDistinctNumbers}
 use Rattle.cap_model.specs.Replies.{reply_to, after_request}
-use Rattle.cap_model.proofs.lists.Members.{IsIn, found}
+use Rattle.cap_base.proofs.lists.Members.{IsIn, found}
 use Rattle.cap_model.proofs.lists.Numbered.{rising_kept, found_by_number}
-use Rattle.cap_model.proofs.lists.Filters.{filter_same, filter_twice, filter_whole, map_same}
-use Rattle.cap_model.proofs.numbers.Balance.{among_itself}
-use Rattle.cap_model.proofs.ending.NamedEnds.{is_named, count_named, among_named}
-use Rattle.cap_model.proofs.lists.Tests.{and_true, first_holds}
+use Rattle.cap_base.proofs.lists.Filters.{filter_same, filter_twice, filter_whole, map_same}
+use Rattle.cap_laws.proofs.numbers.Balance.{among_itself}
+use Rattle.cap_laws.proofs.ending.NamedEnds.{is_named, count_named, among_named}
+use Rattle.cap_base.proofs.lists.Tests.{and_true, first_holds}
 use Rattle.cap_trackers.proofs.Answering.{granted_is, refused_is}
 
 turn : (a b : Bool) → cond (not a) b false ≡ cond b (not a) false

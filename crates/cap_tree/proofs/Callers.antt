@@ -2,7 +2,7 @@
 use Rattle.std.proofs.Common.{ℕ, ◌<◌, List, [], ◌∷◌, Option, Some, None, inl, inr, arith}
 use Rattle.std.specs.Option.{option_map_or}
 use Rattle.cap_vector.proofs.AmountLemmas.{amount-zeros}
-use Rattle.cap_model.specs.Limits.{number_end}
+use Rattle.cap_base.specs.Limits.{number_end}
 use Rattle.cap_tree.specs.Spot.{item_at, HoldsOfItem, IsPosition}
 use Rattle.cap_tree.specs.Measure.{Measure}
 use Rattle.cap_tree.specs.Count.{Count, IsPart, zero_count, one_app, use_alone}

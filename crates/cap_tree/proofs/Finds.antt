@@ -9,7 +9,7 @@ use Rattle.cap_tree.specs.declared.found.Kind.{Kind}
 use Rattle.std.specs.Prelude.{◌⊎◌}
 use Rattle.std.specs.List.{All, AllByRecursion}
 use Rattle.std.proofs.lemmas.List.Elements.{recursion_from_All}
-use Rattle.cap_model.proofs.lists.Members.{IsIn, in_left, in_right, each_of, of_each, in_map}
+use Rattle.cap_base.proofs.lists.Members.{IsIn, in_left, in_right, each_of, of_each, in_map}
 use Rattle.std.proofs.lemmas.List.{get_or_default, length-append, length-map}
 use Rattle.cap_tree.proofs.Looking.{NoneBefore, IsInside, missing_by_name, found_here, missing_by_dot, inside, missing_inside, found_inside, below_inside}
 

@@ -8,16 +8,15 @@ use Rattle.std.proofs.lemmas.List.{append_assoc, length-append, length-map, leng
 use Rattle.std.proofs.lemmas.List.Sums.{sum_by-cons, sum_by-append}
 use Rattle.std.proofs.lemmas.Slice.Eq.{bytes_eq-Decides}
 use Rattle.std.proofs.lemmas.Bool.{false_from_ne_true}
-use Rattle.cap_model.specs.Settings.{QueueRow}
-use Rattle.cap_model.specs.Flat.{is_under, name_of}
-use Rattle.cap_model.specs.Bounds.{HasDistinctPaths, has_path, depth}
-use Rattle.cap_model.specs.Listing.{IsListed, IsListing}
-use Rattle.cap_model.specs.Limits.{depth_max, queues_max}
-use Rattle.cap_model.specs.QueueCalls.{root_path}
-use Rattle.cap_model.proofs.lists.Members.{IsIn, in_right, in_either, each_of, of_each, in_map}
-use Rattle.cap_model.proofs.paths.Paths.{IsUnder, under_is, is_under_it, name_has_none, dot_in, head_is, tail_is, under_itself, has_dot}
-use Rattle.cap_model.proofs.lists.Tests.{same_test}
-use Rattle.cap_model.proofs.paths.Levels.{no_levels}
+use Rattle.cap_base.specs.Settings.{QueueRow}
+use Rattle.cap_base.specs.Paths.{is_under, name_of, root_path}
+use Rattle.cap_base.specs.Trees.{HasDistinctPaths, has_path, depth}
+use Rattle.cap_base.specs.Listing.{IsListed, IsListing}
+use Rattle.cap_base.specs.Limits.{depth_max, queues_max}
+use Rattle.cap_base.proofs.lists.Members.{IsIn, in_right, in_either, each_of, of_each, in_map}
+use Rattle.cap_base.proofs.paths.Paths.{IsUnder, under_is, is_under_it, name_has_none, dot_in, head_is, tail_is, under_itself, has_dot}
+use Rattle.cap_base.proofs.lists.Tests.{same_test}
+use Rattle.cap_base.proofs.paths.Levels.{no_levels}
 use Rattle.cap_tree.specs.Spot.{leads_to, path_at, last_position, IsAddedAt, IsAdded}
 use Rattle.cap_vector.specs.Vector.{amount}
 use Rattle.cap_vector.proofs.AmountLemmas.{amount-zeros}

@@ -2,12 +2,12 @@
 use Rattle.std.proofs.Common.{◌≡◌, ℕ, ◌≤◌, Bool, true, false, cond, List, [], ◌∷◌, ◌++◌, map, Option, Some, refl, sym, ◌∙◌, ap, subst}
 use Rattle.std.specs.Prelude.{bytes_eq, find, is_some, ◌||◌, if◌then◌else◌}
 use Rattle.std.specs.List.{All, list_any}
-use Rattle.cap_model.specs.Settings.{QueueRow}
-use Rattle.cap_model.specs.Flat.{is_under}
-use Rattle.cap_model.specs.Bounds.{HasDistinctPaths, has_path, depth}
-use Rattle.cap_model.specs.Listing.{MayFollow, IsListed, IsListedFromRoot, IsListing}
-use Rattle.cap_model.specs.Limits.{depth_max, factor_max}
-use Rattle.cap_model.proofs.lists.Members.{each_of, of_each, of_map}
+use Rattle.cap_base.specs.Settings.{QueueRow}
+use Rattle.cap_base.specs.Paths.{is_under}
+use Rattle.cap_base.specs.Trees.{HasDistinctPaths, has_path, depth}
+use Rattle.cap_base.specs.Listing.{MayFollow, IsListed, IsListedFromRoot, IsListing}
+use Rattle.cap_base.specs.Limits.{depth_max, factor_max}
+use Rattle.cap_base.proofs.lists.Members.{each_of, of_each, of_map}
 use Rattle.cap_tree.specs.Spot.{change_along, leads_to}
 use Rattle.cap_tree.specs.Queue.{Queue, with_running}
 use Rattle.cap_tree.specs.Rows.{Row, AreRows, queues_of, settings_of_row, changed_at, with_state}

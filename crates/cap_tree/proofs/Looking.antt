@@ -9,7 +9,7 @@ use Rattle.std.proofs.lemmas.Bool.{eq-eqb, ne_eqb}
 use Rattle.std.proofs.lemmas.List.{get_or_default, append-nil}
 use Rattle.cap_tree.specs.Spot.{Spot, leads_to, leads_below, under, below, spots, position_of_path, along, first_failing, has_below}
 use Rattle.cap_tree.proofs.Spots.{steps-is, steps-empty}
-use Rattle.cap_model.proofs.lists.Tests.{bytes_itself}
+use Rattle.cap_base.proofs.lists.Tests.{bytes_itself}
 
 abbrev placed : ℕ → Option (List ℕ) → Option (List ℕ) → Option (List ℕ)
 placed i None rest = rest

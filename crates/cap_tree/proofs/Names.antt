@@ -4,7 +4,7 @@ use Rattle.std.specs.Prelude.{cond, ◌==◌, ◌||◌}
 use Rattle.std.specs.List.{list_any}
 use Rattle.std.proofs.lemmas.Bool.{eq-eqb, ne_eqb}
 use Rattle.std.proofs.lemmas.List.{take_all}
-use Rattle.cap_model.specs.Flat.{name_of}
+use Rattle.cap_base.specs.Paths.{name_of}
 
 abbrev pub has_dot : List ℕ → Bool
 has_dot path = list_any (λ x. x == 46) path

@@ -3,7 +3,7 @@ use Rattle.std.proofs.Common.{◌≡◌, ℕ, ◌+◌, ◌≤◌, Bool, true, fa
 use Rattle.std.specs.Prelude.{bytes_eq, if◌then◌else◌}
 use Rattle.std.specs.Option.{option_map_or}
 use Rattle.std.proofs.lemmas.Slice.Eq.{bytes_eq-Decides}
-use Rattle.cap_model.proofs.lists.Tests.{bytes_turned}
+use Rattle.cap_base.proofs.lists.Tests.{bytes_turned}
 use Rattle.cap_tree.specs.Measure.{Measure}
 use Rattle.cap_tree.specs.Count.{Count, IsPart, of_count, is_zero_count, count_moved}
 use Rattle.cap_tree.specs.Queue.{Users, of_user, user_row, count_in, with_count}

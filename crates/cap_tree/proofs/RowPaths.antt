@@ -5,11 +5,11 @@ use Rattle.std.specs.List.{All, list_all}
 use Rattle.std.proofs.lemmas.Bool.Decides.{nat_tests}
 use Rattle.std.proofs.lemmas.List.{length-append}
 use Rattle.std.proofs.lemmas.Slice.Eq.{bytes_eq-Decides}
-use Rattle.cap_model.specs.Settings.{QueueRow}
-use Rattle.cap_model.specs.Flat.{is_under, name_of}
-use Rattle.cap_model.proofs.lists.Members.{IsIn, each_of, of_each, of_map}
-use Rattle.cap_model.proofs.paths.Paths.{IsUnder, under_is, under_itself}
-use Rattle.cap_model.proofs.lists.Filters.{map_same, filter_same}
+use Rattle.cap_base.specs.Settings.{QueueRow}
+use Rattle.cap_base.specs.Paths.{is_under, name_of}
+use Rattle.cap_base.proofs.lists.Members.{IsIn, each_of, of_each, of_map}
+use Rattle.cap_base.proofs.paths.Paths.{IsUnder, under_is, under_itself}
+use Rattle.cap_base.proofs.lists.Filters.{map_same, filter_same}
 use Rattle.cap_tree.specs.Spot.{leads_to, item_at, path_at, change_along, along, first_failing, HoldsOfItem, IsPosition}
 use Rattle.cap_tree.specs.Queue.{Queue}
 use Rattle.cap_tree.proofs.Looking.{level_from, failing-cons}

@@ -15,9 +15,9 @@ use Rattle.std.proofs.lemmas.List.Concat.{flat_map-cons}
 use Rattle.std.proofs.lemmas.List.Elements.{filter-append}
 use Rattle.std.specs.Option.{option_cmp, option_map_or}
 use Rattle.std.proofs.lemmas.Option.{slice_get-map}
-use Rattle.cap_model.proofs.lists.Filters.{filter_mapped, map_twice}
-use Rattle.cap_model.proofs.lists.Tests.{same_test}
-use Rattle.cap_model.proofs.lists.Members.{IsIn, in_either, of_filter, of_map, in_filter, in_left, in_map, in_right, each_of, of_each}
+use Rattle.cap_base.proofs.lists.Filters.{filter_mapped, map_twice}
+use Rattle.cap_base.proofs.lists.Tests.{same_test}
+use Rattle.cap_base.proofs.lists.Members.{IsIn, in_either, of_filter, of_map, in_filter, in_left, in_map, in_right, each_of, of_each}
 use Rattle.cap_tree.specs.Ranking.{IsPlace, IsRanked}
 use Rattle.cap_tree.specs.Serving.{Waiter, has_none, waits_here, waits_in, first_is, lifted, AreRanked, serve_cmp, index_cmp, has_index, dealt, IsReached, kid_at, kid_cmp, AreApart, AreServed, AreServedTo, BeginsWithin, AreParts, AreNumbered, HasTop, AreKids}
 use Rattle.cap_model.specs.Choice.{level_cmp}

@@ -10,8 +10,8 @@ use Rattle.std.specs.Cmp.Lexicographic.{options_total}
 use Rattle.std.proofs.lemmas.Bool.{cases_lt}
 use Rattle.std.proofs.lemmas.Cmp.{on_total, tied_itself, upto}
 use Rattle.std.proofs.lemmas.List.{get_or_default}
-use Rattle.cap_model.proofs.lists.Members.{IsIn, in_left, in_right, in_map}
-use Rattle.cap_model.specs.Texts.{dot}
+use Rattle.cap_base.proofs.lists.Members.{IsIn, in_left, in_right, in_map}
+use Rattle.cap_base.specs.Texts.{dot}
 use Rattle.cap_tree.specs.Spot.{Spot, along, under, below, spots, item_at, HoldsOfItem}
 use Rattle.cap_tree.specs.Service.{HasPathsOnce, IsTop, items_along, children_at, child_item, is_after, is_before, IsThere, child_cmp, ComesAfter, HasNoneAfter, IsFirstAfter}
 use Rattle.cap_tree.proofs.Spots.{item_at-spots}

@@ -8,7 +8,7 @@ use Rattle.std.proofs.lemmas.List.{drop-map}
 use Rattle.std.proofs.lemmas.Slice.Eq.{bytes_eq-Decides}
 use Rattle.cap_vector.specs.Fullness.{shares}
 use Rattle.cap_model.specs.Choice.{Level, level_cmp}
-use Rattle.cap_model.proofs.lists.Members.{IsIn, each_of}
+use Rattle.cap_base.proofs.lists.Members.{IsIn, each_of}
 use Rattle.cap_tree.specs.Spot.{along, item_at, HoldsOfItem, IsPosition}
 use Rattle.cap_tree.specs.Queue.{Queue}
 use Rattle.cap_tree.specs.Rows.{Row, AreRows, HasLastName, PositionsArePaths}

@@ -13,7 +13,7 @@ use denote.Param.{layout, number, param}
 use Rattle.smallvec.specs.contracts.small_vec.SmallVec as path
 use Rattle.cap_vector.specs.contracts.fullness.Shares as shares
 use Rattle.cap_vector.specs.contracts.vector.Amounts as amounts
-use Rattle.cap_model.specs.contracts.settings.QueueRow as row
+use Rattle.cap_base.specs.contracts.settings.QueueRow as row
 use Rattle.cap_tree.specs.contracts.change.Move as move
 use Rattle.cap_tree.specs.contracts.count.Count as count
 use Rattle.cap_tree.specs.contracts.queue.Queue as queue

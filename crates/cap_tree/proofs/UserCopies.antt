@@ -5,7 +5,7 @@ use Rattle.std.specs.Map.{keys_of}
 use Rattle.std.proofs.lemmas.List.{append-nil, map-append}
 use Rattle.std.proofs.lemmas.Map.Keys.{IsDistinct-head, IsDistinct-tail}
 use Rattle.indexmap.specs.IndexMap.{insert_entry}
-use Rattle.cap_model.proofs.lists.Tests.{bytes_turned}
+use Rattle.cap_base.proofs.lists.Tests.{bytes_turned}
 use Rattle.cap_tree.specs.Count.{Count}
 use Rattle.cap_tree.proofs.Users.{same_text, same_text-is}
 

@@ -8,8 +8,8 @@ use Rattle.std.specs.FinMap.{from_entries, get-from_entries}
 use Rattle.std.specs.FinMap.Entries.{find}
 use Rattle.std.proofs.lemmas.Bool.Decides.{nat_tests}
 use Rattle.std.proofs.lemmas.Map.Text.{is_eq-slice_cmp}
-use Rattle.cap_model.specs.Texts.{padded_text}
-use Rattle.cap_model.proofs.lists.Tests.{bytes_itself, bytes_turned, and_true, and_false}
+use Rattle.cap_base.specs.Texts.{padded_text}
+use Rattle.cap_base.proofs.lists.Tests.{bytes_itself, bytes_turned, and_true, and_false}
 use Rattle.cap_tree.specs.Count.{Count, is_zero_count}
 use Rattle.cap_tree.specs.Queue.{Users, user_row, with_count}
 use Rattle.cap_tree.specs.UserLaws.{same_users, user_row-with_count}

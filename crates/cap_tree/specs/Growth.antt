@@ -1,14 +1,14 @@
 -- A tree of queues that grows by one queue after the other.
 use Rattle.std.specs.Prelude.{◌≡◌, ℕ, ◌++◌, ◌∷◌, true, List, length}
 use Rattle.std.specs.List.{All}
-use Rattle.cap_model.specs.Settings.{QueueRow}
-use Rattle.cap_model.specs.Bounds.{HasDistinctPaths, has_path, depth}
-use Rattle.cap_model.specs.Listing.{IsListed}
-use Rattle.cap_model.specs.Members.{IsIn}
+use Rattle.cap_base.specs.Settings.{QueueRow}
+use Rattle.cap_base.specs.Trees.{HasDistinctPaths, has_path, depth}
+use Rattle.cap_base.specs.Listing.{IsListed}
+use Rattle.cap_base.specs.Members.{IsIn}
 use Rattle.cap_tree.specs.Spot.{last_position}
 use Rattle.cap_tree.specs.Queue.{IsUnused}
 use Rattle.cap_tree.specs.Rows.{Row, PositionsArePaths, HasLastName, queues_of}
-use Rattle.cap_model.specs.Texts.{dot}
+use Rattle.cap_base.specs.Texts.{dot}
 
 -- with each path all its beginnings before a dot are there
 abbrev pub IsClosed : List QueueRow → Type 0

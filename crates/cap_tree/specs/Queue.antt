@@ -9,8 +9,8 @@ use Rattle.cap_vector.specs.Fullness.{shares}
 use Rattle.cap_vector.specs.Vector.{amount, amounts_exchanged, zeros, Fits}
 use Rattle.cap_vector.specs.declared.fullness.Share.{Share}
 use Rattle.cap_model.specs.Admission.{fits_maximum, fits_user_limit}
-use Rattle.cap_model.specs.Settings.{QueueRow}
-use Rattle.cap_model.specs.Flat.{name_of}
+use Rattle.cap_base.specs.Settings.{QueueRow}
+use Rattle.cap_base.specs.Paths.{name_of}
 use Rattle.cap_tree.specs.Measure.{Measure}
 use Rattle.cap_tree.specs.Count.{Count, of_count, zero_count, is_zero_count, count_moved}
 

@@ -3,9 +3,9 @@ use Rattle.std.specs.Prelude.{◌≡◌, ℕ, ◌≤◌, Bool, true, false, if�
 use Rattle.smallvec.specs.SmallVec.{SmallVec}
 use Rattle.std.specs.Option.{option_map_or}
 use Rattle.std.specs.List.{All, list_all, list_any, starts_with}
-use Rattle.cap_model.specs.Settings.{QueueRow}
-use Rattle.cap_model.specs.Flat.{is_under, name_of}
-use Rattle.cap_model.specs.Listing.{IsListing}
+use Rattle.cap_base.specs.Settings.{QueueRow}
+use Rattle.cap_base.specs.Paths.{is_under, name_of}
+use Rattle.cap_base.specs.Listing.{IsListing}
 use Rattle.cap_tree.specs.Finding.{IsStart}
 use Rattle.cap_tree.specs.declared.found.Found.{Found}
 use Rattle.cap_tree.specs.declared.found.Found.TheVariants.{Leaf, Parent, Missing}
@@ -14,7 +14,7 @@ use Rattle.cap_tree.specs.Branch.{root_count}
 use Rattle.cap_tree.specs.Measure.{MayChange}
 use Rattle.cap_tree.specs.Count.{Count, of_count, zero_count, one_app, use_alone}
 use Rattle.cap_tree.specs.Queue.{Queue, of_queue, user_row, moved_above, moved_at, with_running}
-use Rattle.cap_model.specs.Texts.{dot}
+use Rattle.cap_base.specs.Texts.{dot}
 
 -- a row: the queue's position, its dotted path, and what it holds
 abbrev pub Row : Type 0

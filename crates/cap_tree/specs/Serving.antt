@@ -6,7 +6,7 @@ use Rattle.std.specs.Ordering.{nat_cmp, then_cmp, on}
 use Rattle.std.specs.declared.cmp.Ordering.{Ordering}
 use Rattle.std.specs.declared.cmp.Ordering.TheVariants.{Less, Equal}
 use Rattle.std.specs.Cmp.Lexicographic.{slice_cmp}
-use Rattle.cap_model.specs.Members.{IsIn}
+use Rattle.cap_base.specs.Members.{IsIn}
 use Rattle.cap_tree.specs.Ranking.{IsRanked}
 use Rattle.cap_tree.specs.Service.{IsTop, items_along}
 use Rattle.cap_tree.specs.Spot.{Spot, first}

@@ -5,7 +5,7 @@ use Rattle.std.specs.List.{list_any}
 use Rattle.std.specs.Coded.{Coded, code_by, coded×, coded_ℕ, coded_list}
 use Rattle.std.proofs.Common.{arith, length-append}
 use Rattle.std.proofs.lemmas.List.{length-map}
-use Rattle.cap_model.specs.Texts.{dot}
+use Rattle.cap_base.specs.Texts.{dot}
 use denote.Param.Weighed.{most}
 
 pub record Spot (T : Type 0) : Type 0 where

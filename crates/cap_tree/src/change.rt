@@ -64,9 +64,8 @@ pub(crate) struct SetState {
 
 impl<const K: usize, A: Allocator> Change<Queue<K, A>> for SetState {
     ghost use Rattle.std.specs.Prelude.{refl};
-    ghost use Rattle.cap_tree.specs.Queue.{with_running};
+    ghost use Rattle.cap_tree.specs.Queue.{with_running, of_queue, of_users};
     ghost use Rattle.cap_tree.specs.QueueLaws.{none_fits, same_after, same_number};
-    ghost use Rattle.cap_tree.specs.Queue.{of_queue, of_users};
 
     ghost old = { λ c m. 0 };
 

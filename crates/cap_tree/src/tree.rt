@@ -2,8 +2,8 @@
 ghost use Rattle.std.specs.Prelude.{◌≡◌, ◌<◌, ◌≤◌, ◌+◌, length, ◌++◌, ◌∷◌, [], map, None, Some, IfErr, IfOk, IfSome, MatchOption, OnOk, OnErr};
 ghost use Rattle.std.specs.List.{All, slice_get};
 ghost use Rattle.cap_vector.specs.Vector.{IsWithin, amounts_exchanged, sum_max};
-ghost use Rattle.cap_model.specs.Limits.{number_end, queues_max};
-ghost use Rattle.cap_model.specs.Bounds.{depth};
+ghost use Rattle.cap_base.specs.Limits.{number_end, queues_max};
+ghost use Rattle.cap_base.specs.Trees.{depth};
 ghost use Rattle.cap_model.specs.Cascade.{holds_of};
 ghost use Rattle.cap_tree.specs.Growth.{IsGrowing};
 ghost use Rattle.cap_tree.specs.Limits.{over_limit};

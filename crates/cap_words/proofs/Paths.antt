@@ -9,7 +9,7 @@ use Rattle.std.proofs.lemmas.List.Elements.{All-weaker}
 use Rattle.std.proofs.lemmas.List.Sums.{AllPass-from_list_all}
 use Rattle.std.proofs.lemmas.Str.{IsUtf8-from_ascii}
 use Rattle.std.proofs.lemmas.Str.Ascii.{IsAscii-from_all}
-use Rattle.cap_model.specs.Texts.{is_graphic, is_text}
+use Rattle.cap_base.specs.Texts.{is_graphic, is_text}
 
 graphic_is_ascii : (b : ℕ) → is_graphic b ≡ true → b < 128
 graphic_is_ascii b h = grind (arith, nat_tests)

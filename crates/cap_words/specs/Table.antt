@@ -1,7 +1,7 @@
 -- The table of the queues of settings, and the limits below it.
 use Rattle.std.specs.Prelude.{ℕ, ◌-◌, List, [], ◌∷◌, ◌++◌, length, replicate, Option, Some, None, Bool, true, false, codes, decimal, max}
 use Rattle.std.specs.List.{flat_map}
-use Rattle.cap_model.specs.Settings.{QueueRow, Settings}
+use Rattle.cap_base.specs.Settings.{QueueRow, Settings}
 use Rattle.cap_words.specs.declared.table.Column.{Column}
 use Rattle.cap_words.specs.declared.table.Column.TheVariants.{Path, Guarantee, Maximum, Factor}
 use Rattle.cap_words.specs.declared.table.Widths.{Widths}

@@ -6,8 +6,8 @@ ghost use Rattle.cap_config.specs.LineKeys.{line_key};
 
 use crate::amounts::{put_number, put_over};
 use crate::text::text_of;
+use cap_base::NoMemory;
 use cap_config::{ConfigFault, Detail, Limit, Setting, detail_of, line_key};
-use cap_model::NoMemory;
 use std::alloc::{AllocError, Global};
 
 /// One line of words for the first fault of these property lines, without a line feed: the number of its line, the key

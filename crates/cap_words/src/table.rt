@@ -5,8 +5,8 @@ ghost use Rattle.cap_words.specs.Table.{table, header, title, cell_words, maximu
 
 use crate::amounts::{put_amounts, put_number};
 use crate::text::text_of;
+use cap_base::{NoMemory, RESOURCES};
 use cap_config::{Config, QueueRow};
-use cap_model::NoMemory;
 use std::alloc::{AllocError, Global};
 
 /// A column whose cells have blanks up to its width. The state of a queue follows them, at the end of its line.
@@ -33,7 +33,7 @@ pub struct Widths {
 /// guarantee, and the maximum capacity that it has of its own or from a queue above, in MiB and vcores, or `-` where there is
 /// none; its user limit factor; and its own state, RUNNING or STOPPED. The limits are the minimum and the maximum allocation of a container, in
 /// MiB and vcores, and how many applications may be active at once. `NoMemory` if an allocation fails.
-pub fn queue_table(alloc: Global, config: &Config<2>) -> Result<String, NoMemory>
+pub fn queue_table(alloc: Global, config: &Config<RESOURCES>) -> Result<String, NoMemory>
     ensures { IfOk result (λ words. string_bytes words ≡ table config.now) }
 {
     match table(alloc, config) {
@@ -43,7 +43,7 @@ pub fn queue_table(alloc: Global, config: &Config<2>) -> Result<String, NoMemory
 }
 
 #[tactic(auto, unfolding(crate::specs::Table::table))]
-fn table(alloc: Global, config: &Config<2>) -> Result<String, AllocError>
+fn table(alloc: Global, config: &Config<RESOURCES>) -> Result<String, AllocError>
     ensures { IfOk result (λ words. string_bytes words ≡ table config.now) }
 {
     let widths = widths_of(alloc, config.queues())?;
@@ -54,7 +54,7 @@ fn table(alloc: Global, config: &Config<2>) -> Result<String, AllocError>
     Ok(words)
 }
 
-fn widths_of(alloc: Global, rows: &[QueueRow<2>]) -> Result<Widths, AllocError>
+fn widths_of(alloc: Global, rows: &[QueueRow<RESOURCES>]) -> Result<Widths, AllocError>
     ensures { IfOk result (λ widths. widths ≡ widths_of rows.now) }
 {
     Ok(Widths {
@@ -66,7 +66,11 @@ fn widths_of(alloc: Global, rows: &[QueueRow<2>]) -> Result<Widths, AllocError>
 }
 
 /// How wide a column is: as its title or its widest cell.
-fn width_of(alloc: Global, column: Column, rows: &[QueueRow<2>]) -> Result<usize, AllocError>
+fn width_of(
+    alloc: Global,
+    column: Column,
+    rows: &[QueueRow<RESOURCES>],
+) -> Result<usize, AllocError>
     ensures { IfOk result (λ width. width ≡ width_of column rows.now) }
 {
     let mut width = title(column).len();
@@ -90,7 +94,7 @@ fn title(column: Column) -> &'static str
 }
 
 /// What a queue has in a column.
-fn cell(alloc: Global, column: Column, row: &QueueRow<2>) -> Result<String, AllocError>
+fn cell(alloc: Global, column: Column, row: &QueueRow<RESOURCES>) -> Result<String, AllocError>
     ensures { IfOk result (λ cell. string_bytes cell ≡ cell_words column row.now) }
 {
     let mut cell = String::new(alloc);
@@ -103,7 +107,7 @@ fn cell(alloc: Global, column: Column, row: &QueueRow<2>) -> Result<String, Allo
     Ok(cell)
 }
 
-fn put_maximum(cell: &mut String, row: &QueueRow<2>) -> Result<(), AllocError>
+fn put_maximum(cell: &mut String, row: &QueueRow<RESOURCES>) -> Result<(), AllocError>
     ensures { OnOk result (string_bytes cell.new
         ≡ string_bytes cell.old ++ maximum_words row.now.maximum) }
 {
@@ -150,7 +154,7 @@ fn put_rows(
     alloc: Global,
     words: &mut String,
     widths: &Widths,
-    rows: &[QueueRow<2>],
+    rows: &[QueueRow<RESOURCES>],
 ) -> Result<(), AllocError>
     ensures { OnOk result (string_bytes words.new
         ≡ string_bytes words.old ++ flat_map (row_words widths.now) rows.now) }
@@ -166,7 +170,7 @@ fn put_row(
     alloc: Global,
     words: &mut String,
     widths: &Widths,
-    row: &QueueRow<2>,
+    row: &QueueRow<RESOURCES>,
 ) -> Result<(), AllocError>
     ensures { OnOk result (string_bytes words.new
         ≡ string_bytes words.old ++ row_words widths.now row.now) }
@@ -184,7 +188,7 @@ fn put_cell(
     words: &mut String,
     width: usize,
     column: Column,
-    row: &QueueRow<2>,
+    row: &QueueRow<RESOURCES>,
 ) -> Result<(), AllocError>
     ensures { OnOk result (string_bytes words.new
         ≡ string_bytes words.old ++ padded width (cell_words column row.now)) }
@@ -200,7 +204,7 @@ fn state_words(running: bool) -> &'static str
 }
 
 /// Adds the lines of the limits.
-fn put_limits(words: &mut String, config: &Config<2>) -> Result<(), AllocError>
+fn put_limits(words: &mut String, config: &Config<RESOURCES>) -> Result<(), AllocError>
     ensures { OnOk result (string_bytes words.new
         ≡ string_bytes words.old ++ limits_words config.now) }
 {

@@ -1,7 +1,7 @@
 //! The path of a queue as text (`text_of`).
 ghost use Rattle.std.specs.Prelude.{◌≡◌};
 
-use cap_model::PathText;
+use cap_base::PathText;
 use std::str;
 
 /// The path of a queue as text.

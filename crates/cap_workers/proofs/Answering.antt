@@ -1,5 +1,6 @@
 -- Calls that are made, and what comes next.
 use Rattle.std.proofs.Common.{◌≡◌, ℕ, List, [], ◌∷◌, ◌++◌, Option, Some, None, refl, ap, sym, ◌∙◌, subst, append-nil, inl, inr}
+use Rattle.cap_base.specs.Limits.{resources}
 use Rattle.cap_model.specs.declared.request.Request.{Request}
 use Rattle.cap_model.specs.News.{Reply}
 use Rattle.cap_frames.specs.Stream.{frame_of}
@@ -28,18 +29,18 @@ none_open None is = refl
 none_open (Some o) is = absurd cc
 
 -- a reply of the pending request's kind answers it
-pub may_answer : (o : Option OpenRequest) (q : Request 2) (r : Reply 2) → pending_request o ≡ Some q → IsOfKind (kind_of q) r → MayAnswer o r
+pub may_answer : (o : Option OpenRequest) (q : Request resources) (r : Reply resources) → pending_request o ≡ Some q → IsOfKind (kind_of q) r → MayAnswer o r
 may_answer None q r is kind = absurd cc
 may_answer (Some o) q r is kind =
     let same : q ≡ o.request = cc in
-    subst (λ (x : Request 2). IsOfKind (kind_of x) r) same kind
+    subst (λ (x : Request resources). IsOfKind (kind_of x) r) same kind
 
-open_is : (o : Option OpenRequest) (q : Request 2) → pending_request o ≡ Some q → (a : OpenRequest) × (o ≡ Some a) × (a.request ≡ q)
+open_is : (o : Option OpenRequest) (q : Request resources) → pending_request o ≡ Some q → (a : OpenRequest) × (o ≡ Some a) × (a.request ≡ q)
 open_is None q is = absurd cc
 open_is (Some a) q is = (a, refl, cc)
 
 -- the pending call was made and answered, with the receipts that it has
-pub serves_call : (old new : SessionState) (s t : Sitting) (q : Request 2) (r : Reply 2) (ms : List Moment) → pending_request old.open_request ≡ Some q → SpellsAnswer old.open_request r → new ≡ after_answer old r → HaveReceipts (record { request = q; reply = r } ∷ []) ms → HasMore s t ms
+pub serves_call : (old new : SessionState) (s t : Sitting) (q : Request resources) (r : Reply resources) (ms : List Moment) → pending_request old.open_request ≡ Some q → SpellsAnswer old.open_request r → new ≡ after_answer old r → HaveReceipts (record { request = q; reply = r } ∷ []) ms → HasMore s t ms
     → Serves old new s t [] [] × (new.open_request ≡ None) × (new.ended ≡ old.ended)
 serves_call old new s t q r ms is spells did receipts seat =
     let one = open_is old.open_request q is in
@@ -50,7 +51,7 @@ serves_call old new s t q r ms is spells did receipts seat =
         more = [];
         calls = record { request = q; reply = r } ∷ [];
         moments = ms;
-        continues = subst (λ (p : Request 2). Continues old new [] (record { request = p; reply = r } ∷ []) []) one.2 (continues_answer old new a r spelled now);
+        continues = subst (λ (p : Request resources). Continues old new [] (record { request = p; reply = r } ∷ []) []) one.2 (continues_answer old new a r spelled now);
         receipts = receipts;
         seat = seat ∙ ap (λ (x : List Moment). sitting s.seat (s.past ++ x)) (sym (append-nil ms));
       },
@@ -63,7 +64,7 @@ pub calls_none : (limit : ℕ) (t : SessionState) (s : Sitting) → None ≡ pen
 calls_none limit t s is = (serves_none t s, none_open t.open_request is, refl)
 
 -- the journal was full
-pub sealed_is : {a b : SessionState} {s t : Sitting} (limit : ℕ) (new : SessionState) (u : Sitting) (q : Request 2) → Serves a b s t [] [] → b.ended ≡ None → IsCallMade limit b new t u (Some q) → IsSealed limit q a new s u
+pub sealed_is : {a b : SessionState} {s t : Sitting} (limit : ℕ) (new : SessionState) (u : Sitting) (q : Request resources) → Serves a b s t [] [] → b.ended ≡ None → IsCallMade limit b new t u (Some q) → IsSealed limit q a new s u
 sealed_is {a} {b} {s} {t} limit new u q x over (same, waits, (entries, full, noted)) = record {
   entries = entries;
   full = full;
@@ -73,7 +74,7 @@ sealed_is {a} {b} {s} {t} limit new u q x over (same, waits, (entries, full, not
 }
 
 -- after what was answered before
-pub sealed_then : {a b c : SessionState} {s t u : Sitting} {limit : ℕ} {q : Request 2} → Serves a b s t [] [] → IsSealed limit q b c t u → IsSealed limit q a c s u
+pub sealed_then : {a b c : SessionState} {s t u : Sitting} {limit : ℕ} {q : Request resources} → Serves a b s t [] [] → IsSealed limit q b c t u → IsSealed limit q a c s u
 sealed_then x y = record { entries = y.entries; full = y.full; serves = serves_then x y.serves; waits = y.waits; goes_on = y.goes_on }
 
 -- ---- what comes next
@@ -108,7 +109,7 @@ pub next_ended : {a b : SessionState} {s t : Sitting} (limit : ℕ) (new : Sessi
 next_ended limit new cause x over (inl (was, same)) = absurd cc
 next_ended limit new cause x over (inr (was, ends)) = ends_now limit new cause x ends
 
-pub next_request_is : {a b : SessionState} {s t : Sitting} (new : SessionState) (q : Request 2) → Serves a b s t [] [] → NextGives b new (nexts.Request q) → Serves a new s t [] [] × (Some q ≡ pending_request new.open_request) × (new.ended ≡ b.ended)
+pub next_request_is : {a b : SessionState} {s t : Sitting} (new : SessionState) (q : Request resources) → Serves a b s t [] [] → NextGives b new (nexts.Request q) → Serves a new s t [] [] × (Some q ≡ pending_request new.open_request) × (new.ended ≡ b.ended)
 next_request_is {a} {b} {s} {t} new q x (over, payloads, frames, o, answers, same, spells, now) = (
   serves_then x (bad_only b new t payloads frames (Some o) b.ended answers now),
   ap Some (sym same) ∙ sym (ap (λ (v : SessionState). pending_request v.open_request) now),

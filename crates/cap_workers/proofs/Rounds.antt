@@ -1,6 +1,7 @@
 -- A round of serving, and more of them.
 use Rattle.std.proofs.Math.Seq.{drop-length}
 use Rattle.std.proofs.Common.{◌≡◌, ℕ, List, [], ◌++◌, length, drop, Option, Some, None, refl, ap, sym, ◌∙◌, subst, inl, inr}
+use Rattle.cap_base.specs.Limits.{resources}
 use Rattle.cap_session.specs.Session.{SessionState, all_answers, after_sent, FeedGives}
 use Rattle.cap_session.specs.Counted.{StreamState}
 use Rattle.cap_model.specs.declared.request.Request.{Request}
@@ -51,7 +52,7 @@ faulted_round limit old mid new s t (sents.All n) end x is ended = subst (λ (e 
 faulted_round limit old mid new s t (sents.Fault n) end x is ended = subst (λ (e : Option EndCause). IsRound limit old new s t e) (sym ended) (inr (inl (fault_sent new (sents.Fault n) x is)))
 
 -- a full journal
-pub sealed_round : (limit : ℕ) (q : Request 2) (old mid new : SessionState) (s t : Sitting) (sent : Sent) (end : Option EndCause) → IsSealed limit q old mid s t → new ≡ after_sent mid sent → end ≡ Some (end_of (ends.Sealed q) sent) → IsRound limit old new s t end
+pub sealed_round : (limit : ℕ) (q : Request resources) (old mid new : SessionState) (s t : Sitting) (sent : Sent) (end : Option EndCause) → IsSealed limit q old mid s t → new ≡ after_sent mid sent → end ≡ Some (end_of (ends.Sealed q) sent) → IsRound limit old new s t end
 sealed_round limit q old mid new s t (sents.All n) end x is ended =
     subst (λ (e : Option EndCause). IsRound limit old new s t e) (sym ended)
     (subst (λ (v : SessionState). IsSealed limit q old v s t) (sym is) (record { entries = x.entries; full = x.full; serves = serves_sent (sents.All n) x.serves; waits = x.waits; goes_on = x.goes_on }))

@@ -1,6 +1,7 @@
 -- What a turn chooses and commits.
 use Rattle.std.proofs.Common.{◌≡◌, ℕ, Option, Result, Ok, Err, refl, ◌∙◌}
 use Rattle.std.specs.Prelude.{MatchResult}
+use Rattle.cap_base.specs.Limits.{resources}
 use Rattle.cap_model.specs.Admission.{NodeProposal}
 use Rattle.cap_model.specs.Candidates.{choice_from}
 use Rattle.cap_model.specs.Flat.{Flat}
@@ -15,11 +16,11 @@ use Rattle.cap_shared.specs.declared.history.Sitting.{Sitting}
 use Rattle.cap_workers.specs.Worker.{Chooses, IsCommitted, end_by}
 
 -- the choice on a copy is that of the cluster of its note
-pub chosen_on : {opening : Flat 2} {old new : Sitting} (snapshot : Seen) {choice : Option NodeProposal} (start : ℕ) → CopyIs opening old new snapshot → choice ≡ choice_from (sight_in 2 snapshot) start → Chooses opening start old new choice
+pub chosen_on : {opening : Flat resources} {old new : Sitting} (snapshot : Seen) {choice : Option NodeProposal} (start : ℕ) → CopyIs opening old new snapshot → choice ≡ choice_from (sight_in resources snapshot) start → Chooses opening start old new choice
 chosen_on snapshot start (es, mid, replays, same, noted) is = record { entries = es; cluster = mid; replays = replays; noted = noted; chosen = is ∙ same_choice _ _ same start }
 
 -- an end that is what a commit was answered
-pub committed_by : (p : NodeProposal) (limit : ℕ) (old new : Sitting) (answer : Result (Verdict 2) CommitFault) → MatchResult answer (CommitAnswers p old new) (CommitsBack p limit old new) → IsCommitted p limit old new (end_by answer)
+pub committed_by : (p : NodeProposal) (limit : ℕ) (old new : Sitting) (answer : Result (Verdict resources) CommitFault) → MatchResult answer (CommitAnswers p old new) (CommitsBack p limit old new) → IsCommitted p limit old new (end_by answer)
 committed_by p limit old new (Ok (verdict.Done event)) h = h
 committed_by p limit old new (Ok (verdict.Rejected reason)) h = h
 committed_by p limit old new (Err (fault.Sealed back)) h = h

@@ -1,5 +1,6 @@
 -- What answering requests together does.
 use Rattle.std.specs.Prelude.{◌≡◌, ℕ, List, [], ◌∷◌, ◌++◌, length, map, Option, Some, None}
+use Rattle.cap_base.specs.Limits.{resources}
 use Rattle.cap_model.specs.declared.request.Request.{Request}
 use Rattle.cap_model.specs.News.{Reply}
 use Rattle.cap_grammar.specs.Spelling.{IsOfKind, kind_of}
@@ -15,10 +16,10 @@ use Rattle.cap_shared.specs.declared.history.Moment.TheVariants.{Noted}
 use Rattle.cap_shared.specs.declared.history.Sitting.{Sitting}
 use Rattle.cap_workers.specs.Sessions.{HaveReceipts, Serves, IsSealed}
 
-abbrev pub requests_of : List Call → List (Request 2)
+abbrev pub requests_of : List Call → List (Request resources)
 requests_of calls = map (λ call. call.request) calls
 
-abbrev pub replies_of : List Call → List (Reply 2)
+abbrev pub replies_of : List Call → List (Reply resources)
 replies_of calls = map (λ call. call.reply) calls
 
 -- each reply is a refusal or one of its request's kind
@@ -28,7 +29,7 @@ pub data AreOfKind : List Call → Type 0 where
 
 -- The first of these requests were called, with these replies, and the others are left. The seat has a receipt for each of these calls that found
 -- memory, and was answered nothing else but the note.
-pub record CallsMade (all left : List (Request 2)) (replies : List (Reply 2)) (before after : Sitting) (note : List Moment) : Type 0 where
+pub record CallsMade (all left : List (Request resources)) (replies : List (Reply resources)) (before after : Sitting) (note : List Moment) : Type 0 where
   pub calls : List Call
   pub moments : List Moment
   pub receipts : HaveReceipts calls moments
@@ -38,18 +39,18 @@ pub record CallsMade (all left : List (Request 2)) (replies : List (Reply 2)) (b
   pub seat : HasMore before after (moments ++ note)
 
 -- the request was called, with this reply, or the journal was full
-abbrev pub IsCalled : ℕ → Request 2 → Sitting → Sitting → Option (Reply 2) → Type 0
+abbrev pub IsCalled : ℕ → Request resources → Sitting → Sitting → Option (Reply resources) → Type 0
 IsCalled limit request before after None = IsSealedCall request limit before after
 IsCalled limit request before after (Some reply) = (moments : List Moment) × HaveReceipts (record { request = request; reply = reply } ∷ []) moments × IsOfKind (kind_of request) reply × HasMore before after moments
 
 -- all were called, or the journal was full for one of them
-abbrev pub CallsAll : ℕ → List (Request 2) → List (Request 2) → List (Reply 2) → Sitting → Sitting → Option (Request 2) → Type 0
+abbrev pub CallsAll : ℕ → List (Request resources) → List (Request resources) → List (Reply resources) → Sitting → Sitting → Option (Request resources) → Type 0
 CallsAll limit all left replies before after None = (left ≡ []) × CallsMade all left replies before after []
 CallsAll limit all left replies before after (Some back) = (entries : List Entry) × (length entries ≡ limit) × CallsMade all (back ∷ left) replies before after (Noted entries (answer.SealedCall back) ∷ [])
 
 -- these calls are of the first requests, with these replies
-pub record IsAnsweredBy (opens : List OpenRequest) (replies : List (Reply 2)) (calls : List Call) : Type 0 where
-  pub left : List (Request 2)
+pub record IsAnsweredBy (opens : List OpenRequest) (replies : List (Reply resources)) (calls : List Call) : Type 0 where
+  pub left : List (Request resources)
   pub kinds : AreOfKind calls
   pub requests : asked_requests opens ≡ requests_of calls ++ left
   pub replies_are : replies ≡ replies_of calls
@@ -64,6 +65,6 @@ pub record AnsweredAll (old new : BatchState) (calls : List Call) : Type 0 where
   pub sent_same : new.session.sent ≡ old.session.sent
 
 -- all requests that were read ahead were answered, or the journal was full for one of them
-abbrev pub IsBatchMade : ℕ → SessionState → SessionState → Sitting → Sitting → Option (Request 2) → Type 0
+abbrev pub IsBatchMade : ℕ → SessionState → SessionState → Sitting → Sitting → Option (Request resources) → Type 0
 IsBatchMade limit old new before after None = Serves old new before after [] [] × (new.open_request ≡ None) × (new.ended ≡ None)
 IsBatchMade limit old new before after (Some back) = IsSealed limit back old new before after

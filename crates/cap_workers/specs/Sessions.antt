@@ -1,6 +1,7 @@
 -- What serving a session does.
 use Rattle.std.specs.Prelude.{◌≡◌, ◌⊎◌, ℕ, ◌+◌, List, [], ◌∷◌, ◌++◌, length, Option, Some, None, false}
 use Rattle.std.specs.Io.KnownBytes.{Appends, Consumes}
+use Rattle.cap_base.specs.Limits.{resources}
 use Rattle.cap_model.specs.declared.request.Request.{Request}
 use Rattle.cap_model.specs.declared.reply.ReplyWith.TheVariants as reply
 use Rattle.cap_model.specs.declared.refusal.Refusal.TheVariants as refusal
@@ -25,7 +26,7 @@ use Rattle.cap_workers.specs.declared.sessions.Pause.{Pause}
 use Rattle.cap_workers.specs.declared.sessions.Pause.TheVariants as pauses
 
 -- the open request
-abbrev pub pending_request : Option OpenRequest → Option (Request 2)
+abbrev pub pending_request : Option OpenRequest → Option (Request resources)
 pending_request None = None
 pending_request (Some o) = Some o.request
 
@@ -35,7 +36,7 @@ pending_request (Some o) = Some o.request
 pub data HaveReceipts : List Call → List Moment → Type 0 where
   none_made : HaveReceipts [] []
   made : {call : Call} {calls : List Call} {moments : List Moment} {at : ℕ} → is_no_memory call.reply ≡ false → HaveReceipts calls moments → HaveReceipts (call ∷ calls) (Entered (receipt.Call at call.request call.reply) ∷ moments)
-  starved : {request : Request 2} {calls : List Call} {moments : List Moment} → HaveReceipts calls moments → HaveReceipts (record { request = request; reply = reply.Refused refusal.NoMemory } ∷ calls) moments
+  starved : {request : Request resources} {calls : List Call} {moments : List Moment} → HaveReceipts calls moments → HaveReceipts (record { request = request; reply = reply.Refused refusal.NoMemory } ∷ calls) moments
 
 -- Some of the payloads that were not answered yet were, by calls of the seat, and last came these bytes. The seat has a receipt for each of these
 -- calls that found memory, and was answered nothing else but the note.
@@ -66,7 +67,7 @@ pub record ServesToFault (old new : SessionState) (before after : Sitting) : Typ
   pub serves : Serves old new before after (tail_answer (fault left)) []
 
 -- all payloads before the open request were answered, for which the journal was full; the session goes on
-pub record IsSealed (limit : ℕ) (request : Request 2) (old new : SessionState) (before after : Sitting) : Type 0 where
+pub record IsSealed (limit : ℕ) (request : Request resources) (old new : SessionState) (before after : Sitting) : Type 0 where
   pub entries : List Entry
   pub full : length entries ≡ limit
   pub serves : Serves old new before after [] (Noted entries (answer.SealedCall request) ∷ [])
@@ -76,7 +77,7 @@ pub record IsSealed (limit : ℕ) (request : Request 2) (old new : SessionState)
 -- all payloads were answered before a request for which the journal was full
 abbrev pub ServesToFull : ℕ → SessionState → SessionState → Sitting → Sitting → Type 0
 ServesToFull limit old new before after =
-    (request : Request 2) × (entries : List Entry) × (length entries ≡ limit) × Serves old new before after [] (Noted entries (answer.SealedCall request) ∷ [])
+    (request : Request resources) × (entries : List Entry) × (length entries ≡ limit) × Serves old new before after [] (Noted entries (answer.SealedCall request) ∷ [])
 
 -- What serving a session answered, by the cause of its end.
 abbrev pub IsServed : ℕ → SessionState → SessionState → Sitting → Sitting → EndCause → Type 0
@@ -102,7 +103,7 @@ IsPause limit old new before after (pauses.Ended causes.NoMemory) = Serves old n
 IsPause limit old new before after (pauses.Ended causes.WriteFault) = ⊥
 
 -- the pending call, if any, was made and answered, or the journal was full
-abbrev pub IsCallMade : ℕ → SessionState → SessionState → Sitting → Sitting → Option (Request 2) → Type 0
+abbrev pub IsCallMade : ℕ → SessionState → SessionState → Sitting → Sitting → Option (Request resources) → Type 0
 IsCallMade limit old new before after None = Serves old new before after [] [] × (new.open_request ≡ None) × (new.ended ≡ old.ended)
 IsCallMade limit old new before after (Some back) = (new ≡ old) × (pending_request new.open_request ≡ Some back) × IsSealedCall back limit before after
 

@@ -1,5 +1,6 @@
 -- What a turn of a worker does.
 use Rattle.std.specs.Prelude.{◌≡◌, ◌⊎◌, ℕ, List, [], ◌∷◌, Option, Some, None, Result, Ok, Err, MatchResult}
+use Rattle.cap_base.specs.Limits.{resources}
 use Rattle.cap_model.specs.Admission.{NodeProposal}
 use Rattle.cap_model.specs.Candidates.{choice_from}
 use Rattle.cap_model.specs.Flat.{Flat}
@@ -23,9 +24,9 @@ use Rattle.cap_workers.specs.declared.worker.OfferEnd.{OfferEnd}
 use Rattle.cap_workers.specs.declared.worker.OfferEnd.TheVariants as offers
 
 -- one copy of the cluster is noted, and this is the choice on the cluster of that note, from the starting node
-pub record Chooses (opening : Flat 2) (start : ℕ) (old new : Sitting) (choice : Option NodeProposal) : Type 0 where
+pub record Chooses (opening : Flat resources) (start : ℕ) (old new : Sitting) (choice : Option NodeProposal) : Type 0 where
   pub entries : List Entry
-  pub cluster : Flat 2
+  pub cluster : Flat resources
   pub replays : Replays opening entries cluster
   pub noted : HasMore old new (Noted entries answer.Copied ∷ [])
   pub chosen : choice ≡ choice_from (sight_of cluster) start
@@ -36,13 +37,13 @@ end_by_fault (fault.Sealed back) = ends.Sealed back
 end_by_fault (fault.NoMemory back) = ends.NoMemory
 
 -- how a turn ends whose commit was answered so
-abbrev pub end_by : Result (Verdict 2) CommitFault → End
+abbrev pub end_by : Result (Verdict resources) CommitFault → End
 end_by (Ok (verdict.Done event)) = ends.Done event
 end_by (Ok (verdict.Rejected reason)) = ends.Rejected reason
 end_by (Err missed) = end_by_fault missed
 
 -- what came of a commit that was answered so
-abbrev pub outcome_by : Result (Verdict 2) CommitFault → Outcome
+abbrev pub outcome_by : Result (Verdict resources) CommitFault → Outcome
 outcome_by (Ok (verdict.Done event)) = outcomes.Made
 outcome_by (Ok (verdict.Rejected reason)) = outcomes.Rejected
 outcome_by (Err missed) = outcomes.Unmade
@@ -56,13 +57,13 @@ IsCommitted p limit old new (ends.Sealed back) = CommitsBack p limit old new (fa
 IsCommitted p limit old new ends.NoMemory = CommitsBack p limit old new (fault.NoMemory p)
 
 -- a proposal was chosen and then committed
-abbrev pub CommitsChoice : Flat 2 → ℕ → ℕ → Sitting → Sitting → End → Type 0
+abbrev pub CommitsChoice : Flat resources → ℕ → ℕ → Sitting → Sitting → End → Type 0
 CommitsChoice opening limit start old new end =
     (mid : Sitting) × (p : NodeProposal) × Chooses opening start old mid (Some p) × IsCommitted p limit mid new end
 
 -- A turn notes one copy of the cluster. Where nothing is chosen on it from the start, that is all; else the choice went to one commit, and the
 -- end is what that was answered. Where memory was refused for the copy, nothing is noted.
-abbrev pub IsTurn : Flat 2 → ℕ → ℕ → Sitting → Sitting → End → Type 0
+abbrev pub IsTurn : Flat resources → ℕ → ℕ → Sitting → Sitting → End → Type 0
 IsTurn opening limit start old new ends.Nothing = Chooses opening start old new None
 IsTurn opening limit start old new (ends.Done event) = CommitsChoice opening limit start old new (ends.Done event)
 IsTurn opening limit start old new (ends.Rejected reason) = CommitsChoice opening limit start old new (ends.Rejected reason)
@@ -77,19 +78,19 @@ IsPut p before after (offers.Refused back) = (after ≡ before) × (back ≡ p)
 IsPut p before after offers.NoMemory = ⊥
 
 -- a proposal was chosen and then put
-abbrev pub PutsChoice : Flat 2 → ℕ → Sitting → Sitting → WorkerSide → WorkerSide → OfferEnd → Type 0
+abbrev pub PutsChoice : Flat resources → ℕ → Sitting → Sitting → WorkerSide → WorkerSide → OfferEnd → Type 0
 PutsChoice opening start old new before after end =
     (p : NodeProposal) × Chooses opening start old new (Some p) × IsPut p before after end
 
 -- An offer notes one copy of the cluster. Where nothing is chosen on it from the start, that is all; else the choice went to one put, and the
 -- end is what that was answered. Where memory was refused, nothing is noted and nothing is put.
-abbrev pub IsOffer : Flat 2 → ℕ → Sitting → Sitting → WorkerSide → WorkerSide → OfferEnd → Type 0
+abbrev pub IsOffer : Flat resources → ℕ → Sitting → Sitting → WorkerSide → WorkerSide → OfferEnd → Type 0
 IsOffer opening start old new before after offers.Nothing = Chooses opening start old new None × (after ≡ before)
 IsOffer opening start old new before after offers.Put = PutsChoice opening start old new before after offers.Put
 IsOffer opening start old new before after (offers.Refused back) = PutsChoice opening start old new before after (offers.Refused back)
 IsOffer opening start old new before after offers.NoMemory = (new ≡ old) × (after ≡ before)
 
 -- the proposal of a turn was committed once; then the next turn has begun, or memory was refused for its copy and nothing was noted
-abbrev pub GoesOn : {E : Type 0} → Flat 2 → ℕ → ℕ → NodeProposal → Sitting → Sitting → End → Result (Option NodeProposal) E → Type 0
+abbrev pub GoesOn : {E : Type 0} → Flat resources → ℕ → ℕ → NodeProposal → Sitting → Sitting → End → Result (Option NodeProposal) E → Type 0
 GoesOn opening limit start p old new end choice =
     (mid : Sitting) × IsCommitted p limit old mid end × MatchResult choice (Chooses opening start mid new) (λ _. new ≡ mid)

@@ -3,6 +3,7 @@ ghost use Rattle.std.specs.Prelude.{◌≡◌, ◌≤◌, List, IfNone, length, 
 ghost use Rattle.cap_workers.specs.Batches.{CallsAll, IsCalled, IsAnsweredBy, AnsweredAll, IsBatchMade};
 ghost use Rattle.cap_session.specs.Answers.{Call};
 
+use cap_base::RESOURCES;
 use cap_model::{OwnedReply, Refusal, ReplyWith, Request};
 use cap_session::{Batch, Session};
 use cap_shared::{Fault, Held, Naming, Seat, Shared};
@@ -16,7 +17,7 @@ pub(crate) fn answer_batch<J: Naming, H: Wait>(
     shared: &Shared<J>,
     seat: &mut Seat<J>,
     session: Session,
-) -> (Session, Option<Request<2>>)
+) -> (Session, Option<Request<RESOURCES>>)
     requires none_open { session.open_request ≡ None }
     requires goes_on { session.ended ≡ None }
     ensures batch { IsBatchMade J.limit session result.0 seat.old seat.new result.1 }
@@ -41,9 +42,9 @@ fn call_all<J: Naming, H: Wait>(
     rt: &H,
     shared: &Shared<J>,
     seat: &mut Seat<J>,
-    requests: &mut VecDeque<Request<2>>,
-    replies: &mut Vec<OwnedReply<2>>,
-) -> Option<Request<2>>
+    requests: &mut VecDeque<Request<RESOURCES>>,
+    replies: &mut Vec<OwnedReply<RESOURCES>>,
+) -> Option<Request<RESOURCES>>
     requires none { replies.old.items ≡ [] }
     requires room { length requests.old.items ≤ vec_capacity replies.old }
     ensures { CallsAll J.limit requests.old.items requests.new.items replies.new.items
@@ -66,8 +67,8 @@ fn call_all<J: Naming, H: Wait>(
 fn call_one<J: Naming>(
     held: &mut Held<'_, J>,
     seat: &mut Seat<J>,
-    request: &mut Request<2>,
-) -> Option<OwnedReply<2>>
+    request: &mut Request<RESOURCES>,
+) -> Option<OwnedReply<RESOURCES>>
     ensures called { IsCalled J.limit request.old seat.old seat.new result }
     ensures back { IfNone result (request.new ≡ request.old) }
 {
@@ -79,7 +80,7 @@ fn call_one<J: Naming>(
 }
 
 /// Answers the first requests with these replies.
-fn answer_calls(batch: &mut Batch, replies: &[OwnedReply<2>])
+fn answer_calls(batch: &mut Batch, replies: &[OwnedReply<RESOURCES>])
     requires none_open { batch.old.session.open_request ≡ None }
     requires calls { (calls : List Call) × IsAnsweredBy batch.old.asked replies.now calls }
     ensures { (calls : List Call) → IsAnsweredBy batch.old.asked replies.now calls

@@ -2,6 +2,7 @@
 ghost use Rattle.std.specs.Prelude.{◌≡◌};
 ghost use Rattle.cap_workers.specs.Worker.{outcome_by};
 
+use cap_base::RESOURCES;
 use cap_model::Verdict;
 use cap_shared::CommitFault;
 use std::sync::atomic::{AtomicU64, Ordering};
@@ -19,7 +20,7 @@ pub enum Outcome {
 
 impl Outcome {
     /// What came of a commit that was answered so.
-    pub fn of(answer: &Result<Verdict<2>, CommitFault>) -> Outcome
+    pub fn of(answer: &Result<Verdict<RESOURCES>, CommitFault>) -> Outcome
         ensures { result ≡ outcome_by answer.now }
     {
         match answer {

@@ -3,6 +3,7 @@ use crate::coordinator::{BATCH, Coordinator, LaneSide, Outcomes};
 use crate::gate::{Gate, Outcome};
 use crate::worker::{Begun, End, Next, OfferEnd, Told, Worker, put};
 use bumpalo::Bump;
+use cap_base::RESOURCES;
 use cap_lanes::{Committer, Putter};
 use cap_model::{NoMemory, Proposal};
 use cap_shared::{Held, Naming, Seat, Shared};
@@ -136,7 +137,7 @@ impl Room {
     }
 
     /// The proposal of a turn that has begun, the first or a later one. Where the arena was not reset, there is another for the next turn.
-    fn proposal(&mut self, begun: Begun, at_once: bool) -> Result<Proposal<2>, Stop> {
+    fn proposal(&mut self, begun: Begun, at_once: bool) -> Result<Proposal<RESOURCES>, Stop> {
         if !begun.reset {
             self.arena = Bump::new(self.alloc);
         }

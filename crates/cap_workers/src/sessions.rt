@@ -6,6 +6,7 @@ ghost use Rattle.cap_session.specs.declared.counted.Sent.{Sent};
 ghost use Rattle.cap_workers.specs.Sessions.{pending_request, IsServed, IsRound, IsPause, IsCallMade, IsRead, IsWritten, IsWrittenOut, GoesOn, ReadsOn, end_of};
 
 use crate::batches::answer_batch;
+use cap_base::RESOURCES;
 use cap_model::{OwnedReply, Refusal, ReplyWith, Request};
 use cap_session::{Cause, Counted, Fed, Got, Next, Sent, Session};
 use cap_shared::{CallFault, Naming, Seat, Shared};
@@ -20,7 +21,7 @@ pub enum EndCause {
     /// A length came that no frame has: it was answered with status 40.
     Faulted,
     /// The journal is full. The request comes back; it was not called, and is still open.
-    Sealed(Request<2>),
+    Sealed(Request<RESOURCES>),
     /// Nothing came in time.
     Quiet,
     /// The reader failed.
@@ -48,7 +49,7 @@ pub(crate) enum Pause {
     /// More bytes are needed.
     Need,
     /// The journal is full.
-    Sealed(Request<2>),
+    Sealed(Request<RESOURCES>),
     /// The session has ended.
     Ended(Cause),
 }
@@ -62,7 +63,7 @@ pub fn serve_session<J: Naming, H: Wait, R: Read, W: Write>(
     shared: &Shared<J>,
     seat: &mut Seat<J>,
     session: Session,
-    pending: Option<Request<2>>,
+    pending: Option<Request<RESOURCES>>,
     reader: &mut Counted<R>,
     writer: &mut Counted<W>,
 ) -> SessionEnd
@@ -122,7 +123,7 @@ fn serve_once<J: Naming, H: Wait, R: Read, W: Write>(
     shared: &Shared<J>,
     seat: &mut Seat<J>,
     session: Session,
-    pending: Option<Request<2>>,
+    pending: Option<Request<RESOURCES>>,
     reader: &mut Counted<R>,
     writer: &mut Counted<W>,
 ) -> Round
@@ -248,7 +249,7 @@ fn answer_all<J: Naming, H: Wait>(
     shared: &Shared<J>,
     seat: &mut Seat<J>,
     session: Session,
-    pending: Option<Request<2>>,
+    pending: Option<Request<RESOURCES>>,
 ) -> (Session, Pause)
     requires goes_on { session.ended ≡ None }
     requires pending { pending ≡ pending_request session.open_request }
@@ -281,8 +282,8 @@ fn make_call<J: Naming, H: Wait>(
     shared: &Shared<J>,
     seat: &mut Seat<J>,
     session: &mut Session,
-    pending: Option<Request<2>>,
-) -> Option<Request<2>>
+    pending: Option<Request<RESOURCES>>,
+) -> Option<Request<RESOURCES>>
     requires { pending ≡ pending_request session.old.open_request }
     ensures call { IsCallMade J.limit session.old session.new seat.old seat.new result }
     ensures same { (session.new.fed ≡ session.old.fed) × (session.new.sent ≡ session.old.sent) }
@@ -294,7 +295,7 @@ fn make_call<J: Naming, H: Wait>(
             None
         }
         Err(CallFault::NoMemory(_request)) => {
-            let starved: OwnedReply<2> = ReplyWith::Refused(Refusal::NoMemory);
+            let starved: OwnedReply<RESOURCES> = ReplyWith::Refused(Refusal::NoMemory);
             session.answer(&starved);
             None
         }

@@ -1,5 +1,6 @@
 //! A worker (`Worker`), and what it does in a turn: it copies, proposes, and commits or offers.
 ghost use Rattle.std.specs.Prelude.{◌≡◌, ◌+◌, ◌%◌, ◌^◌, MatchResult};
+ghost use Rattle.cap_base.specs.Limits.{resources};
 ghost use Rattle.cap_model.specs.Candidates.{choice_from};
 ghost use Rattle.cap_copy.specs.Snapshot.{sight_in};
 ghost use Rattle.cap_shared.specs.Calls.{CopyIs};
@@ -8,6 +9,7 @@ ghost use Rattle.cap_workers.specs.Worker.{Chooses, GoesOn, IsCommitted, IsOffer
 use crate::coordinator::{BATCH, Coordinator, Outcomes};
 use crate::gate::{Gate, Outcome, Point};
 use bumpalo::Bump;
+use cap_base::RESOURCES;
 use cap_copy::Snapshot;
 use cap_lanes::Putter;
 use cap_model::{Event, NoMemory, Proposal, Reason, Verdict};
@@ -28,11 +30,11 @@ pub enum End {
     /// There was nothing to propose.
     Nothing,
     /// The proposal was made: a grant or a reservation.
-    Done(Event<2>),
+    Done(Event<RESOURCES>),
     /// The proposal was rejected, and nothing changed.
     Rejected(Reason),
     /// The journal is full. The proposal comes back, and was not made.
-    Sealed(Proposal<2>),
+    Sealed(Proposal<RESOURCES>),
     /// An allocation failed, and nothing was made.
     NoMemory,
 }
@@ -53,7 +55,7 @@ pub enum OfferEnd {
     /// The proposal was put into the worker's lane.
     Put,
     /// The lane did not take the proposal. It comes back.
-    Refused(Proposal<2>),
+    Refused(Proposal<RESOURCES>),
     /// An allocation failed, and nothing was put.
     NoMemory,
 }
@@ -70,7 +72,7 @@ pub struct Offer {
 #[derive(Drop)]
 pub(crate) struct Begun {
     /// What is proposed, if anything. An error means that an allocation failed.
-    pub choice: Result<Option<Proposal<2>>, NoMemory>,
+    pub choice: Result<Option<Proposal<RESOURCES>>, NoMemory>,
     /// How many entries the journal had when the cluster was copied.
     pub entries: usize,
     /// Whether the arena was reset.
@@ -217,7 +219,7 @@ impl Worker {
         seat: &mut Seat<J>,
         arena: &mut Bump,
         gate: &G,
-        proposal: Proposal<2>,
+        proposal: Proposal<RESOURCES>,
     ) -> Next
         ensures start { self.new ≡ record {
           number = self.old.number;
@@ -272,7 +274,7 @@ impl Worker {
         shared: &Shared<J>,
         seat: &mut Seat<J>,
         gate: &G,
-        proposal: Proposal<2>,
+        proposal: Proposal<RESOURCES>,
     ) -> End
         ensures { IsCommitted proposal J.limit seat.old seat.new result }
     {
@@ -293,7 +295,7 @@ fn choose<J: Naming, R: Wait, G: Gate>(
     told: &Told<'_>,
     worker: u32,
     start: u32,
-) -> (Result<Option<Proposal<2>>, NoMemory>, usize)
+) -> (Result<Option<Proposal<RESOURCES>>, NoMemory>, usize)
     ensures { MatchResult result.0 (Chooses J.opening start seat.old seat.new)
         (λ _. seat.new ≡ seat.old) }
 {
@@ -310,7 +312,7 @@ fn copy<'a, J: Naming>(
     held: Held<'_, J>,
     seat: &mut Seat<J>,
     arena: &'a Bump,
-) -> (Result<Snapshot<2, &'a Bump>, NoMemory>, usize)
+) -> (Result<Snapshot<RESOURCES, &'a Bump>, NoMemory>, usize)
     ensures { MatchResult result.0 (CopyIs J.opening seat.old seat.new)
         (λ _. seat.new ≡ seat.old) }
 {
@@ -321,12 +323,12 @@ fn copy<'a, J: Naming>(
 
 /// What a worker proposes on a snapshot. It has no shared cluster here, so that it can hold none.
 fn propose_on<G: Gate>(
-    snapshot: &Snapshot<2, &Bump>,
+    snapshot: &Snapshot<RESOURCES, &Bump>,
     gate: &G,
     worker: u32,
     start: u32,
-) -> Option<Proposal<2>>
-    ensures { result ≡ choice_from (sight_in 2 snapshot.now) start }
+) -> Option<Proposal<RESOURCES>>
+    ensures { result ≡ choice_from (sight_in resources snapshot.now) start }
 {
     gate.at(worker, Point::Copied);
     let choice = propose(snapshot, start);
@@ -335,7 +337,7 @@ fn propose_on<G: Gate>(
 }
 
 /// How a turn ends whose commit was answered so.
-fn end_of(answer: Result<Verdict<2>, CommitFault>) -> End
+fn end_of(answer: Result<Verdict<RESOURCES>, CommitFault>) -> End
     ensures { result ≡ end_by answer }
 {
     match answer {
@@ -356,7 +358,7 @@ fn end_without(fault: &CommitFault) -> End
 }
 
 /// Puts what a worker proposes, once.
-pub(crate) fn put<R: Wait>(rt: &R, putter: &mut Putter, proposal: Proposal<2>) -> OfferEnd
+pub(crate) fn put<R: Wait>(rt: &R, putter: &mut Putter, proposal: Proposal<RESOURCES>) -> OfferEnd
     ensures { IsPut proposal putter.old putter.new result }
 {
     match putter.put(rt, proposal) {

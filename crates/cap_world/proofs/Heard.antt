@@ -3,6 +3,7 @@ use Rattle.std.proofs.Common.{◌≡◌, ◌≢◌, ℕ, ◌+◌, ◌<◌, Bool,
 use Rattle.std.specs.Prelude.{◌==◌, if◌then◌else◌, MatchBool}
 use Rattle.std.proofs.lemmas.Bool.{cases_Bool, eqb-true}
 use Rattle.std.proofs.lemmas.List.{take_more}
+use Rattle.cap_base.specs.Limits.{resources}
 use Rattle.cap_model.specs.declared.event.Event.{Event}
 use Rattle.cap_model.specs.Flat.{Flat}
 use Rattle.cap_frames.specs.Stream.{rest, fault, IsStream, IsBytes}
@@ -93,7 +94,7 @@ hears standings.Starved s before piece more last fine stands session fed taken =
 hears standings.Open s before piece more last fine stands session fed (inr stuck) = absurd (fine stuck.1)
 hears standings.Faulted s before piece more last fine stands session fed (inr stuck) = absurd (fine stuck.1)
 
-hears_piece : (by : ℕ) (piece : List ℕ) (from to : Flat 2) (before after : List (Event 2)) (heard : Hearing) (was is : Connection) → was.standing ≡ standings.Open → Agrees heard (Some was) → is.standing ≢ standings.Starved → Feeds by piece from to before after was is → Next (HearsPiece piece heard) (Some is)
+hears_piece : (by : ℕ) (piece : List ℕ) (from to : Flat resources) (before after : List (Event resources)) (heard : Hearing) (was is : Connection) → was.standing ≡ standings.Open → Agrees heard (Some was) → is.standing ≢ standings.Starved → Feeds by piece from to before after was is → Next (HearsPiece piece heard) (Some is)
 hears_piece by piece from to before after unopened was is lives a fine f = absurd a
 hears_piece by piece from to before after (over taken) was is lives a fine f = absurd (subst IsOver lives a.0)
 hears_piece by piece from to before after (live taken) was is lives a fine f =
@@ -130,7 +131,7 @@ same_match false P Q p q = q
 same_heard : (heard : Hearing) (c : ℕ) (old new : WorldState) → new.connections ≡ old.connections → Agrees heard (connection_at c old.connections) → Next (λ next. next ≡ heard) (connection_at c new.connections)
 same_heard heard c old new e a = (heard, refl, subst (λ (x : List (ℕ × Connection)). Agrees heard (connection_at c x)) (sym e) a)
 
-pub hears_done : (c : ℕ) (step : Step) (did : Did) (old new : WorldState) (before after : List (Event 2)) (heard : Hearing) → Outcome step (Ok did) old new before after → Agrees heard (connection_at c old.connections) → Next (HearsStep c step heard) (connection_at c new.connections)
+pub hears_done : (c : ℕ) (step : Step) (did : Did) (old new : WorldState) (before after : List (Event resources)) (heard : Hearing) → Outcome step (Ok did) old new before after → Agrees heard (connection_at c old.connections) → Next (HearsStep c step heard) (connection_at c new.connections)
 hears_done c (steps.Open d) dids.Done old new before after heard o a =
     chosen (d == c) (opened heard) heard (own_or_other c d new_connection old.connections new.connections heard (λ next. next ≡ opened heard) o.1 a
     (λ same. opens heard (connection_at c old.connections) (rw same o.0) a))
@@ -189,7 +190,7 @@ some_more taken piece calls output fits has =
     let on = stream_goes_on taken piece (has.0 ++ has.1) has.2 has.3 fits in
     (has.0, has.1 ++ on.0, on.1, subst (λ (x : List (List ℕ)). IsStream (taken ++ piece) x on.1) (append_assoc has.0 has.1 on.0) on.2, has.4)
 
-cut_short : (by : ℕ) (piece : List ℕ) (from to : Flat 2) (before after : List (Event 2)) (heard : Hearing) (calls : List Call) (was is : Connection) → was.standing ≡ standings.Open → Agrees heard (Some was) → is.standing ≡ standings.Starved → Feeds by piece from to before after was is → HasAnswers calls is
+cut_short : (by : ℕ) (piece : List ℕ) (from to : Flat resources) (before after : List (Event resources)) (heard : Hearing) (calls : List Call) (was is : Connection) → was.standing ≡ standings.Open → Agrees heard (Some was) → is.standing ≡ standings.Starved → Feeds by piece from to before after was is → HasAnswers calls is
     → IsCutShort piece heard calls is.session.unsent (is_open_standing is.standing)
 cut_short by piece from to before after unopened calls was is lives a starved f has = absurd a
 cut_short by piece from to before after (over taken) calls was is lives a starved f has = absurd (subst IsOver lives a.0)
@@ -209,7 +210,7 @@ still_heard : (c : ℕ) (old new : WorldState) (heard : Hearing) (calls : List C
 still_heard c old new heard calls e a has =
     is_heard heard calls (connection_at c new.connections) (subst (λ (x : WorldState). Agrees heard (connection_at c x.connections)) (sym e) a) has
 
-pub heard_starved : (c : ℕ) (step : Step) (old new : WorldState) (before after : List (Event 2)) (heard : Hearing) (calls : List Call) → Starves step old new before after → Agrees heard (connection_at c old.connections) → HasAnswersAt calls (connection_at c new.connections)
+pub heard_starved : (c : ℕ) (step : Step) (old new : WorldState) (before after : List (Event resources)) (heard : Hearing) (calls : List Call) → Starves step old new before after → Agrees heard (connection_at c old.connections) → HasAnswersAt calls (connection_at c new.connections)
     → IsHeardBefore (Some step) c heard calls (output_of c new) (is_open c new)
 heard_starved c (steps.Open d) old new before after heard calls s a has = still_heard c old new heard calls s.1 a has
 heard_starved c (steps.End d) old new before after heard calls s a has = absurd s
@@ -237,7 +238,7 @@ hears_more c (s ∷ made) step first second third e h = (e.0, e.1, hears_more c 
 abbrev pub HeardSoFar : List Step → WorldState → Type 0
 HeardSoFar made sight = (c : ℕ) → (heard : Hearing) × Hears c made unopened heard × Agrees heard (connection_at c sight.connections)
 
-pub heard_next : (all : List Step) (i : ℕ) (d : Step) (did : Did) (old new : WorldState) (before after : List (Event 2)) → i < length all → HeardSoFar (take i all) old → Outcome (get_or all i d) (Ok did) old new before after → HeardSoFar (take (i + 1) all) new
+pub heard_next : (all : List Step) (i : ℕ) (d : Step) (did : Did) (old new : WorldState) (before after : List (Event resources)) → i < length all → HeardSoFar (take i all) old → Outcome (get_or all i d) (Ok did) old new before after → HeardSoFar (take (i + 1) all) new
 heard_next all i d did old new before after below so_far o c =
     let was = so_far c in
     let next = hears_done c (get_or all i d) did old new before after was.0 o was.2 in

@@ -3,6 +3,7 @@ use Rattle.std.proofs.Common.{◌≡◌, ℕ, false, List, [], ◌∷◌, ◌++�
 use Rattle.std.specs.Prelude.{◌==◌}
 use Rattle.std.proofs.lemmas.Bool.{cases_Bool, eqb-true, eq-eqb}
 use Rattle.std.proofs.lemmas.List.Elements.{filter_map-append, All-nil}
+use Rattle.cap_base.specs.Limits.{resources}
 use Rattle.cap_model.specs.declared.event.Event.{Event}
 use Rattle.cap_model.specs.declared.proposal.Verdict.{Verdict}
 use Rattle.cap_model.specs.declared.proposal.Verdict.TheVariants as verdicts
@@ -17,7 +18,7 @@ use Rattle.cap_world.specs.declared.step.Step.{Step}
 use Rattle.cap_world.specs.declared.step.Step.TheVariants as steps
 use Rattle.cap_world.specs.declared.step.Did.{Did}
 use Rattle.cap_world.specs.declared.step.Did.TheVariants as dids
-use Rattle.cap_model.specs.declared.no_memory.NoMemory.{NoMemory}
+use Rattle.cap_base.specs.declared.no_memory.NoMemory.{NoMemory}
 use Rattle.cap_session.specs.Answers.{nothing, Call}
 use Rattle.cap_world.specs.Answers.{call_by, calls_by, as_events}
 use Rattle.cap_world.specs.Connection.{Connection, new_connection, AnswersAs, HasAnswers}
@@ -28,8 +29,8 @@ use Rattle.cap_world.specs.Steps.{Fed, Outcome}
 use Rattle.cap_world.proofs.Serving.{run_more, answered_more}
 
 -- Whatever run has led to old, with what a step adds leads to new.
-abbrev pub Goes : WorldState → WorldState → List (Event 2) → List (Event 2) → Type 0
-Goes old new before after = (more : List (Event 2)) × (after ≡ before ++ more) × ((opening : Flat 2) (events : List (Event 2)) → IsLawful opening events old → IsLawful opening (events ++ more) new)
+abbrev pub Goes : WorldState → WorldState → List (Event resources) → List (Event resources) → Type 0
+Goes old new before after = (more : List (Event resources)) × (after ≡ before ++ more) × ((opening : Flat resources) (events : List (Event resources)) → IsLawful opening events old → IsLawful opening (events ++ more) new)
 
 -- ---- what a connection sees of more events
 
@@ -41,14 +42,14 @@ pub other_calls : (c d : ℕ) (calls : List Call) → (c == d) ≡ false → cal
 other_calls c d [] e = refl
 other_calls c d (x ∷ xs) e = rw e (other_calls c d xs e)
 
-pub calls_more : (c : ℕ) (events more : List (Event 2)) → calls_by c (events ++ more) ≡ calls_by c events ++ calls_by c more
+pub calls_more : (c : ℕ) (events more : List (Event resources)) → calls_by c (events ++ more) ≡ calls_by c events ++ calls_by c more
 calls_more c events more = filter_map-append (call_by c) events more
 
 -- ---- steps that add nothing
 
 keeps : (old new : WorldState) → new.cluster ≡ old.cluster
     → ((c : ℕ) (calls : List Call) → HasAnswersAt calls (connection_at c old.connections) → HasAnswersAt calls (connection_at c new.connections))
-    → (opening : Flat 2) (events : List (Event 2)) → IsLawful opening events old → IsLawful opening (events ++ []) new
+    → (opening : Flat resources) (events : List (Event resources)) → IsLawful opening events old → IsLawful opening (events ++ []) new
 keeps old new e each opening events w = record {
   run = rw (append-nil events, e) w.run;
   each = λ c. rw (append-nil events) (each c (calls_by c events) (w.each c));
@@ -80,13 +81,13 @@ ends_so was live calls has = record { made = has.made; answers = subst (λ (s : 
 
 -- ---- bytes
 
-fed_own : (c : ℕ) (piece : List ℕ) (old new : List (ℕ × Connection)) (from to : Flat 2) (before after : List (Event 2)) (was is : Connection) → connection_at c old ≡ Some was → was.standing ≡ standings.Open → Changes c is old new → (f : Feeds c piece from to before after was is)
+fed_own : (c : ℕ) (piece : List ℕ) (old new : List (ℕ × Connection)) (from to : Flat resources) (before after : List (Event resources)) (was is : Connection) → connection_at c old ≡ Some was → was.standing ≡ standings.Open → Changes c is old new → (f : Feeds c piece from to before after was is)
     → (calls : List Call) → HasAnswersAt calls (connection_at c old) → HasAnswersAt (calls ++ f.serves.calls) (connection_at c new)
 fed_own c piece old new from to before after was is at live change f calls a =
     rw (change c, eq-eqb c c refl) (answered_more c piece calls from to before after was is (rw at at a) f)
 
-fed_goes : (c : ℕ) (piece : List ℕ) (old new : WorldState) (before after : List (Event 2)) (was is : Connection) → connection_at c old.connections ≡ Some was → was.standing ≡ standings.Open → Changes c is old.connections new.connections → (f : Feeds c piece old.cluster new.cluster before after was is)
-    → (opening : Flat 2) (events : List (Event 2)) → IsLawful opening events old → IsLawful opening (events ++ as_events c f.serves.calls) new
+fed_goes : (c : ℕ) (piece : List ℕ) (old new : WorldState) (before after : List (Event resources)) (was is : Connection) → connection_at c old.connections ≡ Some was → was.standing ≡ standings.Open → Changes c is old.connections new.connections → (f : Feeds c piece old.cluster new.cluster before after was is)
+    → (opening : Flat resources) (events : List (Event resources)) → IsLawful opening events old → IsLawful opening (events ++ as_events c f.serves.calls) new
 fed_goes c piece old new before after was is at live change f opening events w = record {
   run = run_more events (as_events c f.serves.calls) opening old.cluster new.cluster w.run f.serves.run;
   each = λ d. elim (cases_Bool (c == d)) [
@@ -101,13 +102,13 @@ fed_goes c piece old new before after was is at live change f opening events w =
 
 -- ---- a proposal that was tried
 
-made_no_call : (c : ℕ) (p : NodeProposal) (event : Event 2) → IsOf p event → calls_by c (event ∷ []) ≡ []
+made_no_call : (c : ℕ) (p : NodeProposal) (event : Event resources) → IsOf p event → calls_by c (event ∷ []) ≡ []
 made_no_call c p (Event.Call by request reply) is = absurd is
 made_no_call c p (Event.Grant container) is = refl
 made_no_call c p (Event.Reserve reservation) is = refl
 
-tried_goes : (p : NodeProposal) (verdict : Verdict 2) (old new : WorldState) → IsVerdict p old.cluster new.cluster verdict → new.connections ≡ old.connections
-    → (opening : Flat 2) (events : List (Event 2)) → IsLawful opening events old → IsLawful opening (events ++ made_by verdict) new
+tried_goes : (p : NodeProposal) (verdict : Verdict resources) (old new : WorldState) → IsVerdict p old.cluster new.cluster verdict → new.connections ≡ old.connections
+    → (opening : Flat resources) (events : List (Event resources)) → IsLawful opening events old → IsLawful opening (events ++ made_by verdict) new
 tried_goes p (verdicts.Done event) old new is same opening events w = record {
   run = run_more events (event ∷ []) opening old.cluster new.cluster w.run (new.cluster, is.1, refl);
   each = λ c. rw (calls_more c events (event ∷ []), made_no_call c p event is.0, append-nil (calls_by c events)) (same_connections old new same c (calls_by c events) (w.each c));
@@ -116,19 +117,19 @@ tried_goes p (verdicts.Rejected reason) old new is same opening events w = keeps
 
 -- ---- any step
 
-quiet : (old new : WorldState) (before after : List (Event 2)) → after ≡ before → ((opening : Flat 2) (events : List (Event 2)) → IsLawful opening events old → IsLawful opening (events ++ []) new) → Goes old new before after
+quiet : (old new : WorldState) (before after : List (Event resources)) → after ≡ before → ((opening : Flat resources) (events : List (Event resources)) → IsLawful opening events old → IsLawful opening (events ++ []) new) → Goes old new before after
 quiet old new before after e keep = ([], e ∙ sym (append-nil before), keep)
 
-same_goes : (old new : WorldState) (before after : List (Event 2)) → after ≡ before → new ≡ old → Goes old new before after
+same_goes : (old new : WorldState) (before after : List (Event resources)) → after ≡ before → new ≡ old → Goes old new before after
 same_goes old new before after e s =
     quiet old new before after e (keeps old new (ap (λ (x : WorldState). x.cluster) s) (λ c calls a. subst (λ (x : WorldState). HasAnswersAt calls (connection_at c x.connections)) (sym s) a))
 
-fed_at_goes : (c : ℕ) (piece : List ℕ) (standing : Standing) (old new : WorldState) (before after : List (Event 2)) → Fed c piece standing old.connections new.connections old.cluster new.cluster before after → Goes old new before after
+fed_at_goes : (c : ℕ) (piece : List ℕ) (standing : Standing) (old new : WorldState) (before after : List (Event resources)) → Fed c piece standing old.connections new.connections old.cluster new.cluster before after → Goes old new before after
 fed_at_goes c piece standing old new before after x =
     let f = x.5 in
     (as_events c f.serves.calls, f.serves.events, fed_goes c piece old new before after x.0 x.1 x.2 x.3 x.4 f)
 
-pub outcome_goes : (step : Step) (result : Result Did NoMemory) (old new : WorldState) (before after : List (Event 2)) → Outcome step result old new before after → Goes old new before after
+pub outcome_goes : (step : Step) (result : Result Did NoMemory) (old new : WorldState) (before after : List (Event resources)) → Outcome step result old new before after → Goes old new before after
 outcome_goes (steps.Open c) (Ok dids.Done) old new before after o =
     quiet old new before after o.4 (keeps old new o.2 (keeps_one c old.connections new.connections new_connection o.1 (λ calls a. opens calls (rw o.0 at a))))
 outcome_goes (steps.End c) (Ok dids.Done) old new before after o =

@@ -2,11 +2,12 @@
 use Rattle.std.proofs.Common.{◌≡◌, ℕ, ◌<◌, ◌+◌, List, [], ◌∷◌, ◌++◌, length, get_or, take, Result, Ok, Err, refl, sym, ap, subst, ◌∙◌, arith}
 use Rattle.std.proofs.lemmas.List.{take_more}
 use Rattle.std.proofs.lemmas.Option.{slice_get_past, slice_get-get_or}
+use Rattle.cap_base.specs.Limits.{resources}
 use Rattle.cap_model.specs.declared.event.Event.{Event}
 use Rattle.cap_model.specs.Flat.{Flat}
 use Rattle.cap_world.specs.declared.step.Step.{Step}
 use Rattle.cap_world.specs.declared.step.Did.{Did}
-use Rattle.cap_model.specs.declared.no_memory.NoMemory.{NoMemory}
+use Rattle.cap_base.specs.declared.no_memory.NoMemory.{NoMemory}
 use Rattle.cap_world.specs.Answers.{calls_by}
 use Rattle.cap_world.specs.World.{Known, WorldState, IsWorld, IsLawful, connection_at, Adds, start}
 use Rattle.cap_world.specs.Steps.{Outcome}
@@ -15,12 +16,12 @@ use Rattle.cap_world.specs.Hearing.{IsHeadline}
 use Rattle.cap_world.proofs.Heard.{HeardSoFar, is_heard, heard_starved}
 
 -- the opening and the events of a world are those of a run
-lawful_from : (opening : Flat 2) (events : List (Event 2)) (world : Known) → world.opening ≡ opening → world.events ≡ events → IsWorld world → IsLawful opening events world.sight
+lawful_from : (opening : Flat resources) (events : List (Event resources)) (world : Known) → world.opening ≡ opening → world.events ≡ events → IsWorld world → IsLawful opening events world.sight
 lawful_from opening events world o e lawful =
-    subst (λ (x : Flat 2). IsLawful x events world.sight) o (subst (λ (x : List (Event 2)). IsLawful world.opening x world.sight) e lawful)
+    subst (λ (x : Flat resources). IsLawful x events world.sight) o (subst (λ (x : List (Event resources)). IsLawful world.opening x world.sight) e lawful)
 
 -- all steps were made
-pub headline_all : (opening : Flat 2) (all : List Step) (i : ℕ) (events : List (Event 2)) (world : Known) → i ≡ length all → world.opening ≡ opening → world.events ≡ events → IsWorld world → HeardSoFar (take i all) world.sight → IsHeadline opening all (length all) events world.sight
+pub headline_all : (opening : Flat resources) (all : List Step) (i : ℕ) (events : List (Event resources)) (world : Known) → i ≡ length all → world.opening ≡ opening → world.events ≡ events → IsWorld world → HeardSoFar (take i all) world.sight → IsHeadline opening all (length all) events world.sight
 headline_all opening all i events world end o e lawful so_far =
     let law = lawful_from opening events world o e lawful in
     record {
@@ -31,10 +32,10 @@ headline_all opening all i events world end o e lawful so_far =
     }
 
 -- a step was refused memory
-pub headline_cut : (opening : Flat 2) (all : List Step) (i : ℕ) (d : Step) (r : Result Did NoMemory) (error : NoMemory) (mid new : Known) (before after : List (Event 2)) → i < length all → mid.opening ≡ opening → mid.events ≡ before → HeardSoFar (take i all) mid.sight → r ≡ Err error
+pub headline_cut : (opening : Flat resources) (all : List Step) (i : ℕ) (d : Step) (r : Result Did NoMemory) (error : NoMemory) (mid new : Known) (before after : List (Event resources)) → i < length all → mid.opening ≡ opening → mid.events ≡ before → HeardSoFar (take i all) mid.sight → r ≡ Err error
     → Outcome (get_or all i d) r mid.sight new.sight before after → Adds mid new before after → IsWorld new → IsHeadline opening all i after new.sight
 headline_cut opening all i d r error mid new before after below o e so_far is outcome adds lawful =
-    let events : new.events ≡ after = adds.kept ∙ ap (λ (es : List (Event 2)). es ++ adds.more) e ∙ sym adds.lent in
+    let events : new.events ≡ after = adds.kept ∙ ap (λ (es : List (Event resources)). es ++ adds.more) e ∙ sym adds.lent in
     let law = lawful_from opening after new (adds.opening ∙ o) events lawful in
     let starves = subst (λ (x : Result Did NoMemory). Outcome (get_or all i d) x mid.sight new.sight before after) is outcome in
     record {
@@ -47,17 +48,17 @@ headline_cut opening all i d r error mid new before after below o e so_far is ou
 -- ---- the steps one after the other
 
 -- one more step after those that were made
-makes_more : (first : List Step) (step : Step) (did : Did) (old mid new : WorldState) (before between after : List (Event 2)) → Makes first old mid before between → Outcome step (Ok did) mid new between after → Makes (first ++ step ∷ []) old new before after
+makes_more : (first : List Step) (step : Step) (did : Did) (old mid new : WorldState) (before between after : List (Event resources)) → Makes first old mid before between → Outcome step (Ok did) mid new between after → Makes (first ++ step ∷ []) old new before after
 makes_more [] step did old mid new before between after made outcome =
-    (new, after, did, subst (λ (s : WorldState). Outcome step (Ok did) s new before after) made.0 (subst (λ (es : List (Event 2)). Outcome step (Ok did) mid new es after) made.1 outcome), (refl, refl))
+    (new, after, did, subst (λ (s : WorldState). Outcome step (Ok did) s new before after) made.0 (subst (λ (es : List (Event resources)). Outcome step (Ok did) mid new es after) made.1 outcome), (refl, refl))
 makes_more (s ∷ first) step did old mid new before between after made outcome =
     (made.0, made.1, made.2, made.3, makes_more first step did made.0 mid new made.1 between after made.4 outcome)
 
-pub makes_next : (all : List Step) (i : ℕ) (d : Step) (did : Did) (old mid new : WorldState) (before between after : List (Event 2)) → i < length all → Makes (take i all) old mid before between → Outcome (get_or all i d) (Ok did) mid new between after → Makes (take (i + 1) all) old new before after
+pub makes_next : (all : List Step) (i : ℕ) (d : Step) (did : Did) (old mid new : WorldState) (before between after : List (Event resources)) → i < length all → Makes (take i all) old mid before between → Outcome (get_or all i d) (Ok did) mid new between after → Makes (take (i + 1) all) old new before after
 makes_next all i d did old mid new before between after below made outcome =
     rw (take_more all i d below) (makes_more (take i all) (get_or all i d) did old mid new before between after made outcome)
 
-pub made_all : (opening : Flat 2) (all : List Step) (i : ℕ) (events : List (Event 2)) (sight : WorldState) → i ≡ length all → Makes (take i all) (start opening).sight sight [] events → IsMade opening all (length all) events sight
+pub made_all : (opening : Flat resources) (all : List Step) (i : ℕ) (events : List (Event resources)) (sight : WorldState) → i ≡ length all → Makes (take i all) (start opening).sight sight [] events → IsMade opening all (length all) events sight
 made_all opening all i events sight end made = record {
   mid = sight;
   before = events;
@@ -65,7 +66,7 @@ made_all opening all i events sight end made = record {
   stops = rw (slice_get_past all (length all) (omega arith)) (refl, refl);
 }
 
-pub made_cut : (opening : Flat 2) (all : List Step) (i : ℕ) (d : Step) (r : Result Did NoMemory) (error : NoMemory) (mid new : WorldState) (before after : List (Event 2)) → i < length all → Makes (take i all) (start opening).sight mid [] before → r ≡ Err error
+pub made_cut : (opening : Flat resources) (all : List Step) (i : ℕ) (d : Step) (r : Result Did NoMemory) (error : NoMemory) (mid new : WorldState) (before after : List (Event resources)) → i < length all → Makes (take i all) (start opening).sight mid [] before → r ≡ Err error
     → Outcome (get_or all i d) r mid new before after → IsMade opening all i after new
 made_cut opening all i d r error mid new before after below made is outcome = record {
   mid = mid;

@@ -1,6 +1,7 @@
 -- Requests are answered one after the other.
 use Rattle.std.proofs.Common.{◌≡◌, ℕ, List, [], ◌∷◌, ◌++◌, Option, Some, None, refl, sym, ap, subst, ◌∙◌, append_assoc, append-nil, inl, inr}
 use Rattle.std.proofs.lemmas.List.{map-append}
+use Rattle.cap_base.specs.Limits.{resources}
 use Rattle.cap_model.specs.declared.request.Request.{Request}
 use Rattle.cap_model.specs.News.{Reply}
 use Rattle.cap_model.specs.declared.event.Event.{Event}
@@ -23,19 +24,19 @@ use Rattle.cap_world.specs.Answers.{as_events, call_event}
 use Rattle.cap_world.specs.Connection.{Connection, AnswersAs, HasAnswers}
 use Rattle.cap_world.specs.Serving.{Serves, StandsAfter, IsServed, Feeds, standing_of}
 
-pub run_more : (es fs : List (Event 2)) (a b c : Flat 2) → Run a es b → Run b fs c → Run a (es ++ fs) c
-run_more [] fs a b c e run = subst (λ (x : Flat 2). Run x fs c) (sym e) run
+pub run_more : (es fs : List (Event resources)) (a b c : Flat resources) → Run a es b → Run b fs c → Run a (es ++ fs) c
+run_more [] fs a b c e run = subst (λ (x : Flat resources). Run x fs c) (sym e) run
 run_more (e ∷ es) fs a b c run more = (run.0, run.1, run_more es fs run.0 b c run.2 more)
 
 -- no call was made
-serves_quiet : (by : ℕ) (more : List ℕ) (s t : SessionState) (cluster : Flat 2) (events : List (Event 2)) (last : List ℕ) → Continues s t more [] last → Serves by more s t cluster cluster events events last
+serves_quiet : (by : ℕ) (more : List ℕ) (s t : SessionState) (cluster : Flat resources) (events : List (Event resources)) (last : List ℕ) → Continues s t more [] last → Serves by more s t cluster cluster events events last
 serves_quiet by more s t cluster events last continues = record { calls = []; continues = continues; events = sym (append-nil events); run = refl }
 
-pub serves_none : (by : ℕ) (s : SessionState) (cluster : Flat 2) (events : List (Event 2)) → Serves by [] s s cluster cluster events events []
+pub serves_none : (by : ℕ) (s : SessionState) (cluster : Flat resources) (events : List (Event resources)) → Serves by [] s s cluster cluster events events []
 serves_none by s cluster events = serves_quiet by [] s s cluster events [] (continues_none s)
 
 -- one after the other
-pub serves_then : {by : ℕ} {more most : List ℕ} {s t u : SessionState} {a b c : Flat 2} {before mid after : List (Event 2)} {last : List ℕ} → Serves by more s t a b before mid [] → Serves by most t u b c mid after last → Serves by (more ++ most) s u a c before after last
+pub serves_then : {by : ℕ} {more most : List ℕ} {s t u : SessionState} {a b c : Flat resources} {before mid after : List (Event resources)} {last : List ℕ} → Serves by more s t a b before mid [] → Serves by most t u b c mid after last → Serves by (more ++ most) s u a c before after last
 serves_then {by} {a} {b} {c} {before} x y = record {
   calls = x.calls ++ y.calls;
   continues = continues_then x.continues y.continues;
@@ -58,7 +59,7 @@ nothing_last s t payloads frames o c now =
     now ∙ ap (λ (x : List ℕ). record s { answered = s.answered ++ payloads; unsent = s.unsent ++ x; open_request = o; ended = c }) (sym (append-nil frames))
 
 -- a request, its call and its answer
-pub serves_call : (by : ℕ) (s t u : SessionState) (request : Request 2) (reply : Reply 2) (from to : Flat 2) (before after : List (Event 2)) → NextGives s t (nexts.Request request) → u ≡ after_answer t reply → SpellsAnswer t.open_request reply → Replies from request reply to
+pub serves_call : (by : ℕ) (s t u : SessionState) (request : Request resources) (reply : Reply resources) (from to : Flat resources) (before after : List (Event resources)) → NextGives s t (nexts.Request request) → u ≡ after_answer t reply → SpellsAnswer t.open_request reply → Replies from request reply to
     → after ≡ before ++ call_event by request reply ∷ [] → Serves by [] s u from to before after [] × (u.sent ≡ s.sent) × (u.open_request ≡ None) × (u.ended ≡ None)
 serves_call by s t u request reply from to before after (over, payloads, frames, o, answers, is, spells, now) then spelled replies added =
     let opens : t.open_request ≡ Some o = ap (λ (x : SessionState). x.open_request) now in
@@ -67,7 +68,7 @@ serves_call by s t u request reply from to before after (over, payloads, frames,
     let both = continues_then first (continues_answer t u o reply (subst (λ (x : Option OpenRequest). SpellsAnswer x reply) opens spelled) answered) in (
       record {
         calls = record { request = request; reply = reply } ∷ [];
-        continues = subst (λ (q : Request 2). Continues s u [] (record { request = q; reply = reply } ∷ []) []) is both;
+        continues = subst (λ (q : Request resources). Continues s u [] (record { request = q; reply = reply } ∷ []) []) is both;
         events = added;
         run = (to, replies, refl);
       },
@@ -77,7 +78,7 @@ serves_call by s t u request reply from to before after (over, payloads, frames,
     )
 
 -- a request for whose event there is no room
-pub served_starved : (by : ℕ) (s t u : SessionState) (request : Request 2) (from to : Flat 2) (before after : List (Event 2)) → Serves by [] s t from to before after [] → t.sent ≡ s.sent → NextGives t u (nexts.Request request) → IsSession u → IsServed by standings.Starved s u from to before after
+pub served_starved : (by : ℕ) (s t u : SessionState) (request : Request resources) (from to : Flat resources) (before after : List (Event resources)) → Serves by [] s t from to before after [] → t.sent ≡ s.sent → NextGives t u (nexts.Request request) → IsSession u → IsServed by standings.Starved s u from to before after
 served_starved by s t u request from to before after serves sent (over, payloads, frames, o, answers, is, spells, now) session = record {
   last = [];
   serves = serves_then serves (serves_quiet by [] t u to after [] (bad_then t u payloads frames [] (Some o) t.ended answers (nothing_last t u payloads frames (Some o) t.ended now)));
@@ -87,7 +88,7 @@ served_starved by s t u request from to before after serves sent (over, payloads
 }
 
 -- less than a frame
-pub served_rest : (by : ℕ) (s t u : SessionState) (from to : Flat 2) (before after : List (Event 2)) → Serves by [] s t from to before after [] → t.sent ≡ s.sent → t.open_request ≡ None → NextGives t u nexts.Need → IsSession u → IsServed by standings.Open s u from to before after
+pub served_rest : (by : ℕ) (s t u : SessionState) (from to : Flat resources) (before after : List (Event resources)) → Serves by [] s t from to before after [] → t.sent ≡ s.sent → t.open_request ≡ None → NextGives t u nexts.Need → IsSession u → IsServed by standings.Open s u from to before after
 served_rest by s t u from to before after serves sent none (over, payloads, frames, answers, now, end) session = record {
   last = [];
   serves = serves_then serves (serves_quiet by [] t u to after [] (bad_then t u payloads frames [] t.open_request t.ended answers (nothing_last t u payloads frames t.open_request t.ended now)));
@@ -96,7 +97,7 @@ served_rest by s t u from to before after serves sent none (over, payloads, fram
   sent = ap (λ (x : SessionState). x.sent) now ∙ sent;
 }
 
-ended_now : (by : ℕ) (cause : Cause) (s t u : SessionState) (from to : Flat 2) (before after : List (Event 2)) → Serves by [] s t from to before after [] → t.sent ≡ s.sent → EndsNow t u cause → IsSession u → IsServed by (standing_of cause) s u from to before after
+ended_now : (by : ℕ) (cause : Cause) (s t u : SessionState) (from to : Flat resources) (before after : List (Event resources)) → Serves by [] s t from to before after [] → t.sent ≡ s.sent → EndsNow t u cause → IsSession u → IsServed by (standing_of cause) s u from to before after
 ended_now by causes.WriteFault s t u from to before after serves sent ends session = absurd ends
 ended_now by causes.NoMemory s t u from to before after serves sent (payloads, frames, answers, now) session = record {
   last = [];
@@ -114,14 +115,14 @@ ended_now by causes.BadLength s t u from to before after serves sent (payloads, 
 }
 
 -- the session has ended
-pub served_ended : (by : ℕ) (cause : Cause) (s t u : SessionState) (from to : Flat 2) (before after : List (Event 2)) → Serves by [] s t from to before after [] → t.sent ≡ s.sent → t.ended ≡ None → NextGives t u (nexts.Ended cause) → IsSession u → IsServed by (standing_of cause) s u from to before after
+pub served_ended : (by : ℕ) (cause : Cause) (s t u : SessionState) (from to : Flat resources) (before after : List (Event resources)) → Serves by [] s t from to before after [] → t.sent ≡ s.sent → t.ended ≡ None → NextGives t u (nexts.Ended cause) → IsSession u → IsServed by (standing_of cause) s u from to before after
 served_ended by cause s t u from to before after serves sent over (inl (was, same)) session = absurd cc
 served_ended by cause s t u from to before after serves sent over (inr (was, ends)) session = ended_now by cause s t u from to before after serves sent ends session
 
 -- ---- a piece
 
 -- all of it was taken, and what it completed answered
-pub feeds_served : (by : ℕ) (piece : List ℕ) (from to : Flat 2) (before after : List (Event 2)) (old new : Connection) (fed : SessionState) → IsBytes piece → old.session.sent ≡ [] → fed ≡ record old.session { fed = old.session.fed ++ piece } → IsServed by new.standing fed new.session from to before after
+pub feeds_served : (by : ℕ) (piece : List ℕ) (from to : Flat resources) (before after : List (Event resources)) (old new : Connection) (fed : SessionState) → IsBytes piece → old.session.sent ≡ [] → fed ≡ record old.session { fed = old.session.fed ++ piece } → IsServed by new.standing fed new.session from to before after
     → Feeds by piece from to before after old new
 feeds_served by piece from to before after old new fed fits empty now served = record {
   more = piece;
@@ -135,7 +136,7 @@ feeds_served by piece from to before after old new fed fits empty now served = r
 }
 
 -- memory was refused for it
-pub feeds_starved : (by : ℕ) (cause : Cause) (piece : List ℕ) (cluster : Flat 2) (events : List (Event 2)) (old new : Connection) → IsBytes piece → old.session.sent ≡ [] → old.session.ended ≡ None → FeedGives piece old.session new.session (feds.Ended cause) → IsSession new.session → new.standing ≡ standings.Starved
+pub feeds_starved : (by : ℕ) (cause : Cause) (piece : List ℕ) (cluster : Flat resources) (events : List (Event resources)) (old new : Connection) → IsBytes piece → old.session.sent ≡ [] → old.session.ended ≡ None → FeedGives piece old.session new.session (feds.Ended cause) → IsSession new.session → new.standing ≡ standings.Starved
     → Feeds by piece cluster cluster events events old new
 feeds_starved by cause piece cluster events old new fits empty over (inl (was, same)) session starved = absurd cc
 feeds_starved by cause piece cluster events old new fits empty over (inr (was, is, now)) session starved = record {
@@ -167,7 +168,7 @@ answers_as standings.Starved s last stands session empty =
     (s.answered, open_payload s.open_request ++ session.stream.0, session.stream.1, session.stream.2, subst (λ (x : List ℕ). Answers s.answered s.calls x) all (answers_unless s.ended s stands.0 session.answers))
 
 -- a connection that is fed has answers for all its bytes
-pub answered_more : (by : ℕ) (piece : List ℕ) (calls : List Call) (from to : Flat 2) (before after : List (Event 2)) (old new : Connection) → HasAnswers calls old → (f : Feeds by piece from to before after old new) → HasAnswers (calls ++ f.serves.calls) new
+pub answered_more : (by : ℕ) (piece : List ℕ) (calls : List Call) (from to : Flat resources) (before after : List (Event resources)) (old new : Connection) → HasAnswers calls old → (f : Feeds by piece from to before after old new) → HasAnswers (calls ++ f.serves.calls) new
 answered_more by piece calls from to before after old new has f =
     let made : new.session.calls ≡ calls ++ f.serves.calls = f.serves.continues.calls ∙ ap (λ (x : List Call). x ++ f.serves.calls) has.made in
     record { made = made; answers = subst (λ (x : List Call). AnswersAs new.standing new.session.fed x new.session.unsent) made (answers_as new.standing new.session f.last f.stands f.session f.sent) }

@@ -3,8 +3,9 @@ use Rattle.std.proofs.Common.{◌≡◌, ℕ, ◌<◌, ◌≤◌, false, List, [
 use Rattle.std.specs.Prelude.{◌==◌}
 use Rattle.std.specs.List.{AllByRecursion}
 use Rattle.std.proofs.lemmas.Bool.{cases_Bool, eqb-true, eq-eqb}
+use Rattle.cap_base.specs.Limits.{resources}
 use Rattle.cap_model.specs.declared.event.Event.{Event}
-use Rattle.cap_model.specs.declared.no_memory.NoMemory.{NoMemory}
+use Rattle.cap_base.specs.declared.no_memory.NoMemory.{NoMemory}
 use Rattle.cap_model.specs.declared.proposal.Verdict.{Verdict}
 use Rattle.cap_model.specs.declared.proposal.Verdict.TheVariants as verdicts
 use Rattle.cap_model.specs.Flat.{Flat}
@@ -14,8 +15,8 @@ use Rattle.cap_model.specs.Choice.{IsFirstChoice, ring_from}
 use Rattle.cap_model.specs.Candidates.{choice_from}
 use Rattle.cap_model.specs.Events.{Step as ClusterStep}
 use Rattle.cap_model.specs.Verdicts.{IsOf, IsVerdict}
-use Rattle.cap_model.proofs.choice.Choosing.{choice_from_is_computed}
-use Rattle.cap_model.proofs.choice.Reasons.{rejected_exactly}
+use Rattle.cap_laws.proofs.choice.Choosing.{choice_from_is_computed}
+use Rattle.cap_laws.proofs.choice.Reasons.{rejected_exactly}
 use Rattle.cap_copy.specs.Snapshot.{Seen, sight_in}
 use Rattle.cap_world.specs.declared.step.Step.{Step}
 use Rattle.cap_world.specs.declared.step.Step.TheVariants as steps
@@ -31,7 +32,7 @@ use Rattle.cap_sights.proofs.Alike.{same_choice}
 
 -- ---- steps without events
 
-idle_events : (step : Step) (result : Result Did NoMemory) (old new : WorldState) (before after : List (Event 2)) → Outcome step result old new before after → result ≡ Ok dids.Idle → after ≡ before
+idle_events : (step : Step) (result : Result Did NoMemory) (old new : WorldState) (before after : List (Event resources)) → Outcome step result old new before after → result ≡ Ok dids.Idle → after ≡ before
 idle_events step result old new before after o e =
     (subst (λ (r : Result Did NoMemory). Outcome step r old new before after) e o).2
 
@@ -62,20 +63,20 @@ other_than : (w v : ℕ) (value : WorkerState) (old new : List (ℕ × WorkerSta
 other_than w v value old new change other = rw (change w, other) refl
 
 -- a step that makes what was proposed needs it to be admissible
-step_admissible : (p : NodeProposal) (event : Event 2) (old new : Flat 2) → IsOf p event → ClusterStep old event new → IsAdmissible (sight_of old) p
+step_admissible : (p : NodeProposal) (event : Event resources) (old new : Flat resources) → IsOf p event → ClusterStep old event new → IsAdmissible (sight_of old) p
 step_admissible p (Event.Call by request reply) old new is step = absurd is
 step_admissible p (Event.Grant container) old new is step = subst (λ (x : NodeProposal). IsAdmissible (sight_of old) x) is step.0
 step_admissible p (Event.Reserve reservation) old new is step = subst (λ (x : NodeProposal). IsAdmissible (sight_of old) x) is step.0
 
-not_rejected : {A : Type 0} (p : NodeProposal) (old : Flat 2) (reason : Rattle.cap_model.specs.declared.proposal.Reason.Reason) → reason_of (sight_of old) p ≡ Some reason → IsAdmissible (sight_of old) p → A
-not_rejected p old reason rejected adm = let none = (rejected_exactly 2 (sight_of old) p).1 adm in absurd (cc (none, rejected))
+not_rejected : {A : Type 0} (p : NodeProposal) (old : Flat resources) (reason : Rattle.cap_model.specs.declared.proposal.Reason.Reason) → reason_of (sight_of old) p ≡ Some reason → IsAdmissible (sight_of old) p → A
+not_rejected p old reason rejected adm = let none = (rejected_exactly resources (sight_of old) p).1 adm in absurd (cc (none, rejected))
 
 -- the proposal that stands is the one that was tried
 same_proposal : (w : ℕ) (old : WorldState) (was : WorkerState) (p q : NodeProposal) → worker_at w old.workers ≡ Some was → was.choice ≡ Some q → choice_of w old ≡ Some p → p ≡ q
 same_proposal w old was p q at has stands =
     let both : Some p ≡ Some q = sym stands ∙ ap choice_in at ∙ has in cc both
 
-exact_verdict : (w : ℕ) (p : NodeProposal) (verdict : Verdict 2) (old new : WorldState) (before after : List (Event 2)) → IsVerdict p old.cluster new.cluster verdict → after ≡ before ++ made_by verdict → verdict_of w new ≡ Some verdict → IsExact w p (Ok dids.Done) old new before after
+exact_verdict : (w : ℕ) (p : NodeProposal) (verdict : Verdict resources) (old new : WorldState) (before after : List (Event resources)) → IsVerdict p old.cluster new.cluster verdict → after ≡ before ++ made_by verdict → verdict_of w new ≡ Some verdict → IsExact w p (Ok dids.Done) old new before after
 exact_verdict w p (verdicts.Done event) old new before after is events kept = record {
   made = λ adm. inr (event, is.0, events, kept);
   rejected = λ no. absurd (no (step_admissible p event old.cluster new.cluster is.0 is.1));
@@ -121,7 +122,7 @@ seen_kept w v seen old new was is h at change keeps =
       | inr f ↦ record { worker = h.worker; at = other_than w v is old.workers new.workers change f ∙ h.at; is = h.is }
     ]
 
-seen_after : (w : ℕ) (seen : Seen) (step : Step) (did : Did) (old new : WorldState) (before after : List (Event 2)) → IsNoCopy w step → Outcome step (Ok did) old new before after → HasSeen w seen old → HasSeen w seen new
+seen_after : (w : ℕ) (seen : Seen) (step : Step) (did : Did) (old new : WorldState) (before after : List (Event resources)) → IsNoCopy w step → Outcome step (Ok did) old new before after → HasSeen w seen old → HasSeen w seen new
 seen_after w seen step dids.Idle old new before after other o h = still_seen w seen old new h (ap (λ (x : WorldState). x.workers) o.1)
 seen_after w seen (steps.Open c) dids.Done old new before after other o h = still_seen w seen old new h o.3
 seen_after w seen (steps.End c) dids.Done old new before after other o h = still_seen w seen old new h o.2
@@ -139,7 +140,7 @@ copied_seen : (w : ℕ) (was : Option WorkerState) (seen : Seen) → (with_copy 
 copied_seen w None seen = refl
 copied_seen w (Some was) seen = refl
 
-copy_done : (w : ℕ) (did : Did) (old new : WorldState) (before after : List (Event 2)) → w < workers_max → Outcome (steps.Copy w) (Ok did) old new before after → Copied w old new × (after ≡ before)
+copy_done : (w : ℕ) (did : Did) (old new : WorldState) (before after : List (Event resources)) → w < workers_max → Outcome (steps.Copy w) (Ok did) old new before after → Copied w old new × (after ≡ before)
 copy_done w dids.Done old new before after below o = o
 copy_done w dids.Idle old new before after below o = too_far w below o.0
 
@@ -147,24 +148,24 @@ copy_seen : (w : ℕ) (old new : WorldState) (c : Copied w old new) → HasSeen 
 copy_seen w old new c = record { worker = with_copy c.seen (worker_at w old.workers); at = changed w _ old.workers new.workers c.change; is = copied_seen w (worker_at w old.workers) c.seen }
 
 -- what a worker that has a snapshot proposes
-record IsProposed (w start : ℕ) (seen : Seen) (old new : WorldState) (before after : List (Event 2)) : Type 0 where
-  choice : choice_of w new ≡ choice_from (sight_in 2 seen) start
+record IsProposed (w start : ℕ) (seen : Seen) (old new : WorldState) (before after : List (Event resources)) : Type 0 where
+  choice : choice_of w new ≡ choice_from (sight_in resources seen) start
   cluster : new.cluster ≡ old.cluster
   events : after ≡ before
 
-propose_done : (w start : ℕ) (seen : Seen) (did : Did) (old new : WorldState) (before after : List (Event 2)) → w < workers_max → HasSeen w seen old → Outcome (steps.Propose w start) (Ok did) old new before after → IsProposed w start seen old new before after
+propose_done : (w start : ℕ) (seen : Seen) (did : Did) (old new : WorldState) (before after : List (Event resources)) → w < workers_max → HasSeen w seen old → Outcome (steps.Propose w start) (Ok did) old new before after → IsProposed w start seen old new before after
 propose_done w start seen dids.Done old new before after below h o =
     let both : Some o.0.was ≡ Some h.worker = sym o.0.at ∙ h.at in
     let own : o.0.was ≡ h.worker = cc both in
     record {
-      choice = ap choice_in (changed w _ old.workers new.workers o.0.change) ∙ ap (λ (x : WorkerState). choice_from (sight_in 2 x.seen) start) own ∙ ap (λ (x : Seen). choice_from (sight_in 2 x) start) h.is;
+      choice = ap choice_in (changed w _ old.workers new.workers o.0.change) ∙ ap (λ (x : WorkerState). choice_from (sight_in resources x.seen) start) own ∙ ap (λ (x : Seen). choice_from (sight_in resources x) start) h.is;
       cluster = o.0.cluster;
       events = o.1;
     }
 propose_done w start seen dids.Idle old new before after below h o = elim o.0 [ inl past ↦ too_far w below past | inr none ↦ (let at = h.at in absurd (cc (none, at))) ]
 
-proposed_after : (w start : ℕ) (seen : Seen) (others : List Step) (old new : WorldState) (before after : List (Event 2)) → w < workers_max → AllByRecursion (IsNoCopy w) others → HasSeen w seen old → Makes (others ++ steps.Propose w start ∷ []) old new before after
-    → choice_of w new ≡ choice_from (sight_in 2 seen) start
+proposed_after : (w start : ℕ) (seen : Seen) (others : List Step) (old new : WorldState) (before after : List (Event resources)) → w < workers_max → AllByRecursion (IsNoCopy w) others → HasSeen w seen old → Makes (others ++ steps.Propose w start ∷ []) old new before after
+    → choice_of w new ≡ choice_from (sight_in resources seen) start
 proposed_after w start seen [] old new before after below all h made =
     let p = propose_done w start seen made.2 old made.0 before made.1 below h made.3 in
     ap (choice_of w) made.4.0 ∙ p.choice
@@ -175,24 +176,24 @@ pub proposals_of_copies : ProposalsAreOfCopies
 proposals_of_copies w start others old new before after below all made =
     let c = copy_done w made.2 old made.0 before made.1 below made.3 in
     proposed_after w start c.0.seen others made.0 new made.1 after below all (copy_seen w old made.0 c.0) made.4
-    ∙ same_choice (sight_in 2 c.0.seen) (sight_of old.cluster) c.0.sight start
+    ∙ same_choice (sight_in resources c.0.seen) (sight_of old.cluster) c.0.sight start
 
 -- ---- copy, propose and commit
 
-first_admissible : (sight : Sight 2) (nodes : List NodeSight) (p : NodeProposal) → IsFirstChoice sight nodes (Some p) → IsAdmissible sight p
+first_admissible : (sight : Sight resources) (nodes : List NodeSight) (p : NodeProposal) → IsFirstChoice sight nodes (Some p) → IsAdmissible sight p
 first_admissible sight [] p h = absurd (cc h)
 first_admissible sight (node ∷ nodes) p (inl h) = h.1.1
 first_admissible sight (node ∷ nodes) p (inr h) = first_admissible sight nodes p h.1
 
-chosen_admissible : (sight : Sight 2) (start : ℕ) (p : NodeProposal) → choice_from sight start ≡ Some p → IsAdmissible sight p
+chosen_admissible : (sight : Sight resources) (start : ℕ) (p : NodeProposal) → choice_from sight start ≡ Some p → IsAdmissible sight p
 chosen_admissible sight start p e =
-    first_admissible sight (ring_from start sight.nodes) p (subst (λ (o : Option NodeProposal). IsFirstChoice sight (ring_from start sight.nodes) o) e (choice_from_is_computed 2 sight start))
+    first_admissible sight (ring_from start sight.nodes) p (subst (λ (o : Option NodeProposal). IsFirstChoice sight (ring_from start sight.nodes) o) e (choice_from_is_computed resources sight start))
 
-made_so : (p : NodeProposal) (verdict : Verdict 2) (old new : WorldState) (before after : List (Event 2)) → IsAdmissible (sight_of old.cluster) p → IsVerdict p old.cluster new.cluster verdict → after ≡ before ++ made_by verdict → IsMadeOf (Some p) old new before after
+made_so : (p : NodeProposal) (verdict : Verdict resources) (old new : WorldState) (before after : List (Event resources)) → IsAdmissible (sight_of old.cluster) p → IsVerdict p old.cluster new.cluster verdict → after ≡ before ++ made_by verdict → IsMadeOf (Some p) old new before after
 made_so p (verdicts.Done event) old new before after adm is events = (event, is.0, is.1, events)
 made_so p (verdicts.Rejected reason) old new before after adm is events = not_rejected p old.cluster reason is.0 adm
 
-commit_done : (w : ℕ) (choice : Option NodeProposal) (did : Did) (old new : WorldState) (before after : List (Event 2)) → w < workers_max → choice_of w old ≡ choice → ((p : NodeProposal) → choice ≡ Some p → IsAdmissible (sight_of old.cluster) p)
+commit_done : (w : ℕ) (choice : Option NodeProposal) (did : Did) (old new : WorldState) (before after : List (Event resources)) → w < workers_max → choice_of w old ≡ choice → ((p : NodeProposal) → choice ≡ Some p → IsAdmissible (sight_of old.cluster) p)
     → Outcome (steps.Commit w) (Ok did) old new before after → IsMadeOf choice old new before after
 commit_done w None dids.Idle old new before after below stands adm o = (ap (λ (x : WorldState). x.cluster) o.1, o.2)
 commit_done w None dids.Done old new before after below stands adm o =
@@ -203,10 +204,10 @@ commit_done w (Some p) dids.Done old new before after below stands adm o =
     made_so p o.verdict old new before after (adm p refl) (subst (λ (x : NodeProposal). IsVerdict x old.cluster new.cluster o.verdict) (sym same) o.is) o.events
 
 -- the same of a state whose cluster and events are the same
-moved_back : (choice : Option NodeProposal) (old mid new last : WorldState) (before between after events : List (Event 2)) → mid.cluster ≡ old.cluster → last ≡ new → between ≡ before → events ≡ after → IsMadeOf choice mid new between after → IsMadeOf choice old last before events
+moved_back : (choice : Option NodeProposal) (old mid new last : WorldState) (before between after events : List (Event resources)) → mid.cluster ≡ old.cluster → last ≡ new → between ≡ before → events ≡ after → IsMadeOf choice mid new between after → IsMadeOf choice old last before events
 moved_back None old mid new last before between after events c l b e m = (ap (λ (x : WorldState). x.cluster) l ∙ m.0 ∙ c, e ∙ m.1 ∙ b)
 moved_back (Some p) old mid new last before between after events c l b e m =
-    (m.0, m.1, subst (λ (x : Flat 2). ClusterStep x m.0 last.cluster) c (subst (λ (x : WorldState). ClusterStep mid.cluster m.0 x.cluster) (sym l) m.2), e ∙ m.3 ∙ ap (λ (es : List (Event 2)). es ++ m.0 ∷ []) b)
+    (m.0, m.1, subst (λ (x : Flat resources). ClusterStep x m.0 last.cluster) c (subst (λ (x : WorldState). ClusterStep mid.cluster m.0 x.cluster) (sym l) m.2), e ∙ m.3 ∙ ap (λ (es : List (Event resources)). es ++ m.0 ∷ []) b)
 
 pub copied_choices : CopiedChoicesAreMade
 copied_choices w start old new before after below made =
@@ -215,7 +216,7 @@ copied_choices w start old new before after below made =
     let p = propose_done w start c.0.seen second.2 made.0 second.0 made.1 second.1 below (copy_seen w old made.0 c.0) second.3 in
     let third = second.4 in
     let cluster : second.0.cluster ≡ old.cluster = p.cluster ∙ c.0.cluster in
-    let chosen = p.choice ∙ same_choice (sight_in 2 c.0.seen) (sight_of old.cluster) c.0.sight start in
-    let adm : (q : NodeProposal) → choice_from (sight_of old.cluster) start ≡ Some q → IsAdmissible (sight_of second.0.cluster) q = λ q e. subst (λ (x : Flat 2). IsAdmissible (sight_of x) q) (sym cluster) (chosen_admissible (sight_of old.cluster) start q e) in
+    let chosen = p.choice ∙ same_choice (sight_in resources c.0.seen) (sight_of old.cluster) c.0.sight start in
+    let adm : (q : NodeProposal) → choice_from (sight_of old.cluster) start ≡ Some q → IsAdmissible (sight_of second.0.cluster) q = λ q e. subst (λ (x : Flat resources). IsAdmissible (sight_of x) q) (sym cluster) (chosen_admissible (sight_of old.cluster) start q e) in
     moved_back (choice_from (sight_of old.cluster) start) old second.0 third.0 new before second.1 third.1 after cluster third.4.0 (p.events ∙ c.1) third.4.1
     (commit_done w (choice_from (sight_of old.cluster) start) third.2 second.0 third.0 second.1 third.1 below chosen adm third.3)

@@ -1,24 +1,25 @@
 -- The calls of connections among the events.
 use Rattle.std.specs.Prelude.{ℕ, List, Option, Some, None, map, ◌==◌, if◌then◌else◌}
 use Rattle.std.specs.List.{filter_map}
+use Rattle.cap_base.specs.Limits.{resources}
 use Rattle.cap_model.specs.declared.request.Request.{Request}
 use Rattle.cap_model.specs.News.{Reply}
 use Rattle.cap_model.specs.declared.event.Event.{Event}
 use Rattle.cap_session.specs.Answers.{Call}
 
-abbrev pub call_event : ℕ → Request 2 → Reply 2 → Event 2
+abbrev pub call_event : ℕ → Request resources → Reply resources → Event resources
 call_event by request reply = Event.Call by request reply
 
 -- the calls as events of the connection
-abbrev pub as_events : ℕ → List Call → List (Event 2)
+abbrev pub as_events : ℕ → List Call → List (Event resources)
 as_events by calls = map (λ call. call_event by call.request call.reply) calls
 
 -- the call of an event, where it is the connection's
-abbrev pub call_by : ℕ → Event 2 → Option Call
+abbrev pub call_by : ℕ → Event resources → Option Call
 call_by c (Event.Call by request reply) = if by == c then Some (record { request = request; reply = reply }) else None
 call_by c (Event.Grant container) = None
 call_by c (Event.Reserve reservation) = None
 
 -- the connection's calls among the events, in order
-abbrev pub calls_by : ℕ → List (Event 2) → List Call
+abbrev pub calls_by : ℕ → List (Event resources) → List Call
 calls_by c events = filter_map (call_by c) events

@@ -1,5 +1,6 @@
 -- What each connection hears of a list of steps, and the headline over all of them.
 use Rattle.std.specs.Prelude.{◌≡◌, ◌⊎◌, ℕ, List, [], ◌∷◌, ◌++◌, Option, Some, None, Bool, true, false, ◌==◌, if◌then◌else◌, take, slice_get, MatchBool}
+use Rattle.cap_base.specs.Limits.{resources}
 use Rattle.cap_model.specs.declared.event.Event.{Event}
 use Rattle.cap_model.specs.Flat.{Flat}
 use Rattle.cap_model.specs.Events.{Run}
@@ -82,6 +83,6 @@ IsHeardBefore (Some (steps.Bytes d piece)) c heard calls output is_open = MatchB
 -- The headline. Whatever the steps, the events are one run of the flat cluster from the opening to the world's cluster; and each connection's
 -- output answers, by its calls among the events, the payloads and the tail of the pieces that found it open, joined. Where a piece was
 -- refused memory, which ends the run of the steps, it answers a beginning of the payloads and no tail.
-pub record IsHeadline (opening : Flat 2) (steps : List Step) (done : ℕ) (events : List (Event 2)) (sight : WorldState) : Type 0 where
+pub record IsHeadline (opening : Flat resources) (steps : List Step) (done : ℕ) (events : List (Event resources)) (sight : WorldState) : Type 0 where
   pub run : Run opening events sight.cluster
   pub each : (c : ℕ) → (heard : Hearing) × Hears c (take done steps) unopened heard × IsHeardBefore (slice_get steps done) c heard (calls_by c events) (output_of c sight) (is_open c sight)

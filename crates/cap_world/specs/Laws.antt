@@ -1,31 +1,33 @@
 -- Laws of worlds: what else holds of every run of them.
 use Rattle.std.specs.Prelude.{◌≡◌, ℕ, ◌≤◌, ◌==◌, List, Some, IsSome, ◌++◌, count_by, filter, not}
+use Rattle.cap_base.specs.Limits.{resources}
 use Rattle.cap_model.specs.declared.event.Event.{Event}
 use Rattle.cap_model.specs.declared.news.End.{End}
 use Rattle.cap_model.specs.News.{Grant}
-use Rattle.cap_model.specs.Settings.{Settings}
+use Rattle.cap_base.specs.Settings.{Settings}
 use Rattle.cap_model.specs.Ending.{is_among}
 use Rattle.cap_model.specs.Flat.{Flat, app_at, opened_cluster}
-use Rattle.cap_model.specs.Bounds.{IsBounded, IsRising}
+use Rattle.cap_model.specs.Bounds.{IsBounded}
+use Rattle.cap_base.specs.Members.{IsRising}
 use Rattle.cap_model.specs.Events.{ever_granted, ever_ended, Run}
-use Rattle.cap_model.specs.EngineLaws.{container_numbers}
-use Rattle.cap_model.specs.NewsLaws.{ever_told_grants, ever_new_grants, untold_grants, ever_told_ends, ever_new_ends, untold_ends}
+use Rattle.cap_laws.specs.EngineLaws.{container_numbers}
+use Rattle.cap_laws.specs.NewsLaws.{ever_told_grants, ever_new_grants, untold_grants, ever_told_ends, ever_new_ends, untold_ends}
 use Rattle.cap_config.specs.First.{settings_in}
 use Rattle.cap_world.specs.declared.step.Step.{Step}
 use Rattle.cap_world.specs.World.{WorldState}
 use Rattle.cap_world.specs.Hearing.{IsHeadline}
 
 -- it holds of the opening cluster, the events and the closing cluster of every run of steps over a bounded opening
-abbrev pub OfWorlds : (Flat 2 → List (Event 2) → Flat 2 → Type 0) → Type 0
+abbrev pub OfWorlds : (Flat resources → List (Event resources) → Flat resources → Type 0) → Type 0
 OfWorlds Holds =
-    (opening : Flat 2) (steps : List Step) (done : ℕ) (events : List (Event 2)) (sight : WorldState) → IsBounded opening → IsHeadline opening steps done events sight →
+    (opening : Flat resources) (steps : List Step) (done : ℕ) (events : List (Event resources)) (sight : WorldState) → IsBounded opening → IsHeadline opening steps done events sight →
     Holds opening events sight.cluster
 
 -- Where the opening cluster is bounded, so is every state of the run: after each beginning of the events, and at its close.
 abbrev pub WorldsStayBounded : Type 0
 WorldsStayBounded =
-    OfWorlds (λ opening events closing. (first rest : List (Event 2)) → events ≡ first ++ rest →
-    (mid : Flat 2) × Run opening first mid × Run mid rest closing × IsBounded mid × IsBounded closing)
+    OfWorlds (λ opening events closing. (first rest : List (Event resources)) → events ≡ first ++ rest →
+    (mid : Flat resources) × Run opening first mid × Run mid rest closing × IsBounded mid × IsBounded closing)
 
 -- From a bounded opening no container is granted twice: their numbers rise, from the first that was free. And none ends twice.
 abbrev pub ContainersAreUsedOnce : Type 0
@@ -54,4 +56,4 @@ EndsAreReportedOnce =
 
 -- The cluster that the settings of a text open is bounded.
 abbrev pub OpeningsAreBounded : Type 0
-OpeningsAreBounded = (text : List ℕ) (settings : Settings) → settings_in text ≡ Some settings → IsBounded (opened_cluster {K = 2} settings)
+OpeningsAreBounded = (text : List ℕ) (settings : Settings) → settings_in text ≡ Some settings → IsBounded (opened_cluster {K = resources} settings)

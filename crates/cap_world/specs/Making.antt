@@ -1,5 +1,6 @@
 -- Steps that are made one after the other.
 use Rattle.std.specs.Prelude.{◌≡◌, ℕ, List, [], ◌∷◌, Option, Some, None, Ok, take, slice_get}
+use Rattle.cap_base.specs.Limits.{resources}
 use Rattle.cap_model.specs.declared.event.Event.{Event}
 use Rattle.cap_model.specs.Flat.{Flat}
 use Rattle.cap_world.specs.declared.step.Step.{Step}
@@ -8,20 +9,20 @@ use Rattle.cap_world.specs.World.{WorldState, start}
 use Rattle.cap_world.specs.Steps.{Outcome, Starves}
 
 -- each step was made, or did not apply, where the one before left the world, and its events follow those of the one before
-abbrev pub Makes : List Step → WorldState → WorldState → List (Event 2) → List (Event 2) → Type 0
+abbrev pub Makes : List Step → WorldState → WorldState → List (Event resources) → List (Event resources) → Type 0
 Makes [] old new before after = (new ≡ old) × (after ≡ before)
 Makes (step ∷ steps) old new before after =
-    (mid : WorldState) × (between : List (Event 2)) × (did : Did) × Outcome step (Ok did) old mid before between × Makes steps mid new between after
+    (mid : WorldState) × (between : List (Event resources)) × (did : Did) × Outcome step (Ok did) old mid before between × Makes steps mid new between after
 
 -- what became of the step after these: there was none, or it was refused memory
-abbrev pub Stops : Option Step → WorldState → WorldState → List (Event 2) → List (Event 2) → Type 0
+abbrev pub Stops : Option Step → WorldState → WorldState → List (Event resources) → List (Event resources) → Type 0
 Stops None old new before after = (new ≡ old) × (after ≡ before)
 Stops (Some step) old new before after = Starves step old new before after
 
 -- so many of the steps were made from the opening, one after the other, which gave the events; then the list was at its end, or its next
 -- step was refused memory
-pub record IsMade (opening : Flat 2) (steps : List Step) (done : ℕ) (events : List (Event 2)) (sight : WorldState) : Type 0 where
+pub record IsMade (opening : Flat resources) (steps : List Step) (done : ℕ) (events : List (Event resources)) (sight : WorldState) : Type 0 where
   pub mid : WorldState
-  pub before : List (Event 2)
+  pub before : List (Event resources)
   pub made : Makes (take done steps) (start opening).sight mid [] before
   pub stops : Stops (slice_get steps done) mid sight before events

@@ -1,5 +1,6 @@
 -- What answering requests does, and what feeding a connection does.
 use Rattle.std.specs.Prelude.{◌≡◌, ◌≢◌, ◌⊎◌, ℕ, List, [], ◌++◌, Option, Some, None}
+use Rattle.cap_base.specs.Limits.{resources}
 use Rattle.cap_model.specs.declared.request.Request.{Request}
 use Rattle.cap_model.specs.declared.event.Event.{Event}
 use Rattle.cap_model.specs.Flat.{Flat}
@@ -15,7 +16,7 @@ use Rattle.cap_world.specs.Answers.{as_events}
 use Rattle.cap_world.specs.Connection.{Connection}
 
 -- this request is open
-abbrev pub IsOpenFor : Request 2 → Option OpenRequest → Type 0
+abbrev pub IsOpenFor : Request resources → Option OpenRequest → Type 0
 IsOpenFor request None = ⊥
 IsOpenFor request (Some o) = o.request ≡ request
 
@@ -27,7 +28,7 @@ standing_of causes.WriteFault = standings.Starved
 
 -- What it did to feed these bytes to a session and answer requests of it: one call a request, the calls as events of the connection, the
 -- cluster's run over them, and last these bytes, which answer no payload.
-pub record Serves (by : ℕ) (more : List ℕ) (old new : SessionState) (from to : Flat 2) (before after : List (Event 2)) (last : List ℕ) : Type 0 where
+pub record Serves (by : ℕ) (more : List ℕ) (old new : SessionState) (from to : Flat resources) (before after : List (Event resources)) (last : List ℕ) : Type 0 where
   pub calls : List Call
   pub continues : Continues old new more calls last
   pub events : after ≡ before ++ as_events by calls
@@ -42,7 +43,7 @@ StandsAfter standings.Starved s last = (s.ended ≢ Some causes.BadLength) × (l
 StandsAfter standings.Ended s last = ⊥
 
 -- the requests of a session were answered, as far as they came, and its connection stands so then
-pub record IsServed (by : ℕ) (standing : Standing) (old new : SessionState) (from to : Flat 2) (before after : List (Event 2)) : Type 0 where
+pub record IsServed (by : ℕ) (standing : Standing) (old new : SessionState) (from to : Flat resources) (before after : List (Event resources)) : Type 0 where
   pub last : List ℕ
   pub serves : Serves by [] old new from to before after last
   pub stands : StandsAfter standing new last
@@ -51,7 +52,7 @@ pub record IsServed (by : ℕ) (standing : Standing) (old new : SessionState) (f
 
 -- What a piece did to an open connection: all of it was taken, or none of it for want of memory, and the requests that it completed were
 -- answered.
-pub record Feeds (by : ℕ) (piece : List ℕ) (from to : Flat 2) (before after : List (Event 2)) (old new : Connection) : Type 0 where
+pub record Feeds (by : ℕ) (piece : List ℕ) (from to : Flat resources) (before after : List (Event resources)) (old new : Connection) : Type 0 where
   pub more : List ℕ
   pub last : List ℕ
   pub fits : IsBytes piece

@@ -1,5 +1,6 @@
 -- A worker, as far as anybody can see it.
 use Rattle.std.specs.Prelude.{ℕ, Option, Some, None}
+use Rattle.cap_base.specs.Limits.{resources}
 use Rattle.cap_model.specs.Admission.{NodeProposal}
 use Rattle.cap_model.specs.declared.proposal.Verdict.{Verdict}
 use Rattle.cap_copy.specs.Snapshot.{Seen}
@@ -12,7 +13,7 @@ workers_max = 64
 pub record WorkerState : Type 0 where
   pub seen : Seen
   pub choice : Option NodeProposal
-  pub verdict : Option (Verdict 2)
+  pub verdict : Option (Verdict resources)
 
 -- with another snapshot: no proposal stands, and the verdict stays
 abbrev pub with_copy : Seen → Option WorkerState → WorkerState
@@ -24,5 +25,5 @@ abbrev pub with_choice : Option NodeProposal → WorkerState → WorkerState
 with_choice choice was = record was { choice = choice }
 
 -- with this verdict, and no proposal
-abbrev pub with_verdict : Verdict 2 → WorkerState → WorkerState
+abbrev pub with_verdict : Verdict resources → WorkerState → WorkerState
 with_verdict verdict was = record was { choice = None; verdict = Some verdict }

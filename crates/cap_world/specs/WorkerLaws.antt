@@ -1,8 +1,9 @@
 -- Laws of the steps of workers.
 use Rattle.std.specs.Prelude.{◌≡◌, ◌≢◌, ◌⊎◌, ℕ, ◌<◌, List, [], ◌∷◌, ◌++◌, Option, Some, None, Result, Ok, IsErr}
 use Rattle.std.specs.List.{AllByRecursion}
+use Rattle.cap_base.specs.Limits.{resources}
 use Rattle.cap_model.specs.declared.event.Event.{Event}
-use Rattle.cap_model.specs.declared.no_memory.NoMemory.{NoMemory}
+use Rattle.cap_base.specs.declared.no_memory.NoMemory.{NoMemory}
 use Rattle.cap_model.specs.declared.proposal.Reason.{Reason}
 use Rattle.cap_model.specs.declared.proposal.Verdict.TheVariants.{Done, Rejected}
 use Rattle.cap_model.specs.Sight.{sight_of}
@@ -31,20 +32,20 @@ IsQuiet (steps.Commit w) = ⊥
 -- These make no event, and neither does a step that does not apply.
 abbrev pub QuietStepsMakeNoEvent : Type 0
 QuietStepsMakeNoEvent =
-    (step : Step) (result : Result Did NoMemory) (old new : WorldState) (before after : List (Event 2)) → Outcome step result old new before after →
+    (step : Step) (result : Result Did NoMemory) (old new : WorldState) (before after : List (Event resources)) → Outcome step result old new before after →
     IsQuiet step ⊎ (result ≡ Ok dids.Idle) → after ≡ before
 
 -- What comes of a commit of a proposal: its own event, where it is admissible, or memory is refused; else the first reason against it, and
 -- nothing of the cluster changes.
-pub record IsExact (w : ℕ) (p : NodeProposal) (result : Result Did NoMemory) (old new : WorldState) (before after : List (Event 2)) : Type 0 where
-  pub made : IsAdmissible (sight_of old.cluster) p → IsErr result ⊎ ((event : Event 2) × IsOf p event × (after ≡ before ++ event ∷ []) × (verdict_of w new ≡ Some (Done event)))
+pub record IsExact (w : ℕ) (p : NodeProposal) (result : Result Did NoMemory) (old new : WorldState) (before after : List (Event resources)) : Type 0 where
+  pub made : IsAdmissible (sight_of old.cluster) p → IsErr result ⊎ ((event : Event resources) × IsOf p event × (after ≡ before ++ event ∷ []) × (verdict_of w new ≡ Some (Done event)))
   pub rejected : ¬ IsAdmissible (sight_of old.cluster) p →
       (reason : Reason) × (reason_of (sight_of old.cluster) p ≡ Some reason) × (new.cluster ≡ old.cluster) × (after ≡ before) × (verdict_of w new ≡ Some (Rejected reason))
 
 -- This comes of every commit of a worker whose proposal stands.
 abbrev pub CommitsAreExact : Type 0
 CommitsAreExact =
-    (w : ℕ) (p : NodeProposal) (result : Result Did NoMemory) (old new : WorldState) (before after : List (Event 2)) → w < workers_max → choice_of w old ≡ Some p →
+    (w : ℕ) (p : NodeProposal) (result : Result Did NoMemory) (old new : WorldState) (before after : List (Event resources)) → w < workers_max → choice_of w old ≡ Some p →
     Outcome (steps.Commit w) result old new before after → IsExact w p result old new before after
 
 -- a step that is no Copy of that worker
@@ -59,16 +60,16 @@ IsNoCopy w (steps.Commit v) = Unit {0}
 -- What a worker proposes is the choice of the cluster as it was at the worker's last Copy, whatever steps came between.
 abbrev pub ProposalsAreOfCopies : Type 0
 ProposalsAreOfCopies =
-    (w start : ℕ) (others : List Step) (old new : WorldState) (before after : List (Event 2)) → w < workers_max → AllByRecursion (IsNoCopy w) others →
+    (w start : ℕ) (others : List Step) (old new : WorldState) (before after : List (Event resources)) → w < workers_max → AllByRecursion (IsNoCopy w) others →
     Makes (steps.Copy w ∷ (others ++ steps.Propose w start ∷ [])) old new before after → choice_of w new ≡ choice_from (sight_of old.cluster) start
 
 -- a choice was made of this state of the cluster: its event is a step of the cluster; none, and nothing happens
-abbrev pub IsMadeOf : Option NodeProposal → WorldState → WorldState → List (Event 2) → List (Event 2) → Type 0
+abbrev pub IsMadeOf : Option NodeProposal → WorldState → WorldState → List (Event resources) → List (Event resources) → Type 0
 IsMadeOf None old new before after = (new.cluster ≡ old.cluster) × (after ≡ before)
-IsMadeOf (Some p) old new before after = (event : Event 2) × IsOf p event × ClusterStep old.cluster event new.cluster × (after ≡ before ++ event ∷ [])
+IsMadeOf (Some p) old new before after = (event : Event resources) × IsOf p event × ClusterStep old.cluster event new.cluster × (after ≡ before ++ event ∷ [])
 
 -- A worker that copies, proposes and commits with no other step between makes the choice of the state before.
 abbrev pub CopiedChoicesAreMade : Type 0
 CopiedChoicesAreMade =
-    (w start : ℕ) (old new : WorldState) (before after : List (Event 2)) → w < workers_max → Makes (steps.Copy w ∷ steps.Propose w start ∷ steps.Commit w ∷ []) old new before after →
+    (w start : ℕ) (old new : WorldState) (before after : List (Event resources)) → w < workers_max → Makes (steps.Copy w ∷ steps.Propose w start ∷ steps.Commit w ∷ []) old new before after →
     IsMadeOf (choice_from (sight_of old.cluster) start) old new before after

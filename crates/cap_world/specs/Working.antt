@@ -1,5 +1,6 @@
 -- What the steps of a worker do to a world.
 use Rattle.std.specs.Prelude.{◌≡◌, ℕ, ◌<◌, List, [], ◌∷◌, ◌++◌, Some}
+use Rattle.cap_base.specs.Limits.{resources}
 use Rattle.cap_model.specs.declared.event.Event.{Event}
 use Rattle.cap_model.specs.declared.proposal.Verdict.{Verdict}
 use Rattle.cap_model.specs.declared.proposal.Verdict.TheVariants.{Done, Rejected}
@@ -14,17 +15,17 @@ use Rattle.cap_world.specs.Worker.{WorkerState, workers_max, with_copy, with_cho
 use Rattle.cap_world.specs.World.{WorldState, worker_at, choice_of, Changes}
 
 -- the events of a verdict: the grant or the reservation that was made, none where the proposal was rejected
-abbrev pub made_by : Verdict 2 → List (Event 2)
+abbrev pub made_by : Verdict resources → List (Event resources)
 made_by (Done event) = event ∷ []
 made_by (Rejected reason) = []
 
 -- a verdict whose event, if it has one, is a grant or a reservation
-abbrev pub IsOfProposal : Verdict 2 → Type 0
+abbrev pub IsOfProposal : Verdict resources → Type 0
 IsOfProposal (Done event) = (p : NodeProposal) × IsOf p event
 IsOfProposal (Rejected reason) = Unit {0}
 
 -- a proposal was tried on the cluster, came to a verdict, and its event is added
-pub record IsTried (p : NodeProposal) (old new : Flat 2) (before after : List (Event 2)) (verdict : Verdict 2) : Type 0 where
+pub record IsTried (p : NodeProposal) (old new : Flat resources) (before after : List (Event resources)) (verdict : Verdict resources) : Type 0 where
   pub is : IsVerdict p old new verdict
   pub events : after ≡ before ++ made_by verdict
 
@@ -32,7 +33,7 @@ pub record IsTried (p : NodeProposal) (old new : Flat 2) (before after : List (E
 pub record Copied (w : ℕ) (old new : WorldState) : Type 0 where
   pub below : w < workers_max
   pub seen : Seen
-  pub sight : ShowTheSame (sight_in 2 seen) (sight_of old.cluster)
+  pub sight : ShowTheSame (sight_in resources seen) (sight_of old.cluster)
   pub change : Changes w (with_copy seen (worker_at w old.workers)) old.workers new.workers
   pub cluster : new.cluster ≡ old.cluster
   pub connections : new.connections ≡ old.connections
@@ -42,18 +43,18 @@ pub record Proposed (w start : ℕ) (old new : WorldState) : Type 0 where
   pub below : w < workers_max
   pub was : WorkerState
   pub at : worker_at w old.workers ≡ Some was
-  pub change : Changes w (with_choice (choice_from (sight_in 2 was.seen) start) was) old.workers new.workers
+  pub change : Changes w (with_choice (choice_from (sight_in resources was.seen) start) was) old.workers new.workers
   pub cluster : new.cluster ≡ old.cluster
   pub connections : new.connections ≡ old.connections
 
 -- a worker's proposal was tried on the cluster, and came to a verdict, whose event is added
-pub record Tried (w : ℕ) (old new : WorldState) (before after : List (Event 2)) : Type 0 where
+pub record Tried (w : ℕ) (old new : WorldState) (before after : List (Event resources)) : Type 0 where
   pub below : w < workers_max
   pub was : WorkerState
   pub at : worker_at w old.workers ≡ Some was
   pub proposal : NodeProposal
   pub choice : was.choice ≡ Some proposal
-  pub verdict : Verdict 2
+  pub verdict : Verdict resources
   pub is : IsVerdict proposal old.cluster new.cluster verdict
   pub change : Changes w (with_verdict verdict was) old.workers new.workers
   pub connections : new.connections ≡ old.connections

@@ -3,10 +3,11 @@ use Rattle.std.specs.Prelude.{◌≡◌, ℕ, List, [], ◌∷◌, ◌++◌, Opt
 use Rattle.std.specs.List.{flat_map}
 use Rattle.std.specs.Map.{lookup}
 use Rattle.std.specs.Global.{Vec}
+use Rattle.cap_base.specs.Limits.{resources}
 use Rattle.cap_model.specs.declared.event.Event.{Event}
 use Rattle.cap_model.specs.declared.proposal.Verdict.{Verdict}
 use Rattle.cap_model.specs.Admission.{NodeProposal}
-use Rattle.cap_model.specs.Settings.{Settings}
+use Rattle.cap_base.specs.Settings.{Settings}
 use Rattle.cap_commit.specs.Held.{Held}
 use Rattle.cap_model.specs.Flat.{Flat, opened_cluster}
 use Rattle.cap_model.specs.Events.{Run}
@@ -17,7 +18,7 @@ use Rattle.cap_world.specs.Worker.{WorkerState}
 
 -- what is seen of a world: the cluster, and by number the connections that were ever opened, and the workers that ever copied it
 pub record WorldState : Type 0 where
-  pub cluster : Flat 2
+  pub cluster : Flat resources
   pub connections : List (ℕ × Connection)
   pub workers : List (ℕ × WorkerState)
 
@@ -48,7 +49,7 @@ abbrev pub choice_in : Option WorkerState → Option NodeProposal
 choice_in None = None
 choice_in (Some worker) = worker.choice
 
-abbrev pub verdict_in : Option WorkerState → Option (Verdict 2)
+abbrev pub verdict_in : Option WorkerState → Option (Verdict resources)
 verdict_in None = None
 verdict_in (Some worker) = worker.verdict
 
@@ -56,7 +57,7 @@ verdict_in (Some worker) = worker.verdict
 abbrev pub choice_of : ℕ → WorldState → Option NodeProposal
 choice_of w sight = choice_in (worker_at w sight.workers)
 
-abbrev pub verdict_of : ℕ → WorldState → Option (Verdict 2)
+abbrev pub verdict_of : ℕ → WorldState → Option (Verdict resources)
 verdict_of w sight = verdict_in (worker_at w sight.workers)
 
 -- one connection, or one worker, is this now, and each other is what it was
@@ -70,31 +71,31 @@ HasAnswersAt calls (Some connection) = HasAnswers calls connection
 
 -- The events are a run of the flat cluster from the opening to the cluster, and each connection was answered for the bytes that it took
 -- by its calls among them.
-pub record IsLawful (opening : Flat 2) (events : List (Event 2)) (sight : WorldState) : Type 0 where
+pub record IsLawful (opening : Flat resources) (events : List (Event resources)) (sight : WorldState) : Type 0 where
   pub run : Run opening events sight.cluster
   pub each : (c : ℕ) → HasAnswersAt (calls_by c events) (connection_at c sight.connections)
 
 -- a world, with what it keeps for contracts alone: its opening cluster and its events
 pub record Known : Type 0 where
-  pub opening : Flat 2
-  pub events : List (Event 2)
+  pub opening : Flat resources
+  pub events : List (Event resources)
   pub sight : WorldState
 
 abbrev pub IsWorld : Known → Type 0
 IsWorld world = IsLawful world.opening world.events world.sight
 
-abbrev pub start : Flat 2 → Known
+abbrev pub start : Flat resources → Known
 start opening = record { opening = opening; events = []; sight = record { cluster = opening; connections = []; workers = [] } }
 
 -- The opening stays, and the same events are added to the world's and to the list that was lent.
-pub record Adds (old new : Known) (before after : List (Event 2)) : Type 0 where
+pub record Adds (old new : Known) (before after : List (Event resources)) : Type 0 where
   pub opening : new.opening ≡ old.opening
-  pub more : List (Event 2)
+  pub more : List (Event resources)
   pub lent : after ≡ before ++ more
   pub kept : new.events ≡ old.events ++ more
 
 -- each entry is the list of events after a step, and how long it was before
-abbrev pub events_of : List (Vec (Event 2) × ℕ) → List (Event 2)
+abbrev pub events_of : List (Vec (Event resources) × ℕ) → List (Event resources)
 events_of entries = flat_map (λ e. drop e.1 e.0.items) entries
 
 -- the settings of nothing
@@ -102,6 +103,6 @@ abbrev pub no_settings : Settings
 no_settings = record { queues = []; minimum_allocation = []; maximum_allocation = []; application_limit = 0 }
 
 -- the first entry is the opening
-abbrev pub opening_of : List (Held 2 × ℕ) → Flat 2
+abbrev pub opening_of : List (Held resources × ℕ) → Flat resources
 opening_of [] = opened_cluster no_settings
 opening_of (x ∷ xs) = x.0.flat

@@ -4,6 +4,7 @@ ghost use Rattle.cap_world.specs.Connection.{new_connection, is_open_standing};
 ghost use Rattle.cap_world.specs.Serving.{Feeds};
 
 use crate::service::answer_all;
+use cap_base::RESOURCES;
 use cap_commit::Cluster;
 use cap_model::{Event, NoMemory};
 use cap_session::{Fed, Session};
@@ -85,8 +86,8 @@ impl Connection {
         alloc: Global,
         by: u32,
         piece: &[u8],
-        cluster: &mut Cluster<2>,
-        events: &mut Vec<Event<2>>,
+        cluster: &mut Cluster<RESOURCES>,
+        events: &mut Vec<Event<RESOURCES>>,
     ) -> Standing
         requires { self.old.standing ≡ Standing.Open }
         ensures fed { Feeds by piece.now cluster.old.flat cluster.new.flat

@@ -1,5 +1,6 @@
 //! The connections that were ever opened, by number, and the steps on them: they open, bring bytes, and end.
 ghost use Rattle.std.specs.Prelude.{◌≡◌, ℕ, List, Ok};
+ghost use Rattle.cap_base.specs.Limits.{resources};
 ghost use Rattle.cap_model.specs.declared.event.Event.{Event};
 ghost use Rattle.cap_model.specs.Flat.{Flat};
 ghost use Rattle.cap_world.specs.Worker.{WorkerState};
@@ -8,6 +9,7 @@ ghost use Rattle.cap_world.specs.Steps.{Outcome};
 
 use crate::connection::{Connection, Standing};
 use crate::step::{Did, Step};
+use cap_base::RESOURCES;
 use cap_commit::Cluster;
 use cap_model::{Event, NoMemory};
 use indexmap::IndexMap;
@@ -52,7 +54,7 @@ pub(crate) fn open(
     connections: &mut Connections,
     number: u32,
 ) -> Result<Did, NoMemory>
-    ensures { (cluster : Flat 2) (workers : List (ℕ × WorkerState)) (events : List (Event 2)) →
+    ensures { (cluster : Flat resources) (workers : List (ℕ × WorkerState)) (events : List (Event resources)) →
         Outcome (Step.Open number) result
         (record { cluster = cluster; connections = connections.old.entries; workers = workers })
         (record { cluster = cluster; connections = connections.new.entries; workers = workers })
@@ -70,7 +72,7 @@ pub(crate) fn open(
 
 /// Ends a connection, if it is open.
 pub(crate) fn end(connections: &mut Connections, number: u32) -> Did
-    ensures { (cluster : Flat 2) (workers : List (ℕ × WorkerState)) (events : List (Event 2)) →
+    ensures { (cluster : Flat resources) (workers : List (ℕ × WorkerState)) (events : List (Event resources)) →
         Outcome (Step.End number) (Ok result)
         (record { cluster = cluster; connections = connections.old.entries; workers = workers })
         (record { cluster = cluster; connections = connections.new.entries; workers = workers })
@@ -92,8 +94,8 @@ pub(crate) fn feed(
     connections: &mut Connections,
     number: u32,
     piece: &[u8],
-    cluster: &mut Cluster<2>,
-    events: &mut Vec<Event<2>>,
+    cluster: &mut Cluster<RESOURCES>,
+    events: &mut Vec<Event<RESOURCES>>,
 ) -> Result<Did, NoMemory>
     ensures { (workers : List (ℕ × WorkerState)) → Outcome (Step.Bytes number piece.entry) result
         (record {

@@ -5,6 +5,7 @@ ghost use Rattle.cap_world.specs.Hearing.{IsHeadline};
 
 use crate::step::Step;
 use crate::world::World;
+use cap_base::RESOURCES;
 use cap_commit::Cluster;
 use cap_model::{Event, NoMemory};
 use std::alloc::Global;
@@ -13,14 +14,14 @@ use std::alloc::Global;
 #[derive(Drop)]
 pub struct Outcome {
     pub world: World,
-    pub events: Vec<Event<2>>,
+    pub events: Vec<Event<RESOURCES>>,
     pub done: usize,
 }
 
 impl World {
     /// Makes the steps one after the other, up to the first for which an allocation fails: a piece on an open connection, a
     /// number that opens for the first time, a worker's copy, or the commit of a proposal that is admissible.
-    pub fn run(alloc: Global, opening: Cluster<2>, steps: &[Step]) -> Outcome
+    pub fn run(alloc: Global, opening: Cluster<RESOURCES>, steps: &[Step]) -> Outcome
         ensures done { result.done ≤ length steps.now }
         ensures opening { result.world.opening ≡ opening.flat }
         ensures events { result.world.events ≡ result.events.items }

@@ -1,5 +1,6 @@
 //! The requests of a connection that are complete, each made as a call on the cluster and answered (`answer_all`).
 ghost use Rattle.std.specs.Prelude.{◌≡◌, ◌<◌, ◌++◌, ◌∷◌, [], vec_len, vec_capacity, None};
+ghost use Rattle.cap_base.specs.Limits.{resources};
 ghost use Rattle.cap_model.specs.News.{Reply};
 ghost use Rattle.cap_model.specs.Replies.{Replies};
 ghost use Rattle.cap_model.specs.Reporting.{HasRoomForReplies};
@@ -8,6 +9,7 @@ ghost use Rattle.cap_world.specs.Answers.{call_event};
 ghost use Rattle.cap_world.specs.Serving.{IsServed, IsOpenFor, standing_of};
 
 use crate::connection::Standing;
+use cap_base::RESOURCES;
 use cap_commit::Cluster;
 use cap_messages::dispatch;
 use cap_model::{Event, ReplyRoom, Request};
@@ -19,8 +21,8 @@ pub(crate) fn answer_all(
     alloc: Global,
     by: u32,
     session: &mut Session,
-    cluster: &mut Cluster<2>,
-    events: &mut Vec<Event<2>>,
+    cluster: &mut Cluster<RESOURCES>,
+    events: &mut Vec<Event<RESOURCES>>,
 ) -> Standing
     requires open { session.old.open_request ≡ None }
     requires ended { session.old.ended ≡ None }
@@ -58,16 +60,16 @@ fn standing_after(cause: Cause) -> Standing
 fn perform(
     alloc: Global,
     by: u32,
-    request: Request<2>,
-    room: ReplyRoom<2>,
+    request: Request<RESOURCES>,
+    room: ReplyRoom<RESOURCES>,
     session: &mut Session,
-    cluster: &mut Cluster<2>,
-    events: &mut Vec<Event<2>>,
+    cluster: &mut Cluster<RESOURCES>,
+    events: &mut Vec<Event<RESOURCES>>,
 )
     requires open { IsOpenFor request session.old.open_request }
     requires room { vec_len events.old < vec_capacity events.old }
     requires news { HasRoomForReplies cluster.old.flat request room }
-    ensures performed { (reply : Reply 2) × Replies cluster.old.flat request reply cluster.new.flat
+    ensures performed { (reply : Reply resources) × Replies cluster.old.flat request reply cluster.new.flat
         × (session.new ≡ after_answer session.old reply)
         × SpellsAnswer session.old.open_request reply
         × (events.new.items ≡ events.old.items ++ call_event by request reply ∷ []) }

@@ -1,9 +1,11 @@
 //! One worker of a world: its snapshot, its proposal, and the verdict of its last commit (`Worker`).
 ghost use Rattle.std.specs.Prelude.{◌≡◌, None, Some, option_map};
+ghost use Rattle.cap_base.specs.Limits.{resources};
 ghost use Rattle.cap_model.specs.Candidates.{choice_from};
 ghost use Rattle.cap_copy.specs.Snapshot.{sight_in};
 ghost use Rattle.cap_world.specs.Worker.{with_choice, with_copy, with_verdict};
 
+use cap_base::RESOURCES;
 use cap_copy::Snapshot;
 use cap_model::{Proposal, Verdict};
 use cap_propose::propose;
@@ -12,9 +14,9 @@ use std::marker::Model;
 
 /// One worker: its snapshot, its proposal that is not committed yet, if any, and the verdict of its last commit, if any.
 pub(crate) struct Worker {
-    snapshot: Snapshot<2, Global>,
-    choice: Option<Proposal<2>>,
-    verdict: Option<Verdict<2>>,
+    snapshot: Snapshot<RESOURCES, Global>,
+    choice: Option<Proposal<RESOURCES>>,
+    verdict: Option<Verdict<RESOURCES>>,
 }
 
 impl Drop for Worker {
@@ -41,7 +43,7 @@ impl Model for Worker {
 
 impl Worker {
     /// A worker with this snapshot, and nothing else.
-    pub(crate) fn new(snapshot: Snapshot<2, Global>) -> Worker
+    pub(crate) fn new(snapshot: Snapshot<RESOURCES, Global>) -> Worker
         ensures { result ≡ with_copy snapshot None }
     {
         Worker {
@@ -52,7 +54,7 @@ impl Worker {
     }
 
     /// Takes another snapshot. The proposal is dropped, and the verdict stays.
-    pub(crate) fn renew(&mut self, snapshot: Snapshot<2, Global>)
+    pub(crate) fn renew(&mut self, snapshot: Snapshot<RESOURCES, Global>)
         ensures { self.new ≡ with_copy snapshot (Some self.old) }
     {
         self.snapshot = snapshot;
@@ -60,14 +62,14 @@ impl Worker {
     }
 
     /// The proposal that is not committed yet.
-    pub(crate) fn choice(&self) -> Option<Proposal<2>>
+    pub(crate) fn choice(&self) -> Option<Proposal<RESOURCES>>
         ensures { result ≡ self.now.choice }
     {
         self.choice
     }
 
     /// The verdict of its last commit.
-    pub(crate) fn verdict(&self) -> Option<&Verdict<2>>
+    pub(crate) fn verdict(&self) -> Option<&Verdict<RESOURCES>>
         ensures { option_map (λ verdict. verdict.now) result ≡ self.now.verdict }
     {
         self.verdict.as_ref()
@@ -77,13 +79,13 @@ impl Worker {
     /// before, and none where there is none.
     pub(crate) fn propose(&mut self, start: u32)
         ensures { self.new ≡
-            with_choice (choice_from (sight_in 2 self.old.seen) start) self.old }
+            with_choice (choice_from (sight_in resources self.old.seen) start) self.old }
     {
         self.choice = propose(&self.snapshot, start);
     }
 
     /// Keeps the verdict of its proposal, which is dropped.
-    pub(crate) fn conclude(&mut self, verdict: Verdict<2>)
+    pub(crate) fn conclude(&mut self, verdict: Verdict<RESOURCES>)
         ensures { self.new ≡ with_verdict verdict self.old }
     {
         self.choice = None;

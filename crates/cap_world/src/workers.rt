@@ -1,5 +1,6 @@
 //! The workers that ever copied the cluster, by number, and the steps on them: they copy, propose and commit.
 ghost use Rattle.std.specs.Prelude.{◌≡◌, ◌++◌, ℕ, List, Ok, IfOk, OnErr, option_map, vec_len, vec_capacity, ◌<◌};
+ghost use Rattle.cap_base.specs.Limits.{resources};
 ghost use Rattle.cap_model.specs.declared.event.Event.{Event};
 ghost use Rattle.cap_model.specs.Flat.{Flat};
 ghost use Rattle.cap_model.specs.Sight.{sight_of};
@@ -12,6 +13,7 @@ ghost use Rattle.cap_world.specs.Steps.{Outcome};
 
 use crate::step::{Did, Step};
 use crate::worker::Worker;
+use cap_base::RESOURCES;
 use cap_commit::Cluster;
 use cap_model::{Event, NoMemory, Proposal, Verdict};
 use cap_sights::snapshot_of;
@@ -24,7 +26,7 @@ pub(crate) type Workers = IndexMap<u32, Worker>;
 const WORKERS_MAX: u32 = 64;
 
 /// The proposal of the worker that is not committed yet, if any.
-pub(crate) fn choice(workers: &Workers, number: u32) -> Option<Proposal<2>>
+pub(crate) fn choice(workers: &Workers, number: u32) -> Option<Proposal<RESOURCES>>
     ensures { result ≡ choice_in (worker_at number workers.now.entries) }
 {
     let Some(worker) = workers.get(&number) else {
@@ -34,7 +36,7 @@ pub(crate) fn choice(workers: &Workers, number: u32) -> Option<Proposal<2>>
 }
 
 /// The verdict of the worker's last commit, if any.
-pub(crate) fn verdict(workers: &Workers, number: u32) -> Option<&Verdict<2>>
+pub(crate) fn verdict(workers: &Workers, number: u32) -> Option<&Verdict<RESOURCES>>
     ensures { option_map (λ verdict. verdict.now) result
         ≡ verdict_in (worker_at number workers.now.entries) }
 {
@@ -50,9 +52,9 @@ pub(crate) fn copy(
     alloc: Global,
     workers: &mut Workers,
     number: u32,
-    cluster: &Cluster<2>,
+    cluster: &Cluster<RESOURCES>,
 ) -> Result<Did, NoMemory>
-    ensures { (connections : List (ℕ × Connection)) (events : List (Event 2)) →
+    ensures { (connections : List (ℕ × Connection)) (events : List (Event resources)) →
         Outcome (Step.Copy number) result
         (record {
           cluster = cluster.now.flat;
@@ -82,7 +84,7 @@ pub(crate) fn copy(
 /// A worker proposes on its snapshot, if it has one.
 #[inline(never)]
 pub(crate) fn propose(workers: &mut Workers, number: u32, start: u32) -> Did
-    ensures { (cluster : Flat 2) (connections : List (ℕ × Connection)) (events : List (Event 2)) →
+    ensures { (cluster : Flat resources) (connections : List (ℕ × Connection)) (events : List (Event resources)) →
         Outcome (Step.Propose number start) (Ok result)
         (record { cluster = cluster; connections = connections; workers = workers.old.entries })
         (record { cluster = cluster; connections = connections; workers = workers.new.entries })
@@ -103,8 +105,8 @@ pub(crate) fn propose(workers: &mut Workers, number: u32, start: u32) -> Did
 pub(crate) fn commit(
     workers: &mut Workers,
     number: u32,
-    cluster: &mut Cluster<2>,
-    events: &mut Vec<Event<2>>,
+    cluster: &mut Cluster<RESOURCES>,
+    events: &mut Vec<Event<RESOURCES>>,
 ) -> Result<Did, NoMemory>
     ensures { (connections : List (ℕ × Connection)) → Outcome (Step.Commit number) result
         (record {
@@ -135,10 +137,10 @@ pub(crate) fn commit(
 
 /// Tries a proposal, and appends the event of what was made. `NoMemory` comes only where it is admissible, and changes nothing.
 fn tried(
-    proposal: Proposal<2>,
-    cluster: &mut Cluster<2>,
-    events: &mut Vec<Event<2>>,
-) -> Result<Verdict<2>, NoMemory>
+    proposal: Proposal<RESOURCES>,
+    cluster: &mut Cluster<RESOURCES>,
+    events: &mut Vec<Event<RESOURCES>>,
+) -> Result<Verdict<RESOURCES>, NoMemory>
     ensures ok { IfOk result (λ verdict. IsTried proposal cluster.old.flat cluster.new.flat
         events.old.items events.new.items verdict) }
     ensures admissible { OnErr result (IsAdmissible (sight_of cluster.old.flat) proposal) }
@@ -157,7 +159,7 @@ fn tried(
 }
 
 /// Appends the event of a verdict, if it has one, for which there is room.
-fn append(verdict: &Verdict<2>, events: &mut Vec<Event<2>>)
+fn append(verdict: &Verdict<RESOURCES>, events: &mut Vec<Event<RESOURCES>>)
     requires room { vec_len events.old < vec_capacity events.old }
     requires made { IsOfProposal verdict.now }
     ensures { events.new.items ≡ events.old.items ++ made_by verdict.now }

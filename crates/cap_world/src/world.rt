@@ -6,6 +6,7 @@ ghost use Rattle.cap_world.specs.Steps.{Outcome};
 use crate::connections::{self, Connections};
 use crate::step::{Did, Step};
 use crate::workers::{self, Workers};
+use cap_base::RESOURCES;
 use cap_commit::Cluster;
 use cap_model::{Event, NoMemory, Proposal, Verdict};
 use http_server::Log;
@@ -17,12 +18,12 @@ use std::marker::Model;
 /// proposal and its last verdict.
 pub struct World {
     alloc: Global,
-    cluster: Cluster<2>,
+    cluster: Cluster<RESOURCES>,
     connections: Connections,
     workers: Workers,
     // These two exist for contracts alone.
-    opening: Log<Cluster<2>, usize>,
-    events: Log<Vec<Event<2>>, usize>,
+    opening: Log<Cluster<RESOURCES>, usize>,
+    events: Log<Vec<Event<RESOURCES>>, usize>,
 }
 
 impl Drop for World {
@@ -54,7 +55,7 @@ impl Model for World {
 
 impl World {
     /// A world with no connection and no worker's copy over the cluster. It takes no memory.
-    pub fn open(alloc: Global, cluster: Cluster<2>) -> World
+    pub fn open(alloc: Global, cluster: Cluster<RESOURCES>) -> World
         ensures { result ≡ start cluster.flat }
     {
         let opening = Log::new().and(&cluster, &0);
@@ -69,7 +70,7 @@ impl World {
     }
 
     /// The cluster.
-    pub fn cluster(&self) -> &Cluster<2>
+    pub fn cluster(&self) -> &Cluster<RESOURCES>
         ensures { result.now.flat ≡ self.now.sight.cluster }
     {
         &self.cluster
@@ -100,14 +101,14 @@ impl World {
 
     /// The proposal of the worker of this number: what it chose last, if it neither copied the cluster nor committed
     /// since.
-    pub fn choice(&self, worker: u32) -> Option<Proposal<2>>
+    pub fn choice(&self, worker: u32) -> Option<Proposal<RESOURCES>>
         ensures { result ≡ choice_of worker self.now.sight }
     {
         workers::choice(&self.workers, worker)
     }
 
     /// What the last commit of the worker of this number came to: an event, or the reason of a rejection.
-    pub fn verdict(&self, worker: u32) -> Option<&Verdict<2>>
+    pub fn verdict(&self, worker: u32) -> Option<&Verdict<RESOURCES>>
         ensures { option_map (λ verdict. verdict.now) result ≡ verdict_of worker self.now.sight }
     {
         workers::verdict(&self.workers, worker)
@@ -117,7 +118,7 @@ impl World {
     /// nothing. `NoMemory` leaves the world as it was and appends nothing; but in `Bytes` the connection has then ended, and the
     /// requests before the refusal were answered and their events appended. A `Propose` takes no memory, nor does the `Commit` of
     /// a proposal that is rejected.
-    pub fn step(&mut self, step: Step, events: &mut Vec<Event<2>>) -> Result<Did, NoMemory>
+    pub fn step(&mut self, step: Step, events: &mut Vec<Event<RESOURCES>>) -> Result<Did, NoMemory>
         ensures outcome { Outcome step.entry result self.old.sight self.new.sight events.old.items
             events.new.items }
         ensures adds { Adds self.old self.new events.old.items events.new.items }
@@ -140,11 +141,11 @@ impl World {
 /// The step on the parts of a world.
 fn act(
     alloc: Global,
-    cluster: &mut Cluster<2>,
+    cluster: &mut Cluster<RESOURCES>,
     connections: &mut Connections,
     workers: &mut Workers,
     step: Step,
-    events: &mut Vec<Event<2>>,
+    events: &mut Vec<Event<RESOURCES>>,
 ) -> Result<Did, NoMemory>
     ensures { Outcome step.entry result
         (record {

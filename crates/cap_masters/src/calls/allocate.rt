@@ -4,7 +4,7 @@ ghost use Rattle.std.specs.List.{list_any};
 ghost use Rattle.cap_model.specs.declared.request.Request.TheVariants.{Allocate};
 ghost use Rattle.cap_model.specs.Reporting.{HasNumbers, RepliesInFull};
 ghost use Rattle.cap_model.specs.declared.reply.ReplyWith.TheVariants as Reply;
-ghost use Rattle.cap_model.specs.Limits.{resources_max};
+ghost use Rattle.cap_base.specs.Limits.{resources_max};
 ghost use Rattle.cap_model.specs.Asking.{after_asks};
 ghost use Rattle.cap_asks.specs.Apps.{KeepsNumbers, ask_room};
 ghost use Rattle.cap_model.specs.Allocate.{allocate_refusal, is_too_large, after_processed_allocate};

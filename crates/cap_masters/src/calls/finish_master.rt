@@ -2,7 +2,7 @@
 ghost use Rattle.std.specs.Prelude.{◌≡◌, ◌≤◌};
 ghost use Rattle.cap_model.specs.declared.request.Request.TheVariants.{FinishMaster};
 ghost use Rattle.cap_model.specs.Reporting.{HasNumbers, RepliesInFullAlways};
-ghost use Rattle.cap_model.specs.Limits.{resources_max};
+ghost use Rattle.cap_base.specs.Limits.{resources_max};
 ghost use Rattle.cap_model.specs.FinishMaster.{finish_master_refusal};
 
 use cap_commit::Cluster;

@@ -8,8 +8,8 @@ use Rattle.cap_model.specs.Asks.{same_key, ask_key_cmp, Ask}
 use Rattle.cap_model.specs.Flat.{ask_at}
 use Rattle.cap_model.specs.Asking.{without_key, with_ask, put_ask, keep_first}
 use Rattle.cap_model.specs.Events.{take_one}
-use Rattle.cap_model.proofs.lists.Members.{IsIn, of_filter}
-use Rattle.cap_model.proofs.lists.Tests.{first_is}
+use Rattle.cap_base.proofs.lists.Members.{IsIn, of_filter}
+use Rattle.cap_base.proofs.lists.Tests.{first_is}
 use Rattle.std.proofs.lemmas.Bool.{and_parts, cases_Bool, and_from, not-true}
 
 pub same_key_is : (a b : Key) → same_key a b ≡ true → a ≡ b

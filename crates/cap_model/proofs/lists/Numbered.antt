@@ -1,11 +1,15 @@
 -- Lists whose numbers rise, and looking up by number.
 use Rattle.std.proofs.Common.{◌≡◌, ℕ, ◌+◌, ◌≤◌, ◌<◌, Bool, true, false, List, [], ◌∷◌, ◌++◌, refl, sym, ◌∙◌, ap, inl, inr, arith}
-use Rattle.std.specs.Prelude.{Option, Some, None, IsSome, option_map, cond, not, ◌==◌, filter, find, map}
+use Rattle.std.specs.Prelude.{◌||◌, Option, Some, None, IsSome, option_map, cond, not, ◌==◌, filter, find, map}
 use Rattle.std.specs.Option.{option_or}
 use Rattle.std.proofs.lemmas.List.Folds.{find-append}
 use Rattle.std.proofs.lemmas.Bool.Decides.{nat_tests}
-use Rattle.cap_model.specs.Bounds.{IsRising}
-use Rattle.cap_model.proofs.lists.Members.{IsIn}
+use Rattle.cap_model.specs.Ending.{is_among}
+use Rattle.cap_model.specs.Flat.{Container}
+use Rattle.cap_base.proofs.lists.Filters.{filter_same}
+use Rattle.cap_base.proofs.lists.Tests.{numbers_turned}
+use Rattle.cap_base.specs.Members.{IsRising}
+use Rattle.cap_base.proofs.lists.Members.{IsIn}
 
 pub rising_low : (a b : ℕ) (ns : List ℕ) (high : ℕ) → a ≤ b → IsRising b ns high → IsRising a ns high
 rising_low a b [] high h r = omega arith
@@ -108,3 +112,11 @@ module _ {A : Type 0} (num : A → ℕ) where
 
   pub find_with_more : (n : ℕ) (xs ys : List A) → IsSome (find (λ y. num y == n) xs) → find (λ y. num y == n) (xs ++ ys) ≡ find (λ y. num y == n) xs
   find_with_more n xs ys h = find-append (λ y. num y == n) xs ys ∙ kept_found (find (λ y. num y == n) xs) (find (λ y. num y == n) ys) h
+
+-- the containers without the one of a number are those without this one
+pub one_completed : (c : Container) (live : List Container) → filter (λ d. not (d.number == c.number)) live ≡ filter (λ d. not (is_among (c ∷ []) d)) live
+one_completed c live = filter_same (λ d. not (d.number == c.number)) (λ d. not (is_among (c ∷ []) d)) live (λ d m. ap not (numbers_turned d.number c.number ∙ or_none (c.number == d.number)))
+  where
+    or_none : (b : Bool) → b ≡ b || false
+    or_none true = refl
+    or_none false = refl

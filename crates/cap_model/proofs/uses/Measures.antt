@@ -1,6 +1,6 @@
 -- Uses and what nodes hold, amount by amount.
 use Rattle.std.proofs.Common.{◌≡◌, ℕ, ◌+◌, ◌≤◌, ◌<◌, Bool, true, List, [], ◌∷◌, zero, suc, refl, sym, ◌∙◌, ap, arith}
-use Rattle.std.specs.Prelude.{Option, Some, None, ◌==◌, map, nat_le, if◌then◌else◌}
+use Rattle.std.specs.Prelude.{Option, option_map, Some, None, ◌==◌, map, nat_le, if◌then◌else◌}
 use Rattle.std.specs.List.{sum_by}
 use Rattle.std.proofs.lemmas.Bool.Decides.{nat_tests}
 use Rattle.std.proofs.lemmas.List.{get_or_past}
@@ -12,8 +12,7 @@ use Rattle.cap_model.specs.Amounts.{fits, part}
 use Rattle.cap_model.specs.Flat.{Flat, App, Container, Reservation, app_at}
 use Rattle.cap_model.specs.Uses.{Holding, holdings, of_container, of_reservation, use_of, node_held}
 use Rattle.std.proofs.lemmas.Bool.{and_parts, and_from}
-use Rattle.cap_model.proofs.lists.Sums.{sum_by_map}
-use Rattle.cap_model.proofs.calls.Lessening.{standing}
+use Rattle.cap_base.proofs.lists.Sums.{sum_by_map}
 
 -- what fits, amount by amount
 pub fits_amounts : (a b : List ℕ) → fits a b ≡ true → (k : ℕ) → amount a k ≤ amount b k
@@ -34,6 +33,10 @@ amount_of K f k h = get_or-map-range_with_len f 0 K k k 0 h (omega arith)
 
 pub amount_past : (K : ℕ) (f : ℕ → ℕ) (k : ℕ) → K ≤ k → amount (by_amount K f) k ≡ 0
 amount_past K f k h = let l = length-map-range_with_len f 0 K in get_or_past (by_amount K f) k 0 (omega (arith, h, l))
+
+-- the leaf queue and the user of an application
+abbrev pub standing : Option App → Option (List ℕ × List ℕ)
+standing o = option_map (λ a. (a.leaf, a.user)) o
 
 -- whether what an application holds counts, by its leaf queue and its user
 abbrev pub counts : (List ℕ → List ℕ → Bool) → Option App → Bool

@@ -1,8 +1,8 @@
 use Rattle.std.proofs.Common.{rules, arith, sym, subst, ◌≡◌, ◌≤◌}
 use Rattle.std.specs.Prelude.{List, length}
-use Rattle.cap_model.specs.Limits.{applications_max, queues_max}
-use Rattle.cap_model.specs.Settings.{QueueRow}
-use Rattle.cap_model.specs.Listing.{IsListing}
+use Rattle.cap_base.specs.Limits.{applications_max, queues_max}
+use Rattle.cap_base.specs.Settings.{QueueRow}
+use Rattle.cap_base.specs.Listing.{IsListing}
 use Rattle.cap_config.specs.Keys.{root}
 use Rattle.cap_config.specs.Rows.{rows_under}
 use Rattle.cap_config.proofs.Listing.{rows_are_listing}

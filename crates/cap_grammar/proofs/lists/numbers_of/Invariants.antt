@@ -1,7 +1,7 @@
 use Rattle.std.proofs.Common.{◌≡◌, ◌-◌, length}
 use Rattle.std.specs.Int.{w64}
 use Rattle.cap_grammar.specs.Fields.{counted_at, number_at}
-use Rattle.cap_model.specs.Limits.{numbers_max}
+use Rattle.cap_base.specs.Limits.{numbers_max}
 use Rattle.cap_grammar.proofs.ListLaws.{more_at}
 use Rattle.cap_grammar.proofs.lists.numbers_of.Given as goal
 

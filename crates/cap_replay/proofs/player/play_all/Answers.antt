@@ -1,4 +1,4 @@
-use Rattle.std.proofs.Common.{rules, ◌≡◌, ◌<◌, ◌++◌, [], ◌∙◌, Err, inl, inr, length, length-append, arith, ap, refl}
+use Rattle.std.proofs.Common.{rules, ◌≡◌, ◌<◌, ◌++◌, [], ◌∙◌, Err, inl, inr, length, arith, ap, refl}
 use Rattle.cap_session.specs.Counted.{StreamState, state_of}
 use Rattle.cap_replay.specs.Streams.{HasEnded}
 use Rattle.std.proofs.lemmas.Bool.Decides.{nat_tests}

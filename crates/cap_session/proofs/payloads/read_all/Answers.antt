@@ -1,4 +1,5 @@
 use Rattle.std.proofs.Common.{◌≡◌, ◌++◌, ◌∷◌, [], List, Ok, ap, ap₂, ◌∙◌, length, length-append, arith}
+use Rattle.cap_base.specs.Limits.{resources}
 use Rattle.cap_model.specs.declared.request.Request.{Request}
 use Rattle.cap_frames.specs.History.{after_gift}
 use Rattle.cap_session.specs.Asked.{PayloadLog, ReadResult, first_open}
@@ -15,7 +16,7 @@ loop-alloc-preserved c =
     let o : OpenRequest = record { payload = p.items; call_id = c.in-Ok.call_id; request = c.in-Ok.request } in
     let made : c.new-in-Ok.result ≡ o = c.new-in-Ok.ensures ∙ ap first_open one in
     let asked = c.push_back_reserved.ensures.items ∙ ap₂ (λ (x : List OpenRequest) (y : OpenRequest). x ++ y ∷ []) c.reserve.ensures.items made in
-    let requests = c.push_back_reserved-in-Ok.ensures.items ∙ ap (λ (x : List (Request 2)). x ++ c.in-Ok.request ∷ []) c.reserve-else-is_err.ensures.items in (
+    let requests = c.push_back_reserved-in-Ok.ensures.items ∙ ap (λ (x : List (Request resources)). x ++ c.in-Ok.request ∷ []) c.reserve-else-is_err.ensures.items in (
       reads_more c.next.new.self o c.push_back_reserved.new.self.items c.push_back_reserved-in-Ok.new.self.items c.loop-alloc.invariant.0 gift asked requests,
       omega (arith, ap (λ (x : List OpenRequest). length x) asked, length-append c.loop-alloc.asked.items (o ∷ []), c.if-len-ge-AHEAD_MAX.false, c.len.ensures, c.loop-alloc.asked.ok.0),
       c.next.ensures.reading,

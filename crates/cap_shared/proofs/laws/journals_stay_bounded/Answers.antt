@@ -1,12 +1,21 @@
 use Rattle.std.proofs.Common.{List, subst}
 use Rattle.std.proofs.lemmas.List.{map-append}
+use Rattle.cap_base.specs.Limits.{resources}
+use Rattle.cap_model.specs.Flat.{opened_cluster}
 use Rattle.cap_model.specs.declared.event.Event.{Event}
 use Rattle.cap_model.specs.Events.{Run}
-use Rattle.cap_model.proofs.bounds.BoundedRuns.{runs_are_bounded}
+use Rattle.cap_laws.proofs.bounds.BoundedRuns.{opened_is_bounded, runs_are_bounded}
 use Rattle.cap_shared.specs.declared.entry.Entry.{Entry}
 use Rattle.cap_shared.specs.Journal.{events_in}
+use Rattle.cap_shared.specs.Laws.{JournalsStayBounded}
 use Rattle.cap_shared.proofs.laws.journals_stay_bounded.Goals as goal
 
-pub returns : goal.returns
-returns c = λ opening closing first rest bounded run. runs_are_bounded 2 (events_in first) (events_in rest) opening closing bounded
-    (subst (λ (events : List (Event 2)). Run opening events closing) (map-append (λ (e : Entry). e.event) first rest) run)
+bounded_journals : JournalsStayBounded
+bounded_journals = λ opening closing first rest bounded run. runs_are_bounded resources (events_in first) (events_in rest) opening closing bounded
+    (subst (λ (events : List (Event resources)). Run opening events closing) (map-append (λ (e : Entry). e.event) first rest) run)
+
+pub returns-clause-further : goal.returns-clause-further
+returns-clause-further c = bounded_journals
+
+pub returns-clause-first : goal.returns-clause-first
+returns-clause-first c = λ settings closing first rest listed. bounded_journals (opened_cluster settings) closing first rest (opened_is_bounded resources settings listed)

@@ -1,6 +1,7 @@
+use Rattle.cap_base.specs.Limits.{resources}
 use Rattle.cap_model.specs.Sight.{sight_of}
-use Rattle.cap_model.proofs.choice.Reasons.{rejected_exactly}
+use Rattle.cap_laws.proofs.choice.Reasons.{rejected_exactly}
 use Rattle.cap_shared.proofs.making.make_proposed.Goals as goal
 
 pub returns-then-is_err-clause-admissible : goal.returns-then-is_err-clause-admissible
-returns-then-is_err-clause-admissible c = (rejected_exactly 2 (sight_of c.args.cluster.now.flat) c.args.proposal.now).0 c.requires
+returns-then-is_err-clause-admissible c = (rejected_exactly resources (sight_of c.args.cluster.now.flat) c.args.proposal.now).0 c.requires

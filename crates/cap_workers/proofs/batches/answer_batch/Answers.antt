@@ -1,4 +1,5 @@
 use Rattle.std.proofs.Common.{◌≡◌, List, [], ap, sym, ◌∙◌, subst}
+use Rattle.cap_base.specs.Limits.{resources}
 use Rattle.cap_model.specs.News.{Reply}
 use Rattle.cap_session.specs.Session.{SessionState}
 use Rattle.cap_workers.specs.Sessions.{Serves, IsSealed}
@@ -16,14 +17,14 @@ pub suspend-requires : goal.suspend-requires
 suspend-requires g c =
     let out = c.in-Ok.ensures.ok in
     let (entries, full, made) = c.in-Some.ensures in
-    let by = subst (λ (r : List (Reply 2)). IsAnsweredBy c.in-Ok.parts.0.asked r made.calls) (sym c.as_slice.ensures.value) (answered_by made out.requests) in
+    let by = subst (λ (r : List (Reply resources)). IsAnsweredBy c.in-Ok.parts.0.asked r made.calls) (sym c.as_slice.ensures.value) (answered_by made out.requests) in
     first_of c.answer_calls.new.batch.asked c.in-Some.back c.call_all-sealed.new.requests.items (left_same c.in-Ok.parts.0 c.answer_calls.new.batch made out.requests (c.answer_calls.ensures made.calls by))
 
 pub returns-clause-batch : goal.returns-clause-batch
 returns-clause-batch g c =
     let out = c.in-Ok.ensures.ok in
     let (entries, full, made) = c.in-Some.ensures in
-    let by = subst (λ (r : List (Reply 2)). IsAnsweredBy c.in-Ok.parts.0.asked r made.calls) (sym c.as_slice.ensures.value) (answered_by made out.requests) in
+    let by = subst (λ (r : List (Reply resources)). IsAnsweredBy c.in-Ok.parts.0.asked r made.calls) (sym c.as_slice.ensures.value) (answered_by made out.requests) in
     let done = c.answer_calls.ensures made.calls by in
     subst (λ (s : SessionState). IsSealed g.J.Naming.limit c.in-Some.back c.args.session s c.args.seat.now c.call_all-sealed.new.seat) (sym c.suspend.ensures)
     (sealed_batch g.J.Naming.limit c.args.session c.in-Ok.parts.0 c.answer_calls.new.batch c.in-Some.back entries made full out.requests (out.session ∙ c.read_ahead.ensures) c.requires.goes_on done)

@@ -1,4 +1,5 @@
 use Rattle.std.proofs.Common.{refl, sym, ap, ◌∙◌, subst, [], ◌∷◌, Some, Option}
+use Rattle.cap_base.specs.Limits.{resources}
 use Rattle.cap_model.specs.declared.request.Request.{Request}
 use Rattle.cap_model.specs.declared.reply.ReplyWith.TheVariants as reply
 use Rattle.cap_model.specs.declared.refusal.Refusal.TheVariants as refusal
@@ -13,7 +14,7 @@ use Rattle.cap_workers.proofs.sessions.make_call.Goals as goal
 
 pub returns-in_err-request-clause-call : goal.returns-in_err-request-clause-call
 returns-in_err-request-clause-call g c =
-    subst (λ (r : Option (Request 2)). IsCallMade g.J.Naming.limit c.args.session.now c.args.session.now c.args.seat.now c.args.seat.now r) (sym c.from_residual.ensures) (calls_none g.J.Naming.limit c.args.session.now c.args.seat.now (sym c.in_err-request.was ∙ c.requires))
+    subst (λ (r : Option (Request resources)). IsCallMade g.J.Naming.limit c.args.session.now c.args.session.now c.args.seat.now c.args.seat.now r) (sym c.from_residual.ensures) (calls_none g.J.Naming.limit c.args.session.now c.args.seat.now (sym c.in_err-request.was ∙ c.requires))
 
 pub answer-requires : goal.answer-requires
 answer-requires g c = may_answer c.args.session.now.open_request c.in_ok-request.request c.in-Ok.reply (sym c.requires ∙ c.in_ok-request.was) c.in-Ok.ensures.2
@@ -40,5 +41,5 @@ returns-in-Err-Sealed-clause-call g c =
     let back = subst (λ (f : CallFault). CallsBack q g.J.Naming.limit c.args.seat.now c.call.new.seat f) c.in-Err-Sealed.field-0-is c.in-Err-Sealed.ensures in (
       refl,
       sym c.requires ∙ c.in_ok-request.was ∙ ap Some (sym back.0),
-      subst (λ (x : Request 2). IsSealedCall x g.J.Naming.limit c.args.seat.now c.call.new.seat) (sym back.0) back.1,
+      subst (λ (x : Request resources). IsSealedCall x g.J.Naming.limit c.args.seat.now c.call.new.seat) (sym back.0) back.1,
     )

@@ -1,8 +1,9 @@
-use Rattle.cap_model.proofs.telling.ToldRuns.{grants_are_told_over_runs, ends_are_told_over_runs}
+use Rattle.cap_base.specs.Limits.{resources}
+use Rattle.cap_laws.proofs.telling.ToldRuns.{grants_are_told_over_runs, ends_are_told_over_runs}
 use Rattle.cap_world.proofs.laws.news_is_reported_once.Goals as goal
 
 pub returns-clause-grants : goal.returns-clause-grants
-returns-clause-grants c = λ opening steps done events sight bounded headline n. grants_are_told_over_runs 2 events opening sight.cluster n bounded.formed.apps headline.run
+returns-clause-grants c = λ opening steps done events sight bounded headline n. grants_are_told_over_runs resources events opening sight.cluster n bounded.formed.apps headline.run
 
 pub returns-clause-ends : goal.returns-clause-ends
-returns-clause-ends c = λ opening steps done events sight bounded headline n. ends_are_told_over_runs 2 events opening sight.cluster n bounded.formed headline.run
+returns-clause-ends c = λ opening steps done events sight bounded headline n. ends_are_told_over_runs resources events opening sight.cluster n bounded.formed headline.run

@@ -1,13 +1,14 @@
 use Rattle.std.proofs.Common.{List, subst}
+use Rattle.cap_base.specs.Limits.{resources}
 use Rattle.cap_model.specs.declared.event.Event.{Event}
 use Rattle.cap_model.specs.Events.{Run}
-use Rattle.cap_model.proofs.bounds.BoundedRuns.{opened_is_bounded, runs_are_bounded}
+use Rattle.cap_laws.proofs.bounds.BoundedRuns.{opened_is_bounded, runs_are_bounded}
 use Rattle.cap_config.proofs.Listing.{settings_listed}
 use Rattle.cap_world.proofs.laws.worlds_stay_bounded.Goals as goal
 
 pub returns-clause-runs : goal.returns-clause-runs
 returns-clause-runs c = λ opening steps done events sight bounded headline first rest is.
-    runs_are_bounded 2 first rest opening sight.cluster bounded (subst (λ (es : List (Event 2)). Run opening es sight.cluster) is headline.run)
+    runs_are_bounded resources first rest opening sight.cluster bounded (subst (λ (es : List (Event resources)). Run opening es sight.cluster) is headline.run)
 
 pub returns-clause-opening : goal.returns-clause-opening
-returns-clause-opening c = λ text settings is. opened_is_bounded 2 settings (settings_listed text settings is)
+returns-clause-opening c = λ text settings is. opened_is_bounded resources settings (settings_listed text settings is)

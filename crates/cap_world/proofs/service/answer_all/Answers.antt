@@ -1,4 +1,5 @@
 use Rattle.std.proofs.Common.{List, [], ◌∷◌, ◌++◌, refl, ◌∙◌, ap}
+use Rattle.cap_base.specs.Limits.{resources}
 use Rattle.cap_model.specs.declared.event.Event.{Event}
 use Rattle.cap_world.specs.Answers.{call_event}
 use Rattle.cap_world.proofs.Serving.{serves_none, serves_then, serves_call, served_rest, served_ended, served_starved}
@@ -16,7 +17,7 @@ pub loop-request-preserved : goal.loop-request-preserved
 loop-request-preserved c =
     let i = c.loop-request.invariant in
     let p = c.perform.ensures.performed in
-    let added = p.4 ∙ ap (λ (es : List (Event 2)). es ++ call_event c.args.by c.in-Request.request p.0 ∷ []) c.reserve.ensures.items in
+    let added = p.4 ∙ ap (λ (es : List (Event resources)). es ++ call_event c.args.by c.in-Request.request p.0 ∷ []) c.reserve.ensures.items in
     let one = serves_call c.args.by c.loop-request.session c.next_request.new.self c.perform.new.session c.in-Request.request p.0 c.loop-request.cluster.flat c.perform.new.cluster.flat c.loop-request.events.items c.perform.new.events.items c.in-Request.ensures.gives p.2 p.3 p.1 added in
     record { serves = serves_then i.serves one.0; sent = one.1 ∙ i.sent; none_open = one.2; ended = one.3 }
 

@@ -1,7 +1,8 @@
 use Rattle.std.proofs.Common.{sym}
+use Rattle.cap_base.specs.Limits.{resources}
 use Rattle.cap_model.specs.Sight.{sight_of}
-use Rattle.cap_model.proofs.choice.Reasons.{rejected_exactly}
+use Rattle.cap_laws.proofs.choice.Reasons.{rejected_exactly}
 use Rattle.cap_world.proofs.workers.tried.Goals as goal
 
 pub returns-in-None-clause-admissible : goal.returns-in-None-clause-admissible
-returns-in-None-clause-admissible c = (rejected_exactly 2 (sight_of c.args.cluster.now.flat) c.args.proposal).0 (sym c.in-None.ensures)
+returns-in-None-clause-admissible c = (rejected_exactly resources (sight_of c.args.cluster.now.flat) c.args.proposal).0 (sym c.in-None.ensures)

@@ -1,6 +1,6 @@
 use Rattle.std.proofs.Common.{◌≡◌, true, ap, sym, ◌∙◌}
 use Rattle.std.specs.Prelude.{Result, Ok, Err, OnOk, is_some, find, ◌==◌}
-use Rattle.cap_model.specs.declared.no_memory.NoMemory.{NoMemory}
+use Rattle.cap_base.specs.declared.no_memory.NoMemory.{NoMemory}
 use Rattle.cap_model.specs.Flat.{App}
 use Rattle.cap_asks.proofs.Entries.{apps_of, same_apps, still_numbered, one_uses, found_after, has_rooms, had_room, none_there}
 use Rattle.cap_asks.proofs.apps.Apps.room.Goals as goal

@@ -1,5 +1,5 @@
 use Rattle.cap_commit.specs.Held.{Held, flat_of}
-use Rattle.cap_model.proofs.calls.Registering.{may_enter}
+use Rattle.cap_laws.proofs.calls.Registering.{may_enter}
 use Rattle.cap_model.specs.Flat.{AppTable}
 use Rattle.cap_commit.proofs.Fitting.{apps_fit}
 use Rattle.std.proofs.Common.{ap, ◌∙◌, map, arith}

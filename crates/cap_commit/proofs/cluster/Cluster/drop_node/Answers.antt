@@ -6,7 +6,7 @@ use Rattle.cap_model.specs.NodeGone.{remove_node}
 use Rattle.cap_commit.specs.Held.{Held, Parts, flat_of}
 use Rattle.cap_commit.proofs.Dropping.{none_stay}
 use Rattle.cap_commit.proofs.Holding.{held_nodes}
-use Rattle.cap_commit.proofs.Reserved.{reserved_gone}
+use Rattle.cap_laws.proofs.bounds.ReservedNodes.{reserved_gone}
 use Rattle.cap_commit.proofs.cluster.Cluster.drop_node.Goals as goal
 
 pub gone-requires : goal.gone-requires

@@ -1,6 +1,6 @@
 use Rattle.std.proofs.Common.{length}
 use Rattle.cap_commit.specs.Owners.{owns, containers_owned}
-use Rattle.cap_commit.proofs.EndsLeft.{AreEnding}
+use Rattle.cap_laws.proofs.ending.EndsLeft.{AreEnding}
 use Rattle.cap_commit.proofs.cluster.Cluster.end_all.Given as goal
 
 abbrev pub invariant-loop-container : goal.invariant-loop-container

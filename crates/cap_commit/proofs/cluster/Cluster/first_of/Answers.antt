@@ -4,7 +4,7 @@ use Rattle.std.specs.Prelude.{◌==◌, find}
 use Rattle.cap_model.specs.Flat.{Container}
 use Rattle.cap_commit.specs.Held.{Held}
 use Rattle.cap_commit.specs.Owners.{owns}
-use Rattle.cap_commit.proofs.EndsLeft.{first_above}
+use Rattle.cap_laws.proofs.ending.EndsLeft.{first_above}
 use Rattle.cap_commit.proofs.cluster.Cluster.first_of.Goals as goal
 
 pub returns-in-Application-clause-first : goal.returns-in-Application-clause-first

@@ -5,7 +5,7 @@ use Rattle.cap_vector.specs.Rounding.{round_up}
 use Rattle.cap_model.specs.Asks.{Ask}
 use Rattle.cap_model.specs.Asking.{rounded_ask}
 use Rattle.cap_commit.specs.Held.{Held, Parts, flat_of}
-use Rattle.cap_commit.proofs.Parts.{ask_put}
+use Rattle.cap_laws.proofs.bounds.KeptReservations.{ask_put}
 use Rattle.cap_commit.proofs.Holding.{held_app}
 use Rattle.cap_commit.proofs.cluster.Cluster.put_ask.Goals as goal
 

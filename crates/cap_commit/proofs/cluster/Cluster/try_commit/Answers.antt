@@ -2,7 +2,7 @@ use Rattle.cap_commit.proofs.Fitting.{container_in_cluster, reservation_in_clust
 use Rattle.std.proofs.Common.{sym, subst, ◌∙◌}
 use Rattle.cap_model.specs.Sight.{sight_of}
 use Rattle.cap_model.specs.Admission.{IsAdmissible}
-use Rattle.cap_model.proofs.choice.Reasons.{rejected_exactly}
+use Rattle.cap_laws.proofs.choice.Reasons.{rejected_exactly}
 use Rattle.cap_commit.proofs.cluster.Cluster.try_commit.Goals as goal
 
 pub returns-in-Ok-clause-ok : goal.returns-in-Ok-clause-ok

@@ -1,7 +1,7 @@
 use Rattle.cap_copy.proofs.Fitting.{nodes_of_few, seen_node_of_few}
 use Rattle.std.proofs.Common.{rules, ◌<◌, ◌≤◌, ◌++◌, ◌∷◌, [], List, ℕ, ap, length, map, subst, sym, ◌∙◌}
 use Rattle.std.specs.List.{All}
-use Rattle.cap_model.specs.Limits.{applications_max}
+use Rattle.cap_base.specs.Limits.{applications_max}
 use Rattle.cap_tree.specs.ServiceOrder.{IsServiceOrder}
 use Rattle.cap_tree.specs.Serving.{AreNumbered, Waiter}
 use Rattle.cap_tree.specs.Spot.{IsPosition}

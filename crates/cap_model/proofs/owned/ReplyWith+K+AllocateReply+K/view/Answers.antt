@@ -1,5 +1,5 @@
 use Rattle.std.proofs.Common.{◌∙◌}
-use Rattle.cap_model.proofs.telling.Replying.{map_same}
+use Rattle.cap_model.proofs.SameReplies.{map_same}
 use Rattle.cap_model.proofs.owned.ReplyWith+K+AllocateReply+K.view.Goals as goal
 
 pub returns-in_default : goal.returns-in_default

@@ -1,6 +1,6 @@
 use Rattle.std.proofs.Common.{◌+◌, ◌<◌, ap, sym, subst, refl, List, length}
 use Rattle.std.specs.Map.{values_of}
-use Rattle.cap_model.specs.Limits.{live_max}
+use Rattle.cap_base.specs.Limits.{live_max}
 use Rattle.cap_model.specs.Flat.{Container}
 use Rattle.cap_nodes.specs.Loads.{ContainerTable, IsOwnerIndex}
 use Rattle.cap_nodes.proofs.ByNumber.{pushed, fresh}

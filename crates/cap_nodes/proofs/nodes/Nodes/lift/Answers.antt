@@ -6,7 +6,7 @@ use Rattle.cap_model.specs.RegisterNode.{sum_of_totals}
 use Rattle.cap_nodes.specs.Loads.{held_less, HasOne, reservation_of}
 use Rattle.cap_nodes.proofs.Presents.{if_found}
 use Rattle.cap_nodes.proofs.Changes.{home_of, has_it, nodes_of, without_one, same_nodes, at_of, rising_changed}
-use Rattle.cap_nodes.proofs.ByNumber.{one_completed}
+use Rattle.cap_model.proofs.lists.Numbered.{one_completed}
 use Rattle.cap_nodes.proofs.nodes.Nodes.lift.Goals as goal
 
 pub lift-requires : goal.lift-requires

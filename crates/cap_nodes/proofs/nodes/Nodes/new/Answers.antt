@@ -1,7 +1,7 @@
 use Rattle.cap_nodes.proofs.Sizes.{present_fits, containers_fit, amounts_fit}
 use Rattle.std.proofs.Common.{[], sym, arith}
 use Rattle.cap_vector.specs.Vector.{amount_max}
-use Rattle.cap_model.proofs.uses.NodeTotals.{totals-none}
+use Rattle.cap_nodes.proofs.NodeTotals.{totals-none}
 use Rattle.cap_nodes.specs.Loads.{AreTied}
 use Rattle.cap_nodes.proofs.Sums.{zeros_within}
 use Rattle.cap_nodes.proofs.nodes.Nodes.new.Goals as goal

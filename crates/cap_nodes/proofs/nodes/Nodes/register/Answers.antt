@@ -5,7 +5,7 @@ use Rattle.cap_vector.specs.Vector.{plus, zeros, IsWithin, amount_max}
 use Rattle.cap_vector.proofs.AmountLemmas.{amount-plus}
 use Rattle.cap_model.specs.Flat.{ClusterNode, NodeTable}
 use Rattle.cap_model.specs.RegisterNode.{sum_of_totals}
-use Rattle.cap_model.proofs.uses.NodeTotals.{totals-push}
+use Rattle.cap_nodes.proofs.NodeTotals.{totals-push}
 use Rattle.cap_model.proofs.lists.Numbered.{rising_more}
 use Rattle.cap_nodes.specs.Loads.{Load}
 use Rattle.cap_nodes.proofs.Changes.{nodes_of, with_node, nodes_pushed}

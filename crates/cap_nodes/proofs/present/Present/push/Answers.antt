@@ -2,7 +2,7 @@ use Rattle.std.proofs.Common.{◌∙◌, ap, List, refl, ◌<◌, ◌+◌, lengt
 use Rattle.std.specs.Prelude.{nat_eq}
 use Rattle.std.specs.Map.{values_of}
 use Rattle.indexmap.proofs.CallerLemmas.{insert_entry-new}
-use Rattle.cap_model.specs.Limits.{nodes_max}
+use Rattle.cap_base.specs.Limits.{nodes_max}
 use Rattle.cap_model.specs.Flat.{ClusterNode}
 use Rattle.cap_nodes.specs.Loads.{Load, LoadTable}
 use Rattle.cap_nodes.proofs.Presents.{absent, pushed}

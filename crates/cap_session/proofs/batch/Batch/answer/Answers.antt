@@ -1,4 +1,5 @@
 use Rattle.std.proofs.Common.{◌≡◌, ◌++◌, ◌∷◌, [], ◌∙◌, ℕ, List, Some, None, ap, ap₂, sym, subst, refl, length, arith}
+use Rattle.cap_base.specs.Limits.{resources}
 use Rattle.cap_model.specs.News.{Reply}
 use Rattle.cap_frames.specs.Stream.{frame_of}
 use Rattle.cap_session.specs.Answers.{Call}
@@ -22,7 +23,7 @@ invariant_of-self c =
     let opened = c.parts-opened.result.1 in
     let reply = c.args.reply.now in
     let was = rw c.in-Some.is at c.pop_front.ensures.items in
-    let replies = c.and.ensures ∙ ap (λ (x : List (Reply 2 × Unit {0})). x ++ (reply, tt) ∷ []) c.new.ensures in
+    let replies = c.and.ensures ∙ ap (λ (x : List (Reply resources × Unit {0})). x ++ (reply, tt) ∷ []) c.new.ensures in
     let payload : payloads_in opened.items ≡ o.payload ∷ [] = ap payloads_in has.one ∙ ap (λ (x : List ℕ). x ∷ []) (sym has.payload_is) in
     let answered : answered_in t.answered.items ≡ answered_in b.answered.items ++ o.payload ∷ [] = ap answered_in c.and-self-inside.ensures ∙ answered_more b.answered.items opened c.and.result ∙ ap (λ (x : List (List ℕ)). answered_in b.answered.items ++ x) payload in
     let call : calls_in opened.items c.and.result.items ≡ record { request = o.request; reply = reply } ∷ [] = ap₂ calls_in has.one replies in

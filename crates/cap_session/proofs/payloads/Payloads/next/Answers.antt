@@ -1,5 +1,6 @@
 use Rattle.std.proofs.Common.{◌≡◌, ◌++◌, ◌∷◌, [], ◌∙◌, ℕ, List, Ok, Err, drop, ap, sym, refl, subst}
 use Rattle.std.proofs.lemmas.List.{nil_from_length}
+use Rattle.cap_base.specs.Limits.{resources}
 use Rattle.cap_model.specs.declared.request.Request.{Request}
 use Rattle.cap_frames.specs.declared.fault.FrameFault.{FrameFault}
 use Rattle.cap_frames.specs.History.{History, IsReading, IsAtRest, IsAtFault, after_gift}
@@ -15,7 +16,7 @@ invariant_of-self c =
     record {
       given = c.self.invariant.given ++ c.in-Some.asked.payload ∷ [];
       has = takes_asked c.self.inside.ahead (record c.self.inside.ahead { asked = c.pop_front.new.self }) c.self.invariant.given c.in-Some.asked c.self.invariant.has was refl refl;
-      requests = c.pop_front-in-Some.ensures.rest ∙ ap (λ (x : List (Request 2)). drop 1 x) (c.self.invariant.requests ∙ ap asked_requests was);
+      requests = c.pop_front-in-Some.ensures.rest ∙ ap (λ (x : List (Request resources)). drop 1 x) (c.self.invariant.requests ∙ ap asked_requests was);
     }
 
 pub returns-in-Some-clause-gives : goal.returns-in-Some-clause-gives

@@ -1,4 +1,5 @@
 use Rattle.std.proofs.Common.{◌≡◌, None, [], ◌∷◌, ◌++◌, length, ap, sym, ◌∙◌, subst, arith}
+use Rattle.cap_base.specs.Limits.{resources}
 use Rattle.cap_model.specs.Sight.{sight_of}
 use Rattle.cap_model.specs.Admission.{reason_of}
 use Rattle.cap_model.specs.Events.{Step}
@@ -23,7 +24,7 @@ invariant_of-seat g c =
 pub invariant_of-self-2 : goal.invariant_of-self-2
 invariant_of-self-2 g c =
     let log : length c.self.inside.journal.items ≡ length c.args.self.now.log = ap (λ (v : Content). length v.log) c.self.view_is in
-    let step = subst (λ (e : Event 2). Step c.self.inside.cluster.flat e c.make_proposed.new.cluster.flat) (sym c.compact.ensures) c.in-Ok.ensures.step in
+    let step = subst (λ (e : Event resources). Step c.self.inside.cluster.flat e c.make_proposed.new.cluster.flat) (sym c.compact.ensures) c.in-Ok.ensures.step in
     entered_desk _ _ _ _ c.self.inside.journal.items c.self.inside.pass c.enter.new.desk c.seat.inside.pass c.enter.new.seat c.self.inside.cluster.flat c.make_proposed.new.cluster.flat _ _ _ (record { seat = c.seat.inside.number; event = c.compact.result }) (receipt.Commit c.len-at.result c.compact-2.result) _
     c.self.invariant c.enter.ensures.entered step (c.seat.invariant.below, event_by _ c.in-Ok.made _ c.compact.ensures) (omega (arith, c.requires.room, c.self.invariant.limit_is)) c.enter.ensures.journal c.enter.ensures.capacity
 
@@ -36,6 +37,6 @@ invariant_of-seat-2 g c =
 
 pub returns-clause-answer : goal.returns-clause-answer
 returns-clause-answer g c = (
-  subst (λ (e : Event 2). IsOf c.args.proposal e) (sym c.event.ensures) c.in-Ok.ensures.of,
+  subst (λ (e : Event resources). IsOf c.args.proposal e) (sym c.event.ensures) c.in-Ok.ensures.of,
   (c.len-at.result, one_more c.seat.inside.pass c.enter.new.seat _ _ _ c.seat.view_is c.enter.ensures.entered.sits (ap (λ r. Entered r) (event_receipt _ c.in-Ok.made _ _ c.event.ensures c.compact-2.ensures))),
 )

@@ -3,10 +3,10 @@ use Rattle.std.proofs.Common.{ap, length, ◌∙◌}
 use Rattle.std.specs.Prelude.{bytes_eq, nat_le}
 use Rattle.std.specs.List.{list_any}
 use Rattle.cap_vector.specs.Vector.{amount_max, plus}
-use Rattle.cap_model.specs.Limits.{nodes_max}
+use Rattle.cap_base.specs.Limits.{nodes_max}
 use Rattle.cap_model.specs.Flat.{NodeTable}
 use Rattle.cap_model.specs.RegisterNode.{sum_of_totals}
-use Rattle.cap_model.proofs.calls.Registering.{none_is_large}
+use Rattle.cap_laws.proofs.calls.Registering.{none_is_large}
 use Rattle.cap_trackers.proofs.Refusing.{refusal_is}
 use Rattle.cap_trackers.proofs.calls.register_node.refusal.Goals as goal
 

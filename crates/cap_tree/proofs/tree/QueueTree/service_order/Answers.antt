@@ -1,6 +1,6 @@
 use Rattle.std.proofs.Common.{sym, subst, map}
 use Rattle.std.specs.List.{All}
-use Rattle.cap_model.proofs.lists.Members.{each_of}
+use Rattle.cap_base.proofs.lists.Members.{each_of}
 use Rattle.cap_tree.specs.Serving.{AreServed}
 use Rattle.cap_tree.specs.Service.{queue_cmp}
 use Rattle.cap_tree.specs.ServiceOrder.{IsServiceOrder}

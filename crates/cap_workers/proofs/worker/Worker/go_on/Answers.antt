@@ -1,4 +1,3 @@
-use Rattle.std.proofs.Common.{refl}
 use Rattle.cap_workers.proofs.Turning.{committed_by}
 use Rattle.cap_workers.proofs.worker.Worker.go_on.Goals as goal
 

@@ -1,4 +1,5 @@
 use Rattle.std.proofs.Common.{◌≡◌, ◌++◌, ◌∙◌, ap, sym, length, List, arith}
+use Rattle.cap_base.specs.Limits.{resources}
 use Rattle.cap_model.specs.declared.event.Event.{Event}
 use Rattle.cap_world.proofs.Heard.{heard_next}
 use Rattle.cap_world.proofs.Running.{headline_all, headline_cut, makes_next, made_all, made_cut}
@@ -9,7 +10,7 @@ loop-i-preserved c =
     let adds = c.step.ensures.adds in
     record {
       opening = adds.opening ∙ c.loop-i.invariant.opening;
-      events = adds.kept ∙ ap (λ (es : List (Event 2)). es ++ adds.more) c.loop-i.invariant.events ∙ sym adds.lent;
+      events = adds.kept ∙ ap (λ (es : List (Event resources)). es ++ adds.more) c.loop-i.invariant.events ∙ sym adds.lent;
       lawful = c.step.ensures.headline;
       made = makes_next c.args.steps.now c.loop-i.i _ c.in-Ok.field-0 _ c.loop-i.world.sight c.step.new.self.sight _ c.loop-i.events.items c.step.new.events.items c.loop-i-test.true c.loop-i.invariant.made c.in-Ok.ensures.outcome;
       heard = heard_next c.args.steps.now c.loop-i.i _ c.in-Ok.field-0 c.loop-i.world.sight c.step.new.self.sight c.loop-i.events.items c.step.new.events.items c.loop-i-test.true c.loop-i.invariant.heard c.in-Ok.ensures.outcome;

@@ -1,0 +1,17 @@
+//! What property lines and the model of the engine share: texts, limits, settings, dotted paths, trees of queues.
+//! In `proofs/` stand besides the lemmas about lists that all crates cite.
+#![tactic(auto)]
+
+pub mod laws;
+mod no_memory;
+mod settings;
+mod text;
+
+pub use no_memory::NoMemory;
+pub use settings::{Config, QueueRow};
+pub use text::{PathText, ShortText, Text};
+
+/// How many kinds of resource the engine and its messages have: memory, in MiB, and vcores.
+pub const RESOURCES: usize = 2;
+
+const _: () = prove!(RESOURCES == 2);

@@ -1,0 +1,96 @@
+-- Every state of a run from a bounded cluster is bounded.
+use Rattle.std.proofs.Common.{◌≡◌, ℕ, List, [], ◌∷◌, ◌++◌, refl, subst, inl, inr, arith}
+use Rattle.std.specs.Prelude.{◌&&◌, Option, Some, None, bytes_eq, true}
+use Rattle.std.proofs.lemmas.Bool.{cases_lt}
+use Rattle.cap_base.specs.Settings.{Settings}
+use Rattle.cap_model.specs.Amounts.{fits, times}
+use Rattle.cap_model.specs.Flat.{Flat, App, Container, Reservation, opened_cluster}
+use Rattle.cap_base.specs.Paths.{is_under}
+use Rattle.cap_model.specs.Uses.{use_of, queue_use}
+use Rattle.cap_model.specs.declared.event.Event.{Event}
+use Rattle.cap_model.specs.Events.{Step, Run}
+use Rattle.cap_model.specs.Bounds.{FitsMaximum, IsLeaf, AreThere, IsQueueBounded, IsNodeBounded, IsReservationBounded, IsWellFormed, IsBounded}
+use Rattle.cap_base.specs.Listing.{IsListing}
+use Rattle.cap_laws.specs.BoundLaws.{StepStaysBounded, RunsStayBounded, OpenedIsBounded}
+use Rattle.cap_base.proofs.lists.Members.{of_each}
+use Rattle.cap_model.proofs.uses.Measures.{amounts_fit, use_amount, use_past}
+use Rattle.cap_laws.proofs.numbers.ContainerNumbers.{numbers_stay_distinct}
+use Rattle.cap_laws.proofs.bounds.Formed.{step_formed}
+use Rattle.cap_laws.proofs.bounds.StepBounds.{step_bounds_queues, step_bounds_nodes, step_apart, step_bounds_reservations}
+use Rattle.cap_base.proofs.paths.Listed.{listings_stand_below}
+use Rattle.cap_laws.proofs.uses.TreeSums.{trees_add_up}
+
+module _ {K : ℕ} where
+  step_bounded : (old new : Flat K) (event : Event K) → IsBounded old → Step old event new → IsBounded new
+  step_bounded old new event b s =
+      let w = step_formed old new event b.formed s in
+      record {
+        formed = w;
+        queues = step_bounds_queues old new event b s;
+        parents = trees_add_up K new w;
+        nodes = step_bounds_nodes old new event b s;
+        reservations = step_bounds_reservations old new event b s;
+        apart = step_apart old new event b s;
+        numbers = numbers_stay_distinct K old new event b.numbers s;
+      }
+
+  run_bounded : (events : List (Event K)) (old new : Flat K) → IsBounded old → Run old events new → IsBounded new
+  run_bounded [] old new b run = subst IsBounded run b
+  run_bounded (event ∷ events) old new b (mid, step, run) = run_bounded events mid new (step_bounded old mid event b step) run
+
+  split_run : (first rest : List (Event K)) (old new : Flat K) → IsBounded old → Run old (first ++ rest) new → (mid : Flat K) × Run old first mid × Run mid rest new × IsBounded mid × IsBounded new
+  split_run [] rest old new b run = (old, refl, run, b, run_bounded rest old new b run)
+  split_run (event ∷ first) rest old new b (next, step, run) =
+      let r = split_run first rest next new (step_bounded old next event b step) run in
+      (r.0, (next, step, r.1), r.2, r.3, r.4)
+
+module _ (K : ℕ) where
+  -- in an empty cluster nothing is used
+  nothing_used : (settings : Settings) (test : List ℕ → List ℕ → Rattle.std.specs.Prelude.Bool) (most : List ℕ) → fits (use_of (opened_cluster {K = K} settings) (λ a. test a.leaf a.user)) most ≡ true
+  nothing_used settings test most =
+      amounts_fit (use_of (opened_cluster {K = K} settings) (λ a. test a.leaf a.user)) most
+      (λ k. elim (cases_lt k K) [
+        | inl h ↦ omega (arith, use_amount (opened_cluster {K = K} settings) test k h)
+        | inr p ↦ omega (arith, use_past (opened_cluster {K = K} settings) test k p)
+      ])
+
+  empty_in_maximum : (settings : Settings) (path : List ℕ) (most : Option (List ℕ)) → FitsMaximum (queue_use (opened_cluster {K = K} settings) path) most
+  empty_in_maximum settings path None = tt
+  empty_in_maximum settings path (Some m) = nothing_used settings (λ leaf user. is_under path leaf) m
+
+  empty_formed : (settings : Settings) → IsListing settings.queues → IsWellFormed (opened_cluster {K = K} settings)
+  empty_formed settings t = record {
+    tree = t.tree;
+    order = listings_stand_below settings.queues t;
+    leaves = of_each (λ (app : App). IsLeaf (opened_cluster {K = K} settings) app.leaf) [] (λ app m. absurd m);
+    apps = omega arith;
+    nodes = omega arith;
+    live = of_each (λ (c : Container). AreThere (opened_cluster {K = K} settings) c.app c.node) [] (λ c m. absurd m);
+    reserved = of_each (λ (r : Reservation). AreThere (opened_cluster {K = K} settings) r.app r.node) [] (λ r m. absurd m);
+  }
+
+  empty_bounded : (settings : Settings) → IsListing settings.queues → IsBounded (opened_cluster {K = K} settings)
+  empty_bounded settings t =
+      let w = empty_formed settings t in
+      record {
+        formed = w;
+        queues = of_each (IsQueueBounded (opened_cluster {K = K} settings)) settings.queues
+            (λ q m. record {
+              maximum = empty_in_maximum settings q.path q.maximum;
+              users = λ user. nothing_used settings (λ leaf u. bytes_eq q.path leaf && bytes_eq user u) (times q.factor q.guaranteed);
+            });
+        parents = trees_add_up K (opened_cluster {K = K} settings) w;
+        nodes = of_each (IsNodeBounded (opened_cluster {K = K} settings)) [] (λ node m. absurd m);
+        reservations = of_each (IsReservationBounded (opened_cluster {K = K} settings)) [] (λ r m. absurd m);
+        apart = tt;
+        numbers = omega arith;
+      }
+
+pub step_stays_bounded : StepStaysBounded
+step_stays_bounded K old new event b s = step_bounded old new event b s
+
+pub runs_are_bounded : RunsStayBounded
+runs_are_bounded K first rest old new b run = split_run first rest old new b run
+
+pub opened_is_bounded : OpenedIsBounded
+opened_is_bounded K settings t = empty_bounded K settings t

@@ -1,0 +1,171 @@
+-- A step from a bounded cluster keeps each bound.
+use Rattle.std.proofs.Common.{◌≡◌, ℕ, Bool, true, false, List, [], ◌∷◌, refl, sym, ◌∙◌, ap, subst, inr}
+use Rattle.std.specs.Prelude.{Option, Some, None, cond, not, ◌==◌, ◌-◌, length, filter, find, map, option_map, if◌then◌else◌}
+use Rattle.std.specs.List.{All}
+use Rattle.cap_base.specs.Settings.{QueueRow}
+use Rattle.cap_model.specs.Amounts.{fits, times}
+use Rattle.cap_model.specs.Asks.{Ask}
+use Rattle.cap_model.specs.declared.news.Cause.{Cause}
+use Rattle.cap_model.specs.declared.request.Request.{Request}
+use Rattle.cap_model.specs.Flat.{Flat, App, Reservation, app_at, containers_on}
+use Rattle.cap_model.specs.Uses.{queue_use, user_use}
+use Rattle.cap_model.specs.Asking.{after_asks}
+use Rattle.cap_model.specs.Ending.{with_ends}
+use Rattle.cap_model.specs.Submit.{new_app}
+use Rattle.cap_model.specs.Allocate.{after_processed_allocate, after_telling, after_wishes, is_repeated_allocate, released_by}
+use Rattle.cap_model.specs.Heartbeat.{after_processed_heartbeat, is_repeated_heartbeat, ended_by}
+use Rattle.cap_model.specs.Replies.{granted_cluster}
+use Rattle.cap_model.specs.declared.event.Event.{Event}
+use Rattle.cap_model.specs.Events.{Step, after_grant, after_reserve, grant_proposal, reserve_proposal}
+use Rattle.cap_model.specs.Bounds.{FitsMaximum, AreApart, IsQueueBounded, IsNodeBounded, IsReservationBounded, IsBounded, AreThere}
+use Rattle.cap_laws.specs.BoundLaws.{QueuesStayBounded, NodesStayBounded, ReservationsStayApart, ReservationsStayBounded}
+use Rattle.cap_base.proofs.lists.Members.{IsIn, each_of, of_each, of_map}
+use Rattle.cap_laws.proofs.lists.Parts.{part_itself, part_filter}
+use Rattle.cap_model.proofs.lists.Numbered.{find_changed, find_others, find_with_more}
+use Rattle.cap_laws.proofs.calls.Lessening.{HasPlaces, IsSite, IsLessened, lessened, gone_app}
+use Rattle.cap_laws.proofs.bounds.CallBounds.{queue_stays, nodes_stay, apart_part}
+use Rattle.cap_laws.proofs.choice.Proposers.{seen_is}
+use Rattle.cap_laws.proofs.bounds.Growing.{queue_grows, grant_grows, reserve_grows, nodes_grow}
+use Rattle.cap_laws.proofs.bounds.Reserving.{asking, AreBounded, carried, asks_keep}
+use Rattle.cap_laws.proofs.bounds.ReservedAfter.{reserve_keeps, grant_keeps, reserve_apart}
+use Rattle.cap_laws.proofs.bounds.Formed.{HasSameQueues, call_queues, places_of, after_call}
+
+asking_kept : (f : App → App) → ((a : App) → (f a).asks ≡ a.asks) → (o : Option App) → asking (option_map f o) ≡ asking o
+asking_kept f e None = refl
+asking_kept f e (Some a) = λ i. Some (e a i)
+
+kept_asks : (b : Bool) (x y : App) → x.asks ≡ y.asks → (cond b x y).asks ≡ y.asks
+kept_asks true x y e = e
+kept_asks false x y e = refl
+
+kept_number : (b : Bool) (x y : App) → x.number ≡ y.number → (cond b x y).number ≡ y.number
+kept_number true x y e = e
+kept_number false x y e = refl
+
+-- a change that keeps numbers and asks
+pub asking_at : (f : App → App) → ((a : App) → (f a).number ≡ a.number) → ((a : App) → (f a).asks ≡ a.asks) → (n : ℕ) (xs : List App) → asking (find (λ (a : App). a.number == n) (map f xs)) ≡ asking (find (λ (a : App). a.number == n) xs)
+asking_at f number asks n xs = ap asking (find_changed (λ (a : App). a.number) f number n xs) ∙ asking_kept f asks (find (λ (a : App). a.number == n) xs)
+
+pub asking_one : (m : ℕ) (f : App → App) → ((a : App) → (f a).number ≡ a.number) → ((a : App) → (f a).asks ≡ a.asks) → (n : ℕ) (xs : List App) →
+    asking (find (λ (a : App). a.number == n) (map (λ a. if a.number == m then f a else a) xs)) ≡ asking (find (λ (a : App). a.number == n) xs)
+asking_one m f number asks n xs =
+    asking_at (λ a. if a.number == m then f a else a) (λ a. kept_number (a.number == m) (f a) a (number a)) (λ a. kept_asks (a.number == m) (f a) a (asks a)) n xs
+
+module _ {K : ℕ} where
+  -- calls
+
+  moved_queue : (old new : Flat K) (s : HasSameQueues old new) (x : QueueRow) → IsQueueBounded new x → IsQueueBounded new (s.change x)
+  moved_queue old new s x b = record {
+    maximum = subst (λ o. FitsMaximum (queue_use new (s.change x).path) o) (sym (s.keeps.maximum x)) (subst (λ p. FitsMaximum (queue_use new p) x.maximum) (sym (s.keeps.path x)) b.maximum);
+    users = λ user.
+        subst (λ p. fits (user_use new p user) (times (s.change x).factor (s.change x).guaranteed) ≡ true) (sym (s.keeps.path x))
+        (subst (λ n. fits (user_use new x.path user) (times n (s.change x).guaranteed) ≡ true) (sym (s.keeps.factor x))
+        (subst (λ g. fits (user_use new x.path user) (times x.factor g) ≡ true) (sym (s.keeps.guaranteed x)) (b.users user)));
+  }
+
+  call_bounds_queues : (old : Flat K) → IsBounded old → (request : Request K) → All (IsQueueBounded (granted_cluster old request)) (granted_cluster old request).settings.queues
+  call_bounds_queues old b request =
+      let new = granted_cluster old request in
+      let h = places_of old b.formed in
+      let s = call_queues old request in
+      of_each (IsQueueBounded new) new.settings.queues
+      (λ q m.
+      let w = of_map s.change old.settings.queues q (subst (λ qs. IsIn q qs) s.queues m) in
+      subst (IsQueueBounded new) (w.2) (moved_queue old new s (w.0) (queue_stays old new (lessened old h request) h (w.0) (each_of (IsQueueBounded old) old.settings.queues b.queues (w.0) (w.1)))))
+
+  pub each_bounded : (old : Flat K) → IsBounded old → AreBounded old
+  each_bounded old b = each_of (IsReservationBounded old) old.nodes.reserved b.reservations
+
+  -- where the asks of those that hold something stay, so do the bounds of reservations
+  pub asks_same : (old new : Flat K) → IsLessened old new → ((app node : ℕ) → IsSite new app node → asking (app_at new app) ≡ asking (app_at old app)) → AreBounded old → AreBounded new
+  asks_same old new l f b = carried old new l.reserved (λ r m. f r.app r.node (inr (r, m, refl, refl))) (λ r m. l.nodes r.app r.node (inr (r, m, refl, refl))) b
+
+  allocate_keeps : (old : Flat K) (n id : ℕ) (asks : List Ask) (releases : List ℕ) (b : Bool) → AreBounded old → AreBounded (cond b old (after_processed_allocate old n id asks releases))
+  allocate_keeps old n id asks releases true b = b
+  allocate_keeps old n id asks releases false b =
+      let x = after_asks n asks old in
+      let w = after_wishes old n asks releases in
+      carried x (after_processed_allocate old n id asks releases) (part_itself x.nodes.reserved)
+      (λ r m.
+      asking_one n (after_telling id (length releases - length (released_by old n releases))) (λ a. refl) (λ a. refl) r.app w.apps.active
+      ∙ asking_at (with_ends Cause.Released (released_by old n releases)) (λ a. refl) (λ a. refl) r.app x.apps.active)
+      (λ r m. refl) (asks_keep n asks old b)
+
+  beat_keeps : (old : Flat K) (n id : ℕ) (ended : List ℕ) (b : Bool) → IsLessened old (cond b old (after_processed_heartbeat old n id ended)) → AreBounded old → AreBounded (cond b old (after_processed_heartbeat old n id ended))
+  beat_keeps old n id ended true l b = b
+  beat_keeps old n id ended false l b =
+      asks_same old (after_processed_heartbeat old n id ended) l (λ app node s. asking_at (with_ends Cause.EndedOnNode (ended_by old n ended)) (λ a. refl) (λ a. refl) app old.apps.active) b
+
+  call_bounds_reservations : (old : Flat K) → HasPlaces old → AreBounded old → (request : Request K) → AreBounded (granted_cluster old request)
+  call_bounds_reservations old h b (Request.Submit path user) =
+      asks_same old (granted_cluster old (Request.Submit path user)) (lessened old h (Request.Submit path user))
+      (λ app node s. ap asking (find_with_more (λ (a : App). a.number) app old.apps.active (new_app old.apps.next path user ∷ []) (h app node s).0)) b
+  call_bounds_reservations old h b (Request.RegisterMaster m) =
+      asks_same old (granted_cluster old (Request.RegisterMaster m)) (lessened old h (Request.RegisterMaster m))
+      (λ app node s. asking_one m (λ a. record a { registered = true }) (λ a. refl) (λ a. refl) app old.apps.active) b
+  call_bounds_reservations old h b (Request.Allocate app id asks releases) = allocate_keeps old app id asks releases (is_repeated_allocate old app id) b
+  call_bounds_reservations old h b (Request.FinishMaster m) =
+      asks_same old (granted_cluster old (Request.FinishMaster m)) (lessened old h (Request.FinishMaster m))
+      (λ app node s. ap asking (find_others (λ (a : App). a.number) m app (gone_app old m app node s) old.apps.active)) b
+  call_bounds_reservations old h b (Request.Heartbeat node id ended) = beat_keeps old node id ended (is_repeated_heartbeat old node id) (lessened old h (Request.Heartbeat node id ended)) b
+  call_bounds_reservations old h b (Request.NodeGone m) =
+      asks_same old (granted_cluster old (Request.NodeGone m)) (lessened old h (Request.NodeGone m))
+      (λ app node s. asking_at (with_ends Cause.NodeLost (containers_on old.nodes m)) (λ a. refl) (λ a. refl) app old.apps.active) b
+  call_bounds_reservations old h b request =
+      asks_same old (granted_cluster old request) (lessened old h request) (λ app node s. refl) b
+
+  -- steps
+
+  pub step_bounds_queues : (old new : Flat K) (event : Event K) → IsBounded old → Step old event new → All (IsQueueBounded new) new.settings.queues
+  step_bounds_queues old new (Event.Call by request reply) b s = after_call (λ c. All (IsQueueBounded c) c.settings.queues) old b.queues (λ request e. call_bounds_queues old b request) new request reply s
+  step_bounds_queues old new (Event.Grant c) b (admissible, number, after) =
+      subst (λ x. All (IsQueueBounded x) x.settings.queues) (sym after)
+      (of_each (IsQueueBounded (after_grant old c)) old.settings.queues
+      (λ q m. queue_grows old (after_grant old c) (grant_proposal c) (grant_grows old c) b.formed (admissible.0) q m (each_of (IsQueueBounded old) old.settings.queues b.queues q m)))
+  step_bounds_queues old new (Event.Reserve r) b (admissible, after) =
+      subst (λ x. All (IsQueueBounded x) x.settings.queues) (sym after)
+      (of_each (IsQueueBounded (after_reserve old r)) old.settings.queues
+      (λ q m. queue_grows old (after_reserve old r) (reserve_proposal r) (reserve_grows old r) b.formed (admissible.0) q m (each_of (IsQueueBounded old) old.settings.queues b.queues q m)))
+
+  pub step_bounds_nodes : (old new : Flat K) (event : Event K) → IsBounded old → Step old event new → All (IsNodeBounded new) new.nodes.present
+  step_bounds_nodes old new (Event.Call by request reply) b s =
+      let h = places_of old b.formed in
+      after_call (λ c. All (IsNodeBounded c) c.nodes.present) old b.nodes (λ request e. nodes_stay old (granted_cluster old request) (lessened old h request) h b.formed.nodes b.nodes) new request reply s
+  step_bounds_nodes old new (Event.Grant c) b (admissible, number, after) =
+      subst (λ x. All (IsNodeBounded x) x.nodes.present) (sym after) (nodes_grow old b.formed.nodes c (admissible.1.0) b.nodes)
+  step_bounds_nodes old new (Event.Reserve r) b (admissible, after) = subst (λ x. All (IsNodeBounded x) x.nodes.present) (sym after) b.nodes
+
+  pub step_apart : (old new : Flat K) (event : Event K) → IsBounded old → Step old event new → AreApart new.nodes.reserved
+  step_apart old new (Event.Call by request reply) b s =
+      after_call (λ c. AreApart c.nodes.reserved) old b.apart
+      (λ request e. apart_part old.nodes.reserved (granted_cluster old request).nodes.reserved (lessened old (places_of old b.formed) request).reserved b.apart) new request reply s
+  step_apart old new (Event.Grant c) b (admissible, number, after) =
+      subst (λ x. AreApart x.nodes.reserved) (sym after)
+      (apart_part old.nodes.reserved (filter (λ (r : Reservation). not (r.node == c.node)) old.nodes.reserved) (part_filter (λ (r : Reservation). not (r.node == c.node)) old.nodes.reserved) b.apart)
+  step_apart old new (Event.Reserve r) b (admissible, after) =
+      subst (λ x. AreApart x.nodes.reserved) (sym after) (reserve_apart old r (admissible.0).present (admissible.1.1) b.apart)
+
+  pub step_bounds_reservations : (old new : Flat K) (event : Event K) → IsBounded old → Step old event new → All (IsReservationBounded new) new.nodes.reserved
+  step_bounds_reservations old new event b s = of_each (IsReservationBounded new) new.nodes.reserved (by event s)
+    where
+      placed : (r : Reservation) → IsIn r old.nodes.reserved → AreThere old r.app r.node
+      placed = each_of (λ (r : Reservation). AreThere old r.app r.node) old.nodes.reserved b.formed.reserved
+
+      by : (event : Event K) → Step old event new → AreBounded new
+      by (Event.Call who request reply) s = after_call AreBounded old (each_bounded old b) (λ request e. call_bounds_reservations old (places_of old b.formed) (each_bounded old b) request) new request reply s
+      by (Event.Grant c) (admissible, number, after) =
+          subst AreBounded (sym after) (grant_keeps old b.apart placed (each_bounded old b) c (seen_is old b.formed.apps c.app (admissible.0).registered) (admissible.1.1))
+      by (Event.Reserve r) (admissible, after) =
+          subst AreBounded (sym after) (reserve_keeps old b.apart placed (each_bounded old b) r (seen_is old b.formed.apps r.app (admissible.0).registered) (admissible.1.0) (admissible.1.3))
+
+pub queues_stay_bounded : QueuesStayBounded
+queues_stay_bounded K old new event b s = step_bounds_queues old new event b s
+
+pub nodes_stay_bounded : NodesStayBounded
+nodes_stay_bounded K old new event b s = step_bounds_nodes old new event b s
+
+pub reservations_stay_apart : ReservationsStayApart
+reservations_stay_apart K old new event b s = step_apart old new event b s
+
+pub reservations_stay_bounded : ReservationsStayBounded
+reservations_stay_bounded K old new event b s = step_bounds_reservations old new event b s

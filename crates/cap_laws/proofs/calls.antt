@@ -1,0 +1,4 @@
+-- What calls and steps change of applications, containers and nodes.
+pub mod Lessening
+pub mod Moves
+pub mod Registering

@@ -1,0 +1,66 @@
+-- What is known of a node that is not refused.
+use Rattle.std.proofs.Common.{◌≡◌, ℕ, ◌<◌, Bool, true, false, List, [], ◌∷◌, length, Option, Some, None, refl, sym, inl, inr}
+use Rattle.std.specs.Prelude.{not, nat_le, bytes_eq, is_none, IsSome, is_some, ◌↔◌}
+use Rattle.std.specs.List.{list_any}
+use Rattle.std.proofs.lemmas.Bool.{cases_Bool, not-false, not-true, leb-false}
+use Rattle.cap_vector.specs.Vector.{amount_max, plus, is_within, IsWithin, IsVector, is_zero}
+use Rattle.cap_vector.proofs.AmountLemmas.{within_from_test, test_from_within}
+use Rattle.cap_base.specs.Limits.{nodes_max, number_end}
+use Rattle.cap_model.specs.Cascade.{earliest}
+use Rattle.cap_model.specs.Flat.{Flat, queue_at}
+use Rattle.cap_model.specs.Submit.{submit_refusal, has_children, is_running}
+use Rattle.cap_model.specs.RegisterNode.{register_node_refusal, total_of_nodes}
+
+-- no test holds
+none_of : {A : Type 0} (a b c d e : Bool) (p q r s t : A) → earliest ((a, p) ∷ (b, q) ∷ (c, r) ∷ (d, s) ∷ (e, t) ∷ []) ≡ None → (b ≡ false) × (c ≡ false) × (e ≡ false)
+none_of true b c d e p q r s t h = absurd cc
+none_of false true c d e p q r s t h = absurd cc
+none_of false false true d e p q r s t h = absurd cc
+none_of false false false true e p q r s t h = absurd cc
+none_of false false false false true p q r s t h = absurd cc
+none_of false false false false false p q r s t h = (refl, refl, refl)
+
+pub record MayJoin {K : ℕ} (cluster : Flat K) (total : List ℕ) : Type 0 where
+  pub within : IsWithin amount_max (plus (total_of_nodes cluster) total)
+  pub few : length cluster.nodes.present < nodes_max
+  pub numbered : cluster.nodes.next_node < number_end
+
+pub may_join : {K : ℕ} (cluster : Flat K) (host total : List ℕ) → register_node_refusal cluster host total ≡ None → MayJoin cluster total
+may_join cluster host total h =
+    let n = none_of (list_any (λ node. bytes_eq node.host host) cluster.nodes.present) (not (is_within amount_max (plus (total_of_nodes cluster) total))) (nat_le nodes_max (length cluster.nodes.present)) (is_zero total) (nat_le number_end cluster.nodes.next_node) _ _ _ _ _ h in
+    record {
+      within = within_from_test amount_max (plus (total_of_nodes cluster) total) (not-false (is_within amount_max (plus (total_of_nodes cluster) total)) n.0);
+      few = leb-false nodes_max (length cluster.nodes.present) n.1;
+      numbered = leb-false number_end cluster.nodes.next_node n.2;
+    }
+
+-- a sum that is none passes the bound somewhere
+pub none_is_large : {A : Type 0} (k bound : ℕ) (o : Option A) (v : List ℕ) (none : Bool) → length v ≡ k → (IsSome o ↔ IsVector k bound v) → is_some o ≡ not none → none ≡ not (is_within bound v)
+none_is_large k bound None v none long is e =
+    elim (cases_Bool (is_within bound v)) [
+      | inl t ↦ let some : false ≡ true = is.1 (record { count = long; within = within_from_test bound v t }) in absurd (cc some)
+      | inr f ↦ rw f (not-false none (sym e))
+    ]
+none_is_large k bound (Some x) v none long is e = rw (test_from_within bound v (is.0 refl).within) (not-true none (sym e))
+
+-- no test holds
+none_of_submit : {A : Type 0} (a b c d e : Bool) (p q r s t : A) → earliest ((a, p) ∷ (b, q) ∷ (c, r) ∷ (d, s) ∷ (e, t) ∷ []) ≡ None → (d ≡ false) × (e ≡ false)
+none_of_submit true b c d e p q r s t h = absurd cc
+none_of_submit false true c d e p q r s t h = absurd cc
+none_of_submit false false true d e p q r s t h = absurd cc
+none_of_submit false false false true e p q r s t h = absurd cc
+none_of_submit false false false false true p q r s t h = absurd cc
+none_of_submit false false false false false p q r s t h = (refl, refl)
+
+-- what is known of an application that is not refused
+pub record MayEnter {K : ℕ} (cluster : Flat K) : Type 0 where
+  pub few : length cluster.apps.active < cluster.settings.application_limit
+  pub numbered : cluster.apps.next < number_end
+
+pub may_enter : {K : ℕ} (cluster : Flat K) (path : List ℕ) → submit_refusal cluster path ≡ None → MayEnter cluster
+may_enter cluster path h =
+    let n = none_of_submit (is_none (queue_at cluster path)) (has_children cluster path) (not (is_running cluster path)) (nat_le cluster.settings.application_limit (length cluster.apps.active)) (nat_le number_end cluster.apps.next) _ _ _ _ _ h in
+    record {
+      few = leb-false cluster.settings.application_limit (length cluster.apps.active) n.0;
+      numbered = leb-false number_end cluster.apps.next n.1;
+    }

@@ -1,0 +1,8 @@
+use Rattle.cap_laws.proofs.bounds.BoundedRuns.{opened_is_bounded, runs_are_bounded}
+use Rattle.cap_laws.proofs.laws.runs_stay_bounded.Goals as goal
+
+pub returns-clause-opened : goal.returns-clause-opened
+returns-clause-opened c = opened_is_bounded
+
+pub returns-clause-runs : goal.returns-clause-runs
+returns-clause-runs c = runs_are_bounded

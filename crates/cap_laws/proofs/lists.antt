@@ -1,0 +1,2 @@
+-- Parts of a list.
+pub mod Parts

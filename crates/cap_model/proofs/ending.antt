@@ -1,3 +1,0 @@
--- Containers that end one after the other, and those that some numbers name.
-pub mod EndsInOrder
-pub mod NamedEnds

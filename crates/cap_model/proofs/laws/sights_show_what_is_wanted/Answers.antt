@@ -1,5 +1,0 @@
-use Rattle.cap_model.proofs.bounds.Wanting.{wanted_is_seen}
-use Rattle.cap_model.proofs.laws.sights_show_what_is_wanted.Goals as goal
-
-pub returns : goal.returns
-returns c = wanted_is_seen

@@ -1,5 +1,0 @@
-use Rattle.cap_model.proofs.bounds.StepBounds.{nodes_stay_bounded}
-use Rattle.cap_model.proofs.laws.steps_keep_nodes_within_totals.Goals as goal
-
-pub returns : goal.returns
-returns c = nodes_stay_bounded

@@ -1,5 +1,0 @@
-use Rattle.cap_model.proofs.bounds.StepBounds.{queues_stay_bounded}
-use Rattle.cap_model.proofs.laws.steps_keep_queues_within_limits.Goals as goal
-
-pub returns : goal.returns
-returns c = queues_stay_bounded

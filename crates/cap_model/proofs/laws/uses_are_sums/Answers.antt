@@ -1,5 +1,0 @@
-use Rattle.cap_model.proofs.uses.UseSums.{uses_are_sums}
-use Rattle.cap_model.proofs.laws.uses_are_sums.Goals as goal
-
-pub returns : goal.returns
-returns c = uses_are_sums
