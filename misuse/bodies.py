@@ -2,9 +2,9 @@
 """Tries the wrong bodies of crates/*/wrong-bodies/*.edit: with each of them the function that its file names must not be proved any more.
 
 Such a file has the form of an edit in must-fail/, which `rt ci` tries by a check of the whole crate. Here wrong bodies of different functions are tried in one check,
-of these functions and what they call, right after `rt ci` has proved the crates, over the libraries that it has left. A caller stands on what its callee promises
-and not on its body, so each function must have a goal of its own that is not proved. Where all that is refused is a name that a proof file misses, that is said.
-With words of its own this tries the wrong bodies of these names alone."""
+of these functions and what they call, right after `rt ci` has proved the crates, over the libraries that it has left. The checks of one crate keep what they have
+proved for each other. A caller stands on what its callee promises and not on its body, so each function must have a goal of its own that is not proved. Where all
+that is refused is a name that a proof file misses, that is said. With words of its own this tries the wrong bodies of these names alone."""
 import os
 import re
 import shutil
@@ -66,13 +66,16 @@ def edits_of(kit, names):
 
 
 def rounds_of(edits):
-    """The edits in rounds: in one stand edits of one crate, of which no two are of one function."""
-    rounds, before = {}, Counter()
+    """The edits of each crate in rounds: in one no two are of one function. The crate with the most rounds comes first."""
+    crates, before = {}, Counter()
     for edit in edits:
         place = edit.crate.name, edit.function
-        rounds.setdefault((edit.crate.name, before[place]), []).append(edit)
+        rounds = crates.setdefault(edit.crate.name, [])
+        if before[place] == len(rounds):
+            rounds.append([])
+        rounds[before[place]].append(edit)
         before[place] += 1
-    return list(rounds.values())
+    return sorted(crates.values(), key=len, reverse=True)
 
 
 def change(folder, edit):
@@ -89,8 +92,8 @@ def change(folder, edit):
             it.write(was.replace(old, new))
 
 
-def check(kit, edits):
-    """What the prover says of a round, in a copy of the crate with all its changes."""
+def check(kit, edits, kept):
+    """What the prover says of a round, in a copy of the crate with all its changes. In the folder stands what earlier rounds of the crate have proved."""
     crate = edits[0].crate
     with tempfile.TemporaryDirectory(prefix="wrong-body-") as room:
         for part in ("src", "specs", "proofs"):
@@ -99,7 +102,7 @@ def check(kit, edits):
         for edit in edits:
             change(room, edit)
         only = [word for it in edits for word in ("--only", it.function)]
-        words = [kit.RATTLE, "check", *crate.words(["--jobs", "1", *only], keeps=False)]
+        words = [kit.RATTLE, "check", *crate.words(["--jobs", "1", *only], keeps=False), "--incremental", kept]
         how = {"stdout": subprocess.PIPE, "stderr": subprocess.STDOUT, "text": True, "errors": "replace"}
         return subprocess.run([*kit.guarded(), *words], cwd=room, stdin=subprocess.DEVNULL, **how)
 
@@ -127,6 +130,19 @@ def refusals(edits, ran):
     return results
 
 
+def try_rounds(kit, rounds):
+    """The same of all rounds of a crate, one after the other."""
+    results = []
+    with tempfile.TemporaryDirectory(prefix="wrong-body-") as kept:
+        for edits in rounds:
+            for edit, is_refused, said in refusals(edits, check(kit, edits, kept)):
+                if not is_refused and len(edits) > 1:
+                    # another of its round may be in its way
+                    [(edit, is_refused, said)] = refusals([edit], check(kit, [edit], kept))
+                results.append((edit, is_refused, said))
+    return results
+
+
 def main():
     kit = load_kit()
     edits = edits_of(kit, sys.argv[1:])
@@ -139,11 +155,8 @@ def main():
     kit.guarded()
     refused = 0
     with ThreadPoolExecutor(len(os.sched_getaffinity(0))) as pool:
-        for results in pool.map(lambda it: refusals(it, check(kit, it)), rounds_of(edits)):
+        for results in pool.map(lambda it: try_rounds(kit, it), rounds_of(edits)):
             for edit, is_refused, said in results:
-                if not is_refused and len(results) > 1:
-                    # another of its round may be in its way
-                    [(edit, is_refused, said)] = refusals([edit], check(kit, [edit]))
                 print(f"{edit.name()}: {'refused' if is_refused else 'NOT REFUSED'}: {said}", flush=True)
                 refused += is_refused
     print(f"{refused} of {len(edits)} wrong bodies are refused")
