@@ -3,8 +3,8 @@
 # with an ask and two live containers, the best of three runs of 20,000 of each, by the difference to a run of none. Prints both, and fails where a snapshot takes more
 # than 4 times as long.
 . "$(dirname "${BASH_SOURCE[0]}")/common.sh"
-(cd "$top/crates/commit_runs" && rt run <stdin >"$work/log" 2>&1) || { tail -n 5 "$work/log" >&2; exit 1; }
-program=$top/crates/commit_runs/out/commit_runs
+(cd "$top/crates/engine_runs" && rt run <stdin >"$work/log" 2>&1) || { tail -n 5 "$work/log" >&2; exit 1; }
+program=$top/crates/engine_runs/out/engine_runs
 cluster=(512 64 256 512 0)
 times=20000
 

@@ -1,6 +1,7 @@
 //! Property lines for tests, and the clusters that they open, also once calls were made (`cluster_after`).
 
 use crate::spelling::{Call, frame};
+use cap_base::RESOURCES;
 use cap_commit::Cluster;
 use cap_config::read_config;
 use cap_messages::{dispatch, read_request};
@@ -34,14 +35,18 @@ yarn.scheduler.capacity.maximum-applications=2
 ";
 
 /// The cluster that these property lines open. `None` if they have a fault or an allocation fails.
-pub fn cluster(alloc: Global, lines: &[u8]) -> Option<Cluster<2>> {
+pub fn cluster(alloc: Global, lines: &[u8]) -> Option<Cluster<RESOURCES>> {
     let config = read_config(alloc, lines).ok()?;
     Cluster::from_config(alloc, &config).ok()
 }
 
 /// The cluster that these property lines open, once these calls were made. `None` if the lines have a fault, a call is no request or is
 /// refused, or an allocation fails.
-pub fn cluster_after(alloc: Global, lines: &[u8], calls: &[Call<'_>]) -> Option<Cluster<2>> {
+pub fn cluster_after(
+    alloc: Global,
+    lines: &[u8],
+    calls: &[Call<'_>],
+) -> Option<Cluster<RESOURCES>> {
     let mut cluster = cluster(alloc, lines)?;
     match make_calls(alloc, &mut cluster, calls) {
         Some(()) => Some(cluster),
@@ -49,7 +54,7 @@ pub fn cluster_after(alloc: Global, lines: &[u8], calls: &[Call<'_>]) -> Option<
     }
 }
 
-fn make_calls(alloc: Global, cluster: &mut Cluster<2>, calls: &[Call<'_>]) -> Option<()> {
+fn make_calls(alloc: Global, cluster: &mut Cluster<RESOURCES>, calls: &[Call<'_>]) -> Option<()> {
     for call in calls {
         make_call(alloc, cluster, call)?;
     }
@@ -57,9 +62,16 @@ fn make_calls(alloc: Global, cluster: &mut Cluster<2>, calls: &[Call<'_>]) -> Op
 }
 
 /// Makes a call. `None` if it is no request or is refused, or an allocation fails.
-pub fn make_call(alloc: Global, cluster: &mut Cluster<2>, call: &Call<'_>) -> Option<()> {
-    let bytes = frame(alloc, 1, call).ok()?;
-    let (_, request) = read_request(alloc, bytes.get(4..)?).ok()?;
+pub fn make_call(alloc: Global, cluster: &mut Cluster<RESOURCES>, call: &Call<'_>) -> Option<()> {
+    match frame(alloc, 1, call) {
+        Ok(bytes) => make_request(alloc, cluster, bytes.get(4..)?),
+        Err(_) => None,
+    }
+}
+
+/// Makes the request of a payload.
+fn make_request(alloc: Global, cluster: &mut Cluster<RESOURCES>, payload: &[u8]) -> Option<()> {
+    let (_, request) = read_request(alloc, payload).ok()?;
     match dispatch(alloc, cluster, &request) {
         ReplyWith::Refused(_) => None,
         _ => Some(()),

@@ -29,16 +29,22 @@ pub enum Call<'a> {
 
 /// The frame of a call with this call id: its length in four bytes, then version 1, the kind, the call id and what the call holds.
 pub fn frame(alloc: Global, call_id: u32, call: &Call<'_>) -> Result<Vec<u8>, AllocError> {
-    let body = body_of(alloc, call)?;
-    let length = u32::try_from(body.len())
-        .unwrap_or(u32::MAX)
-        .saturating_add(6);
-    let mut bytes = Vec::from_slice(alloc, &length.to_be_bytes())?;
-    bytes.push(1)?;
-    bytes.push(kind_of(call))?;
+    let mut bytes = Vec::from_slice(alloc, &[0, 0, 0, 0, 1, kind_of(call)])?;
+    match put_rest(&mut bytes, call_id, call) {
+        Ok(()) => Ok(bytes),
+        Err(fault) => Err(fault),
+    }
+}
+
+/// Puts what comes after the kind, and the length into the first four bytes.
+fn put_rest(bytes: &mut Vec<u8>, call_id: u32, call: &Call<'_>) -> Result<(), AllocError> {
     bytes.extend_from_slice(&call_id.to_be_bytes())?;
-    bytes.extend_from_slice(&body)?;
-    Ok(bytes)
+    put_body(bytes, call)?;
+    let length = u32::try_from(bytes.len().saturating_sub(4)).unwrap_or(u32::MAX);
+    if let Some(head) = bytes.first_chunk_mut::<4>() {
+        *head = length.to_be_bytes();
+    }
+    Ok(())
 }
 
 fn kind_of(call: &Call<'_>) -> u8 {
@@ -56,40 +62,38 @@ fn kind_of(call: &Call<'_>) -> u8 {
     }
 }
 
-fn body_of(alloc: Global, call: &Call<'_>) -> Result<Vec<u8>, AllocError> {
-    let mut body = Vec::new(alloc);
+fn put_body(body: &mut Vec<u8>, call: &Call<'_>) -> Result<(), AllocError> {
     match call {
         Call::Submit(path, user) => {
-            put_text(&mut body, path)?;
-            put_text(&mut body, user)?;
+            put_text(body, path)?;
+            put_text(body, user)
         }
         Call::RegisterMaster(number) | Call::FinishMaster(number) | Call::NodeGone(number) => {
-            body.extend_from_slice(&number.to_be_bytes())?;
+            body.extend_from_slice(&number.to_be_bytes())
         }
         Call::Allocate(app, response, asks, releases) => {
             body.extend_from_slice(&app.to_be_bytes())?;
             body.extend_from_slice(&response.to_be_bytes())?;
-            put_asks(&mut body, asks)?;
-            put_numbers(&mut body, releases)?;
+            put_asks(body, asks)?;
+            put_numbers(body, releases)
         }
         Call::RegisterNode(host, rack, total) => {
-            put_text(&mut body, host)?;
-            put_text(&mut body, rack)?;
-            put_amounts(&mut body, *total)?;
+            put_text(body, host)?;
+            put_text(body, rack)?;
+            put_amounts(body, *total)
         }
         Call::Heartbeat(node, response, ended) => {
             body.extend_from_slice(&node.to_be_bytes())?;
             body.extend_from_slice(&response.to_be_bytes())?;
-            put_numbers(&mut body, ended)?;
+            put_numbers(body, ended)
         }
-        Call::QueueInfo(path) => put_text(&mut body, path)?,
+        Call::QueueInfo(path) => put_text(body, path),
         Call::SetQueueState(path, running) => {
-            put_text(&mut body, path)?;
-            body.push(*running as u8)?;
+            put_text(body, path)?;
+            body.extend_from_slice(&[*running as u8])
         }
-        Call::ClusterInfo => {}
+        Call::ClusterInfo => Ok(()),
     }
-    Ok(body)
 }
 
 /// A text after its length in one byte.

@@ -1,13 +1,14 @@
 //! Changes of a tree of queues, in tables (`ChangeAt`, `tree_after`).
 ghost use Rattle.cap_tree.specs.Spot.{IsPosition};
 
+use cap_base::RESOURCES;
 use cap_config::read_config;
 use cap_model::ShortText;
 use cap_tree::{Found, Path, QueueTree};
 use cap_vector::{Resource, checked_add, fits, minus};
 use std::alloc::Global;
 
-type Tree = QueueTree<2, Global>;
+type Tree = QueueTree<RESOURCES, Global>;
 
 /// A change at a queue, made where its condition holds.
 #[derive(Clone, Copy)]
@@ -116,10 +117,15 @@ pub fn change_queues(tree: &mut Tree, changes: &[ChangeAt]) -> Option<()> {
 
 /// The tree of these settings after these changes. `None` if the condition of one does not hold, or an allocation fails.
 pub fn tree_after(alloc: Global, lines: &[u8], changes: &[ChangeAt]) -> Option<Tree> {
-    let config = read_config(alloc, lines).ok()?;
-    let mut tree = QueueTree::from_config(alloc, &config).ok()?;
+    let mut tree = tree(alloc, lines)?;
     match change_queues(&mut tree, changes) {
         Some(()) => Some(tree),
         None => None,
     }
+}
+
+/// The tree of these settings.
+fn tree(alloc: Global, lines: &[u8]) -> Option<Tree> {
+    let config = read_config(alloc, lines).ok()?;
+    QueueTree::from_config(alloc, &config).ok()
 }

@@ -1,5 +1,6 @@
 //! Tests of amounts: their bounds, sums and differences, what fits, rounding, and the order of fullness.
 
+use cap_base::RESOURCES;
 use cap_vector::{
     Resource, Shares, Sum, checked_add, cmp_shares, exchanged, fits, fits_exchanged, minus,
     round_up,
@@ -21,7 +22,7 @@ const BOUNDS: [(u64, bool, bool); 4] = [
 
 #[test]
 fn amounts_are_bounded(rt: HostRuntime) {
-    for (memory, is_resource, is_sum) in BOUNDS {
+    for &(memory, is_resource, is_sum) in &BOUNDS {
         let resource = Resource::new([0, memory]).is_some();
         let sum = Sum::new([memory, 1]).is_some();
         assert!(rt; resource == is_resource && sum == is_sum, "{memory}");
@@ -42,11 +43,11 @@ fn nothing_is_zero_in_each_resource(rt: HostRuntime) {
 }
 
 /// A sum of memory and vcores, of any two amounts up to the bound of sums.
-fn sum(amounts: [u64; 2]) -> Sum<2> {
+fn sum(amounts: [u64; 2]) -> Sum<RESOURCES> {
     Sum::new(amounts).unwrap_or(Sum::zero())
 }
 
-fn resource(amounts: [u64; 2]) -> Resource<2> {
+fn resource(amounts: [u64; 2]) -> Resource<RESOURCES> {
     Resource::new(amounts).unwrap_or(Resource::zero())
 }
 
@@ -62,7 +63,7 @@ const FITTING: [([u64; 2], [u64; 2], bool); 6] = [
 
 #[test]
 fn amounts_fit_in_each_resource(rt: HostRuntime) {
-    for (less, more, answer) in FITTING {
+    for &(less, more, answer) in &FITTING {
         assert!(rt; fits(&sum(less), &sum(more)) == answer, "{less:?}");
     }
 }
@@ -81,7 +82,7 @@ fn used(a: [u64; 2], b: [u64; 2]) -> Option<[u64; 2]> {
 
 #[test]
 fn amounts_add_up_to_their_bound(rt: HostRuntime) {
-    for (a, b, alone, more) in [
+    for &(a, b, alone, more) in &[
         ([8192, 8], [3072, 1], Some([11264, 9]), Some([11264, 9])),
         ([MOST, 0], [3072, 1], None, Some([1_099_511_630_848, 1])),
         ([MOST, 6], [MOST, 0], None, Some([TWICE, 6])),
@@ -119,7 +120,7 @@ fn changed(used: [u64; 2], old: [u64; 2], new: [u64; 2]) -> Option<[u64; 2]> {
 
 #[test]
 fn amounts_are_exchanged(rt: HostRuntime) {
-    for (used, old, new, answer) in [
+    for &(used, old, new, answer) in &[
         ([8192, 8], [3072, 2], [1024, 1], Some([6144, 7])),
         ([TWICE, 8], [MOST, 8], [MOST, 0], Some([TWICE, 0])),
         ([3072, 1], [3072, 2], [1024, 1], None),
@@ -151,7 +152,7 @@ const FITTING_TIMES: [([u64; 2], u64, u64, u64, [u64; 2], bool); 11] = [
 
 #[test]
 fn amounts_fit_so_many_times_others(rt: HostRuntime) {
-    for (used, old, new, factor, most, answer) in FITTING_TIMES {
+    for &(used, old, new, factor, most, answer) in &FITTING_TIMES {
         let given = fits_times(used, old, new, factor, most);
         assert!(rt; given == answer, "{used:?} {old} {new} {factor}");
     }
@@ -168,7 +169,7 @@ const ROUNDED: [([u64; 2], [u64; 2], [u64; 2], [u64; 2]); 5] = [
 
 #[test]
 fn amounts_round_up(rt: HostRuntime) {
-    for (ask, step, most, rounded) in ROUNDED {
+    for &(ask, step, most, rounded) in &ROUNDED {
         let given = round_up(&resource(ask), &resource(step), &resource(most));
         assert!(rt; given.amounts() == rounded, "{ask:?}");
     }
@@ -214,7 +215,7 @@ const COMPARED: [([u64; 2], [u64; 2], [u64; 2], [u64; 2], Ordering); 8] = [
 // The greatest share decides first, whichever resource it is of; a guarantee of 0 counts as 1.
 #[test]
 fn shares_are_compared_greatest_first(rt: HostRuntime) {
-    for (a, of_a, b, of_b, order) in COMPARED {
+    for &(a, of_a, b, of_b, order) in &COMPARED {
         let given = compared(a, of_a, b, of_b);
         assert!(rt; given == order, "{a:?} of {of_a:?}, {b:?} of {of_b:?}");
     }

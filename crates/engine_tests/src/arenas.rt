@@ -1,6 +1,7 @@
 //! Tests of trees that are copied into arenas and out of them, and of proposals on snapshots in an arena.
 
 use bumpalo::Bump;
+use cap_base::RESOURCES;
 use cap_commit::Cluster;
 use cap_copy::{Snapshot, copy_tree};
 use cap_model::Proposal;
@@ -38,7 +39,7 @@ const CALLS: [Call<'static>; 5] = [
 ];
 
 /// A cluster in which the application's grants are made so often.
-fn after_turns(alloc: Global, turns: usize) -> Option<Cluster<2>> {
+fn after_turns(alloc: Global, turns: usize) -> Option<Cluster<RESOURCES>> {
     let mut cluster = cluster_after(alloc, GROUP, &CALLS)?;
     match make_turns(alloc, &mut cluster, turns) {
         Some(()) => Some(cluster),
@@ -47,7 +48,7 @@ fn after_turns(alloc: Global, turns: usize) -> Option<Cluster<2>> {
 }
 
 /// The application's grants are made so often, each by a snapshot outside an arena, on the first of two nodes.
-fn make_turns(alloc: Global, cluster: &mut Cluster<2>, turns: usize) -> Option<()> {
+fn make_turns(alloc: Global, cluster: &mut Cluster<RESOURCES>, turns: usize) -> Option<()> {
     for _ in 0..turns {
         let proposal = proposed(alloc, cluster)?;
         let _verdict = cluster.try_commit(proposal).ok()?;
@@ -55,12 +56,12 @@ fn make_turns(alloc: Global, cluster: &mut Cluster<2>, turns: usize) -> Option<(
     Some(())
 }
 
-fn proposed(alloc: Global, cluster: &Cluster<2>) -> Option<Proposal<2>> {
+fn proposed(alloc: Global, cluster: &Cluster<RESOURCES>) -> Option<Proposal<RESOURCES>> {
     let snapshot = Snapshot::take(alloc, cluster.tree(), cluster.apps(), cluster.nodes()).ok()?;
     propose(&snapshot, 0)
 }
 
-fn use_of(tree: &QueueTree<2, Global>, path: &str) -> Option<[u64; 2]> {
+fn use_of(tree: &QueueTree<RESOURCES, Global>, path: &str) -> Option<[u64; 2]> {
     match tree.find(path.as_bytes()) {
         Found::Leaf(position) | Found::Parent(position) => {
             Some(tree.use_of(&position).amounts())
@@ -70,31 +71,40 @@ fn use_of(tree: &QueueTree<2, Global>, path: &str) -> Option<[u64; 2]> {
 }
 
 /// What is used in `root.g.q` and in `root.g.p`.
-fn uses(tree: &QueueTree<2, Global>) -> Option<[[u64; 2]; 2]> {
+fn uses(tree: &QueueTree<RESOURCES, Global>) -> Option<[[u64; 2]; 2]> {
     Some([use_of(tree, "root.g.q")?, use_of(tree, "root.g.p")?])
 }
 
-/// What a tree shows, and what a copy shows of this copy of it in an arena.
+/// What a tree shows, and what another shows.
 fn uses_of_both(
-    alloc: Global,
-    tree: &QueueTree<2, Global>,
-    inside: &QueueTree<2, &Bump>,
+    tree: &QueueTree<RESOURCES, Global>,
+    other: &QueueTree<RESOURCES, Global>,
 ) -> Option<[[[u64; 2]; 2]; 2]> {
-    let outside = copy_tree(alloc, inside).ok()?;
-    match (uses(tree), uses(&outside)) {
-        (Some(shown), Some(copied)) => Some([shown, copied]),
-        _ => None,
+    Some([uses(tree)?, uses(other)?])
+}
+
+/// A copy of a tree's copy in an arena.
+fn copied_through(
+    alloc: Global,
+    arena: &Bump,
+    tree: &QueueTree<RESOURCES, Global>,
+) -> Option<QueueTree<RESOURCES, Global>> {
+    match copy_tree(arena, tree) {
+        Ok(inside) => copy_tree(alloc, &inside).ok(),
+        Err(_) => None,
     }
 }
 
-/// What a tree shows, and what a copy shows of its copy in an arena.
+/// What a tree shows, and what a copy of its copy in an arena shows.
 fn copied_in(
     alloc: Global,
     arena: &Bump,
-    tree: &QueueTree<2, Global>,
+    tree: &QueueTree<RESOURCES, Global>,
 ) -> Option<[[[u64; 2]; 2]; 2]> {
-    let inside = copy_tree(arena, tree).ok()?;
-    uses_of_both(alloc, tree, &inside)
+    match copied_through(alloc, arena, tree) {
+        Some(copy) => uses_of_both(tree, &copy),
+        None => None,
+    }
 }
 
 /// The same of the tree of the cluster after so many turns.
@@ -106,19 +116,28 @@ fn copied(alloc: Global, turns: usize) -> Option<[[[u64; 2]; 2]; 2]> {
 
 #[test]
 fn a_tree_is_copied_into_an_arena_and_out_of_it(rt: HostRuntime) {
-    for (turns, shown) in [(0, [[0, 0], [0, 0]]), (2, [[2048, 2], [0, 0]])] {
+    for &(turns, shown) in &[(0, [[0, 0], [0, 0]]), (2, [[2048, 2], [0, 0]])] {
         assert!(rt; copied(rt.alloc(), turns) == Some([shown, shown]));
     }
+}
+
+/// What is proposed in an arena from a starting node.
+fn proposal_in(
+    arena: &Bump,
+    cluster: &Cluster<RESOURCES>,
+    start: u32,
+) -> Option<Proposal<RESOURCES>> {
+    let snapshot = Snapshot::take(arena, cluster.tree(), cluster.apps(), cluster.nodes()).ok()?;
+    propose(&snapshot, start)
 }
 
 /// Whether a grant is proposed in an arena from a starting node, of which application, on which node, and of what resource.
 fn proposed_in(
     arena: &Bump,
-    cluster: &Cluster<2>,
+    cluster: &Cluster<RESOURCES>,
     start: u32,
 ) -> Option<(bool, u64, u64, [u64; 2])> {
-    let snapshot = Snapshot::take(arena, cluster.tree(), cluster.apps(), cluster.nodes()).ok()?;
-    let proposal = propose(&snapshot, start)?;
+    let proposal = proposal_in(arena, cluster, start)?;
     let resource = proposal.resource().amounts();
     Some((
         proposal.is_grant(),
@@ -131,7 +150,7 @@ fn proposed_in(
 /// The same for two starting nodes, in one arena that is reset in between.
 fn proposed_twice_in(
     arena: &mut Bump,
-    cluster: &Cluster<2>,
+    cluster: &Cluster<RESOURCES>,
 ) -> Option<[Option<(bool, u64, u64, [u64; 2])>; 2]> {
     let first = proposed_in(arena, cluster, 0);
     arena.reset().ok()?;
@@ -150,7 +169,7 @@ fn proposed_twice(alloc: Global, turns: usize) -> Option<[Option<(bool, u64, u64
 fn an_arena_holds_one_snapshot_after_the_other(rt: HostRuntime) {
     let on_first = Some((true, 1, 1, [1024, 1]));
     let on_second = Some((true, 1, 2, [1024, 1]));
-    for (turns, answer) in [
+    for &(turns, answer) in &[
         (0, [on_first, on_second]),
         (2, [on_first, on_second]),
         (3, [None, None]),

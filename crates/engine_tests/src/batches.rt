@@ -2,6 +2,7 @@
 ghost use Rattle.std.specs.Prelude.{◌≡◌, None};
 ghost use Rattle.cap_session.specs.Ahead.{asked_requests};
 
+use cap_base::RESOURCES;
 use cap_model::{Refusal, ReplyWith, Request};
 use cap_session::{Batch, Fed, Next, Session};
 use std::alloc::Global;
@@ -20,7 +21,7 @@ const FOUR_ANSWERED: &[u8] = &[
 ];
 
 /// Refuses the first requests of a batch with status 1, so many of them, and gives back the session with the others.
-fn refuse_some(batch: Batch, requests: VecDeque<Request<2>>, count: u32) -> Session
+fn refuse_some(batch: Batch, requests: VecDeque<Request<RESOURCES>>, count: u32) -> Session
     requires { requests.items ≡ asked_requests batch.asked }
     ensures { result.open_request ≡ batch.session.open_request }
 {

@@ -1,5 +1,6 @@
 //! Tests of proposals that no worker makes: the first reason to reject each, and what is changed where it is made.
 
+use cap_base::RESOURCES;
 use cap_commit::{Cluster, Proposal, ProposalKind, Reason, Verdict};
 use cap_model::Key;
 use cap_testing::{Call, SMALL_QUEUES, WantedContainers, cluster_after, make_call};
@@ -62,7 +63,11 @@ const CALLS: [Call<'static>; 9] = [
 ];
 
 /// A proposal for the ask of an application and priority on a node.
-fn proposal(kind: ProposalKind, of: (u64, u32, u64), resource: [u64; 2]) -> Option<Proposal<2>> {
+fn proposal(
+    kind: ProposalKind,
+    of: (u64, u32, u64),
+    resource: [u64; 2],
+) -> Option<Proposal<RESOURCES>> {
     let (app, priority, node) = of;
     Some(Proposal {
         kind,
@@ -127,7 +132,7 @@ const REASONS: [(ProposalKind, (u64, u32, u64), [u64; 2], Option<Reason>); 19] =
 
 #[test]
 fn proposals_are_rejected_for_the_first_reason(rt: HostRuntime) {
-    for (kind, of, resource, answer) in REASONS {
+    for &(kind, of, resource, answer) in &REASONS {
         let given = reason(rt.alloc(), kind, of, resource);
         assert!(rt; given == Some(answer), "{kind:?} {of:?}");
     }
@@ -142,14 +147,17 @@ enum Change {
 }
 
 /// Why a proposal that was tried was rejected, if it was.
-fn tried(cluster: &mut Cluster<2>, proposal: Proposal<2>) -> Option<Option<Reason>> {
+fn tried(
+    cluster: &mut Cluster<RESOURCES>,
+    proposal: Proposal<RESOURCES>,
+) -> Option<Option<Reason>> {
     match cluster.try_commit(proposal).ok()? {
         Verdict::Done(_) => Some(None),
         Verdict::Rejected(reason) => Some(Some(reason)),
     }
 }
 
-fn make(alloc: Global, cluster: &mut Cluster<2>, change: Change) -> Option<Option<Reason>> {
+fn make(alloc: Global, cluster: &mut Cluster<RESOURCES>, change: Change) -> Option<Option<Reason>> {
     let (kind, of, resource) = match change {
         Change::Grant(app, priority, node, resource) => {
             (ProposalKind::Grant, (app, priority, node), resource)
@@ -165,18 +173,16 @@ fn make(alloc: Global, cluster: &mut Cluster<2>, change: Change) -> Option<Optio
     tried(cluster, proposal(kind, of, resource)?)
 }
 
-/// After these changes: why the last one was rejected, if it was; how many containers are live and how many reservations there are;
-/// and what `root.a` uses.
-fn after(alloc: Global, changes: &[Change]) -> Option<(Option<Reason>, usize, usize, [u64; 2])> {
+/// Why the last change was rejected, if it was; how many containers are live and how many reservations there are; and what `root.a` uses.
+type After = (Option<Reason>, usize, usize, [u64; 2]);
+
+/// After these changes.
+fn after(alloc: Global, changes: &[Change]) -> Option<After> {
     let mut cluster = cluster_after(alloc, SMALL_QUEUES, &CALLS)?;
     after_in(alloc, &mut cluster, changes)
 }
 
-fn after_in(
-    alloc: Global,
-    cluster: &mut Cluster<2>,
-    changes: &[Change],
-) -> Option<(Option<Reason>, usize, usize, [u64; 2])> {
+fn after_in(alloc: Global, cluster: &mut Cluster<RESOURCES>, changes: &[Change]) -> Option<After> {
     let mut last = None;
     for change in changes {
         last = make(alloc, cluster, *change)?;
@@ -186,35 +192,49 @@ fn after_in(
     Some((last, nodes.live_count(), nodes.reservation_count(), used))
 }
 
+const FIRST: Change = Change::Grant(1, 1, 2, [1024, 1]);
+
+const KEPT: Change = Change::Reserve(1, 3, 2, [1024, 1]);
+
+const RELEASE: Change = Change::Call(Call::Allocate(1, 1, &[], &[1]));
+
+const CONVERTED: Change = Change::Grant(1, 3, 2, [1024, 1]);
+
+const OTHER: Change = Change::Grant(2, 2, 2, [2048, 1]);
+
+const MISPLACED: Change = Change::Grant(2, 3, 2, [1024, 1]);
+
+const SECOND: Change = Change::Reserve(1, 2, 2, [3072, 1]);
+
+/// Changes, and what is so after them.
+const CHANGES: [(&[Change], After); 10] = [
+    (&[FIRST], (None, 1, 0, [1024, 1])),
+    (&[FIRST, FIRST], (Some(Reason::NoAsk), 1, 0, [1024, 1])),
+    (&[FIRST, KEPT], (None, 1, 1, [2048, 2])),
+    (&[FIRST, KEPT, KEPT], (Some(Reason::NoAsk), 1, 1, [2048, 2])),
+    (
+        &[FIRST, KEPT, CONVERTED],
+        (Some(Reason::NoRoom), 1, 1, [2048, 2]),
+    ),
+    (
+        &[FIRST, KEPT, OTHER],
+        (Some(Reason::ReservedByOther), 1, 1, [2048, 2]),
+    ),
+    (
+        &[FIRST, KEPT, MISPLACED],
+        (Some(Reason::WrongPlace), 1, 1, [2048, 2]),
+    ),
+    (
+        &[FIRST, KEPT, SECOND],
+        (Some(Reason::ReservedByOther), 1, 1, [2048, 2]),
+    ),
+    (&[FIRST, KEPT, RELEASE], (None, 0, 1, [1024, 1])),
+    (&[FIRST, KEPT, RELEASE, CONVERTED], (None, 1, 0, [1024, 1])),
+];
+
 #[test]
 fn a_proposal_is_made_or_changes_nothing(rt: HostRuntime) {
-    let small = [1024, 1];
-    let first = Change::Grant(1, 1, 2, small);
-    let kept = Change::Reserve(1, 3, 2, small);
-    let release = Change::Call(Call::Allocate(1, 1, &[], &[1]));
-    let converted = Change::Grant(1, 3, 2, small);
-    let changes = [first, kept, release, converted];
-    let many = [first, kept, converted];
-    let again = [first, first];
-    let twice = [first, kept, kept];
-    let other = [first, kept, Change::Grant(2, 2, 2, [2048, 1])];
-    let misplaced = [first, kept, Change::Grant(2, 3, 2, small)];
-    let second = [first, kept, Change::Reserve(1, 2, 2, [3072, 1])];
-    let elsewhere = Some(Reason::WrongPlace);
-    let reserved = Some(Reason::ReservedByOther);
-    for (made, answer) in [
-        (changes.get(..1), (None, 1, 0, [1024, 1])),
-        (again.get(..), (Some(Reason::NoAsk), 1, 0, [1024, 1])),
-        (changes.get(..2), (None, 1, 1, [2048, 2])),
-        (twice.get(..), (Some(Reason::NoAsk), 1, 1, [2048, 2])),
-        (many.get(..), (Some(Reason::NoRoom), 1, 1, [2048, 2])),
-        (other.get(..), (reserved, 1, 1, [2048, 2])),
-        (misplaced.get(..), (elsewhere, 1, 1, [2048, 2])),
-        (second.get(..), (reserved, 1, 1, [2048, 2])),
-        (changes.get(..3), (None, 0, 1, [1024, 1])),
-        (changes.get(..), (None, 1, 0, [1024, 1])),
-    ] {
-        let given = after(rt.alloc(), made.unwrap_or(&[]));
-        assert!(rt; given == Some(answer));
+    for &(changes, answer) in &CHANGES {
+        assert!(rt; after(rt.alloc(), changes) == Some(answer));
     }
 }

@@ -1,92 +1,166 @@
 //! Tests of frames: streams in any cutting, bad lengths, the longest payload, refused memory.
+ghost use Rattle.std.specs.Prelude.{◌<◌};
 
 use bytes::BytesMut;
 use cap_frames::{FrameFault, Framer, put_frame};
-use std::test::Fail;
+use std::alloc::Global;
 
 // Two frames, and a length of which one byte is missing.
-const STREAM: [u8; 15] = [0, 0, 0, 3, 111, 110, 101, 0, 0, 0, 1, 9, 0, 0, 1];
+const STREAM: &[u8] = &[0, 0, 0, 3, 111, 110, 101, 0, 0, 0, 1, 9, 0, 0, 1];
 
-#[test]
-fn frames_come_back_in_any_cutting(rt: HostRuntime) -> Result<(), Fail> {
-    for step in 1..16usize {
-        let mut framer = Framer::new(rt.alloc())?;
-        let mut given = Vec::new(rt.alloc());
-        for piece in STREAM.as_slice().chunks(step) {
-            framer.feed(piece)?;
-            for _ in 0..3 {
-                if let Some(payload) = framer.next()? {
-                    given.push(payload)?;
-                }
+/// The payloads of the two frames.
+const PAYLOADS: [&[u8]; 2] = [b"one", &[9]];
+
+/// The longest payload.
+const LONGEST: &[u8] = &[0; 65536];
+
+/// What a framer gives next.
+#[derive(Clone, Copy, PartialEq)]
+enum Given {
+    Nothing,
+    /// The payload that is wanted.
+    Wanted,
+    Other,
+    BadLength,
+    NoMemory,
+}
+
+fn next(framer: &mut Framer, wanted: &[u8]) -> Given {
+    match framer.next() {
+        Ok(None) => Given::Nothing,
+        Ok(Some(payload)) => {
+            if payload.as_slice() == wanted {
+                Given::Wanted
+            } else {
+                Given::Other
             }
         }
-        assert_eq!(rt; given.len(), 2, "in pieces of {step}");
-        assert_eq!(rt; given[0].as_slice(), b"one".as_slice());
-        assert_eq!(rt; given[1].as_slice(), [9u8].as_slice());
+        Err(FrameFault::BadLength) => Given::BadLength,
+        Err(FrameFault::NoMemory) => Given::NoMemory,
     }
-    Ok(())
+}
+
+/// What a framer gives next once it was fed a piece.
+fn next_after(framer: &mut Framer, piece: &[u8], wanted: &[u8]) -> Option<Given> {
+    framer.feed(piece).ok()?;
+    Some(next(framer, wanted))
+}
+
+/// How many payloads came once a piece was fed, where so many came before. `None` if one is not the next of the stream.
+fn count_after(framer: &mut Framer, piece: &[u8], before: usize) -> Option<usize> {
+    framer.feed(piece).ok()?;
+    let mut count = before;
+    for _ in 0..3 {
+        match next(framer, PAYLOADS.get(count).copied().unwrap_or(&[])) {
+            Given::Nothing => {}
+            Given::Wanted => count = count.saturating_add(1),
+            _ => return None,
+        }
+    }
+    Some(count)
+}
+
+/// How many payloads come of the stream in pieces of so many bytes.
+fn count_in_pieces(framer: &mut Framer, step: usize) -> Option<usize>
+    requires { 0 < step }
+{
+    let mut count = 0;
+    for piece in STREAM.chunks(step) {
+        count = count_after(framer, piece, count)?;
+    }
+    Some(count)
 }
 
 #[test]
-fn a_bad_length_is_known_with_its_fourth_byte_and_stays(rt: HostRuntime) -> Result<(), Fail> {
-    for length in [[0u8, 0, 0, 0], [0, 1, 0, 1], [255, 255, 255, 255]] {
-        let mut framer = Framer::new(rt.alloc())?;
-        framer.feed(&length[..3])?;
-        assert!(rt; matches!(framer.next(), Ok(None)));
-        framer.feed(&length[3..])?;
-        assert!(rt; matches!(framer.next(), Err(FrameFault::BadLength)));
-        assert!(rt; matches!(framer.next(), Err(FrameFault::BadLength)));
-        framer.feed(&STREAM)?;
-        assert!(rt; matches!(framer.next(), Err(FrameFault::BadLength)));
+fn frames_come_back_in_any_cutting(rt: HostRuntime) {
+    for step in 1..16usize {
+        let mut framer = Framer::new(rt.alloc()).expect(&rt, "no memory");
+        assert!(rt;
+            count_in_pieces(&mut framer, step) == Some(2),
+            "in pieces of {step}"
+        );
     }
-    Ok(())
+}
+
+/// What is given after three bytes of a length, after the fourth, then, and after more of the stream.
+fn after_length(framer: &mut Framer, length: [u8; 4]) -> Option<[Given; 4]> {
+    let [a, b, c, d] = length;
+    Some([
+        next_after(framer, &[a, b, c], &[])?,
+        next_after(framer, &[d], &[])?,
+        next(framer, &[]),
+        next_after(framer, STREAM, &[])?,
+    ])
 }
 
 #[test]
-fn the_longest_payload_is_a_frame(rt: HostRuntime) -> Result<(), Fail> {
-    let mut framer = Framer::new(rt.alloc())?;
-    framer.feed(&[0, 1, 0, 0])?;
-    let quarter = [0u8; 16384];
-    for _ in 0..4 {
-        assert!(rt; matches!(framer.next(), Ok(None)));
-        framer.feed(&quarter)?;
+fn a_bad_length_is_known_with_its_fourth_byte_and_stays(rt: HostRuntime) {
+    let bad = Given::BadLength;
+    for &length in &[[0u8, 0, 0, 0], [0, 1, 0, 1], [255, 255, 255, 255]] {
+        let mut framer = Framer::new(rt.alloc()).expect(&rt, "no memory");
+        let given = after_length(&mut framer, length);
+        assert!(rt; given == Some([Given::Nothing, bad, bad, bad]));
     }
-    let Some(payload) = framer.next()? else {
-        return Err(Fail::from("no frame"));
-    };
-    assert_eq!(rt; payload.len(), 65536);
-    assert!(rt; matches!(framer.next(), Ok(None)));
-    Ok(())
+}
+
+/// What is given of the longest payload in quarters: before each of them, and at the end twice.
+fn in_quarters(framer: &mut Framer) -> Option<[Given; 6]> {
+    let quarter = &[0; 16384];
+    Some([
+        next_after(framer, &[0, 1, 0, 0], &[])?,
+        next_after(framer, quarter, &[])?,
+        next_after(framer, quarter, &[])?,
+        next_after(framer, quarter, &[])?,
+        next_after(framer, quarter, LONGEST)?,
+        next(framer, &[]),
+    ])
 }
 
 #[test]
-fn a_frame_is_its_length_and_its_payload(rt: HostRuntime) -> Result<(), Fail> {
+fn the_longest_payload_is_a_frame(rt: HostRuntime) {
+    let mut framer = Framer::new(rt.alloc()).expect(&rt, "no memory");
+    let none = Given::Nothing;
+    let given = in_quarters(&mut framer);
+    assert!(rt; given == Some([none, none, none, none, Given::Wanted, none]));
+}
+
+fn put_both(out: &mut BytesMut) -> Option<()> {
+    put_frame(out, b"one").ok()?;
+    put_frame(out, &[9]).ok()
+}
+
+#[test]
+fn a_frame_is_its_length_and_its_payload(rt: HostRuntime) {
     let mut out = BytesMut::new(rt.alloc());
-    put_frame(&mut out, b"one")?;
-    put_frame(&mut out, &[9])?;
-    assert_eq!(rt; out.as_slice(), &STREAM[..12]);
-    Ok(())
+    assert!(rt; put_both(&mut out).is_some());
+    assert!(rt; out.as_slice() == &STREAM[..12]);
+}
+
+/// Whether no more is given and taken without memory.
+fn is_spent(framer: &mut Framer) -> bool {
+    next(framer, &[]) == Given::NoMemory
+        && framer.feed(STREAM).is_err()
+        && next(framer, &[]) == Given::NoMemory
+}
+
+/// Whether the payloads of the stream come, and then nothing, or there is no memory.
+fn gives_no_wrong_answer(framer: &mut Framer) -> bool {
+    if framer.feed(STREAM).is_err() && framer.feed(STREAM).is_err() {
+        return false;
+    }
+    for &payload in &PAYLOADS {
+        match next(framer, payload) {
+            Given::Wanted => {}
+            Given::NoMemory => return is_spent(framer),
+            _ => return false,
+        }
+    }
+    next(framer, &[]) == Given::Nothing
 }
 
 // Under `--fail-alloc` this passes whichever allocation fails.
 #[test]
-fn refused_memory_is_never_a_wrong_answer(rt: HostRuntime) -> Result<(), Fail> {
-    let mut framer = Framer::new(rt.alloc())?;
-    if framer.feed(&STREAM).is_err() {
-        framer.feed(&STREAM)?;
-    }
-    for want in [b"one".as_slice(), [9u8].as_slice()] {
-        match framer.next() {
-            Ok(Some(payload)) => assert_eq!(rt; payload.as_slice(), want),
-            Err(FrameFault::NoMemory) => {
-                assert!(rt; matches!(framer.next(), Err(FrameFault::NoMemory)));
-                assert!(rt; framer.feed(&STREAM).is_err());
-                assert!(rt; matches!(framer.next(), Err(FrameFault::NoMemory)));
-                return Ok(());
-            }
-            Ok(None) | Err(FrameFault::BadLength) => return Err(Fail::from("no frame")),
-        }
-    }
-    assert!(rt; matches!(framer.next(), Ok(None)));
-    Ok(())
+fn refused_memory_is_never_a_wrong_answer(rt: HostRuntime) {
+    let mut framer = Framer::new(rt.alloc()).expect(&rt, "no memory");
+    assert!(rt; gives_no_wrong_answer(&mut framer));
 }

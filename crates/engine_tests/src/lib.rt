@@ -1,6 +1,7 @@
 //! Tests of the engine, of what neither a script nor property lines show.
 //! They are of amounts, texts and their pieces, the words for any fault, queues, proposals that no worker makes,
-//! snapshots in an arena, frames, batches, sessions, and steps of a world.
+//! snapshots in an arena, frames, batches, sessions and steps of a world; and of what threads share: the lanes of workers,
+//! a cluster with its journal, and workers and sessions over it.
 #![tactic(auto)]
 
 #[cfg(test)]
@@ -14,11 +15,15 @@ mod commits;
 #[cfg(test)]
 mod frames;
 #[cfg(test)]
+mod lanes;
+#[cfg(test)]
 mod messages;
 #[cfg(test)]
 mod pieces;
 #[cfg(test)]
 mod sessions;
+#[cfg(test)]
+mod shared;
 #[cfg(test)]
 mod steps;
 #[cfg(test)]
@@ -27,3 +32,5 @@ mod texts;
 mod tree;
 #[cfg(test)]
 mod words;
+#[cfg(test)]
+mod workers;

@@ -4,6 +4,7 @@ use cap_messages::{
     Answer, MessageFault, read_reply, read_request, replies_have_one_spelling,
     requests_have_one_spelling,
 };
+use std::alloc::Global;
 
 /// Bytes that are no reply: none, a refusal of a kind that no request has, and a fault of another status.
 const NO_REPLIES: [&[u8]; 4] = [
@@ -13,18 +14,34 @@ const NO_REPLIES: [&[u8]; 4] = [
     &[1, 0, 0, 0, 0, 0, 42],
 ];
 
+/// Whether bytes are no request.
+fn is_bad_request(alloc: Global, bytes: &[u8]) -> bool {
+    matches!(read_request(alloc, bytes), Err(MessageFault::Bad))
+}
+
+/// Whether bytes are no reply.
+fn is_bad_reply(alloc: Global, bytes: &[u8]) -> bool {
+    matches!(read_reply(alloc, bytes), Err(MessageFault::Bad))
+}
+
+/// The status of a fault reply.
+fn fault_status(alloc: Global, bytes: &[u8]) -> Option<u8> {
+    match read_reply(alloc, bytes) {
+        Ok(Answer::Fault(status)) => Some(status),
+        _ => None,
+    }
+}
+
 // No frame has an empty payload.
 #[test]
 fn what_is_no_message_is_bad(rt: HostRuntime) {
-    let request = read_request(rt.alloc(), &[]);
-    assert!(rt; matches!(request, Err(MessageFault::Bad)));
-    for bytes in NO_REPLIES {
-        let reply = read_reply(rt.alloc(), bytes);
-        assert!(rt; matches!(reply, Err(MessageFault::Bad)), "{bytes:?}");
+    assert!(rt; is_bad_request(rt.alloc(), &[]));
+    for &bytes in &NO_REPLIES {
+        assert!(rt; is_bad_reply(rt.alloc(), bytes), "{bytes:?}");
     }
-    for status in [40, 41] {
-        let reply = read_reply(rt.alloc(), &[1, 0, 0, 0, 0, 0, status]);
-        assert!(rt; matches!(reply, Ok(Answer::Fault(read)) if read == status));
+    for &status in &[40, 41] {
+        let given = fault_status(rt.alloc(), &[1, 0, 0, 0, 0, 0, status]);
+        assert!(rt; given == Some(status));
     }
 }
 

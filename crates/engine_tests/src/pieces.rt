@@ -12,7 +12,7 @@ fn is_cut(bytes: &str, front: &str, rest: &str) -> bool {
 
 #[test]
 fn bytes_are_cut_at_the_first_separator(rt: HostRuntime) {
-    for (bytes, front, rest) in [
+    for &(bytes, front, rest) in &[
         ("key=a=b", "key", "a=b"),
         ("key=", "key", ""),
         ("=value", "", "value"),
@@ -46,7 +46,7 @@ const FIRST_LINES: [(&str, &str, &str); 7] = [
 
 #[test]
 fn a_line_ends_at_its_line_feed(rt: HostRuntime) {
-    for (text, line, after) in FIRST_LINES {
+    for &(text, line, after) in &FIRST_LINES {
         assert!(rt; is_first_line(text, line, after), "{text}");
     }
     assert!(rt; without_return(b"a\r") == b"a".as_slice());
@@ -65,7 +65,7 @@ const TRIMMED: [(&str, &str); 7] = [
 
 #[test]
 fn spaces_at_both_ends_are_dropped(rt: HostRuntime) {
-    for (bytes, inner) in TRIMMED {
+    for &(bytes, inner) in &TRIMMED {
         assert!(rt; trimmed(bytes.as_bytes()) == inner.as_bytes(), "{bytes}");
     }
 }
@@ -97,7 +97,7 @@ const NUMBERS: [(&str, Option<u64>, Option<u64>); 13] = [
 
 #[test]
 fn numbers_are_decimal_digits(rt: HostRuntime) {
-    for (text, few, many) in NUMBERS {
+    for &(text, few, many) in &NUMBERS {
         assert!(rt; numbers(text) == (few, many), "{text}");
     }
 }

@@ -51,17 +51,20 @@ fn answers(alloc: Global, pieces: [&[u8]; 2], output: &[u8]) -> Option<(bool, Op
     Some((session.unsent() == output, ended))
 }
 
-/// Whether two requests are answered wherever the stream is cut.
-fn answers_cut_anywhere(alloc: Global) -> bool {
-    (0..21).all(|at| match TWO.split_at_checked(at) {
-        Some((first, second)) => answers(alloc, [first, second], TWO_REFUSED) == Some((true, None)),
-        None => false,
-    })
+/// Whether two requests are answered where the stream is cut after so many bytes, and why the session has ended.
+fn answers_cut_at(alloc: Global, at: usize) -> Option<(bool, Option<Cause>)> {
+    let (first, second) = TWO.split_at_checked(at)?;
+    answers(alloc, [first, second], TWO_REFUSED)
 }
 
 #[test]
 fn a_stream_is_answered_wherever_it_is_cut(rt: HostRuntime) {
-    assert!(rt; answers_cut_anywhere(rt.alloc()));
+    for at in 0..21 {
+        assert!(rt;
+            answers_cut_at(rt.alloc(), at) == Some((true, None)),
+            "after {at} bytes"
+        );
+    }
 }
 
 #[test]
@@ -69,7 +72,7 @@ fn bad_messages_are_answered_and_bad_lengths_end_it(rt: HostRuntime) {
     let zero: &[u8] = &[0, 0, 0, 0];
     let over: &[u8] = &[0, 1, 0, 1];
     let none: &[u8] = &[];
-    for (first, second, output, ended) in [
+    for &(first, second, output, ended) in &[
         (none, BAD_MESSAGE, BAD_MESSAGE_ANSWERED, None),
         (zero, TWO, BAD_LENGTH_ANSWERED, Some(Cause::BadLength)),
         (over, TWO, BAD_LENGTH_ANSWERED, Some(Cause::BadLength)),
@@ -170,7 +173,7 @@ fn written(alloc: Global, step: usize, limit: usize) -> Option<(Sent, usize, u64
 #[test]
 fn narrow_and_failing_writers(rt: HostRuntime) {
     let ended = Some(Cause::WriteFault);
-    for (step, limit, want) in [
+    for &(step, limit, want) in &[
         (1, 100, (Sent::All(22), 0, 0, None)),
         (5, 22, (Sent::All(22), 0, 0, None)),
         (1, 0, (Sent::Fault { sent: 0 }, 22, 1, ended)),
@@ -208,7 +211,7 @@ fn read_once(answer: Result<usize, ErrorKind>) -> (Got, [u64; 3], bool) {
 
 #[test]
 fn what_is_counted_of_reads(rt: HostRuntime) {
-    for (answer, want) in [
+    for &(answer, want) in &[
         (Ok(3), (Got::Bytes(3), [0, 0, 0], false)),
         (Ok(9), (Got::Bytes(4), [0, 0, 0], false)),
         (Ok(0), (Got::End, [0, 0, 1], false)),

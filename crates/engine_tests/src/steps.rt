@@ -143,10 +143,7 @@ const ANSWERED: [(&[Step<'static>], u32, &[u8], usize, usize, bool); 10] = [
 
 #[test]
 fn steps_are_answered(rt: HostRuntime) {
-    for (i, (steps, connection, output, done, events, is_open)) in ANSWERED
-        .into_iter()
-        .enumerate()
-    {
+    for (i, &(steps, connection, output, done, events, is_open)) in ANSWERED.iter().enumerate() {
         let given = outcome(rt.alloc(), first(steps, done), connection, output);
         assert!(rt; given == Some((done, events, is_open, true)), "row {i}");
     }

@@ -21,7 +21,7 @@ fn texts_are_graphic_and_bounded(rt: HostRuntime) {
         (&[b'x'; 64], true),
         (&[b'x'; 65], false),
     ];
-    for (bytes, answer) in rows {
+    for &(bytes, answer) in &rows {
         assert!(rt; is_text(bytes) == answer, "{bytes:?}");
     }
     assert!(rt; PathText::new(&[b'x'; 255]).is_some());
@@ -43,7 +43,7 @@ const REFUSALS: [(Refusal, u8); 10] = [
 
 #[test]
 fn refusals_have_their_numbers(rt: HostRuntime) {
-    for (refusal, status) in REFUSALS {
+    for &(refusal, status) in &REFUSALS {
         assert!(rt; refusal.status() == status, "{status}");
     }
 }

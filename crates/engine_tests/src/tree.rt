@@ -1,13 +1,14 @@
 //! Tests of the tree of queues: all that is seen of a queue after changes, and the first limit that is passed.
 ghost use Rattle.cap_tree.specs.Spot.{IsPosition};
 
+use cap_base::RESOURCES;
 use cap_model::ShortText;
 use cap_testing::{Change, ChangeAt, NESTED_QUEUES, change_queue, first, tree_after};
 use cap_tree::{Found, OverLimit, Path, QueueTree};
 use cap_vector::Resource;
 use std::alloc::Global;
 
-type Tree = QueueTree<2, Global>;
+type Tree = QueueTree<RESOURCES, Global>;
 
 /// All that is seen of a queue, and of a user in it.
 #[derive(Clone, Copy, PartialEq)]
@@ -119,7 +120,7 @@ const FOUND: [(&str, Option<Seen>); 10] = [
 
 #[test]
 fn queues_are_found(rt: HostRuntime) {
-    for (path, answer) in FOUND {
+    for &(path, answer) in &FOUND {
         let given = seen_after(rt.alloc(), NESTED_QUEUES, &[], path, "ann");
         assert!(rt; given == answer, "{path}");
     }
@@ -131,7 +132,7 @@ fn a_stopped_queue_stops_those_under_it(rt: HostRuntime) {
         ("root.a.y", "ann", Change::State(true)),
         ("root.a", "ann", Change::State(false)),
     ];
-    for (made, path, answer) in [
+    for &(made, path, answer) in &[
         (0, "root.a.y", STOPPED_Y),
         (1, "root.a.y", Y),
         (2, "root.a.x", STOPPED_X),
@@ -173,7 +174,7 @@ const ACTIVE: [(usize, &str, &str, Seen, u64, u64); 15] = [
 
 #[test]
 fn applications_count_along_the_way_and_for_their_user(rt: HostRuntime) {
-    for (made, path, user, queue, active, user_active) in ACTIVE {
+    for &(made, path, user, queue, active, user_active) in &ACTIVE {
         let steps = first(&ANN_AND_BOB, made);
         let given = seen_after(rt.alloc(), NESTED_QUEUES, steps, path, user);
         let answer = Seen {
@@ -192,7 +193,7 @@ fn nothing_given_back_is_no_change(rt: HostRuntime) {
         ("root.a.x", "ann", Change::Enter),
         ("root.a.x", "ann", Change::GiveBack([0, 0])),
     ];
-    for (path, queue, user_active) in [("root", ROOT, 0), ("root.a", A, 0), ("root.a.x", X, 2)] {
+    for &(path, queue, user_active) in &[("root", ROOT, 0), ("root.a", A, 0), ("root.a.x", X, 2)] {
         let given = seen_after(rt.alloc(), NESTED_QUEUES, &steps, path, "ann");
         let answer = Seen {
             active: 2,
@@ -211,7 +212,7 @@ fn can(alloc: Global, made: usize, step: ChangeAt) -> Option<bool> {
 
 #[test]
 fn only_a_user_with_applications_leaves_and_gives_back(rt: HostRuntime) {
-    for (made, user, change, answer) in [
+    for &(made, user, change, answer) in &[
         (3, "bob", Change::Leave, false),
         (3, "ann", Change::Leave, true),
         (5, "ann", Change::Leave, false),
@@ -300,7 +301,7 @@ const USED: [(usize, &str, Seen, [u64; 2], [u64; 2]); 13] = [
 
 #[test]
 fn containers_count_along_the_way_and_for_their_user(rt: HostRuntime) {
-    for (made, path, queue, used, user_used) in USED {
+    for &(made, path, queue, used, user_used) in &USED {
         let steps = first(&CONTAINERS, made);
         let given = seen_after(rt.alloc(), LIMITED_QUEUES, steps, path, "ann");
         let answer = Seen {
@@ -320,16 +321,6 @@ fn accepts(tree: &Tree, path: &str, old: [u64; 2], new: [u64; 2]) -> Option<Resu
         Found::Leaf(position) => Some(tree.accept(&position, &user, &old, &new)),
         _ => None,
     }
-}
-
-fn accepted(
-    alloc: Global,
-    path: &str,
-    old: [u64; 2],
-    new: [u64; 2],
-) -> Option<Result<(), OverLimit>> {
-    let tree = tree_after(alloc, LIMITED_QUEUES, first(&CONTAINERS, 6))?;
-    accepts(&tree, path, old, new)
 }
 
 /// The most that a resource may have.
@@ -363,8 +354,10 @@ const CHANGES: [(&str, [u64; 2], [u64; 2], Result<(), OverLimit>); 13] = [
 
 #[test]
 fn the_first_limit_that_is_passed_is_named(rt: HostRuntime) {
-    for (path, old, new, answer) in CHANGES {
-        let given = accepted(rt.alloc(), path, old, new);
+    let steps = first(&CONTAINERS, 6);
+    let tree = tree_after(rt.alloc(), LIMITED_QUEUES, steps).expect(&rt, "no tree");
+    for &(path, old, new, answer) in &CHANGES {
+        let given = accepts(&tree, path, old, new);
         assert!(rt; given == Some(answer), "{path} {new:?}");
     }
 }

@@ -42,7 +42,7 @@ fn faults_of_another_text(rt: HostRuntime) {
             "line 2: this queue stands on level 16, root's being 1, and may have no queues below it",
         ),
     ];
-    for (line, kind, want) in cases {
+    for &(line, kind, want) in &cases {
         let fault = ConfigFault { line, kind };
         assert_eq!(rt; words(rt.alloc(), text, &fault).as_str(), want);
     }
@@ -71,9 +71,9 @@ fn any_fault_has_words_for_any_text(rt: HostRuntime) {
         b"yarn.scheduler.capacity.root.queues=a\nyarn.scheduler.capacity.root.a.capacity=[memory=1,vcores=1]",
         b"yarn.scheduler.capacity.root.queues=a\nyarn.scheduler.capacity.root.b.c.maximum-capacity=[memory=1,vcores=1]",
     ];
-    for text in texts {
-        for kind in KINDS {
-            for line in [0, 1, 2, 3, usize::MAX] {
+    for &text in &texts {
+        for &kind in &KINDS {
+            for &line in &[0, 1, 2, 3, usize::MAX] {
                 let fault = ConfigFault { line, kind };
                 assert!(rt; !words(rt.alloc(), text, &fault).is_empty());
             }

@@ -1,4 +1,5 @@
 //! A hoard: all memory that the system gives this process, kept but for what a test leaves (`Hoard`).
+ghost use Rattle.std.specs.Prelude.{◌≤◌};
 
 use std::alloc::Global;
 
@@ -28,10 +29,8 @@ const LARGEST: usize = 1 << 46;
 /// The largest piece of the room, as large as the room.
 const LARGEST_PIECE: usize = ROOM_BLOCKS * ROOM_BLOCK;
 
-/// How many bytes of the stack a level of `touch_stack` takes at least, and how many levels there are: 1 MiB in all.
-const LEVEL: usize = 65_536;
-
-const LEVELS: &[u8] = b"0123456789abcdef";
+/// How many bytes of the stack a hoard fills: 1 MiB.
+const STACK: usize = 1 << 20;
 
 /// All that the system gives this process, kept so that nobody else has it, but for a room of 64 blocks of 65,536 bytes in which fixtures
 /// are made. It lasts until it is dropped.
@@ -87,19 +86,25 @@ fn room(alloc: Global) -> Option<Vec<Vec<u8>>> {
     Some(blocks)
 }
 
-/// Touches the stack below, one level after the other, so that the system has given it its addresses: where others have those below it, a
-/// stack can't grow any more. Each level is filled with what the one above it ends with, so that no compiler leaves one out; the result
-/// is that of the last.
-fn touch_stack(levels: &[u8], above: &[u8]) -> u8 {
-    let last = above.last().copied().unwrap_or(0);
-    let [level, below @ ..] = levels else {
-        return last;
-    };
-    let mut room = [last; LEVEL];
-    if let Some(end) = room.last_mut() {
-        *end = *level;
+/// Whether all bytes are this one. It reads each of them and stands apart, so that no compiler leaves out what fills them.
+#[inline(never)]
+fn are_all(bytes: &[u8], byte: u8) -> bool {
+    for other in bytes {
+        if *other != byte {
+            return false;
+        }
     }
-    touch_stack(below, &room)
+    true
+}
+
+/// Fills so many bytes of the stack below, so that the system has given it their addresses: where others have those, a stack can't grow any
+/// more.
+#[inline(never)]
+fn touch_stack<const N: usize>(byte: u8) -> bool
+    requires { N ≤ 1048576 }
+{
+    let room = [byte; N];
+    are_all(&room, byte)
 }
 
 impl Hoard {
@@ -113,7 +118,7 @@ impl Hoard {
     /// heap of 64 MiB for a thread where it can, out of which no hoard takes anything; where it can't, each allocation of the thread takes
     /// pages of the system's.
     pub fn beside_threads(alloc: Global, bytes: usize) -> Option<Hoard> {
-        if touch_stack(LEVELS, &[]) != b'f' {
+        if !touch_stack::<STACK>(b'f') {
             return None;
         }
         let mut kept = Vec::with_capacity(alloc, BLOCKS).ok()?;

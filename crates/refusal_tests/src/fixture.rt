@@ -1,4 +1,6 @@
 //! Steps on a cluster, and what comes of one where memory is short.
+use crate::table::{Before, done};
+use cap_base::RESOURCES;
 use cap_commit::Cluster;
 use cap_messages::{dispatch, read_request};
 use cap_model::{
@@ -25,7 +27,7 @@ pub enum Step {
 /// most that a container may have; response id, ignored, grants and ends of an Allocate; response id, ignored and live of a Heartbeat; how
 /// many containers ended; whether a queue runs, whether it is a leaf and what it uses; nodes, applications, containers and MiB used of a
 /// cluster; or the new container, 0 for a reservation, and what is used then.
-#[derive(Clone, Copy, Debug, PartialEq, Eq)]
+#[derive(Clone, Copy, PartialEq, Eq)]
 pub enum Answer {
     Status(u8),
     Rejected(Reason),
@@ -33,40 +35,40 @@ pub enum Answer {
     NoMemory,
 }
 
-/// A step that is made on the cluster of these settings after other steps, and what it is answered.
-#[derive(Clone, Copy)]
-pub struct Row {
-    pub lines: &'static [u8],
-    pub before: &'static [Step],
-    pub step: Step,
-    pub answer: Answer,
-}
+/// A step that is made after others, and what it is answered.
+pub type Row = (Before, Step, Answer);
 
 /// A step of which all is made that takes memory.
 #[derive(Drop)]
 enum Given {
-    Request(Request<2>),
-    Proposal(Proposal<2>),
+    Request(Request<RESOURCES>),
+    Proposal(Proposal<RESOURCES>),
 }
 
-fn proposal(kind: ProposalKind, of: (u64, (u32, u64), u64), resource: [u64; 2]) -> Option<Given> {
+/// A proposal for an application, a key and a node.
+pub fn proposal(
+    kind: ProposalKind,
+    of: (u64, (u32, u64), u64),
+    resource: [u64; 2],
+) -> Option<Proposal<RESOURCES>> {
     let (app, (priority, request), node) = of;
-    Some(Given::Proposal(Proposal {
+    Some(Proposal {
         kind,
         app,
         key: Key { priority, request },
         node,
         resource: Resource::new(resource)?,
-    }))
+    })
 }
 
-fn request(alloc: Global, call: &Call<'_>) -> Option<Given> {
+/// A call as the engine reads it.
+pub fn request(alloc: Global, call: &Call<'_>) -> Option<Request<RESOURCES>> {
     let bytes = frame(alloc, 1, call).ok()?;
     let (_, request) = read_request(alloc, bytes.get(4..)?).ok()?;
-    Some(Given::Request(request))
+    Some(request)
 }
 
-fn ask_for_keys(alloc: Global, app: u64, response: u32, count: u64) -> Option<Given> {
+fn ask_for_keys(alloc: Global, app: u64, response: u32, count: u64) -> Option<Request<RESOURCES>> {
     let mut asks = Vec::new(alloc);
     for request in 0..count {
         asks.push(WantedContainers {
@@ -82,20 +84,26 @@ fn ask_for_keys(alloc: Global, app: u64, response: u32, count: u64) -> Option<Gi
 }
 
 fn prepared(alloc: Global, step: Step) -> Option<Given> {
-    match step {
+    let request = match step {
         Step::Call(call) => request(alloc, &call),
         Step::AskForKeys(app, response, count) => ask_for_keys(alloc, app, response, count),
         Step::Nodes(_) => None,
         Step::Grant(app, key, node, resource) => {
-            proposal(ProposalKind::Grant, (app, key, node), resource)
+            let grant = proposal(ProposalKind::Grant, (app, key, node), resource)?;
+            return Some(Given::Proposal(grant));
         }
         Step::Reserve(app, key, node, resource) => {
-            proposal(ProposalKind::Reserve, (app, key, node), resource)
+            let reserve = proposal(ProposalKind::Reserve, (app, key, node), resource)?;
+            return Some(Given::Proposal(reserve));
         }
+    };
+    match request {
+        Some(request) => Some(Given::Request(request)),
+        None => None,
     }
 }
 
-fn answer_of(reply: &Reply<2>) -> Answer {
+fn answer_of(reply: &Reply<RESOURCES>) -> Answer {
     Answer::Numbers(match reply {
         ReplyWith::Refused(Refusal::NoMemory) => return Answer::NoMemory,
         ReplyWith::Refused(refusal) => return Answer::Status(refusal.status()),
@@ -140,7 +148,7 @@ fn answer_of(reply: &Reply<2>) -> Answer {
     })
 }
 
-fn tried(cluster: &mut Cluster<2>, proposal: Proposal<2>) -> Answer {
+fn tried(cluster: &mut Cluster<RESOURCES>, proposal: Proposal<RESOURCES>) -> Answer {
     let Ok(verdict) = cluster.try_commit(proposal) else {
         return Answer::NoMemory;
     };
@@ -153,7 +161,7 @@ fn tried(cluster: &mut Cluster<2>, proposal: Proposal<2>) -> Answer {
     Answer::Numbers([number, memory, vcores, 0])
 }
 
-fn made(alloc: Global, cluster: &mut Cluster<2>, given: &Given) -> Answer {
+fn made(alloc: Global, cluster: &mut Cluster<RESOURCES>, given: &Given) -> Answer {
     match given {
         Given::Request(request) => answer_of(&dispatch(alloc, cluster, request)),
         Given::Proposal(proposal) => tried(cluster, *proposal),
@@ -162,7 +170,7 @@ fn made(alloc: Global, cluster: &mut Cluster<2>, given: &Given) -> Answer {
 
 /// What the cluster shows: nodes, applications, containers, reservations, the next numbers and what is used; and of application 1 the asks
 /// and the last response id.
-pub fn seen(cluster: &Cluster<2>) -> ([usize; 5], [u64; 6]) {
+pub fn seen(cluster: &Cluster<RESOURCES>) -> ([usize; 5], [u64; 6]) {
     let (nodes, apps) = (cluster.nodes(), cluster.apps());
     let (asks, response) = match apps.app(1) {
         Some(app) => (app.asks().len(), app.response()),
@@ -188,7 +196,7 @@ pub fn seen(cluster: &Cluster<2>) -> ([usize; 5], [u64; 6]) {
 }
 
 /// Registers a node of (1, 1).
-fn make_node(alloc: Global, cluster: &mut Cluster<2>, number: u32) -> Option<()> {
+fn make_node(alloc: Global, cluster: &mut Cluster<RESOURCES>, number: u32) -> Option<()> {
     let mut host = String::new(alloc);
     write!(host, "m{number}").ok()?;
     make_call(
@@ -199,58 +207,35 @@ fn make_node(alloc: Global, cluster: &mut Cluster<2>, number: u32) -> Option<()>
 }
 
 /// Registers so many.
-fn make_nodes(alloc: Global, cluster: &mut Cluster<2>, count: u32) -> Option<()> {
+fn make_nodes(alloc: Global, cluster: &mut Cluster<RESOURCES>, count: u32) -> Option<()> {
     for number in 0..count {
         make_node(alloc, cluster, number)?;
     }
     Some(())
 }
 
-/// Makes steps, none of which may be refused or rejected.
-fn make_all(alloc: Global, cluster: &mut Cluster<2>, steps: &[Step]) -> Option<()> {
+/// Makes a step. `None` if it is refused or rejected.
+fn make_step(alloc: Global, cluster: &mut Cluster<RESOURCES>, step: Step) -> Option<()> {
+    if let Step::Nodes(count) = step {
+        return make_nodes(alloc, cluster, count);
+    }
+    let given = prepared(alloc, step)?;
+    match made(alloc, cluster, &given) {
+        Answer::Numbers(_) => Some(()),
+        _ => None,
+    }
+}
+
+fn make_all(alloc: Global, cluster: &mut Cluster<RESOURCES>, steps: &[Step]) -> Option<()> {
     for step in steps {
-        match step {
-            Step::Call(call) => make_call(alloc, cluster, call)?,
-            Step::Nodes(count) => make_nodes(alloc, cluster, *count)?,
-            _ => {
-                let Answer::Numbers(_) = made(alloc, cluster, &prepared(alloc, *step)?) else {
-                    return None;
-                };
-            }
-        }
+        make_step(alloc, cluster, *step)?;
     }
     Some(())
 }
 
-/// What comes of a step where so many bytes are left: a refusal leaves the cluster as it was, and the step is answered once memory is there
-/// again.
-fn judged(
-    alloc: Global,
-    hoard: &mut Hoard,
-    bytes: usize,
-    given: &Given,
-    answer: Answer,
-    cluster: &mut Cluster<2>,
-) -> Came {
-    let before = seen(cluster);
-    hoard.leave(alloc, bytes);
-    let first = made(alloc, cluster, given);
-    hoard.give();
-    if first == answer {
-        return Came::Done;
-    }
-    if first == Answer::NoMemory
-        && seen(cluster) == before
-        && made(alloc, cluster, given) == answer
-    {
-        Came::Refused
-    } else {
-        Came::Other
-    }
-}
-
-/// The cluster of these settings after these steps. `None` if one is refused or rejected, or an allocation fails.
-pub fn cluster_after_steps(alloc: Global, lines: &[u8], steps: &[Step]) -> Option<Cluster<2>> {
+/// The cluster after these steps. `None` if one is refused or rejected, or an allocation fails.
+pub fn cluster_after(alloc: Global, before: Before) -> Option<Cluster<RESOURCES>> {
+    let (lines, steps) = done(before);
     let mut cluster = cluster(alloc, lines)?;
     match make_all(alloc, &mut cluster, steps) {
         Some(()) => Some(cluster),
@@ -258,50 +243,59 @@ pub fn cluster_after_steps(alloc: Global, lines: &[u8], steps: &[Step]) -> Optio
     }
 }
 
-/// What comes of a row where so many bytes are left.
-pub fn came(alloc: Global, hoard: &mut Hoard, bytes: usize, row: &Row) -> Came {
-    match (
-        cluster_after_steps(alloc, row.lines, row.before),
-        prepared(alloc, row.step),
-    ) {
-        (Some(mut cluster), Some(given)) => {
-            judged(alloc, hoard, bytes, &given, row.answer, &mut cluster)
-        }
+/// What came of something that was refused or done at first, and of which this is so now.
+pub fn came_of(was_refused: bool, is_so: bool) -> Came {
+    match (was_refused, is_so) {
+        (true, true) => Came::Refused,
+        (false, true) => Came::Done,
         _ => Came::Other,
     }
+}
+
+/// What comes of a step where so many bytes are left, and whether all of them still are: a refusal leaves the cluster as it was, and the step
+/// is answered once memory is there again.
+fn judged(
+    alloc: Global,
+    hoard: &mut Hoard,
+    bytes: usize,
+    given: &Given,
+    answer: Answer,
+    cluster: &mut Cluster<RESOURCES>,
+) -> (Came, bool) {
+    let before = seen(cluster);
+    hoard.leave(alloc, bytes);
+    let first = made(alloc, cluster, given);
+    let has_left = hoard.has_left(alloc, bytes);
+    hoard.give();
+    if first == answer {
+        return (Came::Done, has_left);
+    }
+    let is_same = first == Answer::NoMemory && seen(cluster) == before;
+    let is_made = is_same && made(alloc, cluster, given) == answer;
+    (came_of(true, is_made), has_left)
+}
+
+/// What comes of a row where so many bytes are left, and whether all of them still are.
+fn came_and_left(alloc: Global, hoard: &mut Hoard, bytes: usize, row: Row) -> (Came, bool) {
+    let (before, step, answer) = row;
+    match (cluster_after(alloc, before), prepared(alloc, step)) {
+        (Some(mut cluster), Some(given)) => {
+            judged(alloc, hoard, bytes, &given, answer, &mut cluster)
+        }
+        _ => (Came::Other, false),
+    }
+}
+
+/// What comes of a row where so many bytes are left.
+pub fn came(alloc: Global, hoard: &mut Hoard, bytes: usize, row: Row) -> Came {
+    came_and_left(alloc, hoard, bytes, row).0
 }
 
 /// So many bytes are many for one step.
 const MANY: usize = 65_536;
 
 /// Whether the row's step is answered where no bytes are left, and takes none of many.
-pub fn takes_none(alloc: Global, hoard: &mut Hoard, row: &Row) -> bool {
-    came(alloc, hoard, 0, row) == Came::Done && leaves_all(alloc, hoard, row)
-}
-
-/// Whether it is answered so that many bytes are still left.
-fn leaves_all(alloc: Global, hoard: &mut Hoard, row: &Row) -> bool {
-    match (
-        cluster_after_steps(alloc, row.lines, row.before),
-        prepared(alloc, row.step),
-    ) {
-        (Some(mut cluster), Some(given)) => {
-            is_made_of_none(alloc, hoard, &given, row.answer, &mut cluster)
-        }
-        _ => false,
-    }
-}
-
-fn is_made_of_none(
-    alloc: Global,
-    hoard: &mut Hoard,
-    given: &Given,
-    answer: Answer,
-    cluster: &mut Cluster<2>,
-) -> bool {
-    hoard.leave(alloc, MANY);
-    let first = made(alloc, cluster, given);
-    let has_left = hoard.has_left(alloc, MANY);
-    hoard.give();
-    has_left && first == answer
+pub fn takes_none(alloc: Global, hoard: &mut Hoard, row: Row) -> bool {
+    came(alloc, hoard, 0, row) == Came::Done
+        && came_and_left(alloc, hoard, MANY, row) == (Came::Done, true)
 }

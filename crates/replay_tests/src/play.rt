@@ -15,15 +15,34 @@ pub fn run(alloc: Global, script: &str) -> (u8, Vec<u8>) {
     (status, output)
 }
 
-/// Plays a script into this room: the status, and how many bytes of the room are left.
+/// Plays a script into this room: the status, and what it prints.
 #[cfg(test)]
-pub fn play_into(alloc: Global, script: &[u8], room: &mut [u8]) -> (u8, usize) {
+pub fn play_into<'a>(alloc: Global, script: &[u8], room: &'a mut [u8]) -> (u8, &'a [u8]) {
     let mut input = script;
-    let mut output = room;
+    let mut output = &mut *room;
     let status = replay(
         alloc,
         &mut Counted::new(&mut input),
         &mut Counted::new(&mut output),
     );
-    (status, output.len())
+    let left = output.len();
+    let count = room.len().saturating_sub(left);
+    (status, room.get(..count).unwrap_or(&[]))
+}
+
+#[cfg(test)]
+fn ends_line(byte: &u8) -> bool {
+    *byte == b'\n'
+}
+
+/// How many lines there are: one more than line feeds.
+#[cfg(test)]
+pub fn count_lines(printed: &[u8]) -> usize {
+    printed.split(ends_line).count()
+}
+
+/// A line by its number, the first of which is 0.
+#[cfg(test)]
+pub fn line_of(printed: &[u8], number: usize) -> Option<&[u8]> {
+    printed.split(ends_line).nth(number)
 }

@@ -1,5 +1,5 @@
 //! A replay of which each allocation is refused in turn.
-use crate::play::play_into;
+use crate::play::{count_lines, line_of, play_into};
 use memory_testing::{Came, Hoard, Turns, refuse_in_turn};
 use std::alloc::Global;
 
@@ -40,21 +40,19 @@ idle
 /// How many lines are printed, whatever the calls are answered.
 const LINES: usize = 12;
 
-/// What the calls that take memory are answered where it is refused.
-const REFUSED: [&[u8]; 3] = [
-    b"out 1 0000000701050000000114",
-    b"out 1 0000000701010000000214",
-    b"out 1 0000000701030000000514",
-];
+/// Whether this is what a call that takes memory is answered where it is refused.
+fn is_refusal(line: &[u8]) -> bool {
+    line == b"out 1 0000000701050000000114".as_slice()
+        || line == b"out 1 0000000701010000000214".as_slice()
+        || line == b"out 1 0000000701030000000514".as_slice()
+}
 
 /// Whether the lines are the first that are printed, up to one of a call that memory was refused. What follows it depends on it.
 fn is_refused(printed: &[u8]) -> bool {
-    for (line, whole) in printed
-        .split(|b| *b == b'\n')
-        .zip(PRINTED.split(|b| *b == b'\n'))
-    {
-        if line != whole {
-            return REFUSED.iter().any(|refused| *refused == line);
+    for number in 0..=LINES {
+        let line = line_of(printed, number);
+        if line != line_of(PRINTED, number) {
+            return line.is_some_and(is_refusal);
         }
     }
     false
@@ -65,10 +63,9 @@ fn judged(status: u8, printed: &[u8]) -> Came {
     if status == 0 && printed == PRINTED {
         return Came::Done;
     }
-    let count = printed.iter().filter(|b| **b == b'\n').count();
     let front = match printed.strip_suffix(b"no memory\n") {
         Some(front) if status == 3 => front,
-        None if status == 0 && count == LINES => printed,
+        None if status == 0 && count_lines(printed) == LINES + 1 => printed,
         _ => return Came::Other,
     };
     let is_whole = front.is_empty() || front.ends_with(b"\n");
@@ -83,12 +80,9 @@ fn judged(status: u8, printed: &[u8]) -> Came {
 fn came(alloc: Global, hoard: &mut Hoard, bytes: usize) -> Came {
     let mut room = [0u8; 1024];
     hoard.leave(alloc, bytes);
-    let (status, left) = play_into(alloc, SCRIPT, &mut room);
+    let (status, printed) = play_into(alloc, SCRIPT, &mut room);
     hoard.give();
-    match room.len().checked_sub(left) {
-        Some(count) => judged(status, room.get(..count).unwrap_or(&[])),
-        None => Came::Other,
-    }
+    judged(status, printed)
 }
 
 #[test]

@@ -1,11 +1,10 @@
 //! One connection that would hold up all others, if a change of epochs waited for it.
-use crate::client::{BAD_LENGTH, connect, is_answered, is_taken};
-use crate::gates::Mark;
-use crate::side::{Outcome, listen, number_after, said, served};
+use crate::client::{BAD_LENGTH, connect, is_answered, is_taken, receive, send};
+use crate::gates::{GateOf, Mark};
+use crate::side::{ONE_QUEUE, Outcome, closed_by, listen, served};
 use cap_server::Sizes;
-use cap_workers::OpenGate;
 use std::alloc::Global;
-use std::io::{self, Read, Write};
+use std::io;
 use std::net::{Net, TcpListener, TcpStream};
 use std::sync::Wait;
 use std::test::*;
@@ -40,12 +39,11 @@ enum Trouble {
 
 /// Sends bytes every 20 milliseconds until the other connection has ended. Whether they could be sent.
 fn drip<H: Clock>(rt: &H, stream: &TcpStream, ended: &Mark) -> bool {
-    let mut stream = stream;
     for _ in 0..SENDS {
         if ended.is_reached(1) {
             break;
         }
-        if stream.write_all(&[1]).is_err() {
+        if send(stream, &[1]).is_err() {
             return false;
         }
         sleep(rt, Duration::from_millis(20));
@@ -55,10 +53,9 @@ fn drip<H: Clock>(rt: &H, stream: &TcpStream, ended: &Mark) -> bool {
 
 /// Sends a payload that is no request, and reads its answer.
 fn is_refused(stream: &TcpStream) -> io::Result<bool> {
-    let mut stream = stream;
-    stream.write_all(&MALFORMED)?;
+    send(stream, &MALFORMED)?;
     let mut answer = [0u8; 11];
-    stream.read_exact(&mut answer)?;
+    receive(stream, &mut answer)?;
     Ok(answer == BAD_MESSAGE)
 }
 
@@ -72,69 +69,99 @@ fn fill(alloc: Global, stream: &TcpStream) -> io::Result<()> {
     Ok(())
 }
 
-impl Trouble {
-    /// Does it until the other connection has ended. `begun` is reached once it has begun.
-    fn make<H: Net<Listener = TcpListener, Stream = TcpStream> + Wait + Clock>(
-        self,
-        rt: &H,
-        alloc: Global,
-        port: u16,
-        begun: &Mark,
-        ended: &Mark,
-    ) -> io::Result<bool> {
-        if let Trouble::ComesLate = self {
-            begun.reach(1);
-            return Ok(ended.awaits(1) && is_answered(&connect(rt, port)?)?);
-        }
-        let stream = connect(rt, port)?;
-        let mut writer = &stream;
-        match self {
-            Trouble::Drips => {
-                writer.write_all(&[0, 1, 0, 0])?;
-                begun.reach(1);
-                Ok(drip(rt, &stream, ended))
-            }
-            Trouble::Floods => {
-                let mut is_right = true;
-                for _ in 0..u64::MAX {
-                    if ended.is_reached(1) || !is_right {
-                        break;
-                    }
-                    is_right = is_refused(&stream)?;
-                    begun.reach(1);
-                }
-                Ok(is_right)
-            }
-            Trouble::ReadsNothing => {
-                fill(alloc, &stream)?;
-                begun.reach(1);
-                Ok(ended.awaits(1))
-            }
-            Trouble::BadLength | Trouble::ComesLate => {
-                writer.write_all(&[0; 4])?;
-                let mut answer = [0u8; 11];
-                writer.read_exact(&mut answer)?;
-                begun.reach(1);
-                let _sent = drip(rt, &stream, ended);
-                Ok(answer == BAD_LENGTH)
-            }
-        }
-    }
+/// Begins a payload, and goes on with it byte by byte.
+fn drips<H: Clock>(rt: &H, stream: &TcpStream, begun: &Mark, ended: &Mark) -> io::Result<bool> {
+    send(stream, &[0, 1, 0, 0])?;
+    begun.reach(1);
+    Ok(drip(rt, stream, ended))
 }
 
-/// Makes the calls of the other connection, each of which is to be answered within 2 seconds.
-fn make_calls<H: Net<Listener = TcpListener, Stream = TcpStream>>(
-    rt: &H,
-    port: u16,
-) -> io::Result<bool> {
-    let stream = connect(rt, port)?;
-    stream.set_read_timeout(Some(Duration::from_secs(2)))?;
-    for _ in 0..CALLS {
-        if !is_answered(&stream)? {
+/// Sends payloads that are no requests, and reads their answers.
+fn floods(stream: &TcpStream, begun: &Mark, ended: &Mark) -> io::Result<bool> {
+    for _ in 0..u64::MAX {
+        if ended.is_reached(1) {
+            break;
+        }
+        let is_right = is_refused(stream)?;
+        begun.reach(1);
+        if !is_right {
             return Ok(false);
         }
     }
     Ok(true)
+}
+
+/// Sends a length that no frame has, and goes on after its answer.
+fn goes_on<H: Clock>(rt: &H, stream: &TcpStream, begun: &Mark, ended: &Mark) -> io::Result<bool> {
+    send(stream, &[0; 4])?;
+    let mut answer = [0u8; 11];
+    receive(stream, &mut answer)?;
+    begun.reach(1);
+    let _sent = drip(rt, stream, ended);
+    Ok(answer == BAD_LENGTH)
+}
+
+impl Trouble {
+    /// Does it on this connection until the other one has ended. `begun` is reached once it has begun.
+    fn make<H: Clock>(
+        self,
+        rt: &H,
+        alloc: Global,
+        stream: &TcpStream,
+        begun: &Mark,
+        ended: &Mark,
+    ) -> io::Result<bool> {
+        match self {
+            Trouble::Drips => drips(rt, stream, begun, ended),
+            Trouble::Floods => floods(stream, begun, ended),
+            Trouble::ReadsNothing => {
+                fill(alloc, stream)?;
+                begun.reach(1);
+                Ok(ended.awaits(1))
+            }
+            Trouble::BadLength => goes_on(rt, stream, begun, ended),
+            Trouble::ComesLate => is_answered(stream),
+        }
+    }
+}
+
+/// Opens a connection and makes the trouble on it, once the other one has ended if it comes late.
+fn make_trouble<H: Net<Listener = TcpListener, Stream = TcpStream> + Clock>(
+    rt: &H,
+    alloc: Global,
+    port: u16,
+    trouble: Trouble,
+    begun: &Mark,
+    ended: &Mark,
+) -> io::Result<bool> {
+    if let Trouble::ComesLate = trouble {
+        begun.reach(1);
+        if !ended.awaits(1) {
+            return Ok(false);
+        }
+    }
+    let stream = connect(rt, port)?;
+    trouble.make(rt, alloc, &stream, begun, ended)
+}
+
+/// Makes the calls of the other connection, each of which is to be answered within 2 seconds.
+fn make_calls(stream: &TcpStream) -> io::Result<bool> {
+    stream.set_read_timeout(Some(Duration::from_secs(2)))?;
+    for _ in 0..CALLS {
+        if !is_answered(stream)? {
+            return Ok(false);
+        }
+    }
+    Ok(true)
+}
+
+/// Opens the other connection, and makes its calls.
+fn are_calls_answered<H: Net<Listener = TcpListener, Stream = TcpStream>>(
+    rt: &H,
+    port: u16,
+) -> io::Result<bool> {
+    let stream = connect(rt, port)?;
+    make_calls(&stream)
 }
 
 /// Makes the calls once the trouble has begun, and says when it has ended.
@@ -144,7 +171,7 @@ fn answered_beside<H: Net<Listener = TcpListener, Stream = TcpStream>>(
     begun: &Mark,
     ended: &Mark,
 ) -> bool {
-    let is_answered = begun.awaits(1) && make_calls(rt, port).unwrap_or(false);
+    let is_answered = begun.awaits(1) && are_calls_answered(rt, port).unwrap_or(false);
     ended.reach(1);
     is_answered
 }
@@ -156,11 +183,7 @@ fn make_both<
     let (begun, ended) = (Mark::new(), Mark::new());
     let (made, answered) = join(
         rt,
-        || {
-            trouble
-                .make(rt, alloc, port, &begun, &ended)
-                .unwrap_or(false)
-        },
+        || { make_trouble(rt, alloc, port, trouble, &begun, &ended).unwrap_or(false) },
         || answered_beside(rt, port, &begun, &ended),
     );
     made && answered
@@ -176,11 +199,10 @@ fn beside_both<
         journal: 4,
         lanes: Some(64),
     };
-    let lines = b"yarn.scheduler.capacity.root.queues=default";
     let (listener, port) = listen(rt)?;
     let ((status, printed), answered) = join(
         rt,
-        || served(rt, alloc, lines, &listener, &sizes, &OpenGate),
+        || served(rt, alloc, ONE_QUEUE, &listener, &sizes, GateOf::Open),
         || make_both(rt, alloc, port, trouble),
     );
     Some(Outcome {
@@ -190,38 +212,26 @@ fn beside_both<
     })
 }
 
-/// Whether the daemon answers a connection over its epochs while another one makes trouble, and has so many entries then.
-fn is_served_beside<
+/// How many entries a daemon has in all, in epochs of four, if it answers a connection over these while another one makes trouble.
+fn entries_beside<
     H: Net<Listener = TcpListener, Stream = TcpStream> + Threads + Wait + Clock + Eprint + Sync,
->(rt: &H, alloc: Global, trouble: Trouble, entries: u64) -> bool {
-    let outcome = beside_both(rt, alloc, trouble);
-    match said(&outcome) {
-        Some((0, true, line)) => number_after(line, b"entries=") == Some(entries),
-        _ => false,
+>(rt: &H, alloc: Global, trouble: Trouble) -> Option<u64> {
+    let (_epochs, entries) = closed_by(&beside_both(rt, alloc, trouble)?)?;
+    Some(entries)
+}
+
+#[test]
+fn one_connection_holds_nobody_up(rt: HostRuntime) {
+    for &(name, trouble, entries) in &[
+        ("a drip", Trouble::Drips, 12),
+        ("a flood", Trouble::Floods, 12),
+        ("one that reads nothing", Trouble::ReadsNothing, 12),
+        ("bytes after a bad length", Trouble::BadLength, 12),
+        ("one that comes late", Trouble::ComesLate, 13),
+    ] {
+        assert!(rt;
+            entries_beside(&rt, rt.alloc(), trouble) == Some(entries),
+            "{name}"
+        );
     }
-}
-
-#[test]
-fn a_drip_holds_nobody_up(rt: HostRuntime) {
-    assert!(rt; is_served_beside(&rt, rt.alloc(), Trouble::Drips, 12));
-}
-
-#[test]
-fn a_flood_holds_nobody_up(rt: HostRuntime) {
-    assert!(rt; is_served_beside(&rt, rt.alloc(), Trouble::Floods, 12));
-}
-
-#[test]
-fn who_reads_nothing_holds_nobody_up(rt: HostRuntime) {
-    assert!(rt; is_served_beside(&rt, rt.alloc(), Trouble::ReadsNothing, 12));
-}
-
-#[test]
-fn bytes_after_a_bad_length_hold_nobody_up(rt: HostRuntime) {
-    assert!(rt; is_served_beside(&rt, rt.alloc(), Trouble::BadLength, 12));
-}
-
-#[test]
-fn who_comes_late_holds_nobody_up(rt: HostRuntime) {
-    assert!(rt; is_served_beside(&rt, rt.alloc(), Trouble::ComesLate, 13));
 }

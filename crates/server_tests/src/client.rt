@@ -39,10 +39,9 @@ pub fn ask_last(alloc: Global, stream: &TcpStream, bytes: &[u8]) -> io::Result<V
 
 /// Whether a ClusterInfo of the empty cluster is answered.
 pub fn is_answered(stream: &TcpStream) -> io::Result<bool> {
-    let mut stream = stream;
-    stream.write_all(&ASK)?;
+    send(stream, &ASK)?;
     let mut answer = [0u8; 55];
-    stream.read_exact(&mut answer)?;
+    receive(stream, &mut answer)?;
     Ok(answer == ANSWER)
 }
 
@@ -60,9 +59,8 @@ pub fn are_answers(bytes: &[u8], count: usize) -> bool {
 
 /// Sends these bytes so often, or until no more is taken. Whether all were taken.
 pub fn is_taken(stream: &TcpStream, bytes: &[u8], times: u32) -> bool {
-    let mut stream = stream;
     for _ in 0..times {
-        if stream.write_all(bytes).is_err() {
+        if send(stream, bytes).is_err() {
             return false;
         }
     }
@@ -71,8 +69,7 @@ pub fn is_taken(stream: &TcpStream, bytes: &[u8], times: u32) -> bool {
 
 /// Makes a call with call id 1, and reads the payload of its reply.
 pub fn call(alloc: Global, stream: &TcpStream, call: &Call<'_>) -> io::Result<Vec<u8>> {
-    let asked = frame(alloc, 1, call)?;
-    send(stream, asked.as_slice())?;
+    send(stream, frame(alloc, 1, call)?.as_slice())?;
     let mut payload = Vec::new(alloc);
     payload.resize(reply_length(stream)?, 0)?;
     receive(stream, payload.as_mut_slice())?;
@@ -84,7 +81,7 @@ pub fn send(stream: &TcpStream, bytes: &[u8]) -> io::Result<()> {
     stream.write_all(bytes)
 }
 
-fn receive(stream: &TcpStream, bytes: &mut [u8]) -> io::Result<()> {
+pub fn receive(stream: &TcpStream, bytes: &mut [u8]) -> io::Result<()> {
     let mut stream = stream;
     stream.read_exact(bytes)
 }

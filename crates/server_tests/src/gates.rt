@@ -1,5 +1,5 @@
 //! Gates that hold a worker until something else has happened.
-use cap_workers::{Gate, Point};
+use cap_workers::{Gate, Point, Tally};
 use std::sync::atomic::{AtomicU64, Ordering};
 use std::thread::yield_now;
 
@@ -40,6 +40,32 @@ impl Mark {
             yield_now();
         }
         false
+    }
+}
+
+/// The gate of a daemon.
+#[derive(Clone, Copy)]
+pub enum GateOf<'a> {
+    Open,
+    Counting(&'a Tally),
+    Meeting(&'a Meeting),
+    Committing(&'a Committing),
+    OwnLanes(&'a OwnLanes),
+    Holding(&'a Holding),
+    HoldingOnce(&'a HoldingOnce),
+}
+
+impl Gate for GateOf<'_> {
+    fn at(&self, worker: u32, point: Point) {
+        match self {
+            GateOf::Open => {}
+            GateOf::Counting(gate) => gate.at(worker, point),
+            GateOf::Meeting(gate) => gate.at(worker, point),
+            GateOf::Committing(gate) => gate.at(worker, point),
+            GateOf::OwnLanes(gate) => gate.at(worker, point),
+            GateOf::Holding(gate) => gate.at(worker, point),
+            GateOf::HoldingOnce(gate) => gate.at(worker, point),
+        }
     }
 }
 

@@ -1,9 +1,9 @@
 //! Tests of connections that send garbage, are cut off or never read, beside one that is answered all the time.
 
 use crate::client::{ASK, BAD_LENGTH, ask_last, connect, is_answered, is_taken};
-use crate::side::{Client, beside_daemon, number_after, said};
+use crate::gates::GateOf;
+use crate::side::{Client, ONE_QUEUE, closed};
 use cap_server::Sizes;
-use cap_workers::OpenGate;
 use std::alloc::Global;
 use std::io;
 use std::net::{Net, TcpListener, TcpStream};
@@ -86,28 +86,13 @@ impl Client for Hostile {
 }
 
 #[test]
-fn others_go_on(rt: HostRuntime) -> Result<(), Fail> {
+fn others_go_on(rt: HostRuntime) {
     let sizes = Sizes {
         workers: 1,
         connections: 4,
         journal: 1000,
         lanes: Some(64),
     };
-    let outcome = beside_daemon(
-        &rt,
-        rt.alloc(),
-        b"yarn.scheduler.capacity.root.queues=default",
-        &sizes,
-        &OpenGate,
-        &Hostile,
-    );
-    let ended = said(&outcome);
-    assert!(rt; matches!(ended, Some((0, true, _))));
-    assert!(rt;
-        ended
-            .and_then(|e| number_after(e.2, b"epochs="))
-            .unwrap_or(0)
-            >= 2
-    );
-    Ok(())
+    let ended = closed(&rt, rt.alloc(), ONE_QUEUE, &sizes, GateOf::Open, &Hostile);
+    assert!(rt; matches!(ended, Some((epochs, _)) if epochs >= 2));
 }

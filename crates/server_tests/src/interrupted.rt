@@ -50,7 +50,7 @@ fn stream(left: u32, failure: Option<ErrorKind>) -> Uninterrupted<Interrupting> 
 #[test]
 fn interrupted_reads_are_quiet(rt: HostRuntime) {
     let reset = ErrorKind::ConnectionReset;
-    for (left, failure, want) in [
+    for &(left, failure, want) in &[
         (0, None, Ok(1)),
         (1, None, Err(ErrorKind::WouldBlock)),
         (0, Some(ErrorKind::TimedOut), Err(ErrorKind::TimedOut)),
@@ -65,7 +65,7 @@ fn interrupted_reads_are_quiet(rt: HostRuntime) {
 #[test]
 fn interrupted_writes_are_made_again(rt: HostRuntime) {
     let broken = ErrorKind::BrokenPipe;
-    for (left, failure, want) in [
+    for &(left, failure, want) in &[
         (0, None, Ok(1)),
         (1, None, Ok(1)),
         (100, None, Ok(1)),

@@ -1,9 +1,10 @@
 //! The daemon through the words of the program, on real sockets.
-use crate::client::{ASK, are_answered, connect};
+use crate::client::{ASK, are_answered, connect, send};
+use crate::side::listen;
 use cap_daemon::{Counted, run};
 use std::alloc::Global;
 use std::fs;
-use std::io::{self, Read, Write};
+use std::io::{self, Read};
 use std::net::{Net, TcpListener, TcpStream};
 use std::rt::Files;
 use std::sync::Wait;
@@ -11,15 +12,10 @@ use std::test::*;
 use std::thread::{Threads, join, sleep};
 use std::time::{Clock, Duration};
 
-/// What came of the program: its exit status, what it printed, and what it left in words.
-#[derive(Drop)]
-struct Ran {
-    status: u8,
-    printed: Vec<u8>,
-    complaint: String,
-}
+/// What came of the program: its exit status, whether it printed what it was to print, and whether what it left in words begins as it was to.
+type Ran = (u8, bool, bool);
 
-/// Runs the program on these words.
+/// Runs the program on these words. It is to print exactly this, and to leave words that begin like this.
 fn run_words<
     H: Net<Listener = TcpListener, Stream = TcpStream>
         + Threads
@@ -29,7 +25,7 @@ fn run_words<
         + Files
         + AllocGlobal
         + Sync,
->(rt: &H, words: &[&str]) -> Ran {
+>(rt: &H, words: &[&str], wanted: &str, said: &str) -> Ran {
     let alloc = rt.alloc();
     let mut printed = Vec::new(alloc);
     let mut complaint = String::new(alloc);
@@ -41,17 +37,8 @@ fn run_words<
         &mut Counted::new(&mut printed),
         &mut complaint,
     );
-    Ran {
-        status,
-        printed,
-        complaint,
-    }
-}
-
-/// A port of the loopback that nobody listens on.
-fn free_port<H: Net<Listener = TcpListener, Stream = TcpStream>>(rt: &H) -> io::Result<u16> {
-    let listener = TcpListener::bind(rt, "127.0.0.1:0")?;
-    Ok(listener.local_addr()?.port())
+    let is_printed = printed.as_slice() == wanted.as_bytes();
+    (status, is_printed, complaint.as_str().starts_with(said))
 }
 
 /// Where no settings file is.
@@ -101,7 +88,7 @@ fn with_value<'a>(words: &[&'a str; 14], place: usize, value: &'a str) -> [&'a s
 }
 
 /// Each option at its bounds and past them, and whether that is taken.
-const OPTIONS: [(usize, &str, bool); 22] = [
+static OPTIONS: [(usize, &str, bool); 22] = [
     (PORT, "0", false),
     (PORT, "1", true),
     (PORT, "65535", true),
@@ -138,11 +125,9 @@ fn takes<
         + Sync,
 >(rt: &H, place: usize, value: &str) -> Option<bool> {
     let words = with_value(&WORDS, place, value);
-    let ran = run_words(rt, words.as_slice());
-    let is_file = ran.complaint.as_str().starts_with("settings file: ");
-    match (ran.status, is_file) {
-        (1, true) if ran.printed.is_empty() => Some(true),
-        (2, false) if ran.printed.is_empty() => Some(false),
+    match run_words(rt, words.as_slice(), "", "settings file: ") {
+        (1, true, true) => Some(true),
+        (2, true, false) => Some(false),
         _ => None,
     }
 }
@@ -150,7 +135,7 @@ fn takes<
 // Words are looked at before the settings file, which is not there: bad ones are status 2, and good ones lead to the file that is missing.
 #[test]
 fn options_have_bounds(rt: HostRuntime) {
-    for (place, value, is_taken) in OPTIONS {
+    for &(place, value, is_taken) in &OPTIONS {
         assert!(rt;
             takes(&rt, place, value) == Some(is_taken),
             "{place} {value}"
@@ -167,7 +152,7 @@ const OWN: &str = "own";
 
 /// Another value in the words of a daemon on a port that is taken and with a settings file that is missing; the exit status, what is printed, and what is said
 /// of the first fault.
-const FAULTS: [(usize, &str, u8, &str, &str); 4] = [
+static FAULTS: [(usize, &str, u8, &str, &str); 4] = [
     (WORKERS, "none", 2, "", "error: "),
     (CONFIG, MISSING, 1, "", "settings file: "),
     (CONFIG, EMPTY, 2, "config 0 10\n", ""),
@@ -189,35 +174,24 @@ fn is_told<
     let value = if value == OWN { settings } else { value };
     let words = with_value(&WORDS, PORT, port);
     let words = with_value(&words, place, value);
-    let ran = run_words(rt, words.as_slice());
-    ran.status == status
-        && ran.printed.as_slice() == printed.as_bytes()
-        && ran.complaint.as_str().starts_with(said)
+    run_words(rt, words.as_slice(), printed, said) == (status, true, true)
 }
 
 #[test]
 fn faults_have_an_order(rt: HostRuntime) -> Result<(), Fail> {
-    let taken = TcpListener::bind(&rt, "127.0.0.1:0")?;
-    let port = format!(in rt.alloc(); "{}", taken.local_addr()?.port())?;
+    let Some((_taken, port)) = listen(&rt) else {
+        assert!(rt; false, "no port");
+        return Ok(());
+    };
+    let port = format!(in rt.alloc(); "{port}")?;
     let settings = format!(in rt.alloc(); "/tmp/capsched_{port}.settings")?;
     let (port, settings) = (port.as_str(), settings.as_str());
     fs::write(&rt, settings, QUEUES)?;
-    for fault in FAULTS {
+    for &fault in &FAULTS {
         assert!(rt; is_told(&rt, port, settings, fault), "{}", fault.1);
     }
     fs::remove_file(&rt, settings)?;
     Ok(())
-}
-
-/// A client of the daemon on this port.
-trait Visitor {
-    /// Whether all was answered as it has to be. An error means that a socket failed.
-    fn visit<H: Net<Listener = TcpListener, Stream = TcpStream> + Clock>(
-        &self,
-        rt: &H,
-        alloc: Global,
-        port: u16,
-    ) -> io::Result<bool>;
 }
 
 /// A connection to the daemon, once it listens. A read fails after 10 seconds.
@@ -234,71 +208,45 @@ fn connect_late<H: Net<Listener = TcpListener, Stream = TcpStream> + Clock>(
     connect(rt, port)
 }
 
-/// Sends so many ClusterInfos at once, and reads their answers.
-#[derive(Drop)]
-struct Asks {
-    count: usize,
-}
-
-impl Visitor for Asks {
-    fn visit<H: Net<Listener = TcpListener, Stream = TcpStream> + Clock>(
-        &self,
-        rt: &H,
-        alloc: Global,
-        port: u16,
-    ) -> io::Result<bool> {
-        are_answered(alloc, &connect_late(rt, port)?, self.count)
-    }
-}
-
 /// Whether a ClusterInfo of the first connection is answered, and not one of the second.
 fn is_first_answered(alloc: Global, first: &TcpStream, second: &TcpStream) -> io::Result<bool> {
     let mut second = second;
-    second.write_all(&ASK)?;
+    send(second, &ASK)?;
     let is_first = are_answered(alloc, first, 1)?;
     let mut byte = [0u8; 1];
     Ok(is_first && !matches!(second.read(&mut byte), Ok(1)))
 }
 
-/// Finds that the daemon listens on 127.0.0.1 alone, and that it answers one connection and not the one after it.
-#[derive(Drop)]
-struct Second;
+/// What a client of the daemon does.
+#[derive(Clone, Copy)]
+enum Visit {
+    /// It sends so many ClusterInfos at once, and reads their answers.
+    Asks(usize),
+    /// It finds that the daemon listens on 127.0.0.1 alone, and that it answers one connection and not the one after it.
+    Second,
+}
 
-impl Visitor for Second {
-    fn visit<H: Net<Listener = TcpListener, Stream = TcpStream> + Clock>(
-        &self,
+impl Visit {
+    /// Whether all was answered as it has to be. An error means that a socket failed.
+    fn make<H: Net<Listener = TcpListener, Stream = TcpStream> + Clock>(
+        self,
         rt: &H,
         alloc: Global,
         port: u16,
     ) -> io::Result<bool> {
         let first = connect_late(rt, port)?;
-        let is_elsewhere = TcpStream::connect(rt, ("127.0.0.2", port)).is_ok();
-        let second = connect_late(rt, port)?;
-        Ok(is_first_answered(alloc, &first, &second)? && !is_elsewhere)
+        match self {
+            Visit::Asks(count) => are_answered(alloc, &first, count),
+            Visit::Second => {
+                let is_elsewhere = TcpStream::connect(rt, ("127.0.0.2", port)).is_ok();
+                let second = connect_late(rt, port)?;
+                Ok(is_first_answered(alloc, &first, &second)? && !is_elsewhere)
+            }
+        }
     }
 }
 
-/// The words of a daemon with this port, settings file and length of journals.
-fn daemon_words<'a>(port: &'a str, settings: &'a str, journal: &'a str) -> [&'a str; 14] {
-    [
-        "capsched",
-        "serve",
-        "--port",
-        port,
-        "--workers",
-        "1",
-        "--config",
-        settings,
-        "--connections",
-        "1",
-        "--journal",
-        journal,
-        "--lanes",
-        "64",
-    ]
-}
-
-/// What came of the program on these words, which serves on this port, and whether the visitor was answered.
+/// What came of the program on these words, which serves on this port and is to print this, and whether the visit went as it has to.
 fn beside_program<
     H: Net<Listener = TcpListener, Stream = TcpStream>
         + Threads
@@ -308,23 +256,17 @@ fn beside_program<
         + Files
         + AllocGlobal
         + Sync,
-    V: Visitor + Sync,
->(rt: &H, port: u16, words: &[&str], visitor: &V) -> (bool, Ran) {
+>(rt: &H, port: u16, words: &[&str], wanted: &str, visit: Visit) -> (bool, Ran) {
     let alloc = rt.alloc();
     join(
         rt,
-        || visitor.visit(rt, alloc, port).unwrap_or(false),
-        || run_words(rt, words),
+        || visit.make(rt, alloc, port).unwrap_or(false),
+        || run_words(rt, words, wanted, ""),
     )
 }
 
-/// Whether the port and then this line were printed.
-fn is_printed(alloc: Global, ran: &Ran, port: u16, line: &str) -> io::Result<bool> {
-    let printed = format!(in alloc; "listening {port}\n{line}\n")?;
-    Ok(ran.printed.as_slice() == printed.as_bytes())
-}
-
-/// What came of a daemon on this port: whether the visitor was answered, the exit status, and whether the port and then this line were printed.
+/// Whether a daemon on this port with journals of this length ends with status 0, has printed the port and then this line, and went through the
+/// visit.
 fn visited_on<
     H: Net<Listener = TcpListener, Stream = TcpStream>
         + Threads
@@ -334,19 +276,19 @@ fn visited_on<
         + Files
         + AllocGlobal
         + Sync,
-    V: Visitor + Sync,
 >(
     rt: &H,
-    number: u16,
-    (settings, journal): (&str, &str),
-    visitor: &V,
-    line: &str,
-) -> io::Result<(bool, u8, bool)> {
-    let port = format!(in rt.alloc(); "{number}")?;
-    let words = daemon_words(port.as_str(), settings, journal);
-    let (answered, ran) = beside_program(rt, number, words.as_slice(), visitor);
-    let printed = is_printed(rt.alloc(), &ran, number, line)?;
-    Ok((answered, ran.status, printed))
+    port: u16,
+    settings: &str,
+    (journal, visit, line): (&str, Visit, &str),
+) -> io::Result<bool> {
+    let number = format!(in rt.alloc(); "{port}")?;
+    let wanted = format!(in rt.alloc(); "listening {port}\n{line}\n")?;
+    let words = with_value(&WORDS, PORT, number.as_str());
+    let words = with_value(&words, CONFIG, settings);
+    let words = with_value(&words, JOURNAL, journal);
+    let came = beside_program(rt, port, words.as_slice(), wanted.as_str(), visit);
+    Ok(came == (true, (0, true, true)))
 }
 
 /// The same on a port that is free, with a settings file that this makes and is named by it.
@@ -359,34 +301,28 @@ fn visited<
         + Files
         + AllocGlobal
         + Sync,
-    V: Visitor + Sync,
->(rt: &H, journal: &str, visitor: &V, line: &str) -> io::Result<(bool, u8, bool)> {
-    let port = free_port(rt)?;
+>(rt: &H, daemon: (&str, Visit, &str)) -> io::Result<bool> {
+    let Some((listener, port)) = listen(rt) else {
+        return Ok(false);
+    };
+    drop(listener);
     let settings = format!(in rt.alloc(); "/tmp/capsched_{port}.settings")?;
     fs::write(rt, settings.as_str(), QUEUES)?;
-    let outcome = visited_on(rt, port, (settings.as_str(), journal), visitor, line)?;
+    let is_right = visited_on(rt, port, settings.as_str(), daemon)?;
     fs::remove_file(rt, settings.as_str())?;
-    Ok(outcome)
+    Ok(is_right)
 }
 
+/// Journals have a limit, and one connection is accepted and no more.
 #[test]
-fn a_journal_has_a_limit(rt: HostRuntime) -> Result<(), Fail> {
-    for (journal, count, line) in [
-        ("4", 6, "closed epochs=2 entries=6"),
-        ("7", 6, "closed epochs=1 entries=6"),
-        ("4096", 5000, "closed epochs=2 entries=5000"),
+fn a_daemon_serves_as_its_words_say(rt: HostRuntime) -> Result<(), Fail> {
+    for &(journal, visit, line) in &[
+        ("4", Visit::Asks(6), "closed epochs=2 entries=6"),
+        ("7", Visit::Asks(6), "closed epochs=1 entries=6"),
+        ("4096", Visit::Asks(5000), "closed epochs=2 entries=5000"),
+        ("4", Visit::Second, "closed epochs=1 entries=1"),
     ] {
-        let visitor = Asks { count };
-        let outcome = visited(&rt, journal, &visitor, line)?;
-        assert!(rt; outcome == (true, 0, true), "{journal}");
+        assert!(rt; visited(&rt, (journal, visit, line))?, "{journal} {line}");
     }
-    Ok(())
-}
-
-#[test]
-fn one_connection_is_accepted_and_no_more(rt: HostRuntime) -> Result<(), Fail> {
-    let line = "closed epochs=1 entries=1";
-    let outcome = visited(&rt, "4", &Second, line)?;
-    assert!(rt; outcome == (true, 0, true));
     Ok(())
 }

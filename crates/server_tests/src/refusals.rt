@@ -1,10 +1,9 @@
 //! The daemon where memory is short: all of it is taken before the daemon begins, but for what its threads need until a test takes the rest.
 use crate::client::{connect, is_answered, send};
-use crate::gates::{HoldingOnce, Mark};
-use crate::side::{Client, beside_daemon, said};
+use crate::gates::{GateOf, HoldingOnce, Mark};
+use crate::side::{Client, ends};
 use cap_server::Sizes;
 use cap_testing::{Call, frame};
-use cap_workers::OpenGate;
 use memory_testing::Hoard;
 use std::alloc::Global;
 use std::io::{self, Read};
@@ -20,8 +19,6 @@ const THREADS: usize = 30 << 20;
 
 /// How long the daemon's threads have to come to rest, in milliseconds.
 const REST: u64 = 1_000;
-
-const ONE_QUEUE: &[u8] = b"yarn.scheduler.capacity.root.queues=default";
 
 /// Whether the daemon ends the connection without an answer.
 fn is_ended(stream: &TcpStream) -> bool {
@@ -101,11 +98,9 @@ fn served_without_memory(rt: HostRuntime) {
         gate: &gate,
         hoard: Mutex::new(hoard),
     };
-    let outcome = beside_daemon(&rt, rt.alloc(), ONE_QUEUE, &sizes, &gate, &client);
-    assert_eq!(rt;
-        said(&outcome),
-        Some((0, true, b"closed epochs=1 entries=3".as_slice()))
-    );
+    let want = (0, "closed epochs=1 entries=3");
+    let held = GateOf::HoldingOnce(&gate);
+    assert!(rt; ends(&rt, rt.alloc(), &sizes, held, &client, want));
 }
 
 /// Three calls are answered, and then the last of an epoch of four where no memory is left for the next.
@@ -153,6 +148,6 @@ fn no_next_epoch(rt: HostRuntime) {
     let client = Filling {
         hoard: Mutex::new(hoard),
     };
-    let outcome = beside_daemon(&rt, rt.alloc(), ONE_QUEUE, &sizes, &OpenGate, &client);
-    assert_eq!(rt; said(&outcome), Some((3, true, b"no memory".as_slice())));
+    let want = (3, "no memory");
+    assert!(rt; ends(&rt, rt.alloc(), &sizes, GateOf::Open, &client, want));
 }

@@ -1,8 +1,8 @@
 //! Tests of workers in the daemon: a master is granted all that it asks for, with and without the committer.
 
 use crate::client::{call, connect};
-use crate::gates::{Committing, OwnLanes};
-use crate::side::{Client, beside_daemon, number_after, said};
+use crate::gates::{Committing, GateOf, OwnLanes};
+use crate::side::{Client, closed};
 use cap_server::Sizes;
 use cap_testing::{Call, TWO_QUEUES, WantedContainers};
 use cap_workers::Tally;
@@ -47,7 +47,7 @@ impl Master {
 
     /// Registers two nodes and itself: four calls.
     fn register(&self, alloc: Global, stream: &TcpStream) -> io::Result<()> {
-        for host in [b"n1", b"n2"] {
+        for &host in &[b"n1", b"n2"] {
             let node = Call::RegisterNode(host.as_slice(), b"/r1", [8192, 8]);
             let _node = self.call(alloc, stream, &node)?;
         }
@@ -56,9 +56,16 @@ impl Master {
         Ok(())
     }
 
-    /// Asks for ten containers. The reply to that.
-    fn ask(&self, alloc: Global, stream: &TcpStream) -> io::Result<Vec<u8>> {
-        self.call(alloc, stream, &Call::Allocate(1, 0, TEN, &[]))
+    /// Asks for these containers, as the reply to the response with this id. The grants that are told, and the new response id.
+    fn ask(
+        &self,
+        alloc: Global,
+        stream: &TcpStream,
+        response: u32,
+        asks: &[WantedContainers<'_>],
+    ) -> io::Result<Option<(u8, u32)>> {
+        let reply = self.call(alloc, stream, &Call::Allocate(1, response, asks, &[]))?;
+        Ok(grants_in(reply.as_slice()))
     }
 
     /// Whether ten grants are told, in the reply to the ask and in those to the heartbeats after it.
@@ -67,12 +74,12 @@ impl Master {
         rt: &H,
         alloc: Global,
         stream: &TcpStream,
-        asked: Vec<u8>,
+        asked: Option<(u8, u32)>,
     ) -> io::Result<bool> {
         let mut reply = asked;
         let mut told = 0u8;
         for _ in 0..100 {
-            let Some((grants, response)) = grants_in(reply.as_slice()) else {
+            let Some((grants, response)) = reply else {
                 return Ok(false);
             };
             told = told.saturating_add(grants);
@@ -80,7 +87,7 @@ impl Master {
                 return Ok(told == 10);
             }
             sleep(rt, Duration::from_millis(20));
-            reply = self.call(alloc, stream, &Call::Allocate(1, response, &[], &[]))?;
+            reply = self.ask(alloc, stream, response, &[])?;
         }
         Ok(false)
     }
@@ -92,7 +99,7 @@ impl Client for Master {
     >(&self, rt: &H, alloc: Global, port: u16) -> io::Result<bool> {
         let stream = connect(rt, port)?;
         self.register(alloc, &stream)?;
-        let reply = self.ask(alloc, &stream)?;
+        let reply = self.ask(alloc, &stream, 0, TEN)?;
         self.is_told(rt, alloc, &stream, reply)
     }
 }
@@ -112,33 +119,21 @@ fn scheduled<
         calls: AtomicU64::new(0),
     };
     let tally = Tally::new();
-    let outcome = beside_daemon(rt, alloc, TWO_QUEUES, &sizes, &tally, &master);
-    let Some((0, true, line)) = said(&outcome) else {
-        return false;
-    };
+    let counting = GateOf::Counting(&tally);
+    let ended = closed(rt, alloc, TWO_QUEUES, &sizes, counting, &master);
     let made = master.calls.load(Ordering::SeqCst).saturating_add(10);
-    tally.made() == 10
-        && number_after(line, b"epochs=") == Some(1)
-        && number_after(line, b"entries=") == Some(made)
+    tally.made() == 10 && ended == Some((1, made))
 }
 
+/// By itself, and through a committer: seven of the lanes have no worker then, whose ends take seven of the eight places, or all have one.
 #[test]
-fn a_worker_schedules(rt: HostRuntime) -> Result<(), Fail> {
-    assert!(rt; scheduled(&rt, rt.alloc(), 1, None));
-    Ok(())
-}
-
-/// Seven of the lanes have no worker then, whose ends take seven of the eight places.
-#[test]
-fn one_worker_schedules_through_a_committer(rt: HostRuntime) -> Result<(), Fail> {
-    assert!(rt; scheduled(&rt, rt.alloc(), 1, Some(8)));
-    Ok(())
-}
-
-#[test]
-fn eight_workers_schedule_through_a_committer(rt: HostRuntime) -> Result<(), Fail> {
-    assert!(rt; scheduled(&rt, rt.alloc(), 8, Some(8)));
-    Ok(())
+fn workers_schedule(rt: HostRuntime) {
+    for &(workers, lanes) in &[(1, None), (1, Some(8)), (8, Some(8))] {
+        assert!(rt;
+            scheduled(&rt, rt.alloc(), workers, lanes),
+            "{workers} {lanes:?}"
+        );
+    }
 }
 
 /// A master whose ask lets two workers go, each of which must see what it proposed committed.
@@ -156,14 +151,14 @@ impl Client for Witness<'_> {
             calls: AtomicU64::new(0),
         };
         master.register(alloc, &stream)?;
-        let _reply = master.ask(alloc, &stream)?;
+        let _reply = master.ask(alloc, &stream, 0, TEN)?;
         self.gate.asked.reach(1);
         Ok(self.gate.both.awaits(1) && !self.gate.missed.is_reached(1))
     }
 }
 
 #[test]
-fn each_proposal_is_committed(rt: HostRuntime) -> Result<(), Fail> {
+fn each_proposal_is_committed(rt: HostRuntime) {
     let sizes = Sizes {
         workers: 2,
         connections: 1,
@@ -172,9 +167,9 @@ fn each_proposal_is_committed(rt: HostRuntime) -> Result<(), Fail> {
     };
     let gate = Committing::new();
     let client = Witness { gate: &gate };
-    let outcome = beside_daemon(&rt, rt.alloc(), TWO_QUEUES, &sizes, &gate, &client);
-    assert!(rt; matches!(said(&outcome), Some((0, true, _))));
-    Ok(())
+    let held = GateOf::Committing(&gate);
+    let ended = closed(&rt, rt.alloc(), TWO_QUEUES, &sizes, held, &client);
+    assert!(rt; ended.is_some());
 }
 
 /// A master whose ask comes in the second epoch, and lets worker 0 alone go first.
@@ -191,13 +186,13 @@ impl Client for LateMaster<'_> {
         let stream = connect(rt, port)?;
         self.master.register(alloc, &stream)?;
         self.gate.asked.reach(1);
-        let reply = self.master.ask(alloc, &stream)?;
+        let reply = self.master.ask(alloc, &stream, 0, TEN)?;
         self.master.is_told(rt, alloc, &stream, reply)
     }
 }
 
 #[test]
-fn workers_keep_their_lanes_from_epoch_to_epoch(rt: HostRuntime) -> Result<(), Fail> {
+fn workers_keep_their_lanes_from_epoch_to_epoch(rt: HostRuntime) {
     let sizes = Sizes {
         workers: 2,
         connections: 1,
@@ -211,9 +206,9 @@ fn workers_keep_their_lanes_from_epoch_to_epoch(rt: HostRuntime) -> Result<(), F
             calls: AtomicU64::new(0),
         },
     };
-    let outcome = beside_daemon(&rt, rt.alloc(), TWO_QUEUES, &sizes, &gate, &client);
-    assert!(rt; matches!(said(&outcome), Some((0, true, _))));
+    let held = GateOf::OwnLanes(&gate);
+    let ended = closed(&rt, rt.alloc(), TWO_QUEUES, &sizes, held, &client);
+    assert!(rt; ended.is_some());
     assert!(rt; gate.answered.is_reached(1));
     assert!(rt; !gate.missed.is_reached(1));
-    Ok(())
 }

@@ -1,14 +1,17 @@
 //! A daemon, and a client beside it.
+use crate::gates::GateOf;
 use cap_config::read_config;
 use cap_server::{Sizes, serve_on};
 use cap_session::Counted;
-use cap_workers::Gate;
 use std::alloc::Global;
 use std::io;
 use std::net::{Net, TcpListener, TcpStream};
 use std::sync::Wait;
 use std::thread::{Threads, join};
 use std::time::Clock;
+
+/// One leaf queue.
+pub const ONE_QUEUE: &[u8] = b"yarn.scheduler.capacity.root.queues=default";
 
 /// What is done at the other end of the daemon's connections.
 pub trait Client {
@@ -37,11 +40,17 @@ pub fn listen<H: Net<Listener = TcpListener, Stream = TcpStream>>(
 
 /// Runs a daemon with the queues of these property lines on a port of the loopback, in a thread of its own, and the client beside it.
 /// `None` if the lines have a fault, or the system has no port.
-pub fn beside_daemon<
+fn beside_daemon<
     H: Net<Listener = TcpListener, Stream = TcpStream> + Threads + Wait + Clock + Eprint + Sync,
-    G: Gate + Sync,
     C: Client + Sync,
->(rt: &H, alloc: Global, lines: &[u8], sizes: &Sizes, gate: &G, client: &C) -> Option<Outcome> {
+>(
+    rt: &H,
+    alloc: Global,
+    lines: &[u8],
+    sizes: &Sizes,
+    gate: GateOf<'_>,
+    client: &C,
+) -> Option<Outcome> {
     let (listener, port) = listen(rt)?;
     let ((status, printed), answered) = join(
         rt,
@@ -59,13 +68,13 @@ pub fn beside_daemon<
 const PRINTED_MAX: usize = 200;
 
 /// The daemon's exit status, and what it printed. The status is 2 if the lines have a fault, or if a size is out of its bounds.
-pub fn served<H: Net + Threads + Wait + Clock + Eprint + Sync, G: Gate + Sync>(
+pub fn served<H: Net + Threads + Wait + Clock + Eprint + Sync>(
     rt: &H,
     alloc: Global,
     lines: &[u8],
     listener: &TcpListener,
     sizes: &Sizes,
-    gate: &G,
+    gate: GateOf<'_>,
 ) -> (u8, Vec<u8>) {
     let Ok(mut printed) = Vec::with_capacity(alloc, PRINTED_MAX) else {
         return (3, Vec::new(alloc));
@@ -77,31 +86,67 @@ pub fn served<H: Net + Threads + Wait + Clock + Eprint + Sync, G: Gate + Sync>(
         return (2, printed);
     }
     let mut writer = Counted::new(&mut printed);
-    let status = serve_on(rt, alloc, listener, sizes, &config, gate, &mut writer);
+    let status = serve_on(rt, alloc, listener, sizes, &config, &gate, &mut writer);
     (status, printed)
 }
 
 /// The exit status, what the client said, and the last line that was printed.
-pub fn said(outcome: &Option<Outcome>) -> Option<(u8, bool, &[u8])> {
-    let Some(outcome) = outcome else {
-        return None;
+fn said(outcome: &Outcome) -> Option<(u8, bool, &str)> {
+    let printed = str::from_utf8(outcome.printed.as_slice()).ok()?;
+    let lines = printed.strip_suffix('\n').unwrap_or(printed);
+    let last = match lines.rsplit_once('\n') {
+        Some((_, last)) => last,
+        None => lines,
     };
-    let printed = outcome.printed.as_slice();
-    let lines = printed.strip_suffix(b"\n").unwrap_or(printed);
-    let last = lines.rsplit(|b| *b == b'\n').next().unwrap_or(lines);
     Some((outcome.status, outcome.answered, last))
 }
 
-/// The number after a name in a line of words, as 3 after `epochs=` in `closed epochs=3 entries=9`.
-pub fn number_after(line: &[u8], name: &[u8]) -> Option<u64> {
-    let digits = line
-        .split(|b| *b == b' ')
-        .find_map(|word| word.strip_prefix(name))?;
-    let mut number = 0u64;
-    for digit in digits {
-        number = number
-            .wrapping_mul(10)
-            .wrapping_add(u64::from(digit.wrapping_sub(b'0')));
+/// The numbers of a daemon's last line, as (3, 9) in `closed epochs=3 entries=9`.
+fn numbers_in(line: &str) -> Option<(u64, u64)> {
+    let (epochs, entries) = line
+        .strip_prefix("closed epochs=")?
+        .split_once(" entries=")?;
+    Some((epochs.parse().ok()?, entries.parse().ok()?))
+}
+
+/// How many epochs a daemon has closed, with how many entries in all. `None` if it didn't end as it should, or its client says that something was
+/// not answered as it has to be.
+pub fn closed_by(outcome: &Outcome) -> Option<(u64, u64)> {
+    match said(outcome) {
+        Some((0, true, line)) => numbers_in(line),
+        _ => None,
     }
-    Some(number)
+}
+
+/// Whether a daemon ends with this status and last line, and its client says that all was answered as it has to be.
+pub fn ends<
+    H: Net<Listener = TcpListener, Stream = TcpStream> + Threads + Wait + Clock + Eprint + Sync,
+    C: Client + Sync,
+>(
+    rt: &H,
+    alloc: Global,
+    sizes: &Sizes,
+    gate: GateOf<'_>,
+    client: &C,
+    (status, line): (u8, &str),
+) -> bool {
+    let Some(outcome) = beside_daemon(rt, alloc, ONE_QUEUE, sizes, gate, client) else {
+        return false;
+    };
+    said(&outcome) == Some((status, true, line))
+}
+
+/// How many epochs a daemon with these queues closes beside this client, with how many entries in all, as `closed_by`.
+pub fn closed<
+    H: Net<Listener = TcpListener, Stream = TcpStream> + Threads + Wait + Clock + Eprint + Sync,
+    C: Client + Sync,
+>(
+    rt: &H,
+    alloc: Global,
+    lines: &[u8],
+    sizes: &Sizes,
+    gate: GateOf<'_>,
+    client: &C,
+) -> Option<(u64, u64)> {
+    closed_by(&beside_daemon(rt, alloc, lines, sizes, gate, client)?)
 }

@@ -1,6 +1,7 @@
 //! One epoch of a shared cluster.
 ghost use Rattle.std.specs.Prelude.{◌≡◌, ◌≤◌};
 
+use cap_base::RESOURCES;
 use cap_commit::Cluster;
 use cap_shared::{Blank, Closed, Naming, Seat, Shared};
 use std::alloc::Global;
@@ -22,7 +23,7 @@ pub trait Work {
 pub fn epoch<H: Threads + Wait + Sync, W: Work + Sync>(
     rt: &H,
     alloc: Global,
-    cluster: Cluster<2>,
+    cluster: Cluster<RESOURCES>,
     seats: u32,
     limit: usize,
     work: &W,
@@ -41,7 +42,7 @@ fn named_epoch<J: Naming + Send + Sync, H: Threads + Wait + Sync, W: Work + Sync
     rt: &H,
     alloc: Global,
     blank: Blank,
-    cluster: Cluster<2>,
+    cluster: Cluster<RESOURCES>,
     limit: usize,
     work: &W,
 ) -> Option<Closed>

@@ -1,4 +1,5 @@
 use Rattle.std.proofs.Common.{◌≡◌, List, [], ◌∷◌, sym, ◌∙◌, subst}
+use Rattle.cap_base.specs.Limits.{resources}
 use Rattle.cap_model.specs.declared.request.Request.{Request}
 use Rattle.cap_model.specs.declared.reply.ReplyWith.TheVariants as reply
 use Rattle.cap_model.specs.declared.refusal.Refusal.TheVariants as refusal
@@ -8,7 +9,7 @@ use Rattle.cap_session.specs.Session.{SessionState, OpenRequest, MayAnswer}
 use Rattle.engine_tests.proofs.batches.answers_suspended.Goals as goal
 
 -- the first request can be refused
-may_refuse : (s : SessionState) (asked : List OpenRequest) (first : Request 2) (later : List (Request 2)) → asked_requests asked ≡ first ∷ later → MayAnswer (with_first_open s asked).open_request (reply.Refused refusal.UnknownQueue)
+may_refuse : (s : SessionState) (asked : List OpenRequest) (first : Request resources) (later : List (Request resources)) → asked_requests asked ≡ first ∷ later → MayAnswer (with_first_open s asked).open_request (reply.Refused refusal.UnknownQueue)
 may_refuse s [] first later is = absurd cc
 may_refuse s (o ∷ asked) first later is = tt
 

@@ -1,0 +1,164 @@
+//! A worker that offers what it proposes to a committer.
+use bumpalo::Bump;
+use cap_model::NoMemory;
+use cap_shared::{Naming, Seat, Shared};
+use cap_workers::{
+    Committer, Coordinator, Offer, OfferEnd, OpenGate, Putter, Tally, Worker, commit_all, lanes,
+};
+use shared_testing::Work;
+use std::alloc::Global;
+use std::sync::Wait;
+use std::sync::atomic::{AtomicU64, Ordering};
+
+/// What came of an offer.
+#[derive(Clone, Copy, PartialEq, Eq)]
+pub enum Offered {
+    Nothing,
+    /// The committer took a proposal for this application and node, of a worker with this number.
+    Taken { worker: u32, app: u64, node: u64 },
+    Refused,
+    NoMemory,
+    /// The arena was not reset.
+    Spent,
+}
+
+/// Worker 0 offers what it proposes, the committer commits it, and worker 0 offers again.
+#[derive(Drop)]
+pub struct Offering {
+    pub alloc: Global,
+    /// What is to come of both offers.
+    pub wanted: [Offered; 2],
+    /// How often that came.
+    pub right: AtomicU64,
+}
+
+/// What came of an offer; `None` if its proposal was put.
+fn offered_of(offer: &Offer) -> Option<Offered> {
+    if !offer.reset {
+        return Some(Offered::Spent);
+    }
+    match &offer.end {
+        OfferEnd::Put => None,
+        OfferEnd::Nothing => Some(Offered::Nothing),
+        OfferEnd::NoMemory => Some(Offered::NoMemory),
+        _ => Some(Offered::Refused),
+    }
+}
+
+/// Takes a proposal out of the lanes, and commits it.
+fn take_one<J: Naming, H: Wait>(
+    rt: &H,
+    shared: &Shared<J>,
+    seat: &mut Seat<J>,
+    committer: &mut Committer,
+) -> Offered {
+    let Some((worker, proposal)) = committer.take(rt) else {
+        return Offered::Refused;
+    };
+    let app = proposal.app();
+    let node = proposal.node();
+    let _verdict = shared.commit(rt, seat, proposal);
+    Offered::Taken { worker, app, node }
+}
+
+/// Lanes of ten places. An error means that an allocation failed.
+fn ten_places(alloc: Global) -> Result<(Committer, Vec<Putter>), NoMemory> {
+    let (committer, putters) = lanes(alloc, 10)?;
+    let Ok(putters) = Vec::from_array(alloc, putters) else {
+        return Err(NoMemory);
+    };
+    Ok((committer, putters))
+}
+
+/// A worker offers what it proposes, and the committer commits that: what came of the offer.
+fn offer_one<J: Naming, H: Wait>(
+    rt: &H,
+    shared: &Shared<J>,
+    seat: &mut Seat<J>,
+    worker: &mut Worker,
+    arena: &mut Bump<Global>,
+    putter: &mut Putter,
+    committer: &mut Committer,
+) -> Offered {
+    let offer = worker.offer(rt, shared, seat, putter, arena, &OpenGate);
+    match offered_of(&offer) {
+        Some(came) => came,
+        None => take_one(rt, shared, seat, committer),
+    }
+}
+
+impl Offering {
+    /// Counts the offers of which came what is to come of them.
+    fn offer<J: Naming, H: Wait>(
+        &self,
+        rt: &H,
+        shared: &Shared<J>,
+        seat: &mut Seat<J>,
+        putter: &mut Putter,
+        committer: &mut Committer,
+    ) {
+        let mut arena = Bump::new(self.alloc);
+        let mut worker = Worker::new(0);
+        for wanted in self.wanted {
+            let came = offer_one(rt, shared, seat, &mut worker, &mut arena, putter, committer);
+            if came == wanted {
+                self.right.fetch_add(1, Ordering::SeqCst);
+            }
+        }
+    }
+}
+
+impl Work for Offering {
+    fn work<J: Naming, H: Wait>(&self, rt: &H, shared: &Shared<J>, seat: Seat<J>) -> Seat<J> {
+        let mut seat = seat;
+        let Ok((mut committer, mut putters)) = ten_places(self.alloc) else {
+            return seat;
+        };
+        if let Some(own) = putters.first_mut() {
+            self.offer(rt, shared, &mut seat, own, &mut committer);
+        }
+        seat
+    }
+
+    fn finish<J: Naming, H: Wait>(&self, _rt: &H, _shared: &Shared<J>, _seat: &mut Seat<J>) {}
+}
+
+/// Two workers offer what they propose, all lanes end, and the committer commits what it takes until then.
+#[derive(Drop)]
+pub struct Committing {
+    pub alloc: Global,
+    pub tally: Tally,
+}
+
+/// A worker of each lane up to two offers what it proposes.
+fn offer_two<J: Naming, H: Wait>(
+    rt: &H,
+    alloc: Global,
+    shared: &Shared<J>,
+    seat: &mut Seat<J>,
+    putters: &mut Vec<Putter>,
+) {
+    let mut arena = Bump::new(alloc);
+    for (number, putter) in [0, 1].into_iter().zip(putters.iter_mut()) {
+        let mut worker = Worker::new(number);
+        let _offer = worker.offer(rt, shared, seat, putter, &mut arena, &OpenGate);
+    }
+}
+
+impl Work for Committing {
+    fn work<J: Naming, H: Wait>(&self, rt: &H, shared: &Shared<J>, seat: Seat<J>) -> Seat<J> {
+        let mut seat = seat;
+        let Ok((committer, mut putters)) = ten_places(self.alloc) else {
+            return seat;
+        };
+        offer_two(rt, self.alloc, shared, &mut seat, &mut putters);
+        for putter in putters {
+            let _ended = putter.finish(rt);
+        }
+        let coordinator = Coordinator::new();
+        commit_all(rt, shared, &mut seat, &coordinator, &self.tally, committer);
+        seat
+    }
+
+    fn finish<J: Naming, H: Wait>(&self, _rt: &H, _shared: &Shared<J>, _seat: &mut Seat<J>) {}
+}

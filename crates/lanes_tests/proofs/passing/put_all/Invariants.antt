@@ -1,7 +1,0 @@
-use Rattle.std.proofs.Common.{◌≡◌}
-use Rattle.lanes_tests.proofs.passing.put_all.Given as goal
-
-abbrev pub invariant-loop-app : goal.invariant-loop-app
-invariant-loop-app g l = record {
-  lanes : l.putter.lanes ≡ l.fn.putter.lanes;
-}

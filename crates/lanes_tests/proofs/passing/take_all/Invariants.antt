@@ -1,7 +1,0 @@
-use Rattle.std.proofs.Common.{◌≡◌}
-use Rattle.lanes_tests.proofs.passing.take_all.Given as goal
-
-abbrev pub invariant-loop : goal.invariant-loop
-invariant-loop g l = record {
-  lanes : l.committer.lanes ≡ l.fn.committer.lanes;
-}
