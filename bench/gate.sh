@@ -1,7 +1,7 @@
 #!/usr/bin/env bash
 # What the merge gate costs, on a clone of the last commit: the processor seconds of one `rt ci` that takes over nothing from earlier runs, and of the wrong
 # bodies that are tried after it, over those that `cap_frames` by itself takes to be proved in the same hour, since machines differ; fails where the ratio is
-# above 250. With `--each` also a table of what each crate takes of it: its proof, the proof of its tests, and its must-fail edits, as the running provers were
+# above 250. With `--each` also a table of what each crate takes of it: its proof, the proof of its tests, and its wrong bodies, as the running provers were
 # looked at each second. `--pace` prints what `cap_frames` takes, alone.
 . "$(dirname "${BASH_SOURCE[0]}")/common.sh"
 most=250
