@@ -21,7 +21,7 @@ watch_each() {
 import os, signal, sys, time
 
 clone, ticks, seen = sys.argv[1], os.sysconf("SC_CLK_TCK"), {}
-KINDS = ("proved", "tests", "edits")
+KINDS = ("proved", "tests", "wrong bodies")
 
 
 def look(process):
@@ -35,7 +35,7 @@ def look(process):
         return
     with open(f"/proc/{process}/stat", encoding="utf-8") as it:
         fields = it.read().rpartition(")")[2].split()
-    kind = "tests" if "--test" in words else "proved" if folder.startswith(clone) else "edits"
+    kind = "tests" if "--test" in words else "proved" if folder.startswith(clone) else "wrong bodies"
     crate = words[words.index("--crate-name") + 1]
     seen[process, fields[19]] = crate, kind, (int(fields[11]) + int(fields[12])) / ticks
 
@@ -45,7 +45,7 @@ def end(*_):
     for crate, kind, seconds in seen.values():
         spent.setdefault(crate, dict.fromkeys(KINDS, 0))[kind] += seconds
     spent["all"] = {kind: sum(it[kind] for it in spent.values()) for kind in KINDS}
-    print("| Crate | proved | tests | edits |", "|---|---|---|---|", sep="\n")
+    print("| Crate | proved | tests | wrong bodies |", "|---|---|---|---|", sep="\n")
     for crate, row in sorted(spent.items(), key=lambda it: -sum(it[1].values())):
         print(f"| `{crate}` |", " | ".join(f"{row[it]:.0f}" if row[it] else "-" for it in KINDS), "|")
     sys.exit()
