@@ -54,7 +54,8 @@ pub(crate) fn open(
     connections: &mut Connections,
     number: u32,
 ) -> Result<Did, NoMemory>
-    ensures { (cluster : Flat resources) (workers : List (ℕ × WorkerState)) (events : List (Event resources)) →
+    ensures { (cluster : Flat resources) (workers : List (ℕ × WorkerState))
+        (events : List (Event resources)) →
         Outcome (Step.Open number) result
         (record { cluster = cluster; connections = connections.old.entries; workers = workers })
         (record { cluster = cluster; connections = connections.new.entries; workers = workers })
@@ -72,7 +73,8 @@ pub(crate) fn open(
 
 /// Ends a connection, if it is open.
 pub(crate) fn end(connections: &mut Connections, number: u32) -> Did
-    ensures { (cluster : Flat resources) (workers : List (ℕ × WorkerState)) (events : List (Event resources)) →
+    ensures { (cluster : Flat resources) (workers : List (ℕ × WorkerState))
+        (events : List (Event resources)) →
         Outcome (Step.End number) (Ok result)
         (record { cluster = cluster; connections = connections.old.entries; workers = workers })
         (record { cluster = cluster; connections = connections.new.entries; workers = workers })

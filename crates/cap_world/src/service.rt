@@ -69,7 +69,8 @@ fn perform(
     requires open { IsOpenFor request session.old.open_request }
     requires room { vec_len events.old < vec_capacity events.old }
     requires news { HasRoomForReplies cluster.old.flat request room }
-    ensures performed { (reply : Reply resources) × Replies cluster.old.flat request reply cluster.new.flat
+    ensures performed { (reply : Reply resources)
+        × Replies cluster.old.flat request reply cluster.new.flat
         × (session.new ≡ after_answer session.old reply)
         × SpellsAnswer session.old.open_request reply
         × (events.new.items ≡ events.old.items ++ call_event by request reply ∷ []) }

@@ -84,7 +84,8 @@ pub(crate) fn copy(
 /// A worker proposes on its snapshot, if it has one.
 #[inline(never)]
 pub(crate) fn propose(workers: &mut Workers, number: u32, start: u32) -> Did
-    ensures { (cluster : Flat resources) (connections : List (ℕ × Connection)) (events : List (Event resources)) →
+    ensures { (cluster : Flat resources) (connections : List (ℕ × Connection))
+        (events : List (Event resources)) →
         Outcome (Step.Propose number start) (Ok result)
         (record { cluster = cluster; connections = connections; workers = workers.old.entries })
         (record { cluster = cluster; connections = connections; workers = workers.new.entries })
