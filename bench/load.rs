@@ -8,7 +8,7 @@
 //!     load quiet PORT CONNECTIONS NODES SECONDS PID connections to the process PID that say nothing, once the first has registered the nodes
 //!     load stopped PORT CONNECTIONS PID             calls on each connection before and after the process PID is stopped and continues
 //!
-//! `info` takes as an answer a reply with success, or the request itself as echo_run writes it back. `cluster` and `busy` submit their applications in turn
+//! `info` takes as an answer a reply with success, or the request itself as `engine_runs` writes it back. `cluster` and `busy` submit their applications in turn
 //! to the queues root.q1, root.q2 and so on, on a server that has just begun. `busy` holds the answers against each other: each container is granted once,
 //! for an ask of its master, and ends once; and nothing is left at the end.
 use std::collections::{HashSet, VecDeque};

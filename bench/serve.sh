@@ -1,8 +1,8 @@
 #!/usr/bin/env bash
 # The daemon on the loopback. First ClusterInfos over 1, 16 and 128 connections with 16 in flight on each: how many a second `capsched serve` answers, beside
-# how many frames a second `echo_run` writes back as they came, the median of five runs of each, in turn, with epochs of 4,096 entries and of 131,072, and the
+# how many frames a second `engine_runs` writes back as they came, the median of five runs of each, in turn, with epochs of 4,096 entries and of 131,072, and the
 # number and the longest time of changes of epochs in the last run, and those of a daemon with 127 connections that say nothing and one that calls; fails
-# where the daemon makes less than half of what echo_run makes, where it makes with 4,096 less than 0.8 of what it makes with 131,072, or where a change takes
+# where the daemon makes less than half of what engine_runs makes, where it makes with 4,096 less than 0.8 of what it makes with 131,072, or where a change takes
 # 5 ms or more. Then a cluster of 512 nodes, 64 leaf queues and 256 applications, in which masters ask and nodes end all that runs on them every 100 ms:
 # grants a second by 1, 2 and 4 workers, without a committer (lanes=0) and with lanes of so many places to one, and how long a ClusterInfo takes meanwhile;
 # fails where its 99th percentile with 4 workers and 64 places is above 60 ms. Then a busy cluster: 60 node managers that heartbeat, 60 masters that ask,
@@ -19,16 +19,19 @@ runs=5
 server=
 trap '[ -z "$server" ] || kill "$server" 2>/dev/null || true; rm -rf "$work"' EXIT
 build_capsched
-(cd "$top/crates/echo_run" && rt run >"$work/log" 2>&1) || { tail -n 5 "$work/log" >&2; exit 1; }
+(cd "$top/crates/engine_runs" && rt run <stdin >"$work/log" 2>&1) || { tail -n 5 "$work/log" >&2; exit 1; }
 rustc --edition 2021 -O -o "$work/load" "$top/bench/load.rs"
 
 # serve WORKERS CONNECTIONS LANES [JOURNAL], echo_back CONNECTIONS: begins a server on a free port
 serve() { begin "$program" serve --port "$port" --workers "$1" --config "$work/config" --connections "$2" --lanes "$3" --journal "${4:-4096}"; }
-echo_back() { begin "$top/crates/echo_run/out/echo_run" "$port" "$1"; }
+echo_back() {
+  echo "echo $port $1" >"$work/lines"
+  begin "$top/crates/engine_runs/out/engine_runs" <"$work/lines"
+}
 
-# begins a server, and waits until it listens
+# begins a server, which reads what this does, and waits until it listens
 begin() {
-  "$@" >"$work/said" 2>"$work/messages" &
+  "$@" <&0 >"$work/said" 2>"$work/messages" &
   server=$!
   until grep -q '^listening' "$work/said"; do
     kill -0 "$server" 2>/dev/null || { cat "$work/messages" >&2; exit 1; }
@@ -74,15 +77,15 @@ changed() {
 broken=0
 cp "$top/examples/serve.conf" "$work/config"
 for connections in 1 16 128; do
-  rm -f "$work/echo_run" "$work/capsched" "$work/capsched_131072"
+  rm -f "$work/echo" "$work/capsched" "$work/capsched_131072"
   for _ in $(seq "$runs"); do
-    run_once "$work/echo_run" "$connections" echo_back "$connections"
+    run_once "$work/echo" "$connections" echo_back "$connections"
     run_once "$work/capsched_131072" "$connections" serve 1 "$connections" 64 131072
     changes_of 131072
     run_once "$work/capsched" "$connections" serve 1 "$connections" 64
     changes_of 4096
   done
-  median echo_run
+  median echo
   peer=$rate
   median capsched_131072
   long=$rate

@@ -7,8 +7,8 @@ cd "$(dirname "${BASH_SOURCE[0]}")"
 export PYTHONDONTWRITEBYTECODE=1
 program=../crates/capsched/out/capsched
 
-# the example's text in a file of the tests: what follows the line with its name, up to the next such line
-stored() { awk -v name="== the example $1" '/^== / { inside = $0 == name; next } inside' "../crates/replay_tests/$2"; }
+# the example's text in a file of the cases: what follows the line with its name, up to the next such line
+stored() { awk -v name="== the example $1" '/^== / { inside = $0 == name; next } inside' "../runs/replay/$2"; }
 
 complain() { echo "examples/$1" >&2; exit 1; }
 
@@ -20,8 +20,8 @@ elif [ ! -x "$program" ]; then
 fi
 for script in *.script; do
   name=${script%.script}
-  [ "$(stored "$name" stdin)" = "$(cat "$script")" ] || complain "$script is not what crates/replay_tests/stdin has of it"
-  [ "$(stored "$name" stdout)" = "$(cat "$name.out" && echo status 0)" ] || complain "$name.out is not what crates/replay_tests/stdout has of it"
+  [ "$(stored "$name" cases)" = "$(cat "$script")" ] || complain "$script is not what runs/replay/cases has of it"
+  [ "$(stored "$name" answers)" = "$(cat "$name.out" && echo status 0)" ] || complain "$name.out is not what runs/replay/answers has of it"
   if [ -n "$program" ]; then
     "$program" replay <"$script" | diff "$name.out" - || complain "$script does not print what $name.out has"
   elif [ "$name" = first_cluster ]; then

@@ -1,12 +1,14 @@
-//! What tests of several crates need: settings and the cluster that they open, changes of a tree, requests as frames.
+//! What tests of several crates need: settings and the cluster that they open, changes of a tree, requests as frames, an epoch.
 //! The spelling of frames is written by hand and shares no code with the engine.
 #![tactic(auto)]
 
+mod epochs;
 mod settings;
 mod spelling;
 mod table;
 mod tree;
 
+pub use epochs::{Work, epoch};
 pub use settings::{NESTED_QUEUES, SMALL_QUEUES, TWO_QUEUES, cluster, cluster_after, make_call};
 pub use spelling::{Call, WantedContainers, frame};
 pub use table::first;

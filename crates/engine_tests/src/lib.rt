@@ -1,7 +1,7 @@
 //! Tests of the engine, of what neither a script nor property lines show.
 //! They are of amounts, texts and their pieces, the words for any fault, queues, proposals that no worker makes,
-//! snapshots in an arena, frames, batches, sessions and steps of a world; and of what threads share: the lanes of workers,
-//! a cluster with its journal, and workers and sessions over it.
+//! snapshots in an arena, frames, batches, sessions and steps of a world; of what threads share: the lanes of workers, a
+//! cluster with its journal, and workers and sessions over it; and of what comes of each where memory is refused.
 #![tactic(auto)]
 
 #[cfg(test)]
@@ -20,6 +20,8 @@ mod lanes;
 mod messages;
 #[cfg(test)]
 mod pieces;
+#[cfg(test)]
+mod refusals;
 #[cfg(test)]
 mod sessions;
 #[cfg(test)]

@@ -42,7 +42,7 @@ pub struct Calls<'a> {
     pub answered: &'a AtomicU64,
 }
 
-impl shared_testing::Work for Calls<'_> {
+impl cap_testing::Work for Calls<'_> {
     fn work<J: Naming, H: Wait>(&self, rt: &H, shared: &Shared<J>, mut seat: Seat<J>) -> Seat<J> {
         let answered = call_all(rt, self.alloc, shared, &mut seat, self.work);
         self.answered.fetch_add(answered, Ordering::SeqCst);

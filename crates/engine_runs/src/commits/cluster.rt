@@ -1,6 +1,5 @@
 //! The cluster of a run: its queues, nodes and applications.
 
-use crate::changes::join;
 use crate::commits::size::Size;
 use cap_base::RESOURCES;
 use cap_commit::Cluster;
@@ -89,4 +88,17 @@ fn enter(alloc: Global, cluster: &mut Cluster<RESOURCES>, leaf: u64) -> Option<(
 fn ask(alloc: Global, cluster: &mut Cluster<RESOURCES>, app: u64) -> Option<()> {
     make_call(alloc, cluster, &Call::RegisterMaster(app))?;
     make_call(alloc, cluster, &Call::Allocate(app, 0, ASKS, &[]))
+}
+
+/// One more node, of this number and total.
+fn join(
+    alloc: Global,
+    cluster: &mut Cluster<RESOURCES>,
+    number: u64,
+    total: [u64; 2],
+) -> Option<()> {
+    let mut host = String::new(alloc);
+    write!(host, "n{number}").ok()?;
+    let call = Call::RegisterNode(host.as_bytes(), b"/r", total);
+    make_call(alloc, cluster, &call)
 }

@@ -1,11 +1,10 @@
 //! The grants and ends of a run, and what becomes of one more grant and of two reservations (`run`).
 
-use crate::changes::is_made;
 use crate::commits::cluster::{CONTAINER, KEY, add_applications, add_nodes, open};
 use crate::commits::size::Size;
 use crate::commits::snapshots::{copy_all, take_all};
 use cap_base::RESOURCES;
-use cap_commit::{Cluster, Proposal, ProposalKind, Reason};
+use cap_commit::{Cluster, Proposal, ProposalKind, Reason, Verdict};
 use cap_model::{List, Numbers};
 use cap_trackers::heartbeat;
 use cap_vector::Resource;
@@ -105,4 +104,9 @@ fn one(alloc: Global, number: u64) -> Option<Numbers> {
     let mut numbers = Vec::new(alloc);
     numbers.push(number).ok()?;
     Some(List::of(numbers))
+}
+
+/// Whether a proposal is made.
+fn is_made(cluster: &mut Cluster<RESOURCES>, proposal: Proposal<RESOURCES>) -> bool {
+    matches!(cluster.try_commit(proposal), Ok(Verdict::Done(_)))
 }

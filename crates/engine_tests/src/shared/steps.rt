@@ -40,7 +40,7 @@ pub struct Counted<'a> {
     pub counts: &'a Counts,
 }
 
-impl shared_testing::Work for Counted<'_> {
+impl cap_testing::Work for Counted<'_> {
     fn work<J: Naming, H: Wait>(&self, rt: &H, shared: &Shared<J>, seat: Seat<J>) -> Seat<J> {
         worked(rt, self.alloc, shared, seat, self.work, self.counts)
     }

@@ -2,10 +2,10 @@
 use bumpalo::Bump;
 use cap_model::NoMemory;
 use cap_shared::{Naming, Seat, Shared};
+use cap_testing::Work;
 use cap_workers::{
     Committer, Coordinator, Offer, OfferEnd, OpenGate, Putter, Tally, Worker, commit_all, lanes,
 };
-use shared_testing::Work;
 use std::alloc::Global;
 use std::sync::Wait;
 use std::sync::atomic::{AtomicU64, Ordering};

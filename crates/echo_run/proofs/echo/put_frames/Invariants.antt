@@ -1,5 +1,0 @@
-use Rattle.cap_frames.specs.History.{bytes_to_come}
-use Rattle.echo_run.proofs.echo.put_frames.Given as goal
-
-abbrev pub decreases-loop-payload : goal.decreases-loop-payload
-decreases-loop-payload l = bytes_to_come l.framer

@@ -1,0 +1,301 @@
+//! Steps on a cluster, and what comes of one where memory is short.
+use crate::refusals::table::{Before, done};
+use cap_base::RESOURCES;
+use cap_commit::Cluster;
+use cap_messages::{dispatch, read_request};
+use cap_model::{
+    Event, Key, Proposal, ProposalKind, Reason, Refusal, Reply, ReplyWith, Request, Verdict,
+};
+use cap_testing::{Call, WantedContainers, cluster, frame, make_call};
+use cap_vector::Resource;
+use memory_testing::{Came, Hoard};
+use std::alloc::Global;
+
+/// A call, or a proposal for an application's ask of a priority and a request id on a node.
+#[derive(Clone, Copy)]
+pub enum Step {
+    Call(Call<'static>),
+    Grant(u64, (u32, u64), u64, [u64; 2]),
+    Reserve(u64, (u32, u64), u64, [u64; 2]),
+    /// An Allocate of an application with a response id: one container of (1024, 1) anywhere for each of so many keys.
+    AskForKeys(u64, u32, u64),
+    /// So many registrations, each of a node of (1, 1) with a host of its own.
+    Nodes(u32),
+}
+
+/// What a step is answered: a status, why a proposal is rejected, or numbers. These are the new application or node; the least and the
+/// most that a container may have; response id, ignored, grants and ends of an Allocate; response id, ignored and live of a Heartbeat; how
+/// many containers ended; whether a queue runs, whether it is a leaf and what it uses; nodes, applications, containers and MiB used of a
+/// cluster; or the new container, 0 for a reservation, and what is used then.
+#[derive(Clone, Copy, PartialEq, Eq)]
+pub enum Answer {
+    Status(u8),
+    Rejected(Reason),
+    Numbers([u64; 4]),
+    NoMemory,
+}
+
+/// A step that is made after others, and what it is answered.
+pub type Row = (Before, Step, Answer);
+
+/// A step of which all is made that takes memory.
+#[derive(Drop)]
+enum Given {
+    Request(Request<RESOURCES>),
+    Proposal(Proposal<RESOURCES>),
+}
+
+/// A proposal for an application, a key and a node.
+pub fn proposal(
+    kind: ProposalKind,
+    of: (u64, (u32, u64), u64),
+    resource: [u64; 2],
+) -> Option<Proposal<RESOURCES>> {
+    let (app, (priority, request), node) = of;
+    Some(Proposal {
+        kind,
+        app,
+        key: Key { priority, request },
+        node,
+        resource: Resource::new(resource)?,
+    })
+}
+
+/// A call as the engine reads it.
+pub fn request(alloc: Global, call: &Call<'_>) -> Option<Request<RESOURCES>> {
+    let bytes = frame(alloc, 1, call).ok()?;
+    let (_, request) = read_request(alloc, bytes.get(4..)?).ok()?;
+    Some(request)
+}
+
+fn ask_for_keys(alloc: Global, app: u64, response: u32, count: u64) -> Option<Request<RESOURCES>> {
+    let mut asks = Vec::new(alloc);
+    for request in 0..count {
+        asks.push(WantedContainers {
+            priority: 7,
+            request,
+            count: 1,
+            resource: [1024, 1],
+            place: b"*",
+        })
+        .ok()?;
+    }
+    request(alloc, &Call::Allocate(app, response, &asks, &[]))
+}
+
+fn prepared(alloc: Global, step: Step) -> Option<Given> {
+    let request = match step {
+        Step::Call(call) => request(alloc, &call),
+        Step::AskForKeys(app, response, count) => ask_for_keys(alloc, app, response, count),
+        Step::Nodes(_) => None,
+        Step::Grant(app, key, node, resource) => {
+            let grant = proposal(ProposalKind::Grant, (app, key, node), resource)?;
+            return Some(Given::Proposal(grant));
+        }
+        Step::Reserve(app, key, node, resource) => {
+            let reserve = proposal(ProposalKind::Reserve, (app, key, node), resource)?;
+            return Some(Given::Proposal(reserve));
+        }
+    };
+    match request {
+        Some(request) => Some(Given::Request(request)),
+        None => None,
+    }
+}
+
+fn answer_of(reply: &Reply<RESOURCES>) -> Answer {
+    Answer::Numbers(match reply {
+        ReplyWith::Refused(Refusal::NoMemory) => return Answer::NoMemory,
+        ReplyWith::Refused(refusal) => return Answer::Status(refusal.status()),
+        ReplyWith::Submit { app } => [*app, 0, 0, 0],
+        ReplyWith::RegisterMaster { minimum, maximum } => {
+            let ([least, few], [most, many]) = (minimum.amounts(), maximum.amounts());
+            [least, few, most, many]
+        }
+        ReplyWith::Allocate { reply } => {
+            let told = reply.reported;
+            [
+                u64::from(told.response),
+                u64::from(told.ignored),
+                told.grants as u64,
+                told.ends as u64,
+            ]
+        }
+        ReplyWith::RegisterNode { node } => [*node, 0, 0, 0],
+        ReplyWith::Heartbeat { reply } => [
+            u64::from(reply.response),
+            u64::from(reply.ignored),
+            u64::from(reply.live),
+            0,
+        ],
+        ReplyWith::FinishMaster { ended } | ReplyWith::NodeGone { ended } => {
+            [u64::from(*ended), 0, 0, 0]
+        }
+        ReplyWith::QueueInfo { report } => {
+            let [memory, vcores] = report.used.amounts();
+            [report.running as u64, report.leaf as u64, memory, vcores]
+        }
+        ReplyWith::SetQueueState => [0, 0, 0, 0],
+        ReplyWith::ClusterInfo { report } => {
+            let [memory, _] = report.used.amounts();
+            [
+                u64::from(report.nodes),
+                u64::from(report.apps),
+                u64::from(report.containers),
+                memory,
+            ]
+        }
+    })
+}
+
+fn tried(cluster: &mut Cluster<RESOURCES>, proposal: Proposal<RESOURCES>) -> Answer {
+    let Ok(verdict) = cluster.try_commit(proposal) else {
+        return Answer::NoMemory;
+    };
+    let number = match &verdict {
+        Verdict::Rejected(reason) => return Answer::Rejected(*reason),
+        Verdict::Done(Event::Grant { container }) => container.number,
+        Verdict::Done(_) => 0,
+    };
+    let [memory, vcores] = cluster.root_use().amounts();
+    Answer::Numbers([number, memory, vcores, 0])
+}
+
+fn made(alloc: Global, cluster: &mut Cluster<RESOURCES>, given: &Given) -> Answer {
+    match given {
+        Given::Request(request) => answer_of(&dispatch(alloc, cluster, request)),
+        Given::Proposal(proposal) => tried(cluster, *proposal),
+    }
+}
+
+/// What the cluster shows: nodes, applications, containers, reservations, the next numbers and what is used; and of application 1 the asks
+/// and the last response id.
+pub fn seen(cluster: &Cluster<RESOURCES>) -> ([usize; 5], [u64; 6]) {
+    let (nodes, apps) = (cluster.nodes(), cluster.apps());
+    let (asks, response) = match apps.app(1) {
+        Some(app) => (app.asks().len(), app.response()),
+        None => (0, 0),
+    };
+    let [memory, vcores] = cluster.root_use().amounts();
+    let counts = [
+        nodes.count(),
+        apps.count(),
+        nodes.live_count(),
+        nodes.reservation_count(),
+        asks,
+    ];
+    let numbers = [
+        nodes.next_node(),
+        nodes.next_container(),
+        apps.next(),
+        memory,
+        vcores,
+        u64::from(response),
+    ];
+    (counts, numbers)
+}
+
+/// Registers a node of (1, 1).
+fn make_node(alloc: Global, cluster: &mut Cluster<RESOURCES>, number: u32) -> Option<()> {
+    let mut host = String::new(alloc);
+    write!(host, "m{number}").ok()?;
+    make_call(
+        alloc,
+        cluster,
+        &Call::RegisterNode(host.as_bytes(), b"/r1", [1, 1]),
+    )
+}
+
+/// Registers so many.
+fn make_nodes(alloc: Global, cluster: &mut Cluster<RESOURCES>, count: u32) -> Option<()> {
+    for number in 0..count {
+        make_node(alloc, cluster, number)?;
+    }
+    Some(())
+}
+
+/// Makes a step. `None` if it is refused or rejected.
+fn make_step(alloc: Global, cluster: &mut Cluster<RESOURCES>, step: Step) -> Option<()> {
+    if let Step::Nodes(count) = step {
+        return make_nodes(alloc, cluster, count);
+    }
+    let given = prepared(alloc, step)?;
+    match made(alloc, cluster, &given) {
+        Answer::Numbers(_) => Some(()),
+        _ => None,
+    }
+}
+
+fn make_all(alloc: Global, cluster: &mut Cluster<RESOURCES>, steps: &[Step]) -> Option<()> {
+    for step in steps {
+        make_step(alloc, cluster, *step)?;
+    }
+    Some(())
+}
+
+/// The cluster after these steps. `None` if one is refused or rejected, or an allocation fails.
+pub fn cluster_after(alloc: Global, before: Before) -> Option<Cluster<RESOURCES>> {
+    let (lines, steps) = done(before);
+    let mut cluster = cluster(alloc, lines)?;
+    match make_all(alloc, &mut cluster, steps) {
+        Some(()) => Some(cluster),
+        None => None,
+    }
+}
+
+/// What came of something that was refused or done at first, and of which this is so now.
+pub fn came_of(was_refused: bool, is_so: bool) -> Came {
+    match (was_refused, is_so) {
+        (true, true) => Came::Refused,
+        (false, true) => Came::Done,
+        _ => Came::Other,
+    }
+}
+
+/// What comes of a step where so many bytes are left, and whether all of them still are: a refusal leaves the cluster as it was, and the step
+/// is answered once memory is there again.
+fn judged(
+    alloc: Global,
+    hoard: &mut Hoard,
+    bytes: usize,
+    given: &Given,
+    answer: Answer,
+    cluster: &mut Cluster<RESOURCES>,
+) -> (Came, bool) {
+    let before = seen(cluster);
+    hoard.leave(alloc, bytes);
+    let first = made(alloc, cluster, given);
+    let has_left = hoard.has_left(alloc, bytes);
+    hoard.give();
+    if first == answer {
+        return (Came::Done, has_left);
+    }
+    let is_same = first == Answer::NoMemory && seen(cluster) == before;
+    let is_made = is_same && made(alloc, cluster, given) == answer;
+    (came_of(true, is_made), has_left)
+}
+
+/// What comes of a row where so many bytes are left, and whether all of them still are.
+fn came_and_left(alloc: Global, hoard: &mut Hoard, bytes: usize, row: Row) -> (Came, bool) {
+    let (before, step, answer) = row;
+    match (cluster_after(alloc, before), prepared(alloc, step)) {
+        (Some(mut cluster), Some(given)) => {
+            judged(alloc, hoard, bytes, &given, answer, &mut cluster)
+        }
+        _ => (Came::Other, false),
+    }
+}
+
+/// What comes of a row where so many bytes are left.
+pub fn came(alloc: Global, hoard: &mut Hoard, bytes: usize, row: Row) -> Came {
+    came_and_left(alloc, hoard, bytes, row).0
+}
+
+/// So many bytes are many for one step.
+const MANY: usize = 65_536;
+
+/// Whether the row's step is answered where no bytes are left, and takes none of many.
+pub fn takes_none(alloc: Global, hoard: &mut Hoard, row: Row) -> bool {
+    came(alloc, hoard, 0, row) == Came::Done
+        && came_and_left(alloc, hoard, MANY, row) == (Came::Done, true)
+}
