@@ -4,7 +4,7 @@ use std::sync::atomic::{AtomicU64, Ordering};
 use std::thread::yield_now;
 
 /// How many times a thread that waits looks at most.
-const LOOKS: u64 = 10_000_000;
+const LOOKS: u64 = 50_000_000;
 
 /// A count that threads wait for.
 #[derive(Drop)]

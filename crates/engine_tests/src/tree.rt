@@ -27,8 +27,11 @@ struct Seen {
 fn digits(steps: &[u32]) -> u32 {
     match steps {
         [] => 1,
-        [a] => 10 + *a % 10,
-        [a, b, ..] => 100 + *a % 10 * 10 + *b % 10,
+        [a] => (*a % 10).saturating_add(10),
+        [a, b, ..] => (*a % 10)
+            .saturating_mul(10)
+            .saturating_add(*b % 10)
+            .saturating_add(100),
     }
 }
 
