@@ -98,8 +98,7 @@ fn put_payload(
     match read_request(alloc, payload) {
         Ok((call_id, request)) => put_request(words, call_id, &request)?,
         Err(MessageFault::Bad) => {
-            words.push_str("no request, ")?;
-            put_count(words, payload.len() as u64, "byte")?;
+            put_count(words, "no request, ", payload.len() as u64, "byte")?;
         }
         Err(MessageFault::NoMemory) => return Err(AllocError),
     }

@@ -6,7 +6,7 @@ use cap_text::split_once;
 const DIGITS_MAX: usize = 10;
 
 /// What a line has for an explanation.
-#[derive(Clone, Copy, Debug)]
+#[derive(Clone, Copy)]
 pub(crate) enum Line<'a> {
     /// Nothing.
     Other,

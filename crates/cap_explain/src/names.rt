@@ -11,23 +11,39 @@ pub(crate) fn shown(text: &[u8]) -> &str {
     str::from_utf8(text).unwrap_or("?")
 }
 
-/// A number of things, with the plural's `s` where there isn't one of them.
-pub(crate) fn put_count(words: &mut String, count: u64, name: &str) -> Result<(), AllocError> {
-    write!(words, "{count} {name}")?;
+/// A text after a name, `?` if its characters can't be shown.
+pub(crate) fn put_text(words: &mut String, name: &str, text: &[u8]) -> Result<(), AllocError> {
+    write!(words, "{name} {}", shown(text))
+}
+
+/// A number after a name.
+pub(crate) fn put_number(words: &mut String, name: &str, number: u64) -> Result<(), AllocError> {
+    write!(words, "{name} {number}")
+}
+
+/// A number of things after other words, with the plural's `s` where there isn't one of them.
+pub(crate) fn put_count(
+    words: &mut String,
+    before: &str,
+    count: u64,
+    name: &str,
+) -> Result<(), AllocError> {
+    write!(words, "{before}{count} {name}")?;
     if count == 1 {
         return Ok(());
     }
     words.push_str("s")
 }
 
-/// Amounts, in MiB and vcores.
+/// Amounts after other words, in MiB and vcores.
 pub(crate) fn put_amounts<const MAX: u64>(
     words: &mut String,
+    before: &str,
     amounts: &Amounts<RESOURCES, MAX>,
 ) -> Result<(), AllocError> {
     let [memory, vcores] = amounts.amounts();
-    write!(words, "[{memory} MiB, ")?;
-    put_count(words, vcores, "vcore")?;
+    write!(words, "{before}[{memory} MiB")?;
+    put_count(words, ", ", vcores, "vcore")?;
     words.push_str("]")
 }
 

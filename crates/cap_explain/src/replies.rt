@@ -42,7 +42,7 @@ fn put_reply(words: &mut String, reply: &OwnedReply<RESOURCES>) -> Result<(), Al
         ReplyWith::RegisterMaster { minimum, maximum } => put_range(words, minimum, maximum),
         ReplyWith::Allocate { reply } => put_allocated(words, reply),
         ReplyWith::FinishMaster { ended } | ReplyWith::NodeGone { ended } => {
-            put_count(words, u64::from(*ended), "container")?;
+            put_count(words, "", u64::from(*ended), "container")?;
             words.push_str(" ended")
         }
         ReplyWith::RegisterNode { node } => write!(words, "node {node}"),
@@ -59,10 +59,8 @@ fn put_range(
     minimum: &Resource<RESOURCES>,
     maximum: &Resource<RESOURCES>,
 ) -> Result<(), AllocError> {
-    words.push_str("containers from ")?;
-    put_amounts(words, minimum)?;
-    words.push_str(" to ")?;
-    put_amounts(words, maximum)
+    put_amounts(words, "containers from ", minimum)?;
+    put_amounts(words, " to ", maximum)
 }
 
 /// What an Allocate is answered.
@@ -85,7 +83,7 @@ fn put_grants(words: &mut String, grants: &[Grant<RESOURCES>]) -> Result<(), All
             words,
             ", granted container {container} on node {node} ({host}) "
         )?;
-        put_amounts(words, &grant.resource())?;
+        put_amounts(words, "", &grant.resource())?;
         put_key(words, &grant.key())?;
     }
     Ok(())
@@ -104,41 +102,32 @@ fn put_ends(words: &mut String, ends: &[End]) -> Result<(), AllocError> {
 fn put_beat(words: &mut String, reply: &HeartbeatReply) -> Result<(), AllocError> {
     write!(
         words,
-        "response {}, {} ignored, ",
+        "response {}, {} ignored",
         reply.response, reply.ignored
     )?;
-    put_count(words, u64::from(reply.live), "container")?;
+    put_count(words, ", ", u64::from(reply.live), "container")?;
     words.push_str(" live")
 }
 
 /// What is shown of a queue.
 fn put_queue(words: &mut String, report: &QueueReport<RESOURCES>) -> Result<(), AllocError> {
-    words.push_str(if report.running { "RUNNING" } else { "STOPPED" })?;
-    words.push_str(if report.leaf { ", leaf" } else { ", parent" })?;
-    words.push_str(", capacity ")?;
-    put_amounts(words, &report.guaranteed)?;
+    let state = if report.running { "RUNNING" } else { "STOPPED" };
+    let place = if report.leaf { "leaf" } else { "parent" };
+    write!(words, "{state}, {place}")?;
+    put_amounts(words, ", capacity ", &report.guaranteed)?;
     match &report.maximum {
-        Some(maximum) => {
-            words.push_str(", maximum ")?;
-            put_amounts(words, maximum)?;
-        }
+        Some(maximum) => put_amounts(words, ", maximum ", maximum)?,
         None => words.push_str(", no maximum")?,
     }
-    words.push_str(", used ")?;
-    put_amounts(words, &report.used)?;
-    words.push_str(", ")?;
-    put_count(words, u64::from(report.apps), "application")
+    put_amounts(words, ", used ", &report.used)?;
+    put_count(words, ", ", u64::from(report.apps), "application")
 }
 
 /// What is shown of the cluster.
 fn put_cluster(words: &mut String, report: &ClusterReport<RESOURCES>) -> Result<(), AllocError> {
-    put_count(words, u64::from(report.nodes), "node")?;
-    words.push_str(", ")?;
-    put_count(words, u64::from(report.apps), "application")?;
-    words.push_str(", ")?;
-    put_count(words, u64::from(report.containers), "container")?;
-    words.push_str(", in all ")?;
-    put_amounts(words, &report.totals)?;
-    words.push_str(", used ")?;
-    put_amounts(words, &report.used)
+    put_count(words, "", u64::from(report.nodes), "node")?;
+    put_count(words, ", ", u64::from(report.apps), "application")?;
+    put_count(words, ", ", u64::from(report.containers), "container")?;
+    put_amounts(words, ", in all ", &report.totals)?;
+    put_amounts(words, ", used ", &report.used)
 }

@@ -1,6 +1,6 @@
 //! Requests in words (`put_request`).
 
-use crate::names::{kind_name, put_amounts, put_key, shown};
+use crate::names::{kind_name, put_amounts, put_key, put_number, put_text};
 use cap_base::RESOURCES;
 use cap_grammar::kind;
 use cap_model::{Ask, Request};
@@ -15,11 +15,11 @@ pub(crate) fn put_request(
     write!(words, "{} {call_id}", kind_name(kind(request)))?;
     match request {
         Request::Submit { path, user } => {
-            let (path, user) = (shown(path.as_bytes()), shown(user.as_bytes()));
-            write!(words, ": queue {path}, user {user}")
+            put_text(words, ": queue", path.as_bytes())?;
+            put_text(words, ", user", user.as_bytes())
         }
         Request::RegisterMaster { app } | Request::FinishMaster { app } => {
-            write!(words, ": application {app}")
+            put_number(words, ": application", *app)
         }
         Request::Allocate {
             app,
@@ -27,48 +27,53 @@ pub(crate) fn put_request(
             asks,
             releases,
         } => {
-            write!(words, ": application {app}, response {response}")?;
+            put_turn(words, ": application", *app, *response)?;
             put_asks(words, asks.as_slice())?;
-            put_numbers(words, "release", releases.as_slice())
+            put_numbers(words, ", release", releases.as_slice())
         }
         Request::RegisterNode { host, rack, total } => {
-            let (host, rack) = (shown(host.as_bytes()), shown(rack.as_bytes()));
-            write!(words, ": host {host}, rack {rack}, ")?;
-            put_amounts(words, total)
+            put_text(words, ": host", host.as_bytes())?;
+            put_text(words, ", rack", rack.as_bytes())?;
+            put_amounts(words, ", ", total)
         }
         Request::Heartbeat {
             node,
             response,
             ended,
         } => {
-            write!(words, ": node {node}, response {response}")?;
-            put_numbers(words, "ended", ended.as_slice())
+            put_turn(words, ": node", *node, *response)?;
+            put_numbers(words, ", ended", ended.as_slice())
         }
-        Request::NodeGone { node } => write!(words, ": node {node}"),
-        Request::QueueInfo { path } => write!(words, ": queue {}", shown(path.as_bytes())),
+        Request::NodeGone { node } => put_number(words, ": node", *node),
+        Request::QueueInfo { path } => put_text(words, ": queue", path.as_bytes()),
         Request::SetQueueState { path, running } => {
-            let state = if *running { "RUNNING" } else { "STOPPED" };
-            write!(words, ": queue {}, {state}", shown(path.as_bytes()))
+            put_text(words, ": queue", path.as_bytes())?;
+            words.push_str(if *running { ", RUNNING" } else { ", STOPPED" })
         }
         Request::ClusterInfo => Ok(()),
     }
+}
+
+/// Who says it, and the response id.
+fn put_turn(words: &mut String, name: &str, number: u64, response: u32) -> Result<(), AllocError> {
+    write!(words, "{name} {number}, response {response}")
 }
 
 /// The asks of an Allocate.
 fn put_asks(words: &mut String, asks: &[Ask<RESOURCES>]) -> Result<(), AllocError> {
     for ask in asks {
         write!(words, ", ask {} x ", ask.count())?;
-        put_amounts(words, &ask.resource())?;
+        put_amounts(words, "", &ask.resource())?;
         put_key(words, &ask.key())?;
-        write!(words, " at {}", shown(ask.place().as_bytes()))?;
+        put_text(words, " at", ask.place().as_bytes())?;
     }
     Ok(())
 }
 
-/// Container numbers, each after the word.
-fn put_numbers(words: &mut String, word: &str, numbers: &[u64]) -> Result<(), AllocError> {
+/// Container numbers, each after the name.
+fn put_numbers(words: &mut String, name: &str, numbers: &[u64]) -> Result<(), AllocError> {
     for number in numbers {
-        write!(words, ", {word} {number}")?;
+        put_number(words, name, *number)?;
     }
     Ok(())
 }

@@ -1,7 +1,7 @@
 //! Replies read from their bytes, to be shown (`read_reply`, `Answer`).
 ghost use Rattle.std.specs.Prelude.{◌≡◌, IfOk, true};
 ghost use Rattle.cap_grammar.specs.Answers.{IsKindly, Says};
-ghost use Rattle.cap_grammar.specs.Spelling.{IsOfKind, IsFaultStatus};
+ghost use Rattle.cap_grammar.specs.Spelling.{IsKind, IsOfKind, IsFaultStatus};
 
 use crate::fault::MessageFault;
 use crate::fields::{byte_of, flag_of, u16_of, u32_of, u64_of};
@@ -62,9 +62,8 @@ pub fn read_reply(alloc: Global, bytes: &[u8]) -> Result<Answer, MessageFault>
     let (status, rest) = byte_of(rest)?;
     let answer = if kind == 0 {
         Answer::Fault(fault_of(status)?)
-    } else if kind > CLUSTER_INFO {
-        return Err(MessageFault::Bad);
     } else {
+        let kind = kind_of(kind)?;
         let reply = reply_of(alloc, kind, status, rest)?;
         Answer::Reply {
             call_id,
@@ -76,6 +75,16 @@ pub fn read_reply(alloc: Global, bytes: &[u8]) -> Result<Answer, MessageFault>
         Ok(answer)
     } else {
         Err(MessageFault::Bad)
+    }
+}
+
+/// The kind of a reply, which is that of a request.
+fn kind_of(kind: u8) -> Result<u8, MessageFault>
+    ensures { IfOk result (λ kind. IsKind kind) }
+{
+    match kind {
+        SUBMIT..=CLUSTER_INFO => Ok(kind),
+        _ => Err(MessageFault::Bad),
     }
 }
 
@@ -103,7 +112,14 @@ fn is_spelled(alloc: Global, answer: &Answer, bytes: &[u8]) -> Result<bool, Mess
         } => write_reply(*call_id, *kind, &reply.view(), &mut out),
         Answer::Fault(status) => write_fault(*status, &mut out),
     }
-    Ok(out.as_slice() == bytes)
+    Ok(are_written(bytes, &out))
+}
+
+/// Whether these bytes, and no others, were written.
+fn are_written(bytes: &[u8], out: &Out) -> bool
+    ensures { result ≡ true → bytes.now ≡ out.now.items }
+{
+    out.as_slice() == bytes
 }
 
 /// The reply to a request of this kind with this status, from what follows them.

@@ -1,9 +1,11 @@
 -- Which commands a line can be.
-use Rattle.std.proofs.Common.{◌≡◌, ℕ, Bool, true, false, cond, eqb, List, [], ◌∷◌, ◌++◌, refl, sym, ap, ◌∙◌, subst, arith, inl, inr, length, get_or, take, drop, take-append-drop}
+use Rattle.std.proofs.Common.{◌≡◌, ℕ, Bool, true, false, cond, eqb, List, [], ◌∷◌, ◌++◌, refl, sym, ap, ◌∙◌, subst, arith, inl, inr, length, get_or, take, drop, take-append-drop, Option, None, Some}
 use Rattle.std.specs.Cmp.Lexicographic.{pointwise, same_text}
-use Rattle.std.specs.Prelude.{nat_eq, ◌||◌}
+use Rattle.std.specs.Prelude.{nat_eq, ◌||◌, IfSome, IfNone, IsSome}
+use Rattle.std.proofs.Math.Seq.{take-append_seam}
+use Rattle.std.proofs.lemmas.List.{append_cancel_left}
 use Rattle.std.specs.List.{list_all}
-use Rattle.std.proofs.lemmas.Bool.{and_parts}
+use Rattle.std.proofs.lemmas.Bool.{and_parts, eq-eqb}
 use Rattle.std.proofs.lemmas.Bool.Decides.{nat_tests}
 use Rattle.cap_text.specs.Numbers.{is_digit}
 use Rattle.cap_text.specs.Pieces.{lacks, IsCut}
@@ -131,3 +133,29 @@ no_conf line property is command has may = absurd (omega (arith, one_kind line (
 
 pub no_later_conf : (line : List ℕ) (property : Bor (List ℕ)) → IsCommand line (Conf property) → IsLaterLine line → ⊥
 no_later_conf line property is later = no_conf line property is later.0 later.1 later.2
+
+-- the number after a beginning of the line
+pub number_there : (r : Option ℕ) (line beginning left : List ℕ) → line ≡ beginning ++ left → IfSome r (λ n. IsNumber left n) → IfSome r (λ n. (digits : List ℕ) × (line ≡ beginning ++ digits) × IsNumber digits n)
+number_there None line beginning left starts is = tt
+number_there (Some n) line beginning left starts is = (left, starts, is)
+
+pub no_number_there : (r : Option ℕ) (line beginning left : List ℕ) → line ≡ beginning ++ left → ((n : ℕ) → IsNumber left n → IsSome r) → IfNone r ((digits : List ℕ) (n : ℕ) → line ≡ beginning ++ digits → IsNumber digits n → ⊥)
+no_number_there (Some n) line beginning left starts only = tt
+no_number_there None line beginning left starts only = λ digits n e is.
+    let same : digits ≡ left = append_cancel_left beginning digits left (sym e ∙ starts) in
+    absurd (cc (only n (subst (λ (d : List ℕ). IsNumber d n) same is)))
+
+same_pointwise : (bytes : List ℕ) → pointwise nat_eq bytes bytes ≡ true
+same_pointwise [] = refl
+same_pointwise (b ∷ bytes) = rw (eq-eqb b b refl, same_pointwise bytes) refl
+
+-- a line that begins otherwise
+pub begins_otherwise : (line beginning left : List ℕ) → pointwise nat_eq (take (length beginning) line) beginning ≡ false → line ≡ beginning ++ left → ⊥
+begins_otherwise line beginning left other e =
+    let front : take (length beginning) line ≡ beginning = ap (take (length beginning)) e ∙ take-append_seam beginning left in
+    let both : pointwise nat_eq beginning beginning ≡ false = ap (λ (x : List ℕ). pointwise nat_eq x beginning) (sym front) ∙ other in
+    absurd (cc (both, same_pointwise beginning))
+
+-- where a line is what its form was read from
+pub found_so : (r : Option Command) (line whole : List ℕ) → line ≡ whole → IfSome r (λ command. IsCommand whole command) → IfSome r (λ command. IsCommand line command)
+found_so r line whole starts found = subst (λ (x : List ℕ). IfSome r (λ command. IsCommand x command)) (sym starts) found

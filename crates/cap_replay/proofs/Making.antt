@@ -1,5 +1,7 @@
 -- Steps that a world makes one after the other.
-use Rattle.std.proofs.Common.{◌≡◌, ℕ, List, [], ◌∷◌, ◌++◌, Ok, refl, sym, ap, subst, ◌∙◌, append-nil}
+use Rattle.std.proofs.Common.{◌≡◌, ℕ, List, [], ◌∷◌, ◌++◌, Ok, Err, Result, refl, sym, ap, subst, ◌∙◌, append-nil}
+use Rattle.std.specs.Prelude.{IfOk, OnOk}
+use denote.Ref.{Bor}
 use Rattle.std.proofs.lemmas.List.{append_cancel_left}
 use Rattle.std.specs.List.{All}
 use Rattle.std.proofs.lemmas.List.Elements.{All-head, All-tail}
@@ -18,7 +20,9 @@ use Rattle.cap_world.specs.Steps.{Outcome}
 use Rattle.cap_world.specs.Working.{Tried, made_by}
 use Rattle.cap_world.specs.Making.{Makes}
 use Rattle.cap_replay.specs.Script.{IsOpeningLine}
-use Rattle.cap_replay.specs.World.{BringSteps, at_start, passed, brought, IsStepOf}
+use Rattle.cap_replay.specs.declared.simulation.Simulation.{Simulation}
+use Rattle.cap_replay.specs.declared.stop.Stop.{Stop}
+use Rattle.cap_replay.specs.World.{BringSteps, at_start, passed, brought, IsStepOf, Advances, Brings}
 
 -- one more step
 pub makes_more : (made : List Step) (step : Step) (did : Did) (old mid new : WorldState) (before between after : List (Event resources)) → Makes made old mid before between → Outcome step (Ok did) mid new between after → Makes (made ++ step ∷ []) old new before after
@@ -98,3 +102,8 @@ pub bring_more : {done : List (List ℕ)} {made : List Step} → (line : List �
 bring_more line step is at_start = brought is at_start
 bring_more line step is (passed opens later) = passed opens (bring_more line step is later)
 bring_more line step is (brought asked later) = brought asked (bring_more line step is later)
+
+-- a piece that was brought
+pub brings : (r : Result Did Stop) (n : ℕ) (piece : Bor (List ℕ)) (old new : Simulation) → IfOk r (λ did. Advances (steps.Bytes n piece) did old new) → OnOk r (Brings n piece.now old new)
+brings (Ok did) n piece old new advances = λ digits some writes. record { step = steps.Bytes n piece; did = did; asked = (refl, some, writes); advances = advances }
+brings (Err stop) n piece old new advances = tt

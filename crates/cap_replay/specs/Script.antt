@@ -27,6 +27,14 @@ IsCommand line (Copy w) = IsNumbered line (codes "copy") w
 IsCommand line (Propose w start) = (digits others : List ℕ) × (line ≡ codes "propose" ++ 32 ∷ digits ++ 32 ∷ others) × IsNumber digits w × IsNumber others start
 IsCommand line (Commit w) = IsNumbered line (codes "commit") w
 
+-- a command that is no word with a number alone
+abbrev pub HasNoNumberAlone : Command → Type 0
+HasNoNumberAlone (Open n) = ⊥
+HasNoNumberAlone (End n) = ⊥
+HasNoNumberAlone (Copy w) = ⊥
+HasNoNumberAlone (Commit w) = ⊥
+HasNoNumberAlone _ = Unit {0}
+
 -- hexadecimal digits of at least one byte
 abbrev pub IsPiece : List ℕ → Type 0
 IsPiece digits = (0 < length digits) × IsOk (decode_of digits)

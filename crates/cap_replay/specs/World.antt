@@ -1,6 +1,7 @@
 -- The world of a script: what opened it, and which steps it has made.
 use Rattle.std.specs.Prelude.{◌≡◌, ◌<◌, ℕ, List, [], ◌∷◌, Option, None, Some, Ok, length}
 use Rattle.std.specs.List.{All}
+use denote.Ref.{Bor}
 use Rattle.hex.specs.Hex.{decode_of}
 use Rattle.cap_base.specs.Limits.{resources}
 use Rattle.cap_base.specs.Settings.{Settings}
@@ -113,3 +114,7 @@ pub record Performs (command : Command) (old new : Simulation) : Type 0 where
   pub did : Did
   pub asked : IsStepFor command step
   pub advances : Advances step did old new
+
+-- the world made the step of this piece, which any digits that write it ask for
+abbrev pub Brings : ℕ → List ℕ → Simulation → Simulation → Type 0
+Brings n piece old new = (digits : Bor (List ℕ)) → 0 < length digits.now → decode_of digits.now ≡ Ok piece → Performs (Bytes n digits) old new

@@ -1,7 +1,7 @@
 //! What is expected where a line of the script is bad, and words for it (`Expected`).
 
 /// What is expected where a line is bad.
-#[derive(Clone, Copy, Debug, PartialEq, Eq)]
+#[derive(Clone, Copy)]
 pub(crate) enum Expected {
     /// The first word of a line.
     Command,

@@ -169,11 +169,18 @@ fn play_line(last: &[u8], begun: &mut Vec<u8>, script: &mut Script) -> Result<()
     begun.extend_from_slice(last)?;
     match script.play(without_return(begun)) {
         Ok(()) => {
-            begun.clear();
+            end_line(begun);
             Ok(())
         }
         Err(stop) => Err(stop),
     }
+}
+
+/// Nothing is begun any more: the line has ended. Its room stays.
+fn end_line(begun: &mut Vec<u8>)
+    ensures { begun.new.items ≡ [] }
+{
+    begun.clear();
 }
 
 /// Plays a last line that no line feed ends, if there is one. Settings that no step has read are read now.

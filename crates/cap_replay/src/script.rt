@@ -149,16 +149,13 @@ impl Script {
             Ok(count) => count,
             Err(stop) => return Err(stop),
         };
-        let piece = &self.room[..count];
         let before = self.simulation.output(number).len();
-        let did = self.simulation.step(Step::Bytes(number, piece));
+        let brought = self.simulation.bring(number, &self.room[..count]);
         let (output, is_open) = self.simulation.answers(number);
         let more = output.get(before..).unwrap_or(&[]);
         print_frames(&mut self.printed, number, more)?;
-        match did {
-            Ok(Did::Done) if is_open => {}
-            Ok(Did::Done) => print_number(&mut self.printed, b"ended ", number)?,
-            Ok(Did::Idle) => self.printed.extend_from_slice(b"idle\n")?,
+        match brought {
+            Ok(did) => print_brought(&mut self.printed, number, did, is_open)?,
             Err(stop) => return Err(stop),
         }
         Ok(())
@@ -225,6 +222,20 @@ impl Script {
             Ok(()) => Ok(()),
             Err(_) => Err(Stop::Output),
         }
+    }
+}
+
+/// Prints what a piece did, beside what was answered to it.
+fn print_brought(
+    printed: &mut Vec<u8>,
+    number: u32,
+    did: Did,
+    is_open: bool,
+) -> Result<(), AllocError> {
+    match did {
+        Did::Done if is_open => Ok(()),
+        Did::Done => print_number(printed, b"ended ", number),
+        Did::Idle => printed.extend_from_slice(b"idle\n"),
     }
 }
 

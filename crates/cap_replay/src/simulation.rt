@@ -4,7 +4,7 @@ ghost use Rattle.cap_config.specs.declared.fault.ConfigFault.{ConfigFault};
 ghost use Rattle.cap_replay.specs.declared.stop.Stop.TheVariants.{BadLine, Config as bad_config};
 ghost use Rattle.cap_replay.specs.Settings.{with_line};
 ghost use Rattle.cap_replay.specs.Streams.{IsOfScript};
-ghost use Rattle.cap_replay.specs.World.{Begins, FailsToBegin, Advances};
+ghost use Rattle.cap_replay.specs.World.{Begins, FailsToBegin, Advances, Brings};
 
 use crate::settings::Settings;
 use crate::stop::Stop;
@@ -80,6 +80,17 @@ impl Simulation {
             Ok(did) => Ok(did),
             Err(NoMemory) => Err(Stop::NoMemory),
         }
+    }
+
+    /// Makes the step of a piece that the connection of this number brings.
+    pub(crate) fn bring(&mut self, number: u32, piece: &[u8]) -> Result<Did, Stop>
+        ensures brings { OnOk result (Brings number piece.now self.old self.new) }
+        ensures fault { (fault : ConfigFault) → result ≡ Err (bad_config fault)
+            → FailsToBegin self.old fault }
+        ensures only { (n : ℕ) → result ≡ Err (BadLine n) → ⊥ }
+        ensures script { IfErr result IsOfScript }
+    {
+        self.step(Step::Bytes(number, piece))
     }
 
     /// Reads the settings and opens the world by them, where that was not done before.

@@ -6,7 +6,7 @@ use cap_config::ConfigFault;
 use std::alloc::{AllocError, AllocFailed};
 
 /// Why a script is played no further.
-#[derive(Clone, Copy, Debug, PartialEq, Eq)]
+#[derive(Clone, Copy)]
 pub(crate) enum Stop {
     /// The line of this number, counted from 1, is none that may be there.
     BadLine(u64),

@@ -1,5 +1,5 @@
 -- What reading ahead keeps.
-use Rattle.std.proofs.Common.{◌≡◌, ℕ, ◌-◌, ◌≤◌, List, [], ◌∷◌, ◌++◌, Bool, true, false, Option, Some, None, Result, Ok, Err, IfOk, IsErrOf, OnOk, OnErr, ◌↔◌, arith, rules, refl, ap, ap₂, sym, ◌∙◌, subst, append_assoc, append-nil, length, length-append, take}
+use Rattle.std.proofs.Common.{◌≡◌, ℕ, ◌-◌, ◌≤◌, List, [], ◌∷◌, ◌++◌, Bool, true, false, Option, Some, None, Result, Ok, Err, is_err, IfOk, IsErrOf, OnOk, OnErr, ◌↔◌, arith, rules, refl, ap, ap₂, sym, ◌∙◌, subst, append_assoc, append-nil, length, length-append, take}
 use Rattle.std.proofs.lemmas.List.{map-append}
 use Rattle.bytes.specs.Filled.{Filled}
 use Rattle.cap_base.specs.Limits.{resources}
@@ -155,3 +155,18 @@ reads_more {h} {k} {old} {was} {had} {has} m o now have r gift added requested =
   given = ap (λ (x : History). x.given) gift ∙ ap (λ (x : List (List ℕ)). x ++ o.payload ∷ []) r.given ∙ ap (λ (x : List (List ℕ)). (h.given ++ x) ++ o.payload ∷ []) (append-nil (asked_payloads r.more))
       ∙ append_assoc h.given (asked_payloads r.more) (o.payload ∷ []) ∙ ap (λ (x : List (List ℕ)). h.given ++ x) (sym (append-nil (asked_payloads r.more ++ o.payload ∷ [])) ∙ ap (λ (x : List (List ℕ)). x ++ []) (sym (map-append (λ (x : OpenRequest). x.payload) r.more (o ∷ []))));
 }
+
+-- and a payload that is none
+pub reads_refused : {h k : History} {old was : List OpenRequest} {had has : List (Request resources)} (m : History) (payload : List ℕ) (now : List OpenRequest) (have : List (Request resources)) → ReadsAhead h k old was had has None → m ≡ after_gift k payload → now ≡ was → have ≡ has → ReadsAhead h m old now had have (Some payload)
+reads_refused {h} {k} {old} {was} {had} {has} m payload now have r gift same_asked same_requests = record {
+  more = r.more;
+  asked = same_asked ∙ r.asked;
+  requests = same_requests ∙ r.requests;
+  fed = ap (λ (x : History). x.fed) gift ∙ r.fed;
+  given = ap (λ (x : History). x.given) gift ∙ ap (λ (x : List (List ℕ)). x ++ payload ∷ []) (r.given ∙ ap (λ (x : List (List ℕ)). h.given ++ x) (append-nil (asked_payloads r.more))) ∙ append_assoc h.given (asked_payloads r.more) (payload ∷ []);
+}
+
+-- what was promised where memory was found
+pub has_room : {E P : Type 0} (r : Result (Unit {0}) E) → false ≡ is_err r → OnOk r P → P
+has_room (Ok u) found room = room
+has_room (Err e) found room = absurd (cc found)

@@ -1,5 +1,5 @@
 -- What each step of a session keeps.
-use Rattle.std.proofs.Common.{◌≡◌, ℕ, false, List, [], ◌∷◌, ◌++◌, Option, Some, None, Err, refl, ap, ap₂, sym, ◌∙◌, subst, append_assoc, append-nil}
+use Rattle.std.proofs.Common.{◌≡◌, ℕ, true, false, is_some, List, [], ◌∷◌, ◌++◌, Option, Some, None, Err, refl, ap, ap₂, sym, ◌∙◌, subst, append_assoc, append-nil, take, drop}
 use Rattle.bytes.specs.Filled.{Filled}
 use Rattle.http_server.specs.declared.log.Log.{Log}
 use Rattle.cap_base.specs.Limits.{resources}
@@ -10,7 +10,10 @@ use Rattle.cap_frames.specs.History.{History, after_gift, IsReading, IsAtFault}
 use Rattle.cap_grammar.specs.declared.fault.MessageFault.{MessageFault}
 use Rattle.cap_grammar.specs.Spelling.{IsNoRequest, kind_of, fault_reply}
 use Rattle.cap_session.specs.Answers.{nothing}
-use Rattle.cap_session.specs.Session.{OpenRequest, open_payload, SpellsAnswer, FollowsStream, IsSession, EndsNow, NextGives, answer_bytes, with_answer, after_answer, AnswersBy}
+use Rattle.cap_session.specs.Counted.{sent_count}
+use Rattle.cap_session.specs.declared.counted.Sent.{Sent}
+use Rattle.cap_session.specs.declared.counted.Sent.TheVariants as sents
+use Rattle.cap_session.specs.Session.{ended_after, after_sent, HasAnswered, OpenRequest, open_payload, SpellsAnswer, FollowsStream, IsSession, EndsNow, NextGives, answer_bytes, with_answer, after_answer, AnswersBy}
 use Rattle.cap_session.specs.Kept.{AnswerLog, calls_in, answered_in, calls_of, open_of, sent_in, state_inside, SpellsRequest, IsHeadOf, IsKept, HasRoom, AnswersBad, AnswersAllBad, Finds, EndsWith}
 use Rattle.cap_session.specs.Asked.{ReadResult, PayloadLog, payloads_in}
 use Rattle.cap_session.specs.declared.asked.Head.{Head}
@@ -20,7 +23,7 @@ use Rattle.cap_session.specs.declared.session.Cause.{Cause}
 use Rattle.cap_session.specs.declared.session.Cause.TheVariants as causes
 use Rattle.cap_session.specs.declared.session.Next.TheVariants as nexts
 use Rattle.cap_session.specs.declared.session.Session.TheInside.{Inside}
-use Rattle.cap_session.proofs.Answering.{answers_more, one_refused, answers_open, answered_open, answers_refused, answered_fault, answered_answer, answered_starved}
+use Rattle.cap_session.proofs.Answering.{answers_more, one_refused, answers_open, answered_open, answers_refused, answered_fault, answered_answer, answered_starved, answered_sent}
 use Rattle.cap_session.proofs.Logs.{answered_more, calls_more, opened_is}
 
 -- ---- payloads that are no requests
@@ -60,6 +63,13 @@ bad_more {h} {k} {u} {v} {old} {log} m w new p e l none r gift is said one empty
       given = given.1;
       ready = given.2;
     }
+
+-- one more payload was given, and memory was refused
+pub starved_after : {h k : History} {v : List ℕ} {old log : AnswerLog} (m : History) (p : List ℕ) (u w : Filled) → AnswersAllBad h k u.items v old log → m ≡ after_gift k p → w.items ≡ v → IsReading m → Finds h m u w old log found.NoMemory
+starved_after m p u w r gift same reading =
+    let given = bad_given m p r gift in
+    let step = given.0 in
+    (r.payloads, r.frames, p ∷ [], record { answers = step.answers; fed = step.fed; unsent = same ∙ step.unsent; answered = step.answered; calls = step.calls }, given.1, reading)
 
 -- a length that no frame has
 pub fault_found : {h k : History} {v : List ℕ} {old log : AnswerLog} (m : History) (u w : Filled) (f : Found) → AnswersAllBad h k u.items v old log → m.fed ≡ k.fed → m.given ≡ k.given → IsAtFault k → IsReading m → EndsWith v w.items f → Finds h m u w old log f
@@ -270,3 +280,74 @@ answers_it s t head o reply replies kept opens payload call spells f none e r d 
       },
       subst (λ (x : Option OpenRequest). state_inside t ≡ with_answer (state_inside s) x reply) (sym opens) now,
     )
+
+-- ---- what is fed
+
+-- a piece that was taken, and one for which an allocation failed
+pub feeds : (s : Inside) (h : History) → IsKept s → s.ended ≡ None → h.given ≡ s.payloads.given → h.is_spent ≡ s.payloads.is_spent → IsReading h → IsKept (record s { payloads = h })
+feeds s h kept over given spent reading = record {
+  lost = kept.lost;
+  given = given ∙ kept.given;
+  reading = reading;
+  none_lost = λ e. let was = kept.none_lost e in (was.0, spent ∙ was.1);
+  spells = kept.spells;
+  head = kept.head;
+  room = kept.room;
+  answers = answered_open (state_inside (record s { payloads = h })) over (answers_open (state_inside s) over kept.answers);
+  none_open = kept.none_open;
+}
+
+pub feeds_none : (s : Inside) (h : History) → IsKept s → s.ended ≡ None → h ≡ s.payloads → IsReading h → IsKept (record s { payloads = h; ended = Some causes.NoMemory })
+feeds_none s h kept over same reading = record {
+  lost = kept.lost;
+  given = ap (λ (x : History). x.given) same ∙ kept.given;
+  reading = reading;
+  none_lost = λ x. cc;
+  spells = kept.spells;
+  head = kept.head;
+  room = kept.room;
+  answers = answered_starved (state_inside (record s { payloads = h; ended = Some causes.NoMemory })) refl (answers_open (state_inside s) over kept.answers);
+  none_open = λ x. absurd cc;
+}
+
+-- ---- what is written out
+
+was_none : (c : Option Cause) (sent : Sent) → ended_after c sent ≡ None → c ≡ None
+was_none c (sents.All n) e = e
+was_none None (sents.Fault n) e = refl
+was_none (Some c) (sents.Fault n) e = absurd cc
+
+was_bad : (c : Option Cause) (sent : Sent) → ended_after c sent ≡ Some causes.BadLength → c ≡ Some causes.BadLength
+was_bad c (sents.All n) e = e
+was_bad None (sents.Fault n) e = absurd cc
+was_bad (Some c) (sents.Fault n) e = e
+
+-- why it has ended then
+pub as_ended : (c : Option Cause) (sent : Sent) (n : ℕ) → sent ≡ sents.All n → c ≡ ended_after c sent
+as_ended c sent n is = rw is refl
+
+pub still_ended : (c : Option Cause) (sent : Sent) (n : ℕ) → sent ≡ sents.Fault n → is_some c ≡ true → c ≡ ended_after c sent
+still_ended None sent n is other = absurd (cc other)
+still_ended (Some cause) sent n is other = rw is refl
+
+pub ends_by_fault : (c : Option Cause) (sent : Sent) (n : ℕ) → sent ≡ sents.Fault n → is_some c ≡ false → Some causes.WriteFault ≡ ended_after c sent
+ends_by_fault None sent n is none = rw is refl
+ends_by_fault (Some cause) sent n is none = absurd (cc none)
+
+-- some first bytes were written out
+pub sends : (s : Inside) (unsent : Filled) (log : Log Filled ℕ) (ended : Option Cause) (sent : Sent) → IsKept s → unsent.items ≡ drop (sent_count sent) s.unsent.items → unsent.spare ≡ s.unsent.spare
+    → sent_in log.items ≡ sent_in s.sent.items ++ take (sent_count sent) s.unsent.items → ended ≡ ended_after s.ended sent → IsKept (record s { unsent = unsent; sent = log; ended = ended })
+sends s unsent log ended sent kept left spare out is =
+    let t : Inside = record s { unsent = unsent; sent = log; ended = ended } in
+    let now : state_inside t ≡ after_sent (state_inside s) sent = λ i. record (state_inside s) { sent = out i; unsent = left i; ended = is i } in
+    record {
+      lost = kept.lost;
+      given = kept.given;
+      reading = kept.reading;
+      none_lost = λ e. kept.none_lost (was_none s.ended sent (sym is ∙ e));
+      spells = kept.spells;
+      head = kept.head;
+      room = subst (HasRoom (open_of s.head s.opened.items)) (sym spare) kept.room;
+      answers = subst HasAnswered (sym now) (answered_sent (state_inside s) sent kept.answers);
+      none_open = λ e. kept.none_open (was_bad s.ended sent (sym is ∙ e));
+    }

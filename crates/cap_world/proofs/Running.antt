@@ -1,5 +1,5 @@
 -- What is said of a run after some steps.
-use Rattle.std.proofs.Common.{◌≡◌, ℕ, ◌<◌, ◌+◌, List, [], ◌∷◌, ◌++◌, length, get_or, take, Result, Ok, Err, refl, sym, ap, subst, ◌∙◌, arith}
+use Rattle.std.proofs.Common.{◌≡◌, ℕ, ◌<◌, ◌+◌, List, [], ◌∷◌, ◌++◌, length, get_or, take, Result, Ok, Err, true, false, is_err, refl, sym, ap, subst, ◌∙◌, arith}
 use Rattle.std.proofs.lemmas.List.{take_more}
 use Rattle.std.proofs.lemmas.Option.{slice_get_past, slice_get-get_or}
 use Rattle.cap_base.specs.Limits.{resources}
@@ -30,6 +30,18 @@ headline_all opening all i events world end o e lawful so_far =
           let was = rw end at (so_far c) in
           (was.0, was.1, rw (slice_get_past all (length all) (omega arith)) (is_heard was.0 (calls_by c events) (connection_at c world.sight.connections) was.2 (law.each c)));
     }
+
+-- a step in which no allocation failed, and one in which one did
+pub went_on : (r : Result Did NoMemory) → false ≡ is_err r → (did : Did) × (r ≡ Ok did)
+went_on (Ok did) e = (did, refl)
+went_on (Err error) e = absurd (cc e)
+
+pub as_made : (step : Step) (r : Result Did NoMemory) (did : Did) (old new : WorldState) (before after : List (Event resources)) → r ≡ Ok did → Outcome step r old new before after → Outcome step (Ok did) old new before after
+as_made step r did old new before after is outcome = subst (λ (x : Result Did NoMemory). Outcome step x old new before after) is outcome
+
+pub was_refused : (r : Result Did NoMemory) → true ≡ is_err r → (error : NoMemory) × (r ≡ Err error)
+was_refused (Ok did) e = absurd (cc e)
+was_refused (Err error) e = (error, refl)
 
 -- a step was refused memory
 pub headline_cut : (opening : Flat resources) (all : List Step) (i : ℕ) (d : Step) (r : Result Did NoMemory) (error : NoMemory) (mid new : Known) (before after : List (Event resources)) → i < length all → mid.opening ≡ opening → mid.events ≡ before → HeardSoFar (take i all) mid.sight → r ≡ Err error

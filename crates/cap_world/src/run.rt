@@ -1,9 +1,9 @@
 //! Steps made one after the other over an opening cluster (`World::run`), with the headline as its contract.
-ghost use Rattle.std.specs.Prelude.{◌≡◌, ◌≤◌, length};
+ghost use Rattle.std.specs.Prelude.{◌≡◌, ◌≤◌, length, is_err};
 ghost use Rattle.cap_world.specs.Making.{IsMade};
 ghost use Rattle.cap_world.specs.Hearing.{IsHeadline};
 
-use crate::step::Step;
+use crate::step::{Did, Step};
 use crate::world::World;
 use cap_base::RESOURCES;
 use cap_commit::Cluster;
@@ -33,15 +33,13 @@ impl World {
         let mut world = World::open(alloc, opening);
         let mut events = Vec::new(alloc);
         for (i, step) in steps.iter().enumerate() {
-            match world.step(*step, &mut events) {
-                Ok(_) => {}
-                Err(NoMemory) => {
-                    return Outcome {
-                        world,
-                        events,
-                        done: i,
-                    };
-                }
+            let made = world.step(*step, &mut events);
+            if ends_run(&made) {
+                return Outcome {
+                    world,
+                    events,
+                    done: i,
+                };
             }
         }
         Outcome {
@@ -50,4 +48,11 @@ impl World {
             done: steps.len(),
         }
     }
+}
+
+/// Whether a step of this result ends its run: only where an allocation failed in it.
+fn ends_run(made: &Result<Did, NoMemory>) -> bool
+    ensures { result ≡ is_err made.now }
+{
+    made.is_err()
 }

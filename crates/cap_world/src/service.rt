@@ -12,7 +12,7 @@ use crate::connection::Standing;
 use cap_base::RESOURCES;
 use cap_commit::Cluster;
 use cap_messages::dispatch;
-use cap_model::{Event, ReplyRoom, Request};
+use cap_model::{Event, OwnedReply, ReplyRoom, Request};
 use cap_session::{Cause, Next, Session};
 use std::alloc::Global;
 
@@ -79,6 +79,19 @@ fn perform(
     let given = dispatch(alloc, cluster, &request);
     let reply = room.own(&cluster.view(&given));
     session.answer(&reply);
+    note_call(by, request, reply, events);
+}
+
+/// Adds the event of a call, for which there is room.
+fn note_call(
+    by: u32,
+    request: Request<RESOURCES>,
+    reply: OwnedReply<RESOURCES>,
+    events: &mut Vec<Event<RESOURCES>>,
+)
+    requires { vec_len events.old < vec_capacity events.old }
+    ensures { events.new.items ≡ events.old.items ++ call_event by request reply ∷ [] }
+{
     let Ok(()) = events.push(Event::Call { by, request, reply }) else {
         unreachable!()
     };

@@ -1,10 +1,10 @@
-use Rattle.std.proofs.Common.{◌≡◌, ◌++◌, ◌∷◌, [], List, Ok, ap, ap₂, ◌∙◌, length, length-append, arith}
+use Rattle.std.proofs.Common.{◌≡◌, ◌++◌, ◌∷◌, [], List, Ok, ap, ap₂, sym, ◌∙◌, length, length-append, arith}
 use Rattle.cap_base.specs.Limits.{resources}
 use Rattle.cap_model.specs.declared.request.Request.{Request}
 use Rattle.cap_frames.specs.History.{after_gift}
-use Rattle.cap_session.specs.Asked.{PayloadLog, ReadResult, first_open}
+use Rattle.cap_session.specs.Asked.{PayloadLog, ReadResult, first_open, first_payload}
 use Rattle.cap_session.specs.Session.{OpenRequest}
-use Rattle.cap_session.proofs.ReadingAhead.{reads_more}
+use Rattle.cap_session.proofs.ReadingAhead.{reads_more, reads_refused, has_room}
 use Rattle.cap_session.proofs.payloads.read_all.Goals as goal
 
 pub loop-alloc-preserved : goal.loop-alloc-preserved
@@ -21,3 +21,17 @@ loop-alloc-preserved c =
       omega (arith, ap (λ (x : List OpenRequest). length x) asked, length-append c.loop-alloc.asked.items (o ∷ []), c.if-len-ge-AHEAD_MAX.false, c.len.ensures, c.loop-alloc.asked.ok.0),
       c.next.ensures.reading,
     )
+
+pub returns-in-Err-clause-reads : goal.returns-in-Err-clause-reads
+returns-in-Err-clause-reads c =
+    let p = c.in-Ok-Some.payload in
+    let gift : c.next.new.self ≡ after_gift c.loop-alloc.framer p.items = rw c.in-Ok-Some.field-0-is at c.in-Ok-Some.ensures.frame in
+    let one = c.and-opened.ensures ∙ ap (λ (x : PayloadLog). x ++ (p, c.read_request-read.result) ∷ []) c.new.ensures in
+    let is : c.new-in-Err.result ≡ p.items = c.new-in-Err.ensures ∙ ap first_payload one in
+    reads_refused c.next.new.self c.new-in-Err.result _ _ c.loop-alloc.invariant.0 (gift ∙ ap (after_gift c.loop-alloc.framer) (sym is)) c.reserve.ensures.items c.reserve-else-is_err.ensures.items
+
+pub push_back_reserved-requires : goal.push_back_reserved-requires
+push_back_reserved-requires c = let room = has_room c.reserve.result c.if-is_err.ensures.value c.reserve.ensures.ok in omega (arith, room)
+
+pub push_back_reserved-requires-in-Ok : goal.push_back_reserved-requires-in-Ok
+push_back_reserved-requires-in-Ok c = let room = has_room c.reserve-else-is_err.result c.if-is_err-2.ensures.value c.reserve-else-is_err.ensures.ok in omega (arith, room)

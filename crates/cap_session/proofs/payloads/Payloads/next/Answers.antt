@@ -100,3 +100,16 @@ returns-clause-gives c =
     let is = opens p c.as_slice.result.now c.read_request-read.result c.new.result.items c.and-opened.result.items c.as_slice.ensures c.read_request-read.ensures.found c.read_request-read.ensures.bad c.new.ensures c.and-opened.ensures in
     let now = invariant_of-self-2 c in
     (is, gave c.self.inside.ahead (record c.self.inside.ahead { framer = c.next.new.self; asked = c.pop_front.new.self; refused = c.take.new.self }) c.self.invariant.given now.given p.items c.self.invariant.has now.has (ap (λ (h : History). h.fed) gift) refl ∙ ap (λ (h : History). after_gift h p.items) c.self.view_is)
+
+pub returns-clause-reading : goal.returns-clause-reading
+returns-clause-reading c = let now = invariant_of-self-2 c in reads_on (record c.self.inside.ahead { framer = c.next.new.self; asked = c.pop_front.new.self; refused = c.take.new.self }) now.given now.has
+
+pub returns-in-Err-NoMemory-clause-gives : goal.returns-in-Err-NoMemory-clause-gives
+returns-in-Err-NoMemory-clause-gives c =
+    let empty = nil_from_length c.pop_front.new.self.items (cc (c.pop_front.new.self.ok.0, c.in_default.ensures.cases.1)) in
+    let none = sym c.take.ensures.value ∙ c.in_default-take.is in
+    let same = c.in-Err-NoMemory.ensures.err in
+    same_given c.self.inside.ahead (record c.self.inside.ahead { framer = c.next.new.self; asked = c.pop_front.new.self; refused = c.take.new.self }) (c.in_default.ensures.items ∙ empty) empty none c.take.ensures.after same.0 same.1 ∙ c.self.view_is
+
+pub returns-in-Err-NoMemory-clause-reading : goal.returns-in-Err-NoMemory-clause-reading
+returns-in-Err-NoMemory-clause-reading c = subst IsReading (sym (returns-in-Err-NoMemory-clause-gives c)) (subst IsReading c.self.view_is (reads_on c.self.inside.ahead c.self.invariant.given c.self.invariant.has))
