@@ -1,5 +1,5 @@
 -- The parts of a cluster are no larger than memory, as the cluster is.
-use Rattle.std.proofs.Common.{ℕ, [], ◌∷◌, arith}
+use Rattle.std.proofs.Common.{ℕ, ◌*◌, ◌<◌, [], ◌∷◌, arith}
 use Rattle.std.specs.Borrow.{RattleType}
 use Rattle.std.specs.Mem.{FitsInMemory}
 use denote.Param.{layout, number, param}
@@ -30,6 +30,9 @@ node_in_cluster K = part_fits (layout (cluster.the_row K)) (3 ∷ 0 ∷ 2 ∷ 0 
 
 pub amounts_in_cluster : (K MAX : RattleType) → FitsInMemory (cluster.the_row K) → FitsInMemory (amounts.the_row K MAX)
 amounts_in_cluster K MAX = part_fits (layout (cluster.the_row K)) (1 ∷ 0 ∷ [])
+
+pub array_in_cluster : (n : ℕ) → FitsInMemory (cluster.the_row (param 0 (number n))) → n * 8 < 9223372036854775808
+array_in_cluster n fits = let whole = amounts_in_cluster (param 0 (number n)) (number 0) fits in omega (arith, whole)
 
 pub reservation_in_cluster : (n : ℕ) → FitsInMemory (cluster.the_row (param 0 (number n))) → FitsInMemory (reservation.the_row (param 0 (number n)))
 reservation_in_cluster n fits = let whole = container_in_cluster (param 0 (number n)) fits in omega (arith, whole)

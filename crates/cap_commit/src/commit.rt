@@ -98,6 +98,25 @@ impl<const K: usize> Cluster<K> {
         })
     }
 
+    /// Makes a proposal that may be made. `NoMemory` changes nothing that calls see.
+    fn make(&mut self, proposal: &Proposal<K>) -> Result<Verdict<K>, NoMemory>
+        requires { reason_of (sight_of self.old.flat) proposal.now ≡ None }
+        ensures ok { IfOk result (IsVerdict proposal.now self.old.flat self.new.flat) }
+        ensures err { OnErr result (self.new.flat ≡ self.old.flat) }
+    {
+        if proposal.is_grant() {
+            match self.grant(proposal) {
+                Ok(container) => Ok(Verdict::Done(Event::Grant { container })),
+                Err(NoMemory) => Err(NoMemory),
+            }
+        } else {
+            match self.reserve(proposal) {
+                Ok(reservation) => Ok(Verdict::Done(Event::Reserve { reservation })),
+                Err(NoMemory) => Err(NoMemory),
+            }
+        }
+    }
+
     /// Tries a proposal: it is made exactly where it is admissible now, whatever was seen before. Else it is rejected for the first
     /// reason that holds, and nothing changes. `NoMemory` comes only where it is admissible, and changes nothing that calls see.
     pub fn try_commit(&mut self, proposal: Proposal<K>) -> Result<Verdict<K>, NoMemory>
@@ -108,16 +127,6 @@ impl<const K: usize> Cluster<K> {
         if let Some(reason) = self.reason(&proposal) {
             return Ok(Verdict::Rejected(reason));
         }
-        if proposal.is_grant() {
-            match self.grant(&proposal) {
-                Ok(container) => Ok(Verdict::Done(Event::Grant { container })),
-                Err(NoMemory) => Err(NoMemory),
-            }
-        } else {
-            match self.reserve(&proposal) {
-                Ok(reservation) => Ok(Verdict::Done(Event::Reserve { reservation })),
-                Err(NoMemory) => Err(NoMemory),
-            }
-        }
+        self.make(&proposal)
     }
 }

@@ -1,5 +1,5 @@
 -- The first fault of a text, from its lines and from its shape.
-use Rattle.std.proofs.Common.{◌≡◌, ℕ, List, Option, Some, None, Result, Ok, Err, refl, sym, ap, ◌∙◌, subst}
+use Rattle.std.proofs.Common.{◌≡◌, ℕ, List, Option, Some, None, Result, Ok, Err, refl, ap, subst}
 use Rattle.std.specs.Str.Lines.{lines}
 use Rattle.std.proofs.lemmas.Option.{same_Some}
 use Rattle.cap_config.specs.declared.entry.Entry.{Entry}
@@ -8,7 +8,6 @@ use Rattle.cap_config.specs.declared.fault.ConfigFaultKind.{ConfigFaultKind}
 use Rattle.cap_config.specs.declared.fault.ConfigFaultKind.TheVariants.{BadLine, UnknownKey, Repeated, BadValue, NoSuchQueue, OverParent, GuaranteeOverMaximum, TooManyQueues, TooDeep, NoChild, NoMemory}
 use Rattle.cap_config.specs.Fault.{FailsBy, fault_at}
 use Rattle.cap_config.specs.Entries.{read_lines}
-use Rattle.cap_base.specs.Settings.{Settings}
 use Rattle.cap_config.specs.Tests.{or_else, shape_fault, allocation_line, no_child_line, no_such_queue_line, too_deep_line, too_many_line, over_maximum_line, over_parent_line, whole_fault}
 use Rattle.cap_config.specs.Rows.{settings_of}
 use Rattle.cap_config.specs.First.{fault_after, first_fault, AnswersFault, settings_in, settings_after, unless_fault}
@@ -87,7 +86,7 @@ pub parent_passes : (X : Type 0) (entries : List Entry) (y : X) → shape_fault 
 unfolding whole_fault
 parent_passes X entries y h e = rw (h, e) tt
 
-to_other : (X Y : Type 0) (early : Option ConfigFault) (given : ConfigFault) → AnswersFault {X = Y} early (Err given) → AnswersFault {X = X} early (Err given)
+pub to_other : (X Y : Type 0) (early : Option ConfigFault) (given : ConfigFault) → AnswersFault {X = Y} early (Err given) → AnswersFault {X = X} early (Err given)
 to_other X Y None given h = h
 to_other X Y (Some fault) given h =
     fails_after given.kind given (let r : Result Y ConfigFault = Err fault in r) (let r : Result X ConfigFault = Err fault in r) (λ e. cc e) h
@@ -96,24 +95,6 @@ pub no_fault : (Y : Type 0) (early : Option ConfigFault) (y : Y) → AnswersFaul
 no_fault Y None y h = refl
 no_fault Y (Some fault) y h = absurd h
 
--- a fault in the entries that the index sees
-pub shape_answers : (X Y : Type 0) (text : List ℕ) (entries seen : List Entry) (given : ConfigFault) → read_lines (lines text) ≡ Ok entries → seen ≡ entries →
-    AnswersFault {X = Y} (whole_fault seen) (Err given) → AnswersFault {X = X} (first_fault text) (Err given)
-shape_answers X Y text entries seen given is same h =
-    let early : whole_fault seen ≡ first_fault text = ap whole_fault same ∙ sym (early_by_shape text entries is) in
-    subst (λ (o : Option ConfigFault). AnswersFault {X = X} o (Err given)) early (to_other X Y (whole_fault seen) given h)
-
--- no fault in them
-pub shape_passes : (X Y : Type 0) (text : List ℕ) (entries seen : List Entry) (y : Y) (x : X) → read_lines (lines text) ≡ Ok entries → seen ≡ entries →
-    AnswersFault {X = Y} (whole_fault seen) (Ok y) → AnswersFault {X = X} (first_fault text) (Ok x)
-shape_passes X Y text entries seen y x is same h =
-    let early : None ≡ first_fault text = sym (no_fault Y (whole_fault seen) y h) ∙ ap whole_fault same ∙ sym (early_by_shape text entries is) in
-    subst (λ (o : Option ConfigFault). AnswersFault {X = X} o (Ok x)) early tt
-
--- the settings of the entries that the index sees
-pub settings_answer : (Y : Type 0) (text : List ℕ) (entries seen : List Entry) (y : Y) (settings : Settings) → read_lines (lines text) ≡ Ok entries → seen ≡ entries →
-    AnswersFault {X = Y} (whole_fault seen) (Ok y) → settings ≡ settings_of seen → settings_in text ≡ Some settings
-settings_answer Y text entries seen y settings is same passes e =
-    settings_are text entries is
-    ∙ ap (λ (f : Option ConfigFault). unless_fault f (settings_of entries)) (ap whole_fault (sym same) ∙ no_fault Y (whole_fault seen) y passes)
-    ∙ ap Some (sym (e ∙ ap settings_of same))
+pub passes : (X Y : Type 0) (early : Option ConfigFault) (y : Y) (x : X) → AnswersFault {X = Y} early (Ok y) → AnswersFault {X = X} early (Ok x)
+passes X Y None y x h = tt
+passes X Y (Some fault) y x h = absurd h

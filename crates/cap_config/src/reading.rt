@@ -1,11 +1,15 @@
 //! Property lines read as settings, or refused at their first fault (`read_config`).
-ghost use Rattle.std.specs.Prelude.{◌≡◌, IfOk, Some};
-ghost use Rattle.cap_config.specs.First.{AnswersFault, first_fault, settings_in};
+ghost use Rattle.std.specs.Prelude.{◌≡◌, IfOk, Ok, Some, true};
+ghost use Rattle.cap_config.specs.Bounds.{are_bounded};
+ghost use Rattle.cap_config.specs.First.{AnswersFault, first_fault, settings_after, settings_in};
+ghost use Rattle.cap_config.specs.Index.{IsIndex};
+ghost use Rattle.cap_config.specs.Tests.{whole_fault};
 
 use crate::config::config_of;
+use crate::entry::Entry;
 use crate::fault::ConfigFault;
 use crate::first_pass::read_lines;
-use crate::index::index_of;
+use crate::index::{Index, index_of};
 use crate::second_pass::check;
 use cap_base::{Config, RESOURCES};
 use std::alloc::Global;
@@ -22,7 +26,28 @@ pub fn read_config(alloc: Global, text: &[u8]) -> Result<Config<RESOURCES>, Conf
     ensures settings { IfOk result (λ config. settings_in text.now ≡ Some config) }
 {
     let entries = read_lines(alloc, text)?;
-    let index = index_of(alloc, &entries)?;
-    check(alloc, &index)?;
-    Ok(config_of(alloc, &index)?)
+    settings_of(alloc, &entries)
+}
+
+/// The settings that the entries of all lines make, or the first fault of the whole text.
+fn settings_of(alloc: Global, entries: &[Entry]) -> Result<Config<RESOURCES>, ConfigFault>
+    requires { are_bounded entries.now ≡ true }
+    ensures fault { AnswersFault (whole_fault entries.now) result }
+    ensures settings { IfOk result
+        (λ config. settings_after (Ok entries.now) ≡ Some config) }
+{
+    let index = index_of(alloc, entries)?;
+    indexed_settings(alloc, &index)
+}
+
+/// The same of the entries that an index finds.
+fn indexed_settings(alloc: Global, index: &Index) -> Result<Config<RESOURCES>, ConfigFault>
+    requires index { IsIndex index.now }
+    requires bounded { are_bounded index.now.entries.now ≡ true }
+    ensures fault { AnswersFault (whole_fault index.now.entries.now) result }
+    ensures settings { IfOk result
+        (λ config. settings_after (Ok index.now.entries.now) ≡ Some config) }
+{
+    check(alloc, index)?;
+    Ok(config_of(alloc, index)?)
 }

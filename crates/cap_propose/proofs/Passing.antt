@@ -29,6 +29,10 @@ pub last_turn : (turn end : ℕ) → turn ≤ end → end ≤ turn → turn ≡ 
 last_turn turn end h g = omega (arith, h, g)
 
 module _ (K : ℕ) (seen : Seen) (first : ℕ) where
+  -- no node yet
+  pub none_yet : (e : AskEntry) → IsPassed K seen first 0 e
+  none_yet e turn node h at unreserved = absurd (omega (arith, h))
+
   -- fewer nodes
   pub fewer : (e : AskEntry) (m n : ℕ) → m ≤ n → IsPassed K seen first n e → IsPassed K seen first m e
   fewer e m n le p turn node h at unreserved = p turn node (omega (arith, le, h)) at unreserved

@@ -11,6 +11,17 @@ use Rattle.cap_tree.proofs.Spots.{item_at-spots}
 pub from_zero : (n : ℕ) → 0 + n ≡ n
 from_zero n = omega arith
 
+pub none_below : (n : ℕ) → (0 < n → false ≡ true) → n ≡ 0
+none_below zero h = refl
+none_below (suc n) h = absurd (cc (h (omega arith)))
+
+abbrev nowhere : List ℕ
+nowhere = []
+
+take_nothing : (n : ℕ) → take n nowhere ≡ nowhere
+take_nothing zero = refl
+take_nothing (suc n) = refl
+
 module _ {T : Type 0} where
   abbrev Filled : List (List (Spot T)) → Type 0
   Filled kids = All (λ kid. 1 ≤ length kid) kids
@@ -169,6 +180,12 @@ module _ {T : Type 0} where
       } in
       let here_too : IsAddedAt (take (suc levels) (last_position (spots name item kids))) nm x (spots name item kids) (spots name item (set kids n child')) = subst (λ w. IsAddedAt w nm x (spots name item kids) (spots name item (set kids n child'))) (sym way) whole in
       subst (λ v. IsAdded (suc levels) nm x v (spots name item (set kids n child'))) e here_too
+
+  -- the same at a spot that has no children, which is the last however many levels are counted
+  pub added_at_leaf : (levels : ℕ) (nm : List ℕ) (name : T → List ℕ) (item x : T) (kids : List (List (Spot T))) (value new : List (Spot T)) → spots name item kids ≡ value → kids ≡ [] → IsAdded 0 nm x value new → IsAdded levels nm x value new
+  added_at_leaf levels nm name item x kids value new e none a =
+      let way : take levels (last_position value) ≡ [] = ap (λ v. take levels (last_position v)) (sym e) ∙ ap (λ ks. take levels (last_position (spots name item ks))) none ∙ take_nothing levels in
+      subst (λ p. IsAddedAt p nm x value new) (sym way) a
 
   -- the same, as code counts the levels and the children
   pub added_below : (levels n : ℕ) (nm : List ℕ) (name : T → List ℕ) (item x : T) (kids : List (List (Spot T))) (value child child' : List (Spot T)) → spots name item kids ≡ value → Filled kids → 1 ≤ length kids → n ≡ length kids - 1 →

@@ -1,11 +1,13 @@
-use Rattle.std.proofs.Common.{◌∙◌, ap}
+use Rattle.std.proofs.Common.{◌∙◌, ap, sym, subst, Ok, Option}
 use Rattle.std.specs.Str.Lines.{lines}
-use Rattle.std.proofs.lemmas.Result.{err_from_is_err_and}
-use Rattle.cap_config.specs.Entries.{read_lines}
-use Rattle.cap_config.specs.First.{first_fault}
-use Rattle.cap_config.proofs.Kept.{lines_kept}
+use Rattle.std.proofs.lemmas.Result.{IfOk-weaker, err_from_is_err_and}
+use Rattle.cap_config.specs.declared.fault.ConfigFault.{ConfigFault}
 use Rattle.cap_config.specs.Bounds.{are_bounded}
-use Rattle.cap_config.proofs.Firsts.{early_by_line, no_fault, line_fault, shape_answers, shape_passes, settings_answer}
+use Rattle.cap_config.specs.Entries.{read_lines}
+use Rattle.cap_config.specs.First.{AnswersFault, first_fault, settings_after}
+use Rattle.cap_config.specs.Tests.{whole_fault}
+use Rattle.cap_config.proofs.Kept.{lines_kept}
+use Rattle.cap_config.proofs.Firsts.{early_by_line, early_by_shape, line_fault, settings_are}
 use Rattle.cap_config.proofs.reading.read_config.Goals as goal
 
 pub returns-in_err-entries-clause-fault : goal.returns-in_err-entries-clause-fault
@@ -15,30 +17,19 @@ returns-in_err-entries-clause-fault c =
     rw (p.1, p.2)
     (line_fault _ (first_fault text) (read_lines (lines text)) c.in_err-entries.field-0.0 (early_by_line text c.in_err-entries.field-0.0) c.in_err-entries.ensures)
 
-pub returns-in_err-check-clause-fault : goal.returns-in_err-check-clause-fault
-returns-in_err-check-clause-fault c =
-    let p = err_from_is_err_and c.from_residual-in_err-check.result c.from_residual-in_err-check.ensures.1 in
-    rw (p.1, p.2)
-    (shape_answers _ _ c.args.text.now c.in_ok-entries.entries.items c.in_ok-index.index.entries.now c.in_err-check.field-0.0 c.in_ok-entries.ensures
-    (c.in_ok-index.ensures.1 ∙ c.deref.ensures.value)
-    c.in_err-check.ensures)
+pub settings_of-requires : goal.settings_of-requires
+settings_of-requires c = ap are_bounded c.deref.ensures.value ∙ lines_kept (lines c.args.text.now) c.in_ok-entries.entries.items c.in_ok-entries.ensures
 
 pub returns-clause-fault : goal.returns-clause-fault
 returns-clause-fault c =
-    shape_passes _ _ c.args.text.now c.in_ok-entries.entries.items c.in_ok-index.index.entries.now c.in_ok-check.field-0 c.in_ok-config_of.field-0 c.in_ok-entries.ensures
-    (c.in_ok-index.ensures.1 ∙ c.deref.ensures.value)
-    c.in_ok-check.ensures
+    let text = c.args.text.now in
+    let early = ap whole_fault c.deref.ensures.value ∙ sym (early_by_shape text c.in_ok-entries.entries.items c.in_ok-entries.ensures) in
+    subst (λ (o : Option ConfigFault). AnswersFault o c.settings_of.result) early c.settings_of.ensures.fault
 
 pub returns-clause-settings : goal.returns-clause-settings
 returns-clause-settings c =
-    settings_answer _ c.args.text.now c.in_ok-entries.entries.items c.in_ok-index.index.entries.now c.in_ok-check.field-0 c.in_ok-config_of.field-0 c.in_ok-entries.ensures
-    (c.in_ok-index.ensures.1 ∙ c.deref.ensures.value)
-    c.in_ok-check.ensures
-    c.in_ok-config_of.ensures
-
-pub config_of-requires-clause-bounded : goal.config_of-requires-clause-bounded
-config_of-requires-clause-bounded c =
-    ap are_bounded (c.in_ok-index.ensures.1 ∙ c.deref.ensures.value) ∙ lines_kept (lines c.args.text.now) c.in_ok-entries.entries.items c.in_ok-entries.ensures
-
-pub config_of-requires-clause-whole : goal.config_of-requires-clause-whole
-config_of-requires-clause-whole c = no_fault _ _ c.in_ok-check.field-0 c.in_ok-check.ensures
+    let text = c.args.text.now in
+    let entries = c.in_ok-entries.entries.items in
+    IfOk-weaker c.settings_of.result _ _
+    (λ config e. settings_are text entries c.in_ok-entries.ensures ∙ ap (λ es. settings_after (Ok es)) (sym c.deref.ensures.value) ∙ e)
+    c.settings_of.ensures.settings

@@ -1,5 +1,5 @@
 use Rattle.std.proofs.Common.{◌∙◌, sym, arith, ◌<◌, ◌≤◌, length}
-use Rattle.cap_propose.proofs.Passing.{fewer, one_node_more, takes_here}
+use Rattle.cap_propose.proofs.Passing.{fewer, none_yet, one_node_more, takes_here}
 use Rattle.cap_propose.proofs.choice.first_taker.Goals as goal
 
 pub node-node-requires : goal.node-node-requires
@@ -27,3 +27,6 @@ returns-then-takes g c = (
   takes_here g.row.K c.args.snapshot.now c.args.first c.loop-turn.turn c.wrapped.result c.node_count-count.result c.node-node.result.now c.args.ask.now c.node_count-count.ensures.count c.wrapped.ensures.ring c.node-node.ensures
       (sym c.takes.ensures ∙ c.if-takes.true),
 )
+
+pub loop-turn-init : goal.loop-turn-init
+loop-turn-init g c = none_yet g.row.K c.args.snapshot.now c.args.first c.args.ask.now

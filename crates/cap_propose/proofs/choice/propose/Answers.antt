@@ -100,3 +100,9 @@ returns g c =
     c.proposal_by_room.ensures ∙ some.1
     ∙ node_chosen (sight_in g.row.K c.args.snapshot.now) c.args.start turn (c.args.start % c.node_count-count.result) c.node_count-count.result c.wrapped-2.result c.node-node-2.result.now count
     (ap (λ n. c.args.start % n) count) first within.1 c.wrapped-2.ensures.ring c.node-node-2.ensures (subst (NoneChosen (sight_in g.row.K c.args.snapshot.now) c.args.start) same c.loop-turn.invariant) some.0 (sym some.1 ∙ proposed.chosen)
+
+pub wrapped-requires-clause-first : goal.wrapped-requires-clause-first
+wrapped-requires-clause-first g c = within_count c.args.start c.node_count-count.result c.if-count-eq0.false
+
+pub wrapped-requires-2-clause-first : goal.wrapped-requires-2-clause-first
+wrapped-requires-2-clause-first g c = within_count c.args.start c.node_count-count.result c.if-count-eq0.false

@@ -1,4 +1,5 @@
-use Rattle.std.proofs.Common.{◌≡◌, ℕ, refl, ap, ◌∙◌, arith}
+use Rattle.std.proofs.Common.{◌≡◌, ℕ, refl, ap, ◌∙◌}
+use Rattle.cap_commit.proofs.Fitting.{amounts_in_cluster, nodes_in_cluster}
 use Rattle.std.specs.Prelude.{Result, Ok, Err, IfOk, OnErr}
 use Rattle.cap_base.specs.declared.no_memory.NoMemory.{NoMemory}
 use Rattle.cap_model.specs.Flat.{NodeTable}
@@ -12,8 +13,7 @@ pub register-requires : goal.register-requires
 register-requires g c =
     let x = c.self.inside in
     let may = may_join (flat_of (record { rows = x.tree.value; limits = x.limits; apps = x.apps; nodes = x.nodes })) c.args.host.now c.args.total.now (rw (← c.self.view_is) at c.requires) in
-    let kinds = c.self.invariant.resources in
-    (omega (arith, kinds), (omega (arith, kinds), (may.few, (may.numbered, may.within))))
+    (search nodes_in_cluster, (search amounts_in_cluster, (may.few, (may.numbered, may.within))))
 
 -- whether a node joins or not, what is live and what is reserved stays
 stays : {A : Type 0} (f : NodeTable → A) (r : Result ℕ NoMemory) (old new made : NodeTable) (P : ℕ → Type 0) → IfOk r (λ n. P n × (new ≡ made)) → OnErr r (new ≡ old) → f made ≡ f old → f new ≡ f old

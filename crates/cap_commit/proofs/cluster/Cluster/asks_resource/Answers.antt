@@ -1,4 +1,4 @@
-use Rattle.cap_commit.proofs.Fitting.{amounts_in_cluster}
+use Rattle.cap_commit.proofs.Fitting.{amounts_in_cluster, array_in_cluster}
 use Rattle.cap_commit.proofs.cluster.Cluster.asks_resource.Goals as goal
 
 pub resource-requires : goal.resource-requires
@@ -6,3 +6,9 @@ resource-requires g c = search amounts_in_cluster
 
 pub resource-requires-2 : goal.resource-requires-2
 resource-requires-2 g c = search amounts_in_cluster
+
+pub amounts-requires : goal.amounts-requires
+amounts-requires g c = search (amounts_in_cluster, array_in_cluster)
+
+pub amounts-requires-2 : goal.amounts-requires-2
+amounts-requires-2 g c = search (amounts_in_cluster, array_in_cluster)

@@ -26,3 +26,9 @@ new-requires-3 g c = search nodes_in_cluster
 
 pub application_limit-application_limit-requires : goal.application_limit-application_limit-requires
 application_limit-application_limit-requires g c = search
+
+pub drop-requires-in_default-5-room-T-Destruct : goal.drop-requires-in_default-5-room-T-Destruct
+drop-requires-in_default-5-room-T-Destruct g c = λ κs. queue_fits _ c.application_limit-application_limit.ensures.resources
+
+pub drop-requires-in_default-5-room-T-Destruct-2 : goal.drop-requires-in_default-5-room-T-Destruct-2
+drop-requires-in_default-5-room-T-Destruct-2 g c = λ κs. queue_fits _ c.application_limit-application_limit.ensures.resources

@@ -2,6 +2,7 @@ use Rattle.cap_commit.proofs.Fitting.{nodes_in_cluster, node_in_cluster, amounts
 use Rattle.std.proofs.Common.{sym, ap, subst, ◌∙◌, arith, length, map, None, [], ◌∷◌, ◌++◌}
 use Rattle.std.specs.Prelude.{◌≡◌, ◌==◌, find, filter, not, option_map, unwrap_or}
 use Rattle.std.proofs.lemmas.List.Sums.{count_by-le-length}
+use Rattle.cap_model.specs.Bounds.{AreApart}
 use Rattle.cap_model.specs.Flat.{Flat, App, ClusterNode, Container, NodeTable, Reservation, change_app}
 use Rattle.cap_model.specs.Sight.{sight_of}
 use Rattle.cap_model.specs.Admission.{reason_of}
@@ -190,3 +191,9 @@ unreachable-requires-in_default-app g c =
     let passes = subst (λ (f : Flat g.row.K). reason_of (sight_of f) q ≡ None) (sym same) c.requires.passes in
     let there = its_app (flat_of (record { rows = x.tree.value; limits = x.limits; apps = x.apps; nodes = x.nodes })) q passes in
     app_again x.apps.table.active c.app-app.result q.app c.app-app.ensures c.in_default-app.ensures.found there
+
+pub unreserve_on-requires : goal.unreserve_on-requires
+unreserve_on-requires g c = (search nodes_in_cluster, subst AreApart (sym (ap (λ (t : NodeTable). t.reserved) c.in-Ok-place.ensures.ok.1)) c.self.invariant.reservations.apart)
+
+pub returns-in-Err-clause-err : goal.returns-in-Err-clause-err
+returns-in-Err-clause-err g c = c.room_for_grant.ensures.flat

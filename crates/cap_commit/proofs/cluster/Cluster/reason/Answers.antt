@@ -1,6 +1,9 @@
 use Rattle.cap_commit.proofs.Fitting.{ask_in_cluster, app_fits}
-use Rattle.std.proofs.Common.{sym, ◌∙◌}
-use Rattle.cap_model.specs.Sight.{sight_of, app_sight}
+use Rattle.std.proofs.Common.{ap, arith, sym, ◌∙◌}
+use Rattle.std.specs.Prelude.{option_and_then}
+use Rattle.cap_model.specs.declared.ask.Key.{Key}
+use Rattle.cap_model.specs.Flat.{ask_at}
+use Rattle.cap_model.specs.Sight.{AppSight, sight_of, app_sight}
 use Rattle.cap_commit.proofs.Limiting.{by_place, by_limit, by_size}
 use Rattle.cap_commit.proofs.cluster.Cluster.reason.Goals as goal
 
@@ -27,3 +30,15 @@ registered-requires g c = search app_fits
 
 pub ask-requires : goal.ask-requires
 ask-requires g c = search (app_fits, ask_in_cluster)
+
+pub limit_reason-requires : goal.limit_reason-requires
+limit_reason-requires g c =
+    let here = rw c.app.ensures at c.in-Some.ensures in
+    ((search), ((search), (omega arith, (sym here.seen, (here.app, here.account)))))
+
+pub place_reason-requires : goal.place_reason-requires
+place_reason-requires g c =
+    let app = c.in-Some.app.now.app in
+    let seen = rw c.app.ensures at c.in-Some.ensures.seen in
+    let asked = ap (option_and_then (λ (a : AppSight). ask_at c.args.proposal.now.key a.asks)) (sym seen) ∙ ap (λ (k : Key). ask_at k app.asks) (sym c.key.ensures) ∙ sym c.ask.ensures ∙ c.in-Some-ask.is in
+    ((search), ((search), (search ask_in_cluster, asked)))

@@ -1,4 +1,4 @@
-use Rattle.std.proofs.Common.{sym}
+use Rattle.std.proofs.Common.{sym, arith}
 use Rattle.cap_commit.proofs.Reporting.{is_there, seen_few, reported}
 use Rattle.cap_commit.proofs.Sizes.{queue_fits, report_fits, tree_fits}
 use Rattle.cap_commit.proofs.cluster.Cluster.report.Goals as goal
@@ -32,3 +32,15 @@ returns-in-Parent-clause-report g c =
 
 pub find-requires : goal.find-requires
 find-requires g c = tree_fits _ c.self.invariant.resources
+
+pub running-running-requires : goal.running-running-requires
+running-running-requires g c = (tree_fits _ c.self.invariant.resources, (omega arith, c.in-Leaf.ensures.found.0.present))
+
+pub row-requires : goal.row-requires
+row-requires g c = let k = c.self.invariant.resources in (tree_fits _ k, (omega arith, (queue_fits _ k, c.in-Leaf.ensures.found.0.present)))
+
+pub running-running-requires-in-Parent : goal.running-running-requires-in-Parent
+running-running-requires-in-Parent g c = (tree_fits _ c.self.invariant.resources, (omega arith, c.in-Parent.ensures.found.0.present))
+
+pub row-requires-in-Parent : goal.row-requires-in-Parent
+row-requires-in-Parent g c = let k = c.self.invariant.resources in (tree_fits _ k, (omega arith, (queue_fits _ k, c.in-Parent.ensures.found.0.present)))

@@ -1,8 +1,9 @@
-use Rattle.std.proofs.Common.{ap, ◌∙◌}
+use Rattle.std.proofs.Common.{ap, ◌∙◌, arith}
 use Rattle.cap_tree.specs.Rows.{queues_of}
 use Rattle.cap_tree.specs.Spot.{path_at}
 use Rattle.cap_tree.proofs.Listings.{state_in_settings}
 use Rattle.cap_commit.proofs.Holding.{held_state, with_queues}
+use Rattle.cap_commit.proofs.Sizes.{tree_fits}
 use Rattle.cap_commit.proofs.cluster.Cluster.set_state.Goals as goal
 
 pub invariant_of-self : goal.invariant_of-self
@@ -15,3 +16,6 @@ returns-clause-flat g c =
     let x = c.self.inside in
     let now = rw c.deref_mut-tree.ensures.value at c.set_state.ensures in
     rw (← c.self.view_is) (with_queues (record { rows = x.tree.value; limits = x.limits; apps = x.apps; nodes = x.nodes }) _ _ (ap queues_of now ∙ state_in_settings (path_at c.args.position.now.items x.tree.value) c.args.running x.tree.value))
+
+pub set_state-requires : goal.set_state-requires
+set_state-requires g c = (tree_fits _ c.self.invariant.resources, (omega arith, rw (c.deref_mut-tree.ensures.value) (rw (← c.self.view_is) at c.requires)))

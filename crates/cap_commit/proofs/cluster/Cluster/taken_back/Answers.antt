@@ -1,7 +1,9 @@
 use Rattle.cap_commit.proofs.Fitting.{amounts_in_cluster, reservation_in_cluster}
-use Rattle.std.proofs.Common.{subst, sym, arith}
+use Rattle.std.proofs.Common.{ap, subst, sym, arith, ◌∙◌}
+use Rattle.std.specs.Option.{option_map_or}
 use Rattle.std.proofs.lemmas.List.{length-replicate}
-use Rattle.cap_vector.specs.Vector.{IsResource}
+use Rattle.cap_vector.specs.Vector.{IsResource, zeros}
+use Rattle.cap_model.specs.Flat.{Reservation}
 use Rattle.cap_vector.proofs.AmountLemmas.{amount-zeros}
 use Rattle.cap_commit.proofs.cluster.Cluster.taken_back.Goals as goal
 
@@ -25,3 +27,7 @@ returns-in-Some-clause-resources g c = c.own_reservation.ensures.resources
 
 pub returns-in-None-clause-resources : goal.returns-in-None-clause-resources
 returns-in-None-clause-resources g c = c.own_reservation.ensures.resources
+
+pub returns-in-Some-clause-value : goal.returns-in-Some-clause-value
+returns-in-Some-clause-value g c =
+    c.resource.ensures.value ∙ ap (λ o. option_map_or (λ (r : Reservation). r.resource) o (zeros g.row.K)) (sym c.in-Some.is ∙ c.own_reservation.ensures.own)

@@ -2,3 +2,6 @@ use Rattle.cap_commit.proofs.cluster.Cluster.tree.Goals as goal
 
 pub returns-clause-resources : goal.returns-clause-resources
 returns-clause-resources g c = c.self.invariant.resources
+
+pub returns-clause-tied : goal.returns-clause-tied
+returns-clause-tied g c = rw (← c.self.view_is) c.self.invariant.tied

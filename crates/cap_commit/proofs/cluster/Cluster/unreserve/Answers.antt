@@ -1,4 +1,4 @@
-use Rattle.cap_commit.proofs.Fitting.{amounts_in_cluster}
+use Rattle.cap_commit.proofs.Fitting.{amounts_in_cluster, nodes_in_cluster}
 use Rattle.std.proofs.Common.{ap, sym, ◌∙◌, map, arith}
 use Rattle.std.specs.Prelude.{filter}
 use Rattle.cap_model.specs.Flat.{with_reserved}
@@ -72,3 +72,6 @@ node-requires g c = search
 
 pub app-requires : goal.app-requires
 app-requires g c = search
+
+pub unreserve_on-requires : goal.unreserve_on-requires
+unreserve_on-requires g c = (search nodes_in_cluster, c.self.invariant.reservations.apart)

@@ -6,3 +6,6 @@ used-requires g c = search amounts_in_queue
 
 pub maximum-requires : goal.maximum-requires
 maximum-requires g c = search amounts_in_queue
+
+pub returns : goal.returns
+returns g c = λ i. record { maximum = c.maximum.ensures i; used = c.used.ensures i }

@@ -8,7 +8,7 @@ use Rattle.cap_tree.specs.Spot.{IsPosition}
 use Rattle.cap_asks.specs.Held.{AreKept, HeldApp}
 use Rattle.cap_copy.specs.Entries.{ask_entries}
 use Rattle.cap_copy.specs.Limits.{IsEachOnce, limit_of}
-use Rattle.cap_copy.specs.Snapshot.{IsSnapshot}
+use Rattle.cap_copy.specs.Snapshot.{IsSnapshot, queue_seen}
 use Rattle.cap_copy.specs.Sources.{apps_in, rows_in}
 use Rattle.cap_copy.proofs.Sights.{each_once_in, few_registered, is_whole, placed_all, positions_there, waiters_placed}
 use Rattle.cap_copy.proofs.snapshot.Snapshot.take.Goals as goal
@@ -124,3 +124,18 @@ next_container-requires g c = nodes_of_few _ c.requires.resources
 
 pub seen_nodes-requires : goal.seen_nodes-requires
 seen_nodes-requires g c = (nodes_of_few _ c.requires.resources, seen_node_of_few _ c.requires.resources)
+
+pub returns : goal.returns
+returns g c =
+    let sources = c.and.ensures ∙ ap (λ l. l ++ (c.args.tree.now, c.args.apps.now) ∷ []) c.new.ensures in
+    record {
+      rows = ap rows_in sources;
+      sight = λ k. record {
+        queues = map (queue_seen g.row.K) (rows_in (sources k));
+        apps = apps_in (sources k);
+        nodes = c.in-Ok-seen_nodes.ensures.entries k;
+        live = c.live_count.ensures.value k;
+        next_container = c.next_container.ensures k;
+      };
+      numbers = c.in-Ok-seen_nodes.ensures.rising;
+    }

@@ -1,11 +1,12 @@
-use Rattle.std.proofs.Common.{rules, arith, ◌≡◌, ◌≤◌, ◌-◌, length, refl, ◌∙◌, ap, set}
+use Rattle.std.proofs.Common.{rules, arith, ◌≡◌, ◌≤◌, ◌-◌, length, refl, ◌∙◌, ap, set, sym, subst, []}
 use Rattle.std.specs.Vec.{vec_len}
 use Rattle.std.proofs.lemmas.Result.{on_ok_weaker, on_err_weaker}
-use Rattle.std.proofs.lemmas.List.{length-set, set-get_or}
+use Rattle.std.proofs.lemmas.List.{length-set, set-get_or, nil_from_length}
 use Rattle.std.proofs.lemmas.List.Elements.{All-set}
-use Rattle.cap_tree.specs.Spot.{first_of, spots}
+use Rattle.cap_tree.specs.Spot.{first_of, spots, IsAdded}
 use Rattle.cap_tree.proofs.Spots.{sum-set_child}
-use Rattle.cap_tree.proofs.Adding.{added_below}
+use Rattle.cap_tree.proofs.Adding.{added_below, added_at_leaf, none_below}
+use Rattle.cap_tree.specs.Branch.{root_count}
 use Rattle.cap_tree.proofs.branch.Branch.+add.Goals as goal
 
 pub invariant_of-self : goal.invariant_of-self
@@ -62,3 +63,25 @@ returns-in-Some-clause-err g t c =
     on_err_weaker c.add.result
     (λ same. ap (λ k. spots g.T.Held.name c.self.inside.item k) (ap (set kids n) (same ∙ c.in-Some.ensures.value) ∙ set-get_or kids n c.in-Some.last.now) ∙ c.self.view_is)
     c.add.ensures.err
+
+pub returns-in-Some-clause-kept : goal.returns-in-Some-clause-kept
+returns-in-Some-clause-kept g t c = λ m. ap (λ ss. root_count g.T.Held.stored ss m) c.self.view_is
+
+pub returns-in-None-clause-kept : goal.returns-in-None-clause-kept
+returns-in-None-clause-kept g t c = λ m. c.add_child-in-None.ensures.kept m ∙ ap (λ ss. root_count g.T.Held.stored ss m) c.self.view_is
+
+pub invariant_of-self-in-None : goal.invariant_of-self-in-None
+invariant_of-self-in-None g t c = c.self.invariant
+
+pub add_child-requires-in-None-clause-few : goal.add_child-requires-in-None-clause-few
+add_child-requires-in-None-clause-few g t c = subst (λ ss. length ss ≤ 4294967295) (sym c.self.view_is) c.requires.few
+
+pub returns-in-None-clause-ok : goal.returns-in-None-clause-ok
+returns-in-None-clause-ok g t c =
+    let kids = c.self.inside.children.items in
+    let long = none_below (vec_len c.self.inside.children) c.in-None.ensures.variant.1 in
+    let none : kids ≡ [] = nil_from_length kids (omega (arith, long)) in
+    on_ok_weaker c.add_child-in-None.result
+    (λ a. added_at_leaf c.args.levels (g.T.Held.name c.args.item) g.T.Held.name c.self.inside.item c.args.item kids c.args.self.now c.add_child-in-None.new.self c.self.view_is none
+    (subst (λ v. IsAdded 0 (g.T.Held.name c.args.item) c.args.item v c.add_child-in-None.new.self) c.self.view_is a))
+    c.add_child-in-None.ensures.ok

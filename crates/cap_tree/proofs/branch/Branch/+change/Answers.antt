@@ -1,11 +1,12 @@
 use Rattle.cap_tree.proofs.branch.Branch.+change.Goals.{In-Err}
 use Rattle.cap_tree.specs.Branch.{IsBranch}
-use Rattle.std.proofs.Common.{ℕ, rules, ap, arith, get_or, drop, ◌≤◌, ◌-◌, take, length, subst, sym, ◌∙◌, ◌≡◌, set}
+use Rattle.std.proofs.Common.{ℕ, rules, ap, arith, get_or, drop, ◌≤◌, ◌-◌, take, length, subst, sym, ◌∙◌, ◌≡◌, set, ◌+◌, ◌<◌, List, Result, Ok, Err}
 use Rattle.std.proofs.lemmas.Result.{on_ok_weaker}
 use Rattle.std.proofs.lemmas.List.{length-map, length-set, set-get_or}
 use Rattle.std.proofs.lemmas.List.Elements.{All-set, All-get_or}
-use Rattle.cap_tree.specs.Spot.{HoldsOfItem, first_of, change_along, spots}
-use Rattle.cap_tree.proofs.Spots.{as_in_child, changed_at_root, in_child, changed_in_child, child-le-sum, sum-set_child}
+use Rattle.std.specs.Prelude.{OnOk, OnErr}
+use Rattle.cap_tree.specs.Spot.{HoldsOfItem, Spot, first_of, change_along, item_at, spots}
+use Rattle.cap_tree.proofs.Spots.{steps-empty, as_in_child, changed_at_root, in_child, changed_in_child, child-le-sum, sum-set_child}
 use Rattle.cap_tree.proofs.Rooms.{room_in_child}
 use Rattle.cap_tree.proofs.branch.Branch.+change.Goals as goal
 
@@ -139,3 +140,41 @@ change_at-requires-clause-within g t c = rw (← c.self.view_is) at c.requires.w
 
 pub change_above-requires-clause-within : goal.change_above-requires-clause-within
 change_above-requires-clause-within g t c = rw (← c.self.view_is) at c.requires.within
+
+-- what holds at the root holds of the item
+of_item : {T : Type 0} (P : T → Type 0) (name : T → List ℕ) (item : T) (kids : List (List (Spot T))) (value : List (Spot T)) (steps : List ℕ) → spots name item kids ≡ value → length steps < 1 → HoldsOfItem P (item_at steps value) → P item
+of_item P name item kids value steps e h p = rw (steps-empty steps h, ← e) at p
+
+pub change_at-requires-clause-can : goal.change_at-requires-clause-can
+change_at-requires-clause-can g t c =
+    of_item (g.C.Change.can c.args.change.now) g.T.Held.name c.self.inside.item c.self.inside.children.items c.args.self.now c.args.steps.now c.self.view_is c.in-empty.len_below c.requires.can
+
+pub returns-in-empty-clause-fitted : goal.returns-in-empty-clause-fitted
+returns-in-empty-clause-fitted g t c m =
+    let can = of_item (g.C.Change.can c.args.change.now) g.T.Held.name c.self.inside.item c.self.inside.children.items c.args.self.now c.args.steps.now c.self.view_is c.in-empty.len_below c.requires.can in
+    let s = c.self.invariant.sums m in
+    let f = g.met.C.Change.old_fits c.args.change.now c.self.inside.item m can in
+    rw (← c.self.view_is) (omega (arith, s, f))
+
+pub returns-in-empty-clause-moved : goal.returns-in-empty-clause-moved
+returns-in-empty-clause-moved g t c =
+    on_ok_weaker c.change_at.result (λ e m. rw (← c.self.view_is) (ap (λ x. g.T.Held.stored x m) e ∙ g.met.C.Change.stored_at c.args.change.now c.self.inside.item m)) c.change_at.ensures.ok
+
+-- an item that was changed, or not, counts what it counted with what is below
+sums_either : {X E T : Type 0} (r : Result X E) (f own : T → ℕ) (x y z : T) (below : ℕ) → OnOk r (z ≡ y) → OnErr r (z ≡ x) → f x ≡ own x + below → f y ≡ own y + below → f z ≡ own z + below
+sums_either (Ok v) f own x y z below ok err a b = rw ok b
+sums_either (Err v) f own x y z below ok err a b = rw err a
+
+pub invariant_of-self : goal.invariant_of-self
+invariant_of-self g t c =
+    let can = of_item (g.C.Change.can c.args.change.now) g.T.Held.name c.self.inside.item c.self.inside.children.items c.args.self.now c.args.steps.now c.self.view_is c.in-empty.len_below c.requires.can in
+    record {
+      sums = λ m.
+          let s = c.self.invariant.sums m in
+          let f = g.met.C.Change.old_fits c.args.change.now c.self.inside.item m can in
+          let u = g.met.C.Change.stored_at c.args.change.now c.self.inside.item m in
+          let v = g.met.C.Change.own_at c.args.change.now c.self.inside.item m can in
+          sums_either c.change_at.result (λ x. g.T.Held.stored x m) (λ x. g.T.Held.own x m) c.self.inside.item (g.C.Change.at c.args.change.now c.self.inside.item) c.change_at.new.item _ c.change_at.ensures.ok c.change_at.ensures.err s (omega (arith, s, f, u, v));
+      filled = c.self.invariant.filled;
+      few = c.self.invariant.few;
+    }

@@ -4,6 +4,7 @@ use Rattle.std.proofs.lemmas.List.Elements.{All-append, All-cons, All-nil}
 use Rattle.std.proofs.lemmas.List.Sums.{sum_by-append}
 use Rattle.cap_tree.specs.Spot.{spots, first_of, IsAdded}
 use Rattle.cap_tree.proofs.Adding.{added_here, kids-lt}
+use Rattle.cap_tree.specs.Branch.{IsBranch, root_count}
 use Rattle.cap_tree.proofs.branch.Branch.add_child.Goals as goal
 
 pub returns-clause-ok : goal.returns-clause-ok
@@ -37,3 +38,12 @@ invariant_of-self-2 g c =
       filled = subst (All (λ kid. 1 ≤ length kid)) (sym e) (All-append (λ kid. 1 ≤ length kid) kids (more ∷ []) c.self.invariant.filled (All-cons (λ kid. 1 ≤ length kid) more [] (omega arith) (All-nil (λ kid. 1 ≤ length kid))));
       few = omega (arith, fewer, n, l, c.requires.few);
     }
+
+pub returns-clause-kept : goal.returns-clause-kept
+returns-clause-kept g c = λ m. ap (λ ss. root_count g.T.Held.stored ss m) c.self.view_is
+
+pub returns-in-Err-clause-kept : goal.returns-in-Err-clause-kept
+returns-in-Err-clause-kept g c = λ m. ap (λ ss. root_count g.T.Held.stored ss m) c.self.view_is
+
+pub invariant_of-self : goal.invariant_of-self
+invariant_of-self g c = subst (IsBranch g.T.Held.stored g.T.Held.own c.self.inside.item) (sym c.in-Err.ensures.items) c.self.invariant

@@ -8,3 +8,6 @@ moved-self-inside-requires g c =
 
 pub of-self-inside-inside-requires : goal.of-self-inside-inside-requires
 of-self-inside-inside-requires g c = search (amounts_in_queue, shares_in_queue)
+
+pub invariant_of-self : goal.invariant_of-self
+invariant_of-self g c = c.of-self-inside-inside.ensures
