@@ -14,6 +14,7 @@ use cap_workers::{EndCause, SessionEnd, serve_session};
 use mio::Interest;
 use std::alloc::Global;
 use std::io::{self, ErrorKind, Read};
+use std::mem;
 use std::net::{Net, Shutdown, TcpStream};
 use std::os::fd::{AsRawFd, RawFd};
 use std::sync::Wait;
@@ -86,6 +87,21 @@ enum Served {
     Over,
 }
 
+/// How a connection goes on.
+#[derive(Clone, Copy)]
+enum Course {
+    /// It is served on.
+    On,
+    /// It is served on once something comes.
+    Rests,
+    /// The journal is full.
+    Sealed,
+    /// It is served on in the next epoch.
+    Later,
+    /// It has ended.
+    Over,
+}
+
 impl Connection {
     /// A connection that was accepted. An error means that its stream can't be set up, or that an allocation failed.
     pub(crate) fn new<H: Net>(
@@ -129,56 +145,75 @@ impl Connection {
         is_open || self.socket.poller.is_ready() || !self.socket.backlog.is_empty()
     }
 
-    /// Serves the connection until it ends, or until the epoch does: then it comes back, to be served in the next. Where the journal is full the
-    /// epoch ends.
+    /// Serves the connection until it ends or the epoch does. Where the journal is full the epoch ends. Whether it is to be served in the next.
     pub(crate) fn serve<J: Naming, H: Wait + Clock>(
-        self,
+        &mut self,
         rt: &H,
         shared: &Shared<J>,
         seat: &mut Seat<J>,
         signal: &EndSignal,
-    ) -> Option<Connection> {
-        let Connection {
-            number,
-            is_watched,
-            mut socket,
-            mut phase,
-        } = self;
+    ) -> bool {
         for _ in rt.forever() {
-            socket.write_kept(rt, signal).ok()?;
-            if !socket.backlog.is_empty() {
-                break;
+            if self.socket.write_kept(rt, signal).is_err() {
+                return false;
             }
-            match phase {
-                Phase::Serving(open_session) => {
-                    match socket.serve(rt, shared, seat, open_session, signal) {
-                        Served::Quiet(open_session) => {
-                            phase = Phase::Serving(open_session);
-                            if socket.rest(rt, shared, signal).ok()? {
-                                break;
-                            }
-                        }
-                        Served::Sealed(open_session) => {
-                            phase = Phase::Serving(open_session);
-                            signal.raise(rt);
-                            break;
-                        }
-                        Served::Closing => phase = Phase::Closing(DRAIN_READS),
-                        Served::Over => return None,
-                    }
+            if !self.socket.backlog.is_empty() {
+                return true;
+            }
+            match self.serve_once(rt, shared, seat, signal) {
+                Course::On => {}
+                Course::Rests => match self.socket.rest(rt, shared, signal) {
+                    Ok(true) => return true,
+                    Ok(false) => {}
+                    Err(_) => return false,
+                },
+                Course::Sealed => {
+                    signal.raise(rt);
+                    return true;
                 }
-                Phase::Closing(reads) => {
-                    phase = Phase::Closing(socket.drain(reads, signal)?);
-                    break;
-                }
+                Course::Later => return true,
+                Course::Over => return false,
             }
         }
-        Some(Connection {
-            number,
-            is_watched,
-            socket,
-            phase,
-        })
+        unreachable!()
+    }
+
+    /// Serves the session once, or takes what a client still sends.
+    fn serve_once<J: Naming, H: Wait + Clock>(
+        &mut self,
+        rt: &H,
+        shared: &Shared<J>,
+        seat: &mut Seat<J>,
+        signal: &EndSignal,
+    ) -> Course {
+        match mem::replace(&mut self.phase, Phase::Closing(0)) {
+            Phase::Serving(open_session) => {
+                let served = self.socket.serve(rt, shared, seat, open_session, signal);
+                self.after(served)
+            }
+            Phase::Closing(reads) => self.drain(reads, signal),
+        }
+    }
+
+    /// How the connection goes on after its session was served.
+    fn after(&mut self, served: Served) -> Course {
+        let (phase, course) = match served {
+            Served::Quiet(open_session) => (Phase::Serving(open_session), Course::Rests),
+            Served::Sealed(open_session) => (Phase::Serving(open_session), Course::Sealed),
+            Served::Closing => (Phase::Closing(DRAIN_READS), Course::On),
+            Served::Over => (Phase::Closing(0), Course::Over),
+        };
+        self.phase = phase;
+        course
+    }
+
+    /// Takes what a client still sends, in so many reads at most.
+    fn drain(&mut self, reads: u32, signal: &EndSignal) -> Course {
+        let Some(left) = self.socket.drain(reads, signal) else {
+            return Course::Over;
+        };
+        self.phase = Phase::Closing(left);
+        Course::Later
     }
 }
 

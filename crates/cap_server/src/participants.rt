@@ -4,6 +4,7 @@ ghost use Rattle.std.specs.Option.{ForSome};
 
 use crate::acceptor::Acceptor;
 use crate::connection::Connection;
+use crate::signal::EndSignal;
 use crate::task::{Done, Records, Remains};
 use cap_model::NoMemory;
 use cap_shared::{Naming, Seat};
@@ -11,6 +12,7 @@ use cap_workers::{Committer, Putter, Worker, lanes};
 use std::alloc::Global;
 use std::sync::Wait;
 use std::thread::{JoinHandle, Threads};
+use std::time::Clock;
 
 /// Who works on from epoch to epoch, and what is left of the last one.
 #[derive(Drop)]
@@ -124,11 +126,93 @@ impl<J: Naming> EpochThreads<J> {
         })
     }
 
+    /// The epoch has failed: an allocation failed, or a thread could not be made. It ends.
+    pub(crate) fn fail<H: Wait + Clock>(&mut self, rt: &H, signal: &EndSignal) -> bool {
+        self.has_failed = true;
+        signal.raise(rt);
+        false
+    }
+
+    /// Keeps a connection that has no thread. Where no memory is found for it the epoch ends.
+    pub(crate) fn keep<H: Wait + Clock>(
+        &mut self,
+        rt: &H,
+        signal: &EndSignal,
+        connection: Connection,
+    ) {
+        if !is_added(&mut self.connections, connection) {
+            self.fail(rt, signal);
+        }
+    }
+
+    /// Lets a connection wait for its thread, unless there is nothing to do for it: then it is watched. Where memory is wanting the epoch ends.
+    pub(crate) fn wait_or_watch<H: Wait + Clock>(
+        &mut self,
+        rt: &H,
+        signal: &EndSignal,
+        acceptor: &Acceptor<'_>,
+        connection: Connection,
+    ) {
+        if !self.is_taken_in(acceptor, connection) {
+            self.fail(rt, signal);
+        }
+    }
+
+    /// The same. Whether memory was found for it.
+    fn is_taken_in(&mut self, acceptor: &Acceptor<'_>, mut connection: Connection) -> bool {
+        if !connection.is_busy() && acceptor.watch(&mut connection) {
+            return is_added(&mut self.connections, connection);
+        }
+        acceptor.unwatch(&mut connection);
+        is_added(&mut self.waiting, connection)
+    }
+
+    /// Takes the connection that has waited longest for its thread.
+    pub(crate) fn next_waiting(&mut self) -> Option<Connection> {
+        self.waiting.pop()
+    }
+
+    /// Whether connections wait for their threads.
+    pub(crate) fn has_waiting(&self) -> bool {
+        !self.waiting.is_empty()
+    }
+
+    /// Takes a seat that nobody has.
+    pub(crate) fn next_seat(&mut self) -> Option<Seat<J>> {
+        self.seats.pop()
+    }
+
+    /// Takes the connection of this number, which is watched no more, out of those that have no thread.
+    pub(crate) fn take_watched(
+        &mut self,
+        acceptor: &Acceptor<'_>,
+        number: usize,
+    ) -> Option<Connection> {
+        let mut connection = taken(&mut self.connections, number)?;
+        acceptor.unwatch(&mut connection);
+        Some(connection)
+    }
+
+    /// Adds a thread. If none was made, or no memory is found for it, the epoch ends. Whether it goes on.
+    pub(crate) fn add<H: Wait + Clock>(
+        &mut self,
+        rt: &H,
+        signal: &EndSignal,
+        thread: Option<JoinHandle<Done<J>>>,
+    ) -> bool {
+        if let Some(thread) = thread
+            && self.threads.push(thread).is_ok()
+        {
+            return true;
+        }
+        self.fail(rt, signal)
+    }
+
     /// Takes back what a thread leaves.
     pub(crate) fn take_back(&mut self, done: Done<J>) {
         let (remains, seat) = done.into_parts();
         let is_kept = match remains {
-            Remains::Connection(connection) => self.connections.push(connection).is_ok(),
+            Remains::Connection(connection) => is_added(&mut self.connections, connection),
             Remains::Worker(worker) => self.workers.push(worker).is_ok(),
             Remains::Nothing => true,
         };
@@ -171,4 +255,15 @@ impl<J: Naming> EpochThreads<J> {
             seats,
         ))
     }
+}
+
+/// Adds a connection to a list. Whether memory was found for it.
+fn is_added(list: &mut Vec<Connection>, connection: Connection) -> bool {
+    list.push(connection).is_ok()
+}
+
+/// Takes the connection of this number out of a list.
+fn taken(list: &mut Vec<Connection>, number: usize) -> Option<Connection> {
+    let place = list.iter().position(|it| it.number == number)?;
+    Some(list.swap_remove(place))
 }

@@ -166,6 +166,7 @@ fn serve_all<H: Net + Threads + Wait + Clock + Eprint + Sync, G: Gate + Sync, W:
         return no_memory(writer);
     };
     let has_failed = carried.participants.acceptor.has_failed();
+    drop(carried);
     tell_changes(rt, state);
     let Totals { epochs, entries } = totals;
     let Ok(closed) = format!(in alloc; "closed epochs={epochs} entries={entries}\n") else {

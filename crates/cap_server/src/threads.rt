@@ -102,7 +102,7 @@ impl<
             let _ended = putter.finish(self.rt);
         }
         for connection in connections {
-            self.wait_or_watch(&mut running, &acceptor, connection);
+            running.wait_or_watch(self.rt, &self.state.signal, &acceptor, connection);
         }
         self.begin_waiting(&mut running);
         self.clear(records);
@@ -110,10 +110,14 @@ impl<
         running.join(self.rt, acceptor)
     }
 
-    /// Begins a thread for a connection. Where none can be made the epoch ends.
+    /// Begins a thread for a connection. Where the epoch is ending that is left to the next one; where no thread can be made it ends.
     fn begin_connection(&self, running: &mut EpochThreads<J>, connection: Connection) {
-        let Some(seat) = running.seats.pop() else {
-            self.fail(running);
+        if self.state.signal.is_over() {
+            running.keep(self.rt, &self.state.signal, connection);
+            return;
+        }
+        let Some(seat) = running.next_seat() else {
+            running.fail(self.rt, &self.state.signal);
             return;
         };
         let begun = begin_serving(
@@ -124,19 +128,13 @@ impl<
             connection,
             seat,
         );
-        let is_kept = match begun {
-            Some(thread) => running.threads.push(thread).is_ok(),
-            None => false,
-        };
-        if !is_kept {
-            self.fail(running);
-        }
+        running.add(self.rt, &self.state.signal, begun);
     }
 
     /// Begins a thread for a task. Where none can be made the epoch ends. Whether the thread was made.
     fn begin(&self, running: &mut EpochThreads<J>, task: Task) -> bool {
-        let Some(seat) = running.seats.pop() else {
-            return self.fail(running);
+        let Some(seat) = running.next_seat() else {
+            return running.fail(self.rt, &self.state.signal);
         };
         let begun = begin_thread(
             self.scope,
@@ -149,41 +147,12 @@ impl<
             seat,
         );
         match begun {
-            Begun::Thread(thread) => {
-                if running.threads.push(thread).is_err() {
-                    return self.fail(running);
-                }
-                true
-            }
+            Begun::Thread(thread) => running.add(self.rt, &self.state.signal, Some(thread)),
             Begun::Done(done) => {
                 running.take_back(done);
-                self.fail(running)
+                running.fail(self.rt, &self.state.signal)
             }
-            Begun::Refused => self.fail(running),
-        }
-    }
-
-    /// The epoch has failed: an allocation failed, or a thread could not be made. It ends.
-    fn fail(&self, running: &mut EpochThreads<J>) -> bool {
-        running.has_failed = true;
-        self.state.signal.raise(self.rt);
-        false
-    }
-
-    /// Lets a connection wait for its thread, unless there is nothing to do for it: then it is watched.
-    fn wait_or_watch(
-        &self,
-        running: &mut EpochThreads<J>,
-        acceptor: &Acceptor<'_>,
-        mut connection: Connection,
-    ) {
-        if !connection.is_busy() && acceptor.watch(&mut connection) {
-            self.keep(running, connection);
-            return;
-        }
-        acceptor.unwatch(&mut connection);
-        if running.waiting.push(connection).is_err() {
-            self.fail(running);
+            Begun::Refused => running.fail(self.rt, &self.state.signal),
         }
     }
 
@@ -194,17 +163,10 @@ impl<
             if self.state.signal.is_over() {
                 return;
             }
-            let Some(connection) = running.waiting.pop() else {
+            let Some(connection) = running.next_waiting() else {
                 return;
             };
             self.begin_connection(running, connection);
-        }
-    }
-
-    /// Keeps a connection that has no thread.
-    fn keep(&self, running: &mut EpochThreads<J>, connection: Connection) {
-        if running.connections.push(connection).is_err() {
-            self.fail(running);
         }
     }
 
@@ -229,10 +191,10 @@ impl<
             if self.state.signal.is_over() {
                 return;
             }
-            let pause = if running.waiting.is_empty() {
-                LOOK_AGAIN
-            } else {
+            let pause = if running.has_waiting() {
                 BEGIN_MORE
+            } else {
+                LOOK_AGAIN
             };
             if acceptor.wait(pause).is_err() {
                 self.state.signal.wait(self.rt, pause);
@@ -248,25 +210,10 @@ impl<
             let Some(number) = acceptor.next_ready() else {
                 return;
             };
-            let place = running
-                .connections
-                .iter()
-                .position(|it| it.number == number);
-            if let Some(place) = place {
-                let mut connection = running.connections.swap_remove(place);
-                acceptor.unwatch(&mut connection);
-                self.begin_unless_over(running, connection);
+            if let Some(connection) = running.take_watched(acceptor, number) {
+                self.begin_connection(running, connection);
             }
         }
-    }
-
-    /// Begins a thread for a connection. Where the epoch is ending that is left to the next one.
-    fn begin_unless_over(&self, running: &mut EpochThreads<J>, connection: Connection) {
-        if self.state.signal.is_over() {
-            self.keep(running, connection);
-            return;
-        }
-        self.begin_connection(running, connection);
     }
 
     /// Accepts the connections that wait.
@@ -304,7 +251,7 @@ impl<
     ) {
         let signal = &self.state.signal;
         match Connection::new(self.rt, self.alloc, stream, number, signal) {
-            Ok(connection) => self.wait_or_watch(running, acceptor, connection),
+            Ok(connection) => running.wait_or_watch(self.rt, signal, acceptor, connection),
             Err(error) => {
                 let _told = eprintln!(self.rt; "connection: {error}");
                 self.state.end_connections(self.rt, 1);

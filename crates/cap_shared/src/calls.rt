@@ -3,13 +3,15 @@ ghost use Rattle.std.specs.Prelude.{◌≡◌, ◌<◌, true, IfOk, OnOk, vec_le
 ghost use Rattle.cap_base.specs.Limits.{resources};
 ghost use Rattle.cap_model.specs.Flat.{Flat};
 ghost use Rattle.cap_model.specs.Events.{is_no_memory};
-ghost use Rattle.cap_model.specs.Reporting.{HasNumbers, full_reply};
+ghost use Rattle.cap_model.specs.Reporting.{HasNumbers, RepliesInFull, full_reply};
+ghost use Rattle.cap_grammar.specs.Spelling.{IsOfKind, kind_of};
 ghost use Rattle.cap_shared.specs.Rooms.{IsRoomFor, AreRoomsFor, HasRoomsFor, AreCopiesOf, tells_nothing};
 
 use crate::entry::Receipt;
 use crate::request::{CompactRequest, TextCopy, text_copy};
 use cap_base::RESOURCES;
 use cap_commit::Cluster;
+use cap_messages::dispatch;
 use cap_model::{
     AllocateReply, NoMemory, OwnedReply, Refusal, Reply, ReplyRoom, ReplyWith, Request,
 };
@@ -145,6 +147,19 @@ impl CallRoom {
             news: news_rooms(alloc, cluster, request)?,
         })
     }
+}
+
+/// Makes the call that a request names. What is entered of it is a step of the run: the reply is the reply function's, and so is the cluster.
+pub(crate) fn make_call(
+    alloc: Global,
+    cluster: &mut Cluster<RESOURCES>,
+    request: &Request<RESOURCES>,
+) -> Reply<RESOURCES>
+    ensures replies { RepliesInFull cluster.old.flat request.now result cluster.new.flat }
+    ensures numbers { HasNumbers cluster.new.flat result }
+    ensures kind { IsOfKind (kind_of request.now) (full_reply cluster.new.flat result) }
+{
+    dispatch(alloc, cluster, request)
 }
 
 /// Whether a reply says that no memory was found, so that the call changed nothing.

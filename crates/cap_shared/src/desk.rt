@@ -4,13 +4,13 @@ ghost use Rattle.cap_model.specs.Sight.{sight_of};
 ghost use Rattle.cap_model.specs.Admission.{reason_of};
 ghost use Rattle.cap_shared.specs.Calls.{CallsOk, CallMisses, CommitAnswers, CommitsBack, CopyIs, TellsFull, TellsFullFirst};
 
-use crate::calls::{CallRoom, is_no_memory, own_copies};
+use crate::calls::{CallRoom, is_no_memory, make_call, own_copies};
 use crate::entry::{Entry, Receipt};
 use crate::event::{CompactEvent, EventForm};
 use crate::faults::{CommitFault, Fault};
 use crate::making::make_proposed;
 use crate::marks::{
-    compare, enter, note_copied, note_no_memory, note_rejected, note_sealed_call,
+    compare, enter, next_position, note_copied, note_no_memory, note_rejected, note_sealed_call,
     note_sealed_commit,
 };
 use crate::passes::{Pass, Word};
@@ -20,7 +20,6 @@ use bumpalo::Bump;
 use cap_base::RESOURCES;
 use cap_commit::Cluster;
 use cap_copy::Snapshot;
-use cap_messages::dispatch;
 use cap_model::{Event, NoMemory, OwnedReply, Proposal, Request, Verdict};
 use cap_sights::snapshot_in;
 use std::alloc::Global;
@@ -107,12 +106,12 @@ impl<J: Naming> Desk<J> {
         let Ok(room) = CallRoom::of(alloc, &self.cluster, &mut seat.receipts, request) else {
             return Err(NoMemory);
         };
-        let answer = dispatch(alloc, &mut self.cluster, request);
+        let answer = make_call(alloc, &mut self.cluster, request);
         if is_no_memory(&answer) {
             return Err(NoMemory);
         }
         let copies = own_copies(alloc, room.news, &self.cluster, &answer);
-        let position = self.journal.len() as u64;
+        let position = next_position(&self.journal);
         let by = seat.number;
         let event = CompactEvent::of(EventForm::Call {
             by,
@@ -196,7 +195,7 @@ impl<J: Naming> Desk<J> {
             );
             return Err(CommitFault::NoMemory(proposal));
         };
-        let at = self.journal.len() as u64;
+        let at = next_position(&self.journal);
         let number = seat.number;
         enter(
             word,

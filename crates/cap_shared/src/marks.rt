@@ -38,6 +38,13 @@ pub(crate) fn enter(
     receipts.push_reserved(receipt);
 }
 
+/// The position of the next entry of the journal.
+pub(crate) fn next_position(journal: &Vec<Entry>) -> u64
+    ensures { result ≡ length journal.now.items }
+{
+    journal.len() as u64
+}
+
 /// Notes that a call was not made because the journal was full.
 pub(crate) fn note_sealed_call(
     word: &Word,

@@ -11,3 +11,6 @@ returns-in-Fault-clause-read g c = reads_none (Some ends.WriteFault) (state_of c
 
 pub returns-in-All-clause-out : goal.returns-in-All-clause-out
 returns-in-All-clause-out g c = read_out c.in-All.count c.args.session c.write_out-written.new.self c.read_more-end.new.session c.read_more-end.result c.in-All.ensures.count c.in-All.ensures.session c.read_more-end.ensures.step
+
+pub write_out-written-requires : goal.write_out-written-requires
+write_out-written-requires g c = c.requires.writer
