@@ -3,7 +3,8 @@
 
 A folder has the program's words in `args`, one a line. In `cases` are the standard inputs, each after a line `== NAME` and up to the line feed in front of the next
 such line. In `answers` stands under the same lines what the program must print, then what it must leave on standard error, each line after `! `, and the exit
-status. Then come the scripts of limits.py and the daemons of daemon.py. With words of its own this runs the programs that they name, else the one that `./capsched` builds.
+status. Then come the scripts of limits.py and, but for the program without it, the daemons of daemon.py. With words of its own
+this runs the programs that they name, else the one that `./capsched` builds.
 """
 import difflib
 import io
@@ -18,6 +19,7 @@ import limits
 HERE = os.path.dirname(os.path.abspath(__file__))
 TOP = os.path.dirname(HERE)
 MARK = b"== "
+OFFLINE = "capsched_offline"  # the program without the daemon
 
 
 def read(path):
@@ -68,7 +70,8 @@ def main():
             count = check(program, folder)
             print(f"{os.path.relpath(program, TOP)} {os.path.basename(folder)}: {count} cases are answered as they must be")
         print(f"{os.path.relpath(program, TOP)} limits: {limits.check(program)} scripts are answered as they must be")
-        print(f"{os.path.relpath(program, TOP)} daemon: {daemon.check(program)} cases end as they must")
+        if os.path.basename(program).partition(".")[0] != OFFLINE:
+            print(f"{os.path.relpath(program, TOP)} daemon: {daemon.check(program)} cases end as they must")
 
 
 if __name__ == "__main__":

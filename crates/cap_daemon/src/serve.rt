@@ -3,8 +3,8 @@ ghost use Rattle.std.specs.Prelude.{◌≡◌, ◌<◌, Err, IfSome, IfErr, OnOk
 ghost use Rattle.cap_server.specs.Bounds.{IsAllowed};
 ghost use Rattle.cap_session.specs.Counted.{state_of, CanCount};
 
-use crate::texts::{complain, print};
 use cap_base::RESOURCES;
+use cap_commands::{complain, print};
 use cap_config::{Config, ConfigFault, ConfigFaultKind, read_config};
 use cap_server::{Sizes, serve_on};
 use cap_session::Counted;

@@ -1,14 +1,10 @@
-//! The words of the command line, read by `clap`, to an exit status (`run`).
+//! The words of the command line with `serve` among them, to an exit status (`run`).
 ghost use Rattle.std.specs.Prelude.{◌≡◌, ◌<◌};
 ghost use Rattle.cap_session.specs.Counted.{state_of, CanCount};
 
 use crate::serve::{serve, serve_command};
-use crate::streams::explain_streams;
-use crate::texts::{check_settings, explain_lines, print};
-use cap_replay::replay_with_words;
-use cap_session::Counted;
-use clap::error::ErrorKind;
-use clap::{Command, Error};
+use cap_commands::{Counted, command_line, explain_failure, perform, report};
+use clap::Command;
 use std::alloc::{AllocError, Global};
 use std::convert::AsStr;
 use std::io::{Read, Write};
@@ -18,11 +14,8 @@ use std::sync::Wait;
 use std::thread::Threads;
 use std::time::Clock;
 
-/// Runs the program on the words of its command line, of which the first is its own name: `replay` plays a script, `serve` is the daemon,
-/// `check` looks at property lines, `explain` puts words under the lines of a script or of what `replay` printed. The result is the exit status: 0
-/// done; 1 a stream failed; 2 bad words, a bad line of a script or a fault of its settings; 3 an allocation failed. What was wrong is
-/// left in words in `complaint`, for the error stream: with status 2, and with status 1 the stream and the system's error. Help and
-/// the version are written to the writer.
+/// Runs the program on the words of its command line, as `cap_commands::run` does: `serve` is the daemon besides. The exit status
+/// and what is left in `complaint` are as there.
 pub fn run<
     'a,
     H: Net<Listener = TcpListener, Stream = TcpStream>
@@ -49,92 +42,25 @@ pub fn run<
     ensures failed { (state_of writer.old).failures < (state_of writer.new).failures → result ≡ 1 }
 {
     let alloc = rt.alloc();
-    let Ok(command) = command_line(alloc) else {
+    let Ok(command) = with_serve(alloc) else {
         return 3;
     };
     let status = match command.try_get_matches_from(words) {
         Ok(matches) => match matches.subcommand() {
             Some(("serve", matches)) => serve(rt, matches, writer, complaint),
-            Some(("check", _)) => check_settings(alloc, reader, writer, complaint),
-            Some(("explain", _)) => explain_lines(alloc, reader, writer),
-            _ => replay_with_words(alloc, reader, writer, complaint),
+            _ => perform(alloc, &matches, reader, writer, complaint),
         },
         Err(error) => report(alloc, &error, writer, complaint),
     };
-    if status == 1 && complaint.is_empty() {
-        let _explained = explain_streams(alloc, reader, writer, complaint);
-    }
+    explain_failure(alloc, status, reader, writer, complaint);
     status
 }
 
-/// The command line of the program.
-fn command_line<'a>(alloc: Global) -> Result<Command<'a>, AllocError> {
-    let command = program(alloc).subcommand(replay_command(alloc))?;
-    let command = with_serve(alloc, command)?;
-    command
-        .subcommand(check_command(alloc))?
-        .subcommand(explain_command(alloc))
-}
-
-/// The program, with none of its commands yet.
-fn program<'a>(alloc: Global) -> Command<'a> {
-    Command::new(alloc, "capsched")
-        .version("0.1.0")
-        .about("The allocation engine of a YARN cluster: a proved Capacity Scheduler")
-        .subcommand_required(true)
-}
-
-/// Adds the command `serve`.
-fn with_serve<'a>(alloc: Global, command: Command<'a>) -> Result<Command<'a>, AllocError> {
-    match serve_command(alloc) {
-        Ok(serve) => command.subcommand(serve),
-        Err(error) => Err(error),
-    }
-}
-
-/// The command `replay`.
-fn replay_command<'a>(alloc: Global) -> Command<'a> {
-    Command::new(alloc, "replay").about(
-        "Plays a script of connections from standard input, and prints what they are answered",
-    )
-}
-
-/// The command `check`.
-fn check_command<'a>(alloc: Global) -> Command<'a> {
-    Command::new(alloc, "check").about(
-        "Reads property lines from standard input, and prints a table of their queues",
-    )
-}
-
-/// The command `explain`.
-fn explain_command<'a>(alloc: Global) -> Command<'a> {
-    Command::new(alloc, "explain").about(
-        "Reads a script or what replay printed from standard input, and puts words under its lines",
-    )
-}
-
-/// Writes help and the version to the writer, and leaves the text for bad words in `complaint`. The result is the exit status.
-fn report<W: Write>(
-    alloc: Global,
-    error: &Error,
-    writer: &mut Counted<W>,
-    complaint: &mut String,
-) -> u8
-    requires { CanCount (state_of writer.old) }
-    ensures status { result < 4 }
-    ensures failed { (state_of writer.old).failures < (state_of writer.new).failures → result ≡ 1 }
-{
-    if error.kind() == ErrorKind::OutOfMemory {
-        return 3;
-    }
-    let Ok(text) = error.to_string(alloc) else {
-        return 3;
+/// The command line of the program, with `serve`.
+fn with_serve<'a>(alloc: Global) -> Result<Command<'a>, AllocError> {
+    let serve = match serve_command(alloc) {
+        Ok(serve) => serve,
+        Err(error) => return Err(error),
     };
-    if error.use_stderr() {
-        return match complaint.push_str(text.as_str()) {
-            Ok(()) => 2,
-            Err(_) => 3,
-        };
-    }
-    print(writer, text.as_bytes())
+    command_line(alloc, Some(serve))
 }

@@ -37,12 +37,7 @@ pub(crate) fn check_settings<R: Read, W: Write>(
 }
 
 /// Leaves the words for a fault of the settings in `complaint`.
-pub(crate) fn complain(
-    alloc: Global,
-    text: &[u8],
-    fault: &ConfigFault,
-    complaint: &mut String,
-) -> u8
+pub fn complain(alloc: Global, text: &[u8], fault: &ConfigFault, complaint: &mut String) -> u8
     ensures { result < 4 }
 {
     if fault.kind == ConfigFaultKind::NoMemory {
@@ -80,7 +75,7 @@ pub(crate) fn explain_lines<R: Read, W: Write>(
 }
 
 /// Writes the bytes. The result is the exit status: 0, or 1 if the writer failed.
-pub(crate) fn print<W: Write>(writer: &mut Counted<W>, bytes: &[u8]) -> u8
+pub fn print<W: Write>(writer: &mut Counted<W>, bytes: &[u8]) -> u8
     requires { CanCount (state_of writer.old) }
     ensures status { result < 4 }
     ensures failed { (state_of writer.old).failures < (state_of writer.new).failures → result ≡ 1 }
