@@ -1,2 +1,4 @@
+pub mod Amounts
+pub mod Levels
 pub mod lists
 pub mod paths

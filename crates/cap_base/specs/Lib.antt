@@ -6,3 +6,7 @@ pub mod Paths
 pub mod Trees
 pub mod Listing
 pub mod PathLaws
+pub mod Cascade
+pub mod Amounts
+pub mod LimitTests
+pub mod Levels

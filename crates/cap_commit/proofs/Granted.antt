@@ -9,8 +9,8 @@ use Rattle.std.proofs.lemmas.List.Sums.{sum_by_push, sum_by-le-sum_by}
 use Rattle.std.proofs.lemmas.Slice.Eq.{bytes_eq-Decides}
 use Rattle.cap_vector.specs.Vector.{IsWithin, amount, amount_max, amounts_exchanged, sum_max}
 use Rattle.cap_vector.proofs.AmountLemmas.{amount-exchanged}
-use Rattle.cap_model.specs.Cascade.{holds_of}
-use Rattle.cap_model.specs.Amounts.{fits, part}
+use Rattle.cap_base.specs.Cascade.{holds_of}
+use Rattle.cap_base.specs.Amounts.{fits, part}
 use Rattle.cap_model.specs.Flat.{Flat, App, AppTable, ClusterNode, Container, NodeTable, Reservation, app_at, change_app, node_in}
 use Rattle.cap_model.specs.News.{Grant}
 use Rattle.cap_model.specs.declared.ask.Key.{Key}
@@ -26,7 +26,8 @@ use Rattle.cap_laws.proofs.lists.Parts.{part_filter}
 use Rattle.cap_base.proofs.lists.Tests.{not_none, value_of, numbers_turned}
 use Rattle.cap_laws.proofs.calls.Lessening.{change_stands}
 use Rattle.cap_laws.proofs.calls.Moves.{AppsChange, KeepsApp, grant_change, only_app}
-use Rattle.cap_model.proofs.uses.Measures.{amount_of, counts, counted, fits_amounts, use_amount}
+use Rattle.cap_model.proofs.uses.Measures.{counts, counted, use_amount}
+use Rattle.cap_base.proofs.Amounts.{amount_of, fits_amounts}
 use Rattle.cap_laws.proofs.uses.Tallies.{count_changed, count_of, length_used, used_by}
 use Rattle.cap_laws.proofs.uses.UseSums.{if_less, on_some_node, reserved_on_nodes, sum_below, taken}
 use Rattle.cap_tree.specs.Measure.{Measure}

@@ -9,7 +9,7 @@ use Rattle.std.proofs.lemmas.List.{get_or_past}
 use Rattle.std.proofs.lemmas.List.Sums.{sum_by-cons, sum_by_push}
 use Rattle.cap_vector.specs.Vector.{Fits, amount, zeros}
 use Rattle.cap_vector.proofs.AmountLemmas.{amount-zeros}
-use Rattle.cap_model.specs.Amounts.{fits}
+use Rattle.cap_base.specs.Amounts.{fits}
 use Rattle.cap_model.specs.Flat.{Flat, App, Container, Reservation, app_at, node_in}
 use Rattle.cap_model.specs.Sight.{Sight, sight_of, seen_app}
 use Rattle.cap_model.specs.Admission.{NodeProposal, IsAdmissible, NeedsOf, is_grant, reason_of}
@@ -20,7 +20,8 @@ use Rattle.cap_laws.proofs.choice.Reasons.{rejected_exactly}
 use Rattle.cap_base.proofs.lists.Members.{IsIn, found, of_filter, of_map, none_in}
 use Rattle.cap_base.proofs.lists.Filters.{filter_whole}
 use Rattle.cap_base.proofs.lists.Tests.{value_of}
-use Rattle.cap_model.proofs.uses.Measures.{standing, counts, counted, fits_amounts, live_part, reserved_part, same_counts, use_amount}
+use Rattle.cap_model.proofs.uses.Measures.{standing, counts, counted, live_part, reserved_part, same_counts, use_amount}
+use Rattle.cap_base.proofs.Amounts.{fits_amounts}
 use Rattle.cap_laws.proofs.uses.Tallies.{Test, count_of, length_used, used_by}
 use Rattle.cap_nodes.specs.Tables.{free_on}
 use Rattle.cap_tree.specs.Measure.{Measure}

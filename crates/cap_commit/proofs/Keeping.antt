@@ -8,7 +8,7 @@ use Rattle.std.proofs.lemmas.List.Sums.{sum_by_push, sum_by-le-sum_by}
 use Rattle.std.proofs.lemmas.Slice.Eq.{bytes_eq-Decides}
 use Rattle.cap_vector.specs.Vector.{IsWithin, amount, amounts_exchanged, sum_max, zeros}
 use Rattle.cap_vector.proofs.AmountLemmas.{amount-exchanged}
-use Rattle.cap_model.specs.Amounts.{fits}
+use Rattle.cap_base.specs.Amounts.{fits}
 use Rattle.cap_model.specs.Flat.{Flat, App, Container, NodeTable, Reservation, app_at, node_in}
 use Rattle.cap_model.specs.Sight.{Sight, sight_of}
 use Rattle.cap_model.specs.Admission.{NodeProposal, IsAdmissible, NeedsOf, is_grant, reason_of}
@@ -96,7 +96,7 @@ module _ {K : ℕ} (p : Parts K) (h : IsHeld p) (q : NodeProposal) (passes : rea
         | inl b ↦
             let after : Flat K = after_reserve old made in
             let same : amount (used_by new test) k ≡ amount (used_by after test) k =
-            (λ i. amount (Rattle.cap_model.specs.Amounts.sum_where K (λ (x : Rattle.cap_model.specs.Uses.Holding). counts test (Rattle.cap_model.specs.Flat.app_in (apps i) x.app)) (λ x. x.resource) (map Rattle.cap_model.specs.Uses.of_container (nodes i).live ++ map Rattle.cap_model.specs.Uses.of_reservation (nodes i).reserved)) k) in
+            (λ i. amount (Rattle.cap_base.specs.Amounts.sum_where K (λ (x : Rattle.cap_model.specs.Uses.Holding). counts test (Rattle.cap_model.specs.Flat.app_in (apps i) x.app)) (λ x. x.resource) (map Rattle.cap_model.specs.Uses.of_container (nodes i).live ++ map Rattle.cap_model.specs.Uses.of_reservation (nodes i).reserved)) k) in
             let push = sum_by_push (λ (r : Reservation). counted old test k r.app r.resource) p.nodes.reserved made in
             omega (arith, same, use_amount old test k b, use_amount after test k b, push, made_is test k, zero_where K (test a.leaf a.user) k)
         | inr g ↦

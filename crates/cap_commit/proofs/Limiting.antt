@@ -7,8 +7,8 @@ use Rattle.std.proofs.lemmas.Bool.Decides.{nat_tests}
 use Rattle.std.proofs.lemmas.List.{ext_get_or}
 use Rattle.cap_vector.specs.Vector.{amount, amounts_exchanged, less, plus, zeros}
 use Rattle.cap_vector.proofs.AmountLemmas.{amount-exchanged, amount-less, amount-zeros, length-less}
-use Rattle.cap_model.specs.Cascade.{earliest, holds_of}
-use Rattle.cap_model.specs.Amounts.{fits, times}
+use Rattle.cap_base.specs.Cascade.{earliest, holds_of}
+use Rattle.cap_base.specs.Amounts.{fits, times}
 use Rattle.cap_base.specs.Settings.{QueueRow}
 use Rattle.cap_model.specs.Flat.{Flat, App, Reservation}
 use Rattle.cap_base.specs.Paths.{is_under}
@@ -16,11 +16,12 @@ use Rattle.cap_model.specs.Uses.{queue_use, user_use}
 use Rattle.cap_model.specs.Sight.{Sight, QueueSight, AppSight, sight_of, queue_sight, app_sight, seen_app, seen_queue, queues_to}
 use Rattle.cap_model.specs.declared.proposal.Reason.{Reason}
 use Rattle.cap_model.specs.declared.proposal.Reason.TheVariants.{OverMaximum, OverUser}
-use Rattle.cap_model.specs.Admission.{NodeProposal, is_grant, is_reserved_for, node_reservation, fits_maximum, fits_user_limit, leaf_path, user_name, use_after, stays_in_maximum, stays_in_maxima, stays_in_user_limit, broken_level, reason_of}
+use Rattle.cap_model.specs.Admission.{NodeProposal, is_grant, is_reserved_for, node_reservation, leaf_path, user_name, use_after, stays_in_maximum, stays_in_maxima, stays_in_user_limit, broken_level, reason_of}
+use Rattle.cap_base.specs.LimitTests.{fits_maximum, fits_user_limit}
 use Rattle.cap_base.proofs.lists.Members.{IsIn, each_of}
 use Rattle.cap_base.proofs.lists.Filters.{find_mapped_at, map_twice}
 use Rattle.cap_base.proofs.lists.Tests.{same_test}
-use Rattle.cap_model.proofs.uses.Measures.{amounts_fit, fits_amounts}
+use Rattle.cap_base.proofs.Amounts.{amounts_fit, fits_amounts}
 use Rattle.cap_tree.specs.Measure.{Measure}
 use Rattle.cap_tree.specs.Queue.{use_of, user_row}
 use Rattle.cap_tree.specs.Queue as tree

@@ -3,8 +3,8 @@ use Rattle.std.proofs.Common.{◌≡◌, ℕ, ◌-◌, Bool, true, false, cond, 
 use Rattle.std.specs.Prelude.{◌↔◌, IsTrue, Option, IsSome, is_some, option_map, option_and_then, ◌==◌, ◌&&◌, ◌||◌, find, filter, map, nat_le, nat_lt, bytes_eq, count_by}
 use Rattle.std.proofs.lemmas.Bool.Decides.{nat_tests}
 use Rattle.cap_vector.specs.Vector.{Fits, less}
-use Rattle.cap_model.specs.Cascade.{holds_of}
-use Rattle.cap_model.specs.Amounts.{fits}
+use Rattle.cap_base.specs.Cascade.{holds_of}
+use Rattle.cap_base.specs.Amounts.{fits}
 use Rattle.cap_model.specs.Asks.{Ask}
 use Rattle.cap_base.specs.Members.{IsRising}
 use Rattle.cap_model.specs.Flat.{Flat, App, ClusterNode, Reservation, app_at, node_at, is_for, reservation_on}
@@ -16,7 +16,7 @@ use Rattle.cap_base.proofs.lists.Filters.{find_mapped_at}
 use Rattle.cap_model.proofs.lists.Numbered.{found_by_number, rising_kept}
 use Rattle.cap_base.proofs.lists.Sums.{sum_by_map}
 use Rattle.cap_base.proofs.lists.Tests.{value_of, not_none, same_test}
-use Rattle.cap_model.proofs.uses.Measures.{amounts_fit, fits_amounts}
+use Rattle.cap_base.proofs.Amounts.{amounts_fit, fits_amounts}
 use Rattle.cap_laws.proofs.choice.Proposers.{seen_is}
 use Rattle.cap_laws.proofs.bounds.Wanting.{nodes_on, on_nodes}
 use Rattle.cap_nodes.specs.Tables.{free_on}

@@ -2,7 +2,7 @@
 ghost use Rattle.std.specs.Prelude.{◌≡◌, ◌≤◌, ◌&&◌, Some, None, IfSome, IsSome, is_some, option_map};
 ghost use Rattle.cap_vector.specs.Vector.{IsResource};
 ghost use Rattle.cap_base.specs.Limits.{resources_max};
-ghost use Rattle.cap_model.specs.Cascade.{earliest, holds_of};
+ghost use Rattle.cap_base.specs.Cascade.{earliest, holds_of};
 ghost use Rattle.cap_model.specs.Flat.{app_at, is_for};
 ghost use Rattle.cap_model.specs.Sight.{app_sight, seen_app, seen_node, sight_of};
 ghost use Rattle.cap_model.specs.Admission.{asks_resource, fits_free, fits_total, is_grant, is_reserved_for, is_wanted, node_reservation, proposed_ask, reason_of, suits_place};

@@ -10,8 +10,8 @@ use Rattle.std.proofs.lemmas.List.Folds.{list_all-append}
 use Rattle.std.proofs.lemmas.Option.{get_or_from_slice_get, slice_get-get_or, slice_get-map}
 use Rattle.std.proofs.Math.Seq.{drop-append_seam, get_or-append_seam}
 use Rattle.cap_vector.specs.Vector.{amounts_exchanged}
-use Rattle.cap_model.specs.Admission.{fits_user_limit}
-use Rattle.cap_model.specs.Cascade.{holds_of}
+use Rattle.cap_base.specs.LimitTests.{fits_user_limit}
+use Rattle.cap_base.specs.Cascade.{holds_of}
 use Rattle.cap_base.proofs.lists.Members.{IsIn, all_in, of_filter}
 use Rattle.cap_tree.specs.Queue.{Queue}
 use Rattle.cap_tree.specs.Rows.{Row, items_to}

@@ -13,11 +13,13 @@ use Rattle.std.proofs.lemmas.Cmp.{lists_total, nat_cmp_total, ranked}
 use Rattle.std.proofs.lemmas.List.Concat.{flat_map-cons}
 use Rattle.cap_model.specs.Asks.{Ask, ask_key_cmp}
 use Rattle.cap_base.specs.Members.{IsRising}
-use Rattle.cap_model.specs.Choice.{Level, level_cmp, level_of}
+use Rattle.cap_model.specs.Choice.{level_of}
+use Rattle.cap_base.specs.Levels.{Level, level_cmp}
 use Rattle.cap_model.specs.Flat.{App, NodeTable}
 use Rattle.cap_model.specs.Sight.{queues_to, seen_app}
 use Rattle.cap_model.specs.declared.ask.Key.{Key}
-use Rattle.cap_model.proofs.choice.Orders.{level_cmp_total, not_after_itself}
+use Rattle.cap_model.proofs.choice.Orders.{not_after_itself}
+use Rattle.cap_base.proofs.Levels.{level_cmp_total}
 use Rattle.cap_base.proofs.lists.Members.{IsIn, each_of, in_either, in_filter, of_each, of_map}
 use Rattle.cap_tree.specs.Service.{levels_at}
 use Rattle.cap_tree.specs.ServiceOrder.{AreInOrder, position_nth, waiting_cmp}

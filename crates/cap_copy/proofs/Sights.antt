@@ -9,7 +9,7 @@ use Rattle.std.proofs.lemmas.Option.{same_Some, slice_get-map, slice_get_within}
 use Rattle.cap_model.specs.Asks.{Ask, same_key}
 use Rattle.cap_model.specs.Bounds.{AreApart}
 use Rattle.cap_base.specs.Members.{IsRising}
-use Rattle.cap_model.specs.Cascade.{holds_of}
+use Rattle.cap_base.specs.Cascade.{holds_of}
 use Rattle.cap_model.specs.Choice.{level_of}
 use Rattle.cap_model.specs.Flat.{App, AppTable, ClusterNode, NodeTable, Reservation, ask_at, is_for, node_in}
 use Rattle.cap_base.specs.Paths.{is_under}

@@ -3,7 +3,7 @@ use Rattle.std.specs.Prelude.{◌≡◌, ◌⊎◌, ℕ, ◌-◌, ◌<◌, ◌�
 use Rattle.std.specs.List.{All, slice_get}
 use Rattle.std.specs.Option.{option_map_or}
 use Rattle.cap_vector.specs.Vector.{amounts_exchanged}
-use Rattle.cap_model.specs.Admission.{fits_maximum}
+use Rattle.cap_base.specs.LimitTests.{fits_maximum}
 use Rattle.cap_tree.specs.Queue.{Queue, use_of, user_row}
 use Rattle.cap_tree.specs.Rows.{Row, items_to}
 use Rattle.cap_tree.specs.Spot.{item_at, path_at}

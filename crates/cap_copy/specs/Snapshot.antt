@@ -8,7 +8,8 @@ use Rattle.cap_model.specs.Asks.{Ask}
 use Rattle.cap_model.specs.Flat.{ask_at}
 use Rattle.cap_model.specs.Sight.{Sight, QueueSight, AppSight, NodeSight, queues_to, seen_app, seen_queue, still_wanted}
 use Rattle.cap_vector.specs.Vector.{amounts_exchanged}
-use Rattle.cap_model.specs.Admission.{NodeProposal, fits_maximum, fits_user_limit}
+use Rattle.cap_model.specs.Admission.{NodeProposal}
+use Rattle.cap_base.specs.LimitTests.{fits_maximum, fits_user_limit}
 use Rattle.cap_model.specs.Choice.{rank_cmp, rank_of}
 use Rattle.cap_tree.specs.Queue.{use_of, user_row}
 use Rattle.cap_tree.specs.Rows.{Row, settings_of_row}

@@ -1,7 +1,7 @@
 //! The limits of the applications of a snapshot: the queues on the way to the leaf, and the user there (`Limits`).
 ghost use Rattle.std.specs.Prelude.{◌≡◌, ◌<◌, ◌≤◌, ◌-◌, IfOk, OnOk, length, map, slice_index_or, true};
 ghost use Rattle.std.specs.List.{All, slice_get};
-ghost use Rattle.cap_model.specs.Cascade.{holds_of};
+ghost use Rattle.cap_base.specs.Cascade.{holds_of};
 ghost use Rattle.cap_base.specs.Limits.{resources_max};
 ghost use Rattle.cap_copy.specs.Limits.{IsEachOnce, IsLast, IsUserAdded, IsUserSeen, limit_of, queue_use};
 ghost use Rattle.cap_copy.specs.Snapshot.{stays_within};

@@ -1,7 +1,7 @@
 //! The snapshot of a cluster that a worker proposes on, and its reads (`Snapshot`).
 ghost use Rattle.std.specs.Prelude.{◌≡◌, ◌<◌, Some, length};
 ghost use Rattle.std.specs.List.{slice_get};
-ghost use Rattle.cap_model.specs.Cascade.{holds_of};
+ghost use Rattle.cap_base.specs.Cascade.{holds_of};
 ghost use Rattle.cap_copy.specs.Snapshot.{IsSnapshot, stays_within};
 
 use crate::limits::Limits;

@@ -4,7 +4,7 @@ use Rattle.std.specs.Prelude.{nat_lt, nat_le, if◌then◌else◌, slice_index}
 use Rattle.std.specs.Int.{Width, w16, w32, w64, byte_len, from_be_bytes}
 use Rattle.std.proofs.lemmas.Bool.{lt-ltb}
 use Rattle.std.proofs.Math.Seq.{drop-drop}
-use Rattle.cap_model.specs.Cascade.{holds_of}
+use Rattle.cap_base.specs.Cascade.{holds_of}
 use Rattle.cap_grammar.specs.Fields.{byte_at, number_at, pair_at, passing_at, times_at, counted_at}
 use Rattle.cap_grammar.specs.Reading.{HasItemsAt, ListsItems, CarriesItems, head_at}
 use Rattle.cap_grammar.proofs.FieldLaws.{bind_then, guard_else, guard_then}

@@ -4,8 +4,8 @@ use Rattle.std.specs.List.{All}
 use Rattle.std.specs.Option.{option_map_or}
 use Rattle.cap_model.specs.Asks.{Ask}
 use Rattle.cap_model.specs.Asking.{keep_first, reservations_left}
-use Rattle.cap_model.specs.Cascade.{holds_of}
-use Rattle.cap_model.specs.Amounts.{fits}
+use Rattle.cap_base.specs.Cascade.{holds_of}
+use Rattle.cap_base.specs.Amounts.{fits}
 use Rattle.cap_model.specs.Bounds.{AreApart}
 use Rattle.cap_model.specs.Flat.{Flat, ClusterNode, Reservation, app_at, is_for, with_reserved}
 

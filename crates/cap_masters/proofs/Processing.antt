@@ -11,7 +11,7 @@ use Rattle.cap_model.specs.declared.request.Request.{Request}
 use Rattle.cap_model.specs.declared.reply.ReplyWith.TheVariants as Reply
 use Rattle.cap_model.specs.News.{Reply}
 use Rattle.cap_model.specs.declared.refusal.Refusal.{Refusal}
-use Rattle.cap_model.specs.Cascade.{earliest, holds_of}
+use Rattle.cap_base.specs.Cascade.{earliest, holds_of}
 use Rattle.cap_model.specs.Flat.{Flat, App, Container, app_at, with_app}
 use Rattle.cap_model.specs.ResponseIds.{is_current, is_repeated, is_bad_id}
 use Rattle.cap_model.specs.Asking.{after_asks, after_ask, rounded_ask, put_ask}

@@ -3,15 +3,15 @@ use Rattle.std.proofs.Common.{◌≡◌, ℕ, Bool, true, false, List, [], ◌�
 use Rattle.std.specs.Prelude.{Option, Some, None, IsSome, IsTrue, ◌↔◌, is_none, option_map, if◌then◌else◌, not, find, ◌==◌, ◌&&◌}
 use Rattle.std.specs.List.{list_any}
 use Rattle.cap_vector.specs.Vector.{Fits}
-use Rattle.cap_model.specs.Amounts.{fits}
-use Rattle.cap_model.specs.Cascade.{earliest, holds_of}
+use Rattle.cap_base.specs.Amounts.{fits}
+use Rattle.cap_base.specs.Cascade.{earliest, holds_of}
 use Rattle.cap_model.specs.declared.refusal.Refusal.{Refusal}
 use Rattle.cap_model.specs.Asks.{Ask}
 use Rattle.cap_model.specs.Flat.{Flat, App, AppTable, app_at}
 use Rattle.cap_model.specs.ResponseIds.{is_bad_id, is_repeated}
 use Rattle.cap_model.specs.Allocate.{allocate_refusal, has_too_many_keys, is_too_large}
 use Rattle.cap_model.specs.FinishMaster.{finish_master_refusal}
-use Rattle.cap_model.proofs.uses.Measures.{fits_amounts, amounts_fit}
+use Rattle.cap_base.proofs.Amounts.{fits_amounts, amounts_fit}
 use Rattle.cap_model.specs.News.{AllocateReply}
 use Rattle.cap_model.specs.declared.replies.Reported.{Reported}
 use Rattle.cap_asks.specs.Held.{repeated_numbers}

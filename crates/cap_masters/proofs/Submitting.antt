@@ -4,7 +4,7 @@ use Rattle.std.specs.Prelude.{bytes_eq, is_none, is_some, nat_eq, nat_le, not, f
 use Rattle.std.specs.List.{list_all, list_any, starts_with}
 use Rattle.std.proofs.lemmas.Bool.Decides.{nat_tests}
 use Rattle.cap_model.specs.declared.refusal.Refusal.{Refusal}
-use Rattle.cap_model.specs.Cascade.{earliest}
+use Rattle.cap_base.specs.Cascade.{earliest}
 use Rattle.cap_base.specs.Limits.{number_end}
 use Rattle.cap_base.specs.Settings.{QueueRow}
 use Rattle.cap_model.specs.Flat.{Flat, queue_at}

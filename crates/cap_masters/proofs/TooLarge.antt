@@ -4,7 +4,7 @@ use Rattle.std.specs.Prelude.{IsTrue, ◌↔◌, not, ◌&&◌, ◌||◌, nat_le
 use Rattle.std.specs.List.{list_any}
 use Rattle.std.proofs.lemmas.Bool.Decides.{nat_tests}
 use Rattle.cap_vector.specs.Vector.{Fits}
-use Rattle.cap_model.specs.Amounts.{fits}
+use Rattle.cap_base.specs.Amounts.{fits}
 use Rattle.cap_model.specs.Asks.{Ask}
 use Rattle.cap_model.specs.Flat.{Flat}
 use Rattle.cap_model.specs.Allocate.{is_too_large}

@@ -3,8 +3,9 @@ use Rattle.std.specs.Prelude.{◌≡◌, ◌⊎◌, ℕ, ◌<◌, Bool, true, fa
 use Rattle.std.specs.List.{list_all}
 use Rattle.cap_vector.specs.Vector.{amounts_exchanged}
 use Rattle.cap_base.specs.Limits.{number_end, live_max}
-use Rattle.cap_model.specs.Cascade.{earliest, holds_of}
-use Rattle.cap_model.specs.Amounts.{fits, times}
+use Rattle.cap_base.specs.Cascade.{earliest, holds_of}
+use Rattle.cap_base.specs.Amounts.{fits}
+use Rattle.cap_base.specs.LimitTests.{fits_maximum, fits_user_limit}
 use Rattle.cap_base.specs.Texts.{star}
 use Rattle.cap_model.specs.declared.ask.Key.{Key}
 use Rattle.cap_model.specs.declared.proposal.ProposalKind.{ProposalKind}
@@ -42,14 +43,6 @@ reason_number NumbersSpent = 13
 abbrev pub is_grant : ProposalKind → Bool
 is_grant Grant = true
 is_grant Reserve = false
-
--- whether a use is within the maximum of a queue, where it has one
-abbrev pub fits_maximum : Option (List ℕ) → List ℕ → Bool
-fits_maximum maximum used = is_none maximum || holds_of (fits used) maximum
-
--- whether the use of a user is within a leaf's user limit factor times its guarantee
-abbrev pub fits_user_limit : ℕ → List ℕ → List ℕ → Bool
-fits_user_limit factor guaranteed used = fits used (times factor guaranteed)
 
 -- whether a place is anywhere (an asterisk), the node's host or its rack
 abbrev pub takes_place : List ℕ → NodeSight → Bool

@@ -1,8 +1,8 @@
 -- Allocate: a master asks for containers, releases some, and is told the news of its application.
 use Rattle.std.specs.Prelude.{ℕ, ◌-◌, Bool, not, ◌&&◌, List, [], ◌∷◌, Option, Some, length, is_none, take, drop, unwrap_or, option_and_then, if◌then◌else◌, nat_lt, nat_le}
 use Rattle.std.specs.List.{fold, list_any}
-use Rattle.cap_model.specs.Cascade.{earliest, holds_of}
-use Rattle.cap_model.specs.Amounts.{fits}
+use Rattle.cap_base.specs.Cascade.{earliest, holds_of}
+use Rattle.cap_base.specs.Amounts.{fits}
 use Rattle.cap_base.specs.Limits.{keys_max, news_max}
 use Rattle.cap_model.specs.Asks.{Ask}
 use Rattle.cap_model.specs.declared.news.Cause.{Cause}

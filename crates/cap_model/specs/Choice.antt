@@ -3,21 +3,13 @@ use Rattle.std.specs.Prelude.{◌≡◌, ◌⊎◌, ℕ, ◌%◌, Bool, false, L
 use Rattle.std.specs.Ordering.{nat_cmp, then_cmp, on, is_gt}
 use Rattle.std.specs.declared.cmp.Ordering.{Ordering}
 use Rattle.std.specs.Cmp.Lexicographic.{slice_cmp}
-use Rattle.cap_vector.specs.declared.fullness.Share.{Share}
-use Rattle.cap_vector.specs.Fullness.{shares, shares_cmp}
+use Rattle.cap_vector.specs.Fullness.{shares}
+use Rattle.cap_base.specs.Levels.{Level, level_cmp}
 use Rattle.cap_model.specs.declared.ask.Key.{Key}
 use Rattle.cap_model.specs.Asks.{ask_key_cmp}
 use Rattle.cap_base.specs.Paths.{name_of}
 use Rattle.cap_model.specs.Sight.{Sight, QueueSight, NodeSight, queues_to}
 use Rattle.cap_model.specs.Admission.{NodeProposal, IsAdmissible, leaf_path}
-
--- what decides between sibling queues: fullness against the own guarantee, then the name in byte order
-pub record Level : Type 0 where
-  pub fullness : List Share
-  pub name : List ℕ
-
-abbrev pub level_cmp : Level → Level → Ordering
-level_cmp = then_cmp (on (λ l. l.fullness) shares_cmp) (on (λ l. l.name) (slice_cmp nat_cmp))
 
 -- the place of a proposal among those on its node: its queues from below the root down to the leaf, its application, its ask
 pub record Rank : Type 0 where

@@ -1,6 +1,6 @@
 -- FinishMaster: an application ends, and all that it had with it.
 use Rattle.std.specs.Prelude.{ℕ, [], ◌∷◌, Option, length, not, is_none, filter, ◌==◌}
-use Rattle.cap_model.specs.Cascade.{earliest, holds_of}
+use Rattle.cap_base.specs.Cascade.{earliest, holds_of}
 use Rattle.cap_model.specs.declared.refusal.Refusal.{Refusal}
 use Rattle.cap_model.specs.declared.reply.ReplyWith.TheVariants as Reply
 use Rattle.cap_model.specs.News.{Reply}

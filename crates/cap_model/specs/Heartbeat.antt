@@ -1,6 +1,6 @@
 -- Heartbeat: a node manager reports which containers have ended on it.
 use Rattle.std.specs.Prelude.{ℕ, ◌-◌, Bool, List, [], ◌∷◌, Option, Some, length, is_none, unwrap_or, option_and_then, if◌then◌else◌}
-use Rattle.cap_model.specs.Cascade.{earliest, holds_of}
+use Rattle.cap_base.specs.Cascade.{earliest, holds_of}
 use Rattle.cap_model.specs.declared.news.Cause.{Cause}
 use Rattle.cap_model.specs.declared.replies.HeartbeatReply.{HeartbeatReply}
 use Rattle.cap_model.specs.declared.refusal.Refusal.{Refusal}

@@ -1,6 +1,4 @@
 pub mod Refusals
-pub mod Cascade
-pub mod Amounts
 pub mod Asks
 pub mod News
 pub mod Flat

@@ -1,6 +1,6 @@
 -- NodeGone: a node is declared lost.
 use Rattle.std.specs.Prelude.{ℕ, [], ◌∷◌, Option, length, not, is_none, filter, ◌==◌}
-use Rattle.cap_model.specs.Cascade.{earliest}
+use Rattle.cap_base.specs.Cascade.{earliest}
 use Rattle.cap_model.specs.declared.news.Cause.{Cause}
 use Rattle.cap_model.specs.declared.refusal.Refusal.{Refusal}
 use Rattle.cap_model.specs.declared.reply.ReplyWith.TheVariants as Reply

@@ -3,7 +3,7 @@ use Rattle.cap_base.specs.Paths.{root_path, is_under}
 use Rattle.std.specs.Prelude.{ℕ, Bool, not, List, [], ◌∷◌, Option, length, is_none, map, count_by, option_and_then, option_map, unwrap_or, bytes_eq, if◌then◌else◌}
 use Rattle.cap_vector.specs.Vector.{zeros}
 use Rattle.cap_base.specs.Settings.{QueueRow}
-use Rattle.cap_model.specs.Cascade.{earliest}
+use Rattle.cap_base.specs.Cascade.{earliest}
 use Rattle.cap_model.specs.declared.report.QueueReport.{QueueReport}
 use Rattle.cap_model.specs.declared.report.ClusterReport.{ClusterReport}
 use Rattle.cap_model.specs.declared.refusal.Refusal.{Refusal}

@@ -1,6 +1,6 @@
 -- RegisterMaster: an application's master reports, once.
 use Rattle.std.specs.Prelude.{ℕ, Bool, [], ◌∷◌, Option, is_none}
-use Rattle.cap_model.specs.Cascade.{earliest, holds_of}
+use Rattle.cap_base.specs.Cascade.{earliest, holds_of}
 use Rattle.cap_model.specs.declared.refusal.Refusal.{Refusal}
 use Rattle.cap_model.specs.declared.reply.ReplyWith.TheVariants as Reply
 use Rattle.cap_model.specs.News.{Reply}

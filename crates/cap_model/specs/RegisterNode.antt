@@ -3,8 +3,8 @@ use Rattle.std.specs.Prelude.{ℕ, ◌+◌, List, [], ◌∷◌, ◌++◌, true,
 use Rattle.std.specs.List.{list_any}
 use Rattle.cap_vector.specs.Vector.{amount_max, plus, is_zero, is_within}
 use Rattle.cap_base.specs.Limits.{number_end, nodes_max}
-use Rattle.cap_model.specs.Cascade.{earliest}
-use Rattle.cap_model.specs.Amounts.{sum_where}
+use Rattle.cap_base.specs.Cascade.{earliest}
+use Rattle.cap_base.specs.Amounts.{sum_where}
 use Rattle.cap_model.specs.declared.refusal.Refusal.{Refusal}
 use Rattle.cap_model.specs.declared.reply.ReplyWith.TheVariants as Reply
 use Rattle.cap_model.specs.News.{Reply}

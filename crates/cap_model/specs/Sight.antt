@@ -1,6 +1,6 @@
 -- The sight of a cluster: all that a proposal depends on, and nothing else.
 use Rattle.std.specs.Prelude.{ℕ, ◌-◌, List, Option, map, find, filter, count_by, length, ◌==◌, bytes_eq}
-use Rattle.cap_model.specs.Cascade.{holds_of}
+use Rattle.cap_base.specs.Cascade.{holds_of}
 use Rattle.cap_base.specs.Settings.{QueueRow}
 use Rattle.cap_model.specs.Asks.{Ask}
 use Rattle.cap_model.specs.Flat.{Flat, App, ClusterNode, Reservation, is_for, reservation_on}

@@ -1,8 +1,8 @@
 -- The use of queues, users and nodes: filtered sums over the live containers and the reservations.
 use Rattle.std.specs.Prelude.{ℕ, ◌-◌, Bool, List, ◌++◌, map, filter, length, ◌==◌, ◌&&◌, bytes_eq}
 use Rattle.cap_vector.specs.Vector.{less}
-use Rattle.cap_model.specs.Cascade.{holds_of}
-use Rattle.cap_model.specs.Amounts.{sum_where}
+use Rattle.cap_base.specs.Cascade.{holds_of}
+use Rattle.cap_base.specs.Amounts.{sum_where}
 use Rattle.cap_model.specs.Asks.{Ask}
 use Rattle.cap_model.specs.Flat.{Flat, App, ClusterNode, Container, NodeTable, Reservation, app_at, is_for}
 use Rattle.cap_base.specs.Paths.{is_under}

@@ -1,7 +1,7 @@
 //! Proposals of scheduler threads (`Proposal`), why one is rejected (`Reason`), and what it came to (`Verdict`).
 ghost use Rattle.std.specs.Prelude.{◌≡◌};
 ghost use Rattle.cap_vector.specs.Vector.{IsResource};
-ghost use Rattle.cap_model.specs.Cascade.{earliest};
+ghost use Rattle.cap_base.specs.Cascade.{earliest};
 ghost use Rattle.cap_model.specs.Admission.{is_grant};
 
 use crate::ask::Key;

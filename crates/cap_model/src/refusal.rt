@@ -1,6 +1,6 @@
 //! Why a call is refused, by number (`Refusal`), and the refusal of the first test that holds (`first_refusal`).
 ghost use Rattle.std.specs.Prelude.{◌≡◌};
-ghost use Rattle.cap_model.specs.Cascade.{earliest};
+ghost use Rattle.cap_base.specs.Cascade.{earliest};
 
 /// Why a call is refused. Where several hold, the one of the smallest number is answered. A refused call leaves the
 /// cluster as it was.

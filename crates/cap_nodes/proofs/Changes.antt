@@ -3,14 +3,14 @@ use Rattle.std.proofs.Common.{◌≡◌, ℕ, ◌+◌, ◌≤◌, ◌<◌, Bool,
 use Rattle.std.specs.Prelude.{filter, find, count_by, ◌==◌, IsSome, IfSome, slice_get, ◌||◌, option_and_then}
 use Rattle.std.specs.List.{All, sum_by, list_any, AllByRecursion}
 use Rattle.std.proofs.lemmas.List.Elements.{All-from_recursion}
-use Rattle.cap_model.proofs.uses.Measures.{amounts_fit}
+use Rattle.cap_base.proofs.Amounts.{amounts_fit}
 use Rattle.std.proofs.lemmas.Bool.{eqb-true}
 use Rattle.std.proofs.lemmas.Bool.Decides.{nat_tests}
 use Rattle.std.proofs.lemmas.List.Sums.{length-filter, sum_by-cons}
 use Rattle.std.proofs.lemmas.List.{ext_get_or}
 use Rattle.std.proofs.lemmas.Option.{slice_get-map}
 use Rattle.cap_vector.specs.Vector.{amount, plus, less, Fits, IsWithin, amount_max, zeros}
-use Rattle.cap_model.specs.Amounts.{fits, sum_where}
+use Rattle.cap_base.specs.Amounts.{fits, sum_where}
 use Rattle.cap_base.specs.Members.{IsRising}
 use Rattle.cap_model.specs.declared.replies.HeartbeatReply.{HeartbeatReply}
 use Rattle.cap_model.specs.Flat.{ClusterNode, Container}

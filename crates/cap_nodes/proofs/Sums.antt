@@ -10,9 +10,9 @@ use Rattle.std.proofs.lemmas.List.Sums.{sum_by_push, sum_by-cons}
 use Rattle.std.proofs.lemmas.List.FromFn.{length-map-range_with_len}
 use Rattle.cap_vector.specs.Vector.{amount, plus, less, zeros, Fits, IsWithin}
 use Rattle.cap_vector.proofs.AmountLemmas.{amount-plus, amount-less, amount-zeros, length-less}
-use Rattle.cap_model.specs.Amounts.{sum_where, part}
+use Rattle.cap_base.specs.Amounts.{sum_where, part}
 use Rattle.cap_base.specs.Members.{IsRising}
-use Rattle.cap_model.proofs.uses.Measures.{amount_of}
+use Rattle.cap_base.proofs.Amounts.{amount_of}
 use Rattle.cap_base.proofs.lists.Sums.{one_where}
 use Rattle.cap_nodes.proofs.Numbered.{not_later}
 

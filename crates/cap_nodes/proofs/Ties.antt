@@ -8,7 +8,7 @@ use Rattle.std.proofs.lemmas.List.Sums.{count_by-le-length}
 use Rattle.cap_vector.specs.Vector.{plus, less, Fits}
 use Rattle.cap_vector.proofs.AmountLemmas.{amount-plus, amount-less}
 use Rattle.cap_base.specs.Limits.{live_max}
-use Rattle.cap_model.specs.Amounts.{sum_where}
+use Rattle.cap_base.specs.Amounts.{sum_where}
 use Rattle.cap_base.specs.Members.{IsRising}
 use Rattle.cap_model.specs.Flat.{Container}
 use Rattle.cap_base.proofs.lists.Sums.{one_where}

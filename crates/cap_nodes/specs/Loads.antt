@@ -7,7 +7,7 @@ use Rattle.std.specs.Ordering.{nat_cmp, ordering_then}
 use Rattle.std.specs.declared.cmp.Ordering.{Ordering}
 use Rattle.cap_vector.specs.Vector.{Fits, IsWithin, amount_max, plus, less, zeros}
 use Rattle.cap_base.specs.Limits.{live_max}
-use Rattle.cap_model.specs.Amounts.{sum_where}
+use Rattle.cap_base.specs.Amounts.{sum_where}
 use Rattle.cap_base.specs.Members.{IsRising}
 use Rattle.cap_model.specs.Flat.{ClusterNode, Container, NodeTable, Reservation, change_node, containers_on, is_for}
 use Rattle.cap_model.specs.Heartbeat.{after_beat}

@@ -2,7 +2,7 @@
 use Rattle.std.specs.Prelude.{◌≡◌, ℕ, List, [], Option, Some, None, IsSome, true, map}
 use Rattle.std.specs.List.{All}
 use Rattle.cap_vector.specs.Vector.{less, IsWithin, amount_max}
-use Rattle.cap_model.specs.Amounts.{fits}
+use Rattle.cap_base.specs.Amounts.{fits}
 use Rattle.cap_base.specs.Members.{IsRising}
 use Rattle.cap_model.specs.Flat.{ClusterNode, NodeTable, node_in}
 use Rattle.cap_model.specs.RegisterNode.{sum_of_totals}

@@ -4,7 +4,7 @@ ghost use Rattle.std.specs.List.{All, list_any, slice_get};
 ghost use Rattle.std.specs.Option.{option_copied};
 ghost use Rattle.cap_vector.specs.Vector.{Fits, IsWithin, amount_max, plus};
 ghost use Rattle.cap_base.specs.Limits.{live_max, nodes_max, number_end};
-ghost use Rattle.cap_model.specs.Amounts.{fits};
+ghost use Rattle.cap_base.specs.Amounts.{fits};
 ghost use Rattle.cap_model.specs.Bounds.{AreApart};
 ghost use Rattle.cap_base.specs.Members.{IsRising};
 ghost use Rattle.cap_model.specs.RegisterNode.{sum_of_totals, add_node};

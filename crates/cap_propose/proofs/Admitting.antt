@@ -7,14 +7,15 @@ use Rattle.std.proofs.lemmas.Bool.{and_parts}
 use Rattle.std.proofs.lemmas.Bool.Decides.{nat_tests}
 use Rattle.cap_vector.specs.Vector.{amounts_exchanged, zeros}
 use Rattle.cap_base.specs.Limits.{live_max, number_end}
-use Rattle.cap_model.specs.Cascade.{holds_of}
-use Rattle.cap_model.specs.Amounts.{fits}
+use Rattle.cap_base.specs.Cascade.{holds_of}
+use Rattle.cap_base.specs.Amounts.{fits}
 use Rattle.cap_model.specs.declared.proposal.ProposalKind.{ProposalKind}
 use Rattle.cap_model.specs.declared.proposal.ProposalKind.TheVariants.{Grant, Reserve}
 use Rattle.cap_model.specs.Flat.{Reservation, ask_at, is_for}
 use Rattle.cap_model.specs.Asks.{Ask}
 use Rattle.cap_model.specs.Sight.{Sight, AppSight, NodeSight, seen_node, seen_queue, still_wanted, queues_to, QueueSight}
-use Rattle.cap_model.specs.Admission.{NodeProposal, IsAdmissible, NeedsOf, asks_resource, fits_free, fits_maximum, fits_total, fits_user_limit, is_grant, is_wanted, leaf_path, node_reservation, proposed_ask, stays_in_maxima, stays_in_user_limit, suits_place, takes_place, use_after, user_name}
+use Rattle.cap_model.specs.Admission.{NodeProposal, IsAdmissible, NeedsOf, asks_resource, fits_free, fits_total, is_grant, is_wanted, leaf_path, node_reservation, proposed_ask, stays_in_maxima, stays_in_user_limit, suits_place, takes_place, use_after, user_name}
+use Rattle.cap_base.specs.LimitTests.{fits_maximum, fits_user_limit}
 use Rattle.cap_base.proofs.lists.Tests.{bytes_itself}
 use Rattle.cap_copy.specs.Snapshot.{AskEntry, IsAskEntry, QueueUse, Seen, sight_in, stays_within}
 use Rattle.cap_propose.specs.Proposing.{IsSeenNode, IsAdmittedAs, IsClosed, IsOpen, has_numbers, is_in_limits, kind_beside, kind_by_room, proposal_of, room_back, room_kind, takes}

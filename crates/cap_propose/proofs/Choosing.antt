@@ -9,7 +9,7 @@ use Rattle.std.proofs.lemmas.Option.{slice_get_within}
 use Rattle.std.proofs.lemmas.Slice.Eq.{bytes_eq-Decides}
 use Rattle.cap_model.specs.declared.proposal.ProposalKind.{ProposalKind}
 use Rattle.cap_model.specs.Asks.{Ask, same_key}
-use Rattle.cap_model.specs.Cascade.{holds_of}
+use Rattle.cap_base.specs.Cascade.{holds_of}
 use Rattle.cap_model.specs.Flat.{ask_at}
 use Rattle.cap_model.specs.Sight.{Sight, AppSight, NodeSight, seen_app}
 use Rattle.cap_model.specs.Admission.{NodeProposal, IsAdmissible}

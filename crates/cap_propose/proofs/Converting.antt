@@ -6,7 +6,7 @@ use Rattle.std.proofs.lemmas.Bool.{and_parts, cases_lt}
 use Rattle.std.proofs.lemmas.Bool.Decides.{nat_tests}
 use Rattle.cap_model.specs.declared.proposal.ProposalKind.{ProposalKind}
 use Rattle.cap_model.specs.declared.proposal.ProposalKind.TheVariants.{Grant}
-use Rattle.cap_model.specs.Amounts.{fits}
+use Rattle.cap_base.specs.Amounts.{fits}
 use Rattle.cap_model.specs.Asks.{same_key}
 use Rattle.cap_model.specs.Flat.{Reservation, ask_at, is_for}
 use Rattle.cap_model.specs.Sight.{AppSight, NodeSight, seen_app}

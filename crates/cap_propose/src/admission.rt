@@ -1,6 +1,6 @@
 //! Whether an ask may be proposed on a node, and as what.
 ghost use Rattle.std.specs.Prelude.{◌≡◌, ◌&&◌, false, true};
-ghost use Rattle.cap_model.specs.Amounts.{fits};
+ghost use Rattle.cap_base.specs.Amounts.{fits};
 ghost use Rattle.cap_model.specs.Flat.{is_for};
 ghost use Rattle.cap_model.specs.Admission.{takes_place};
 ghost use Rattle.cap_copy.specs.Snapshot.{IsAskEntry, sight_in};

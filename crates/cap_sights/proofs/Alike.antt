@@ -8,17 +8,19 @@ use Rattle.std.proofs.lemmas.List.{drop-map}
 use Rattle.cap_vector.specs.Vector.{amount, amounts_exchanged}
 use Rattle.cap_vector.specs.Fullness.{shares}
 use Rattle.cap_vector.proofs.AmountLemmas.{amount-exchanged}
-use Rattle.cap_model.specs.Cascade.{holds_of}
-use Rattle.cap_model.specs.Amounts.{fits, times}
+use Rattle.cap_base.specs.Cascade.{holds_of}
+use Rattle.cap_base.specs.Amounts.{fits, times}
 use Rattle.cap_base.specs.Paths.{is_under, name_of}
 use Rattle.cap_model.specs.Sight.{Sight, QueueSight, NodeSight, queues_to, seen_queue}
-use Rattle.cap_model.specs.Admission.{NodeProposal, IsAdmissible, fits_maximum, fits_user_limit, leaf_path, user_name, use_after, stays_in_maxima, stays_in_user_limit, reason_of}
-use Rattle.cap_model.specs.Choice.{Level, level_of, rank_cmp, rank_of, ring_from}
+use Rattle.cap_model.specs.Admission.{NodeProposal, IsAdmissible, leaf_path, user_name, use_after, stays_in_maxima, stays_in_user_limit, reason_of}
+use Rattle.cap_base.specs.LimitTests.{fits_maximum, fits_user_limit}
+use Rattle.cap_model.specs.Choice.{level_of, rank_cmp, rank_of, ring_from}
+use Rattle.cap_base.specs.Levels.{Level}
 use Rattle.cap_model.specs.Candidates.{admissible_on, choice_from, choice_on, first_choice, first_served, proposals_of, sooner}
 use Rattle.cap_model.specs.declared.proposal.Reason.{Reason}
 use Rattle.cap_base.proofs.lists.Filters.{filter_mapped, filter_same, find_mapped_at, map_twice}
 use Rattle.cap_base.proofs.lists.Tests.{same_test}
-use Rattle.cap_model.proofs.uses.Measures.{amounts_fit, fits_amounts}
+use Rattle.cap_base.proofs.Amounts.{amounts_fit, fits_amounts}
 use Rattle.cap_laws.proofs.choice.Reasons.{rejected_exactly}
 use Rattle.cap_sights.specs.Sights.{ShownQueue, shown_queue, ShowTheSame}
 

@@ -11,7 +11,7 @@ use Rattle.cap_model.specs.declared.refusal.Refusal.{Refusal}
 use Rattle.cap_model.specs.Flat.{Flat, ClusterNode, Container, NodeTable, node_at, with_node, node_in, containers_on}
 use Rattle.cap_model.specs.declared.replies.HeartbeatReply.{HeartbeatReply}
 use Rattle.cap_base.specs.Members.{IsRising}
-use Rattle.cap_model.specs.Cascade.{earliest}
+use Rattle.cap_base.specs.Cascade.{earliest}
 use Rattle.cap_model.specs.ResponseIds.{next_response, is_current, is_repeated, is_bad_id}
 use Rattle.cap_model.specs.Ending.{is_among, after_ends}
 use Rattle.cap_model.specs.Heartbeat.{heartbeat_refusal, is_repeated_heartbeat, ended_by, beat_of, after_processed_heartbeat, after_heartbeat, no_beat, after_beat}

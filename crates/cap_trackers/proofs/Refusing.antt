@@ -6,7 +6,7 @@ use Rattle.cap_vector.specs.Vector.{amount_max, plus, is_within, is_zero}
 use Rattle.cap_model.specs.declared.refusal.Refusal.{Refusal}
 use Rattle.cap_model.specs.declared.refusal.Refusal.TheVariants.{HostTaken, TotalTooLarge, TooManyNodes, ZeroResource, NumbersSpent}
 use Rattle.cap_base.specs.Limits.{nodes_max, number_end}
-use Rattle.cap_model.specs.Cascade.{earliest}
+use Rattle.cap_base.specs.Cascade.{earliest}
 use Rattle.cap_model.specs.Flat.{Flat}
 use Rattle.cap_model.specs.RegisterNode.{register_node_refusal, total_of_nodes}
 

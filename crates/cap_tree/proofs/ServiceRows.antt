@@ -7,7 +7,7 @@ use Rattle.std.specs.Cmp.Lexicographic.{slice_cmp}
 use Rattle.std.proofs.lemmas.List.{drop-map}
 use Rattle.std.proofs.lemmas.Slice.Eq.{bytes_eq-Decides}
 use Rattle.cap_vector.specs.Fullness.{shares}
-use Rattle.cap_model.specs.Choice.{Level, level_cmp}
+use Rattle.cap_base.specs.Levels.{Level, level_cmp}
 use Rattle.cap_base.proofs.lists.Members.{IsIn, each_of}
 use Rattle.cap_tree.specs.Spot.{along, item_at, HoldsOfItem, IsPosition}
 use Rattle.cap_tree.specs.Queue.{Queue}

@@ -4,9 +4,9 @@ use Rattle.std.specs.Prelude.{◌↔◌, IsTrue, if◌then◌else◌}
 use Rattle.cap_vector.specs.Vector.{amount, amounts_exchanged, FitsTimes, IsWithin, sum_max}
 use Rattle.cap_vector.proofs.AmountLemmas.{amount-exchanged}
 use Rattle.std.specs.Option.{option_map_or}
-use Rattle.cap_model.specs.Cascade.{holds_of}
-use Rattle.cap_model.specs.Amounts.{fits, times}
-use Rattle.cap_model.proofs.uses.Measures.{fits_amounts, amounts_fit}
+use Rattle.cap_base.specs.Cascade.{holds_of}
+use Rattle.cap_base.specs.Amounts.{fits, times}
+use Rattle.cap_base.proofs.Amounts.{fits_amounts, amounts_fit}
 use Rattle.cap_tree.specs.Measure.{Measure}
 use Rattle.cap_tree.specs.Count.{use_alone}
 use Rattle.cap_tree.specs.Spot.{along, first_failing, item_at, path_at, IsPosition}

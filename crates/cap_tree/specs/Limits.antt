@@ -1,7 +1,7 @@
 -- The limit that a change of use in a leaf would pass.
 use Rattle.std.specs.Prelude.{ℕ, if◌then◌else◌, List, Option, Some, None}
 use Rattle.std.specs.Option.{option_map_or}
-use Rattle.cap_model.specs.Cascade.{holds_of}
+use Rattle.cap_base.specs.Cascade.{holds_of}
 use Rattle.cap_tree.specs.Spot.{first_failing, item_at, path_at}
 use Rattle.cap_tree.specs.Queue.{stays_in_maximum, stays_in_user_limit}
 use Rattle.cap_tree.specs.Rows.{Row, rows_to}

@@ -8,7 +8,7 @@ use Rattle.std.specs.Coded.{Coded, code_by, coded×, coded_ℕ, coded_list}
 use Rattle.cap_vector.specs.Fullness.{shares}
 use Rattle.cap_vector.specs.Vector.{amount, amounts_exchanged, zeros, Fits}
 use Rattle.cap_vector.specs.declared.fullness.Share.{Share}
-use Rattle.cap_model.specs.Admission.{fits_maximum, fits_user_limit}
+use Rattle.cap_base.specs.LimitTests.{fits_maximum, fits_user_limit}
 use Rattle.cap_base.specs.Settings.{QueueRow}
 use Rattle.cap_base.specs.Paths.{name_of}
 use Rattle.cap_tree.specs.Measure.{Measure}

@@ -5,7 +5,7 @@ use Rattle.std.specs.Ordering.{is_gt, is_lt}
 use Rattle.std.specs.declared.cmp.Ordering.{Ordering}
 use Rattle.std.specs.declared.cmp.Ordering.TheVariants.{Less}
 use Rattle.cap_vector.specs.Fullness.{shares}
-use Rattle.cap_model.specs.Choice.{Level, level_cmp}
+use Rattle.cap_base.specs.Levels.{Level, level_cmp}
 use Rattle.cap_base.specs.Paths.{name_of}
 use Rattle.cap_base.specs.Members.{IsIn}
 use Rattle.cap_tree.specs.Spot.{Spot, HoldsOfItem, along, item_at, path_at, spots}

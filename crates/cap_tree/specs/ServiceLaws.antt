@@ -8,7 +8,7 @@ use Rattle.std.specs.Cmp.Lexicographic.{slice_cmp}
 use Rattle.std.proofs.lemmas.Cmp.{on_total}
 use Rattle.std.proofs.lemmas.Map.Lookups.{exact_bytes}
 use Rattle.cap_vector.specs.Fullness.{shares_cmp}
-use Rattle.cap_model.proofs.choice.Orders.{level_cmp_total}
+use Rattle.cap_base.proofs.Levels.{level_cmp_total}
 use Rattle.cap_tree.specs.Queue.{Queue}
 use Rattle.cap_tree.specs.Service.{queue_cmp, level_of_queue}
 

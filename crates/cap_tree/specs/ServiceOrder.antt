@@ -5,7 +5,7 @@ use Rattle.std.specs.Option.{option_map_or}
 use Rattle.std.specs.Ordering.{nat_cmp, then_cmp, on, is_gt}
 use Rattle.std.specs.declared.cmp.Ordering.{Ordering}
 use Rattle.std.specs.Cmp.Lexicographic.{slice_cmp}
-use Rattle.cap_model.specs.Choice.{level_cmp}
+use Rattle.cap_base.specs.Levels.{level_cmp}
 use Rattle.cap_tree.specs.Rows.{Row}
 use Rattle.cap_tree.specs.Service.{levels_at}
 

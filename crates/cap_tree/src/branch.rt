@@ -15,7 +15,7 @@ ghost use Rattle.cap_tree.specs.Service.{HasNoneAfter, HasPathsOnce, IsFirstAfte
 use crate::found::{Kind, Path};
 use crate::serving::{add_here, parts_of, served_children};
 use crate::waiting::Waiter;
-use cap_model::NoMemory;
+use cap_base::NoMemory;
 use std::alloc::Allocator;
 use std::cmp::Ordering;
 use std::marker::Model;

@@ -4,7 +4,7 @@ ghost use Rattle.std.specs.Prelude.{◌≡◌};
 use crate::branch::{Change, Test};
 use crate::count::Part;
 use crate::queue::Queue;
-use cap_model::{NoMemory, ShortText};
+use cap_base::{NoMemory, ShortText};
 use std::alloc::Allocator;
 
 /// Takes an old part away from what is counted of a user in a leaf, of the leaf and of each queue above it, and adds a new one.

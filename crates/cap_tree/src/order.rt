@@ -8,7 +8,7 @@ ghost use Rattle.cap_tree.specs.Spot.{IsPosition};
 
 use crate::tree::QueueTree;
 use crate::waiting::Waiter;
-use cap_model::NoMemory;
+use cap_base::NoMemory;
 use std::alloc::Allocator;
 
 impl<const K: usize, A: Allocator + Copy> QueueTree<K, A> {

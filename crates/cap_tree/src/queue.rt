@@ -7,7 +7,7 @@ ghost use Rattle.cap_tree.specs.Queue.{IsUnused, HasSettingsOf, count_in, moved_
 
 use crate::branch::{CopyIn, Held, Served};
 use crate::count::{Part, Total, moved};
-use cap_model::{NoMemory, PathText, QueueRow, ShortText};
+use cap_base::{NoMemory, PathText, QueueRow, ShortText};
 use cap_vector::{Resource, Shares, Sum, cmp_shares, fits_exchanged};
 use indexmap::IndexMap;
 use std::alloc::Allocator;

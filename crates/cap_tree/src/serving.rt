@@ -6,7 +6,7 @@ ghost use Rattle.cap_tree.specs.Serving.{AreApart, AreKids, AreParts, BeginsWith
 
 use crate::branch::{Branch, Served};
 use crate::waiting::{Part, Waiter};
-use cap_model::NoMemory;
+use cap_base::NoMemory;
 use std::alloc::Allocator;
 
 /// Adds the indexes of what waits at the item itself. An error means that an allocation failed.

@@ -1,7 +1,7 @@
 //! What waits at the queues of a tree, to be put into the order of service (`Waiter`).
 ghost use Rattle.std.specs.Prelude.{◌≡◌, ◌∷◌, ◌++◌, [], OnOk};
 
-use cap_model::NoMemory;
+use cap_base::NoMemory;
 use std::alloc::Allocator;
 use std::marker::Model;
 

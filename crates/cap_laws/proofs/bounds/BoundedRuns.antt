@@ -3,7 +3,7 @@ use Rattle.std.proofs.Common.{◌≡◌, ℕ, List, [], ◌∷◌, ◌++◌, ref
 use Rattle.std.specs.Prelude.{◌&&◌, Option, Some, None, bytes_eq, true}
 use Rattle.std.proofs.lemmas.Bool.{cases_lt}
 use Rattle.cap_base.specs.Settings.{Settings}
-use Rattle.cap_model.specs.Amounts.{fits, times}
+use Rattle.cap_base.specs.Amounts.{fits, times}
 use Rattle.cap_model.specs.Flat.{Flat, App, Container, Reservation, opened_cluster}
 use Rattle.cap_base.specs.Paths.{is_under}
 use Rattle.cap_model.specs.Uses.{use_of, queue_use}
@@ -13,7 +13,8 @@ use Rattle.cap_model.specs.Bounds.{FitsMaximum, IsLeaf, AreThere, IsQueueBounded
 use Rattle.cap_base.specs.Listing.{IsListing}
 use Rattle.cap_laws.specs.BoundLaws.{StepStaysBounded, RunsStayBounded, OpenedIsBounded}
 use Rattle.cap_base.proofs.lists.Members.{of_each}
-use Rattle.cap_model.proofs.uses.Measures.{amounts_fit, use_amount, use_past}
+use Rattle.cap_model.proofs.uses.Measures.{use_amount, use_past}
+use Rattle.cap_base.proofs.Amounts.{amounts_fit}
 use Rattle.cap_laws.proofs.numbers.ContainerNumbers.{numbers_stay_distinct}
 use Rattle.cap_laws.proofs.bounds.Formed.{step_formed}
 use Rattle.cap_laws.proofs.bounds.StepBounds.{step_bounds_queues, step_bounds_nodes, step_apart, step_bounds_reservations}

@@ -6,7 +6,7 @@ use Rattle.std.proofs.lemmas.Bool.{cases_lt, or_from}
 use Rattle.std.proofs.lemmas.Bool.Decides.{nat_tests}
 use Rattle.cap_vector.specs.Vector.{amount}
 use Rattle.cap_base.specs.Settings.{QueueRow}
-use Rattle.cap_model.specs.Amounts.{fits, times}
+use Rattle.cap_base.specs.Amounts.{fits, times}
 use Rattle.cap_model.specs.Flat.{Flat, App, ClusterNode, Container, Reservation, app_at, node_at}
 use Rattle.cap_base.specs.Paths.{is_under}
 use Rattle.cap_model.specs.Uses.{use_of, queue_use, node_held}
@@ -18,7 +18,8 @@ use Rattle.cap_laws.proofs.lists.Parts.{IsPart, part_filter, part_sum}
 use Rattle.cap_base.proofs.lists.Sums.{sum_by_agree, sum_of_zeros}
 use Rattle.cap_model.proofs.lists.Numbered.{none_from_high}
 use Rattle.cap_laws.proofs.calls.Lessening.{IsLessened, IsSite, IsOldNode, HasPlaces, site_before}
-use Rattle.cap_model.proofs.uses.Measures.{fits_amounts, amounts_fit, same_counts, counted, live_part, reserved_part, use_amount, use_past, held_amount, held_past}
+use Rattle.cap_model.proofs.uses.Measures.{same_counts, counted, live_part, reserved_part, use_amount, use_past, held_amount, held_past}
+use Rattle.cap_base.proofs.Amounts.{fits_amounts, amounts_fit}
 
 -- some of the reservations are on different nodes too
 pub none_of_part : (n : ℕ) (rs ss : List Reservation) → IsPart rs ss → list_any (λ (s : Reservation). n == s.node) rs ≡ false → list_any (λ (s : Reservation). n == s.node) ss ≡ false

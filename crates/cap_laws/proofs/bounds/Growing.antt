@@ -10,8 +10,8 @@ use Rattle.std.proofs.lemmas.List.Filters.{sum_by-filter_both}
 use Rattle.cap_vector.specs.Vector.{amount, less}
 use Rattle.cap_vector.proofs.AmountLemmas.{amount-plus, amount-less}
 use Rattle.cap_base.specs.Settings.{QueueRow}
-use Rattle.cap_model.specs.Cascade.{holds_of}
-use Rattle.cap_model.specs.Amounts.{fits, times}
+use Rattle.cap_base.specs.Cascade.{holds_of}
+use Rattle.cap_base.specs.Amounts.{fits, times}
 use Rattle.cap_model.specs.Asks.{same_key}
 use Rattle.cap_model.specs.Flat.{Flat, ClusterNode, Container, Reservation, app_at, node_at}
 use Rattle.cap_base.specs.Paths.{is_under}
@@ -26,7 +26,8 @@ use Rattle.cap_base.proofs.lists.Sums.{sum_by_agree}
 use Rattle.cap_model.proofs.lists.Numbered.{found_by_number}
 use Rattle.cap_laws.proofs.calls.Moves.{grant_change}
 use Rattle.cap_laws.proofs.calls.Lessening.{change_stands}
-use Rattle.cap_model.proofs.uses.Measures.{fits_amounts, amounts_fit, counts, same_counts, counted, live_part, reserved_part, use_amount, use_past, held_amount, held_past}
+use Rattle.cap_model.proofs.uses.Measures.{counts, same_counts, counted, live_part, reserved_part, use_amount, use_past, held_amount, held_past}
+use Rattle.cap_base.proofs.Amounts.{fits_amounts, amounts_fit}
 use Rattle.cap_laws.proofs.choice.Proposers.{IsSeen, seen_is, node_seen, IsReplaced, replaced_is, maximum_stays, leaf_seen}
 
 -- a term is at most a sum that has it

@@ -4,8 +4,8 @@ use Rattle.std.specs.Prelude.{Option, IsSome, Result, Ok, Err, IfOk, OnErr, ◌=
 use Rattle.std.specs.List.{remove}
 use Rattle.std.proofs.lemmas.Bool.Decides.{nat_tests}
 use Rattle.cap_base.specs.declared.no_memory.NoMemory.{NoMemory}
-use Rattle.cap_model.specs.Cascade.{holds_of}
-use Rattle.cap_model.specs.Amounts.{fits}
+use Rattle.cap_base.specs.Cascade.{holds_of}
+use Rattle.cap_base.specs.Amounts.{fits}
 use Rattle.cap_model.specs.Flat.{ClusterNode, NodeTable, Reservation, change_node}
 use Rattle.cap_model.specs.Bounds.{AreApart}
 use Rattle.cap_model.specs.RegisterNode.{add_node, new_node}

@@ -12,7 +12,7 @@ use Rattle.cap_base.specs.Limits.{number_end, nodes_max}
 use Rattle.cap_model.specs.Asks.{Ask}
 use Rattle.cap_model.specs.declared.request.Request.{Request}
 use Rattle.cap_model.specs.declared.refusal.Refusal.{Refusal}
-use Rattle.cap_model.specs.Amounts.{part}
+use Rattle.cap_base.specs.Amounts.{part}
 use Rattle.cap_model.specs.Flat.{Flat, ClusterNode, queue_at}
 use Rattle.cap_model.specs.Submit.{submit_refusal, has_children, is_running}
 use Rattle.cap_model.specs.RegisterNode.{register_node_refusal, total_of_nodes, new_node}
@@ -29,7 +29,7 @@ use Rattle.cap_base.proofs.lists.Sums.{sum_by_map}
 use Rattle.cap_laws.proofs.numbers.ContainerNumbers.{call_thins}
 use Rattle.cap_laws.proofs.calls.Moves.{AppsMove, call_moves}
 use Rattle.cap_laws.proofs.calls.Lessening.{asked}
-use Rattle.cap_model.proofs.uses.Measures.{amount_of, amount_past}
+use Rattle.cap_base.proofs.Amounts.{amount_of, amount_past}
 use Rattle.cap_laws.proofs.bounds.Formed.{after_call}
 use Rattle.cap_base.proofs.lists.Filters.{length-kept}
 

@@ -3,7 +3,7 @@ use Rattle.std.proofs.Common.{◌≡◌, ℕ, Bool, true, false, List, [], ◌�
 use Rattle.std.specs.Prelude.{Option, Some, None, cond, not, ◌==◌, ◌-◌, length, filter, find, map, option_map, if◌then◌else◌}
 use Rattle.std.specs.List.{All}
 use Rattle.cap_base.specs.Settings.{QueueRow}
-use Rattle.cap_model.specs.Amounts.{fits, times}
+use Rattle.cap_base.specs.Amounts.{fits, times}
 use Rattle.cap_model.specs.Asks.{Ask}
 use Rattle.cap_model.specs.declared.news.Cause.{Cause}
 use Rattle.cap_model.specs.declared.request.Request.{Request}

@@ -4,7 +4,7 @@ use Rattle.std.specs.Prelude.{◌⊎◌, Option, Some, None, cond, ◌&&◌, ◌
 use Rattle.std.specs.List.{list_any, sum_by, count_by}
 use Rattle.std.proofs.lemmas.Bool.Decides.{nat_tests}
 use Rattle.std.proofs.lemmas.List.Sums.{sum_by-cons, sum_by-le-sum_by, length-filter}
-use Rattle.cap_model.specs.Cascade.{holds_of}
+use Rattle.cap_base.specs.Cascade.{holds_of}
 use Rattle.cap_model.specs.Asks.{same_key, Ask}
 use Rattle.cap_model.specs.Flat.{Flat, App, ClusterNode, Reservation, node_at, is_for, ask_at, reservation_on}
 use Rattle.cap_model.specs.Sight.{Sight, NodeSight, AppSight, sight_of, node_sight, app_sight, seen_app, still_wanted}

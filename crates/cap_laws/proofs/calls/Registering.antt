@@ -6,7 +6,7 @@ use Rattle.std.proofs.lemmas.Bool.{cases_Bool, not-false, not-true, leb-false}
 use Rattle.cap_vector.specs.Vector.{amount_max, plus, is_within, IsWithin, IsVector, is_zero}
 use Rattle.cap_vector.proofs.AmountLemmas.{within_from_test, test_from_within}
 use Rattle.cap_base.specs.Limits.{nodes_max, number_end}
-use Rattle.cap_model.specs.Cascade.{earliest}
+use Rattle.cap_base.specs.Cascade.{earliest}
 use Rattle.cap_model.specs.Flat.{Flat, queue_at}
 use Rattle.cap_model.specs.Submit.{submit_refusal, has_children, is_running}
 use Rattle.cap_model.specs.RegisterNode.{register_node_refusal, total_of_nodes}

@@ -6,7 +6,7 @@ use Rattle.std.proofs.lemmas.Slice.Eq.{bytes_eq-Decides}
 use Rattle.std.proofs.lemmas.Bool.Decides.{nat_tests}
 use Rattle.cap_model.specs.Asks.{Ask, same_key}
 use Rattle.cap_model.specs.Flat.{ask_at}
-use Rattle.cap_model.specs.Cascade.{holds_of}
+use Rattle.cap_base.specs.Cascade.{holds_of}
 use Rattle.cap_model.specs.Sight.{Sight, AppSight, NodeSight, seen_app}
 use Rattle.cap_model.specs.Admission.{NodeProposal, IsAdmissible, reason_of}
 use Rattle.cap_model.specs.declared.proposal.ProposalKind.{ProposalKind}

@@ -4,7 +4,7 @@ use Rattle.std.specs.Prelude.{◌⊎◌, Option, Some, None, IsSome, cond, ◌&&
 use Rattle.std.proofs.lemmas.Bool.Decides.{nat_tests}
 use Rattle.std.proofs.lemmas.Slice.Eq.{bytes_eq-Decides}
 use Rattle.cap_base.specs.Settings.{QueueRow}
-use Rattle.cap_model.specs.Cascade.{holds_of}
+use Rattle.cap_base.specs.Cascade.{holds_of}
 use Rattle.cap_model.specs.Flat.{Flat, App, ClusterNode, Reservation, app_at, node_at, is_for, reservation_on}
 use Rattle.cap_base.specs.Paths.{is_under}
 use Rattle.cap_model.specs.Sight.{AppSight, NodeSight, QueueSight, sight_of, app_sight, node_sight, queue_sight, seen_app, seen_node, seen_queue, queues_to}

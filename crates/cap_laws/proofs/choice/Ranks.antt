@@ -8,8 +8,8 @@ use Rattle.std.proofs.lemmas.Cmp.{ranked}
 use Rattle.std.proofs.lemmas.Slice.Eq.{bytes_eq-Decides}
 use Rattle.cap_model.specs.Asks.{Ask}
 use Rattle.cap_model.specs.Flat.{ask_at}
-use Rattle.cap_model.specs.Amounts.{fits}
-use Rattle.cap_model.specs.Cascade.{holds_of}
+use Rattle.cap_base.specs.Amounts.{fits}
+use Rattle.cap_base.specs.Cascade.{holds_of}
 use Rattle.cap_model.specs.Sight.{Sight, seen_app, seen_node}
 use Rattle.cap_model.specs.Admission.{NodeProposal, NeedsOf, IsAdmissible, proposed_ask, fits_free}
 use Rattle.cap_model.specs.declared.proposal.ProposalKind.{ProposalKind}

@@ -3,7 +3,7 @@ use Rattle.std.proofs.Common.{◌≡◌, ℕ, Bool, true, false, List, [], ◌�
 use Rattle.std.specs.Prelude.{◌⊎◌, not, ◌&&◌, ◌||◌, Option, Some, None, is_some, is_none, cond}
 use Rattle.std.proofs.lemmas.Bool.{not-false, not_from_true}
 use Rattle.std.proofs.lemmas.Bool.Decides.{nat_tests}
-use Rattle.cap_model.specs.Cascade.{earliest}
+use Rattle.cap_base.specs.Cascade.{earliest}
 use Rattle.cap_model.specs.Events.{grant_proposal, reserve_proposal}
 use Rattle.cap_model.specs.Sight.{Sight, sight_of, seen_app, seen_node}
 use Rattle.cap_model.specs.Admission.{NodeProposal, is_grant, IsAdmissible, NeedsOf, reasons, proposed_ask, asks_resource, suits_place, fits_free, fits_total, is_wanted, is_reserved_for, node_reservation, stays_in_maxima, stays_in_user_limit}

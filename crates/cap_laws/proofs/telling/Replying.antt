@@ -19,7 +19,7 @@ use Rattle.cap_model.specs.Allocate.{nothing_told, after_telling, after_processe
 use Rattle.cap_model.specs.Replies.{Replies, refused_or, refusal_of, granted_reply}
 use Rattle.cap_model.specs.Reporting.{NewsRoom, news_most, HasRoomFor, IsNoAllocate}
 use Rattle.cap_model.specs.Ending.{named_among}
-use Rattle.cap_model.specs.Cascade.{holds_of}
+use Rattle.cap_base.specs.Cascade.{holds_of}
 use Rattle.cap_model.specs.ResponseIds.{is_repeated}
 use Rattle.cap_laws.specs.NewsLaws.{ends_of}
 use Rattle.cap_model.proofs.lists.Numbered.{find_changed}

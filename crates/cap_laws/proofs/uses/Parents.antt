@@ -7,8 +7,8 @@ use Rattle.std.proofs.lemmas.List.Sums.{sum_by-cons}
 use Rattle.std.proofs.lemmas.List.FromFn.{get_or-map-range_with_len, length-map-range_with_len}
 use Rattle.cap_vector.specs.Vector.{amount, by_amount}
 use Rattle.cap_base.specs.Settings.{QueueRow}
-use Rattle.cap_model.specs.Cascade.{holds_of}
-use Rattle.cap_model.specs.Amounts.{part, sum_where}
+use Rattle.cap_base.specs.Cascade.{holds_of}
+use Rattle.cap_base.specs.Amounts.{part, sum_where}
 use Rattle.cap_model.specs.Flat.{Flat, App, app_at}
 use Rattle.cap_base.specs.Paths.{is_under, is_child_of}
 use Rattle.cap_model.specs.Uses.{Holding, holdings, queue_use}

@@ -7,7 +7,7 @@ use Rattle.std.proofs.lemmas.List.Sums.{sum_by-cons}
 use Rattle.std.proofs.lemmas.List.FromFn.{length-map-range_with_len}
 use Rattle.std.proofs.lemmas.Bool.Decides.{nat_tests}
 use Rattle.cap_vector.specs.Vector.{amount}
-use Rattle.cap_model.specs.Amounts.{part}
+use Rattle.cap_base.specs.Amounts.{part}
 use Rattle.cap_model.specs.declared.news.Cause.{Cause}
 use Rattle.cap_model.specs.Flat.{Flat, App, Container, Reservation, app_at}
 use Rattle.cap_model.specs.Uses.{Holding, holdings, use_of}

@@ -7,8 +7,8 @@ use Rattle.std.proofs.lemmas.Bool.Decides.{nat_tests}
 use Rattle.std.proofs.lemmas.List.FromFn.{length-map-range_with_len}
 use Rattle.std.proofs.lemmas.List.Sums.{sum_by-cons, sum_by-le-sum_by}
 use Rattle.cap_vector.specs.Vector.{amount}
-use Rattle.cap_model.specs.Cascade.{holds_of}
-use Rattle.cap_model.specs.Amounts.{fits, part}
+use Rattle.cap_base.specs.Cascade.{holds_of}
+use Rattle.cap_base.specs.Amounts.{fits, part}
 use Rattle.cap_model.specs.Flat.{Flat, App, ClusterNode, Container, Reservation, app_at, node_at}
 use Rattle.cap_base.specs.Paths.{is_under}
 use Rattle.cap_model.specs.Uses.{Holding, holdings, use_of, node_held}
@@ -18,7 +18,8 @@ use Rattle.cap_laws.specs.BoundLaws.{UsesAreSums}
 use Rattle.cap_base.proofs.lists.Members.{IsIn, found, each_of}
 use Rattle.cap_model.proofs.lists.Numbered.{found_by_number}
 use Rattle.cap_base.proofs.lists.Sums.{sum_of_two}
-use Rattle.cap_model.proofs.uses.Measures.{fits_amounts, amount_of, counts, counted, use_amount, use_past, held_amount}
+use Rattle.cap_model.proofs.uses.Measures.{counts, counted, use_amount, use_past, held_amount}
+use Rattle.cap_base.proofs.Amounts.{fits_amounts, amount_of}
 use Rattle.cap_laws.proofs.bounds.Growing.{in_sum}
 use Rattle.cap_base.proofs.lists.Tests.{value_of}
 use Rattle.cap_laws.proofs.bounds.Wanting.{none_there}

@@ -1,38 +1,15 @@
 -- Uses and what nodes hold, amount by amount.
-use Rattle.std.proofs.Common.{◌≡◌, ℕ, ◌+◌, ◌≤◌, ◌<◌, Bool, true, List, [], ◌∷◌, zero, suc, refl, sym, ◌∙◌, ap, arith}
-use Rattle.std.specs.Prelude.{Option, option_map, Some, None, ◌==◌, map, nat_le, if◌then◌else◌}
+use Rattle.std.proofs.Common.{◌≡◌, ℕ, ◌+◌, ◌≤◌, ◌<◌, Bool, List, refl, sym, ◌∙◌, ap}
+use Rattle.std.specs.Prelude.{Option, option_map, Some, None, ◌==◌, map, if◌then◌else◌}
 use Rattle.std.specs.List.{sum_by}
-use Rattle.std.proofs.lemmas.Bool.Decides.{nat_tests}
-use Rattle.std.proofs.lemmas.List.{get_or_past}
 use Rattle.std.proofs.lemmas.List.Sums.{sum_by-append}
-use Rattle.std.proofs.lemmas.List.FromFn.{get_or-map-range_with_len, length-map-range_with_len}
-use Rattle.cap_vector.specs.Vector.{amount, by_amount}
-use Rattle.cap_model.specs.Cascade.{holds_of}
-use Rattle.cap_model.specs.Amounts.{fits, part}
+use Rattle.cap_vector.specs.Vector.{amount}
+use Rattle.cap_base.specs.Cascade.{holds_of}
+use Rattle.cap_base.specs.Amounts.{part}
 use Rattle.cap_model.specs.Flat.{Flat, App, Container, Reservation, app_at}
 use Rattle.cap_model.specs.Uses.{Holding, holdings, of_container, of_reservation, use_of, node_held}
-use Rattle.std.proofs.lemmas.Bool.{and_parts, and_from}
+use Rattle.cap_base.proofs.Amounts.{amount_of, amount_past}
 use Rattle.cap_base.proofs.lists.Sums.{sum_by_map}
-
--- what fits, amount by amount
-pub fits_amounts : (a b : List ℕ) → fits a b ≡ true → (k : ℕ) → amount a k ≤ amount b k
-fits_amounts [] b h k = omega arith
-fits_amounts (x ∷ a) [] h zero = let z = (and_parts (x == 0) (fits a []) h).0 in grind (arith, nat_tests, z)
-fits_amounts (x ∷ a) [] h (suc k) = fits_amounts a [] (and_parts (x == 0) (fits a []) h).1 k
-fits_amounts (x ∷ a) (y ∷ b) h zero = let z = (and_parts (nat_le x y) (fits a b) h).0 in grind (arith, nat_tests, z)
-fits_amounts (x ∷ a) (y ∷ b) h (suc k) = fits_amounts a b (and_parts (nat_le x y) (fits a b) h).1 k
-
-pub amounts_fit : (a b : List ℕ) → ((k : ℕ) → amount a k ≤ amount b k) → fits a b ≡ true
-amounts_fit [] b h = refl
-amounts_fit (x ∷ a) [] h = let z = h 0 in and_from (x == 0) (fits a []) (grind (arith, nat_tests, z)) (amounts_fit a [] (λ k. h (suc k)))
-amounts_fit (x ∷ a) (y ∷ b) h = let z = h 0 in and_from (nat_le x y) (fits a b) (grind (arith, nat_tests, z)) (amounts_fit a b (λ k. h (suc k)))
-
--- the amounts of a computed vector
-pub amount_of : (K : ℕ) (f : ℕ → ℕ) (k : ℕ) → k < K → amount (by_amount K f) k ≡ f k
-amount_of K f k h = get_or-map-range_with_len f 0 K k k 0 h (omega arith)
-
-pub amount_past : (K : ℕ) (f : ℕ → ℕ) (k : ℕ) → K ≤ k → amount (by_amount K f) k ≡ 0
-amount_past K f k h = let l = length-map-range_with_len f 0 K in get_or_past (by_amount K f) k 0 (omega (arith, h, l))
 
 -- the leaf queue and the user of an application
 abbrev pub standing : Option App → Option (List ℕ × List ℕ)

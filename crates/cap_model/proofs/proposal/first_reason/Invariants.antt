@@ -1,5 +1,5 @@
 use Rattle.std.proofs.Common.{◌≡◌, drop}
-use Rattle.cap_model.specs.Cascade.{earliest}
+use Rattle.cap_base.specs.Cascade.{earliest}
 use Rattle.cap_model.proofs.proposal.first_reason.Given as goal
 
 -- no test so far holds

@@ -1,7 +1,7 @@
 use Rattle.cap_commit.proofs.Fitting.{nodes_in_cluster, node_in_cluster, amounts_in_cluster}
 use Rattle.std.proofs.Common.{sym, ap, ◌∙◌, cond, false}
 use Rattle.std.specs.Prelude.{is_some}
-use Rattle.cap_model.specs.Amounts.{fits}
+use Rattle.cap_base.specs.Amounts.{fits}
 use Rattle.cap_nodes.specs.Tables.{free_on}
 use Rattle.cap_commit.proofs.Seen.{free_seen, fits_is}
 use Rattle.cap_commit.proofs.cluster.Cluster.fits_free.Goals as goal

@@ -1,7 +1,7 @@
 use Rattle.cap_commit.proofs.Fitting.{nodes_in_cluster, node_in_cluster, amounts_in_cluster}
 use Rattle.std.proofs.Common.{sym, ap, ◌∙◌}
-use Rattle.cap_model.specs.Cascade.{holds_of}
-use Rattle.cap_model.specs.Amounts.{fits}
+use Rattle.cap_base.specs.Cascade.{holds_of}
+use Rattle.cap_base.specs.Amounts.{fits}
 use Rattle.cap_model.specs.Flat.{ClusterNode}
 use Rattle.cap_commit.proofs.Seen.{total_seen, fits_is}
 use Rattle.cap_commit.proofs.cluster.Cluster.fits_total.Goals as goal

@@ -1,7 +1,7 @@
 use Rattle.cap_commit.proofs.Fitting.{nodes_in_cluster, node_in_cluster}
 use Rattle.std.proofs.Common.{sym, ap, ◌∙◌}
 use Rattle.cap_commit.proofs.Seen.{place_seen, suits_node}
-use Rattle.cap_model.specs.Cascade.{holds_of}
+use Rattle.cap_base.specs.Cascade.{holds_of}
 use Rattle.cap_commit.proofs.cluster.Cluster.suits.Goals as goal
 
 pub returns-in-Some : goal.returns-in-Some

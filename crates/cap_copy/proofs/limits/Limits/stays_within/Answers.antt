@@ -2,7 +2,7 @@ use Rattle.std.proofs.Common.{List, ◌≡◌, ◌<◌, ◌-◌, ◌≤◌, true
 use Rattle.std.specs.List.{list_all}
 use Rattle.std.proofs.lemmas.List.{length-map, take_all}
 use Rattle.cap_vector.specs.Vector.{amounts_exchanged}
-use Rattle.cap_model.specs.Admission.{fits_maximum}
+use Rattle.cap_base.specs.LimitTests.{fits_maximum}
 use Rattle.cap_tree.proofs.Within.{fits_once, fits_times}
 use Rattle.cap_copy.specs.Limits.{fits_in_queue, limit_at, no_user}
 use Rattle.cap_copy.specs.Snapshot.{Limit}

@@ -1,6 +1,6 @@
 use Rattle.std.proofs.Common.{◌∙◌, ap, sym}
 use Rattle.cap_vector.specs.Vector.{amounts_exchanged}
-use Rattle.cap_model.specs.Admission.{fits_maximum}
+use Rattle.cap_base.specs.LimitTests.{fits_maximum}
 use Rattle.cap_tree.specs.Queue.{Queue}
 use Rattle.cap_tree.proofs.Within.{fits_once}
 use Rattle.cap_tree.proofs.queue.Queue.stays_in_maximum.Goals as goal

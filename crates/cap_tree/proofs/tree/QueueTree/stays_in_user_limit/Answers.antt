@@ -1,5 +1,5 @@
 use Rattle.std.proofs.Common.{rules, ◌≡◌, ◌∙◌, Some, ap, sym}
-use Rattle.cap_model.specs.Cascade.{holds_of}
+use Rattle.cap_base.specs.Cascade.{holds_of}
 use Rattle.cap_tree.specs.Queue.{stays_in_user_limit}
 use Rattle.cap_tree.specs.Spot.{item_at}
 use Rattle.cap_tree.proofs.Sizes.{queue_fits}
