@@ -10,3 +10,4 @@ pub mod Cascade
 pub mod Amounts
 pub mod LimitTests
 pub mod Levels
+pub mod properties

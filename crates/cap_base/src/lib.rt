@@ -1,9 +1,10 @@
-//! What property lines and the model of the engine share: texts, limits, settings, dotted paths, trees of queues.
+//! What property lines mean, and what they and the model share: texts, limits, settings, amounts, paths, trees of queues.
 //! In `proofs/` stand besides the lemmas about lists that all crates cite.
 #![tactic(auto)]
 
 pub mod laws;
 mod no_memory;
+pub mod properties;
 mod settings;
 mod text;
 

@@ -3,7 +3,7 @@ use Rattle.std.proofs.Common.{◌≡◌, ℕ, List, [], ◌∷◌, ◌++◌, Boo
 use Rattle.std.specs.Prelude.{◌||◌, is_some}
 use Rattle.std.specs.Str.{bytes_eq}
 use Rattle.std.proofs.lemmas.List.Folds.{list_any-append}
-use Rattle.cap_config.specs.Seen.{contains_bytes}
+use Rattle.cap_base.specs.properties.Seen.{contains_bytes}
 
 or-false : (b : Bool) → (b || false) ≡ b
 or-false true = refl

@@ -3,12 +3,12 @@ use Rattle.std.proofs.Common.{◌≡◌, ℕ, List, Option, Some, None, Result, 
 use Rattle.std.specs.Prelude.{◌↔◌, IsSome}
 use Rattle.std.specs.Str.Lines.{lines}
 use Rattle.cap_base.specs.Settings.{Settings}
-use Rattle.cap_config.specs.declared.entry.Entry.{Entry}
-use Rattle.cap_config.specs.declared.fault.ConfigFault.{ConfigFault}
-use Rattle.cap_config.specs.Entries.{read_lines}
-use Rattle.cap_config.specs.Tests.{whole_fault}
-use Rattle.cap_config.specs.Rows.{settings_of}
-use Rattle.cap_config.specs.First.{first_fault, fault_after, settings_in, settings_after, unless_fault}
+use Rattle.cap_base.specs.declared.properties.entry.Entry.{Entry}
+use Rattle.cap_base.specs.declared.properties.fault.ConfigFault.{ConfigFault}
+use Rattle.cap_base.specs.properties.Entries.{read_lines}
+use Rattle.cap_base.specs.properties.Tests.{whole_fault}
+use Rattle.cap_base.specs.properties.Rows.{settings_of}
+use Rattle.cap_base.specs.properties.First.{first_fault, fault_after, settings_in, settings_after, unless_fault}
 
 one_of : (fault : Option ConfigFault) (settings : Settings) → (fault ≡ None) ↔ IsSome (unless_fault fault settings)
 one_of (Some fault) settings = (λ h. absurd (cc h), λ h. absurd (cc h))

@@ -10,10 +10,10 @@ use Rattle.std.proofs.lemmas.Option.{same_Some, some_pair_parts}
 use Rattle.std.proofs.Math.Seq.{take-append_seam}
 use Rattle.cap_base.specs.Paths.{is_child_of}
 use Rattle.cap_base.proofs.paths.Paths.{IsUnder, has_dot, before_no_dot, its_child}
-use Rattle.cap_config.specs.Keys.{last_dot, dot_or, is_dot, is_name, is_name_byte, parts_at_last_dot, parts_round}
-use Rattle.cap_config.specs.Queues.{child}
-use Rattle.cap_config.specs.Tests.{level}
-use Rattle.cap_config.specs.Values.{is_name_under}
+use Rattle.cap_base.specs.properties.Keys.{last_dot, dot_or, is_dot, is_name, is_name_byte, parts_at_last_dot, parts_round}
+use Rattle.cap_base.specs.properties.Queues.{child}
+use Rattle.cap_base.specs.properties.Tests.{level}
+use Rattle.cap_base.specs.properties.Values.{is_name_under}
 use Rattle.cap_config.proofs.Found.{both}
 
 -- a path, cut at its last dot

@@ -2,15 +2,15 @@
 use Rattle.std.proofs.Common.{◌≡◌, ℕ, List, Option, Some, None, Result, Ok, Err, refl, ap, subst}
 use Rattle.std.specs.Str.Lines.{lines}
 use Rattle.std.proofs.lemmas.Option.{same_Some}
-use Rattle.cap_config.specs.declared.entry.Entry.{Entry}
-use Rattle.cap_config.specs.declared.fault.ConfigFault.{ConfigFault}
-use Rattle.cap_config.specs.declared.fault.ConfigFaultKind.{ConfigFaultKind}
-use Rattle.cap_config.specs.declared.fault.ConfigFaultKind.TheVariants.{BadLine, UnknownKey, Repeated, BadValue, NoSuchQueue, OverParent, GuaranteeOverMaximum, TooManyQueues, TooDeep, NoChild, NoMemory}
-use Rattle.cap_config.specs.Fault.{FailsBy, fault_at}
-use Rattle.cap_config.specs.Entries.{read_lines}
-use Rattle.cap_config.specs.Tests.{or_else, shape_fault, allocation_line, no_child_line, no_such_queue_line, too_deep_line, too_many_line, over_maximum_line, over_parent_line, whole_fault}
-use Rattle.cap_config.specs.Rows.{settings_of}
-use Rattle.cap_config.specs.First.{fault_after, first_fault, AnswersFault, settings_in, settings_after, unless_fault}
+use Rattle.cap_base.specs.declared.properties.entry.Entry.{Entry}
+use Rattle.cap_base.specs.declared.properties.fault.ConfigFault.{ConfigFault}
+use Rattle.cap_base.specs.declared.properties.fault.ConfigFaultKind.{ConfigFaultKind}
+use Rattle.cap_base.specs.declared.properties.fault.ConfigFaultKind.TheVariants.{BadLine, UnknownKey, Repeated, BadValue, NoSuchQueue, OverParent, GuaranteeOverMaximum, TooManyQueues, TooDeep, NoChild, NoMemory}
+use Rattle.cap_base.specs.properties.Fault.{FailsBy, fault_at}
+use Rattle.cap_base.specs.properties.Entries.{read_lines}
+use Rattle.cap_base.specs.properties.Tests.{or_else, shape_fault, allocation_line, no_child_line, no_such_queue_line, too_deep_line, too_many_line, over_maximum_line, over_parent_line, whole_fault}
+use Rattle.cap_base.specs.properties.Rows.{settings_of}
+use Rattle.cap_base.specs.properties.First.{fault_after, first_fault, AnswersFault, settings_in, settings_after, unless_fault}
 use Rattle.cap_config.proofs.Steps.{fails_after}
 
 pub early_by_line : (text : List ℕ) (fault : ConfigFault) → read_lines (lines text) ≡ Err fault → first_fault text ≡ Some fault

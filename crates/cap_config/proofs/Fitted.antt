@@ -2,15 +2,15 @@
 use Rattle.std.proofs.Common.{◌≡◌, ℕ, List, true, false, Option, Some, None, Ok, sym, ap, ◌∙◌}
 use Rattle.std.specs.Str.{bytes_eq}
 use Rattle.std.specs.Str.Lines.{lines}
-use Rattle.cap_config.specs.declared.entry.Entry.{Entry}
-use Rattle.cap_config.specs.declared.fault.ConfigFault.{ConfigFault}
-use Rattle.cap_config.specs.declared.fault.ConfigFaultKind.TheVariants.{OverParent}
-use Rattle.cap_config.specs.Keys.{root}
-use Rattle.cap_config.specs.Seen.{contains_bytes}
-use Rattle.cap_config.specs.Values.{is_name_under}
-use Rattle.cap_config.specs.Queues.{names_below, child, guaranteed, maximum}
-use Rattle.cap_config.specs.Tests.{over_parent_line, exceeds, exceeds_limit, guaranteed_below, whole_fault, shape_fault, or_else, or_fault}
-use Rattle.cap_config.specs.Entries.{read_lines}
+use Rattle.cap_base.specs.declared.properties.entry.Entry.{Entry}
+use Rattle.cap_base.specs.declared.properties.fault.ConfigFault.{ConfigFault}
+use Rattle.cap_base.specs.declared.properties.fault.ConfigFaultKind.TheVariants.{OverParent}
+use Rattle.cap_base.specs.properties.Keys.{root}
+use Rattle.cap_base.specs.properties.Seen.{contains_bytes}
+use Rattle.cap_base.specs.properties.Values.{is_name_under}
+use Rattle.cap_base.specs.properties.Queues.{names_below, child, guaranteed, maximum}
+use Rattle.cap_base.specs.properties.Tests.{over_parent_line, exceeds, exceeds_limit, guaranteed_below, whole_fault, shape_fault, or_else, or_fault}
+use Rattle.cap_base.specs.properties.Entries.{read_lines}
 use Rattle.cap_config.proofs.Kept.{lines_kept}
 use Rattle.cap_config.proofs.Found.{under_path, among_has}
 use Rattle.cap_config.proofs.Children.{child_parts, name_no_dot}

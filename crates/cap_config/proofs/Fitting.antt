@@ -6,13 +6,13 @@ use Rattle.std.proofs.lemmas.Bool.Decides.{nat_tests}
 use Rattle.std.proofs.lemmas.Bool.{not-true}
 use Rattle.cap_base.specs.Limits.{resources}
 use Rattle.cap_vector.specs.Vector.{zeros}
-use Rattle.cap_config.specs.declared.entry.Entry.{Entry}
-use Rattle.cap_config.specs.declared.value.Value.{Value}
-use Rattle.cap_config.specs.declared.value.Value.TheVariants.{Names, Amounts, Number, Running}
-use Rattle.cap_config.specs.declared.setting.Setting.TheVariants.{Queues, Capacity, MaximumCapacity}
-use Rattle.cap_config.specs.Keys.{root, parts_at_last_dot}
-use Rattle.cap_config.specs.Queues.{entry_for, is_entry_for, is_path_at, same_setting, names_below, names_or_none, names_in_value, guaranteed, maximum, amounts_at, amounts_or, or_zero}
-use Rattle.cap_config.specs.Tests.{exceeds, exceeds_limit, is_over_limit, is_over_maximum, over_maximum_line, is_over_parts, guaranteed_below, is_over_above, is_over_parent, over_parent_line}
+use Rattle.cap_base.specs.declared.properties.entry.Entry.{Entry}
+use Rattle.cap_base.specs.declared.properties.value.Value.{Value}
+use Rattle.cap_base.specs.declared.properties.value.Value.TheVariants.{Names, Amounts, Number, Running}
+use Rattle.cap_base.specs.declared.properties.setting.Setting.TheVariants.{Queues, Capacity, MaximumCapacity}
+use Rattle.cap_base.specs.properties.Keys.{root, parts_at_last_dot}
+use Rattle.cap_base.specs.properties.Queues.{entry_for, is_entry_for, is_path_at, same_setting, names_below, names_or_none, names_in_value, guaranteed, maximum, amounts_at, amounts_or, or_zero}
+use Rattle.cap_base.specs.properties.Tests.{exceeds, exceeds_limit, is_over_limit, is_over_maximum, over_maximum_line, is_over_parts, guaranteed_below, is_over_above, is_over_parent, over_parent_line}
 use Rattle.cap_config.proofs.Above.{parent_is}
 use Rattle.cap_config.proofs.Trees.{maximum_own, maximum_inherited}
 use Rattle.cap_config.proofs.Found.{found_has, names_at, nowhere_all}

@@ -13,16 +13,16 @@ use Rattle.std.proofs.lemmas.Bool.{eqb-true, not-true}
 use Rattle.cap_vector.specs.Vector.{amount_max}
 use Rattle.cap_base.specs.Limits.{applications_max, factor_max}
 use Rattle.cap_base.specs.Texts.{is_text, is_graphic}
-use Rattle.cap_config.specs.declared.entry.Entry.{Entry}
-use Rattle.cap_config.specs.declared.value.Value.{Value}
-use Rattle.cap_config.specs.declared.value.Value.TheVariants.{Names, Amounts, Number, Running}
-use Rattle.cap_config.specs.declared.setting.Setting.TheVariants.{Queues, MaximumApplications, UserLimitFactor}
-use Rattle.cap_config.specs.declared.setting.Setting.{Setting}
-use Rattle.cap_config.specs.Values.{is_name_under, are_new}
-use Rattle.cap_config.specs.Seen.{contains_bytes}
-use Rattle.cap_config.specs.Queues.{setting_number, child, entry_for, is_entry_for, is_path_at, same_setting, names_below, names_or_none, names_in_value}
-use Rattle.cap_config.specs.Tests.{cluster_entry, number_or, number_in, line_where, too_deep_line, lists_deep, is_deep, level}
-use Rattle.cap_config.specs.Rows.{factor}
+use Rattle.cap_base.specs.declared.properties.entry.Entry.{Entry}
+use Rattle.cap_base.specs.declared.properties.value.Value.{Value}
+use Rattle.cap_base.specs.declared.properties.value.Value.TheVariants.{Names, Amounts, Number, Running}
+use Rattle.cap_base.specs.declared.properties.setting.Setting.TheVariants.{Queues, MaximumApplications, UserLimitFactor}
+use Rattle.cap_base.specs.declared.properties.setting.Setting.{Setting}
+use Rattle.cap_base.specs.properties.Values.{is_name_under, are_new}
+use Rattle.cap_base.specs.properties.Seen.{contains_bytes}
+use Rattle.cap_base.specs.properties.Queues.{setting_number, child, entry_for, is_entry_for, is_path_at, same_setting, names_below, names_or_none, names_in_value}
+use Rattle.cap_base.specs.properties.Tests.{cluster_entry, number_or, number_in, line_where, too_deep_line, lists_deep, is_deep, level}
+use Rattle.cap_base.specs.properties.Rows.{factor}
 use Rattle.cap_config.specs.Bounds.{most_of, is_kept, is_bounded, are_bounded, are_under}
 
 pub same_bytes : (a b : List ℕ) → bytes_eq a b ≡ true → a ≡ b

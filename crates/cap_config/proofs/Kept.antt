@@ -7,18 +7,18 @@ use Rattle.std.proofs.lemmas.List.Folds.{list_all-append}
 use Rattle.std.proofs.lemmas.Bool.Decides.{nat_tests}
 use Rattle.cap_vector.specs.Vector.{amount_max}
 use Rattle.cap_base.specs.Limits.{applications_max, factor_max}
-use Rattle.cap_config.specs.declared.entry.Entry.{Entry}
-use Rattle.cap_config.specs.declared.key.Key.{Key}
-use Rattle.cap_config.specs.declared.value.Value.{Value}
-use Rattle.cap_config.specs.declared.value.Value.TheVariants.{Names, Amounts, Number, Running}
-use Rattle.cap_config.specs.declared.setting.Setting.{Setting}
-use Rattle.cap_config.specs.declared.setting.Setting.TheVariants.{Queues, Capacity, MaximumCapacity, UserLimitFactor, State, MaximumApplications, MinimumMemory, MinimumVcores, MaximumMemory, MaximumVcores}
-use Rattle.cap_config.specs.declared.fault.ConfigFault.{ConfigFault}
-use Rattle.cap_config.specs.Keys.{key_of}
-use Rattle.cap_config.specs.Seen.{contains_bytes}
-use Rattle.cap_config.specs.Values.{digits_max, value_at, value_of, is_name_under, as_names, as_amounts, number_within, state_of, names_for, names_of, are_new, amounts_of}
+use Rattle.cap_base.specs.declared.properties.entry.Entry.{Entry}
+use Rattle.cap_base.specs.declared.properties.key.Key.{Key}
+use Rattle.cap_base.specs.declared.properties.value.Value.{Value}
+use Rattle.cap_base.specs.declared.properties.value.Value.TheVariants.{Names, Amounts, Number, Running}
+use Rattle.cap_base.specs.declared.properties.setting.Setting.{Setting}
+use Rattle.cap_base.specs.declared.properties.setting.Setting.TheVariants.{Queues, Capacity, MaximumCapacity, UserLimitFactor, State, MaximumApplications, MinimumMemory, MinimumVcores, MaximumMemory, MaximumVcores}
+use Rattle.cap_base.specs.declared.properties.fault.ConfigFault.{ConfigFault}
+use Rattle.cap_base.specs.properties.Keys.{key_of}
+use Rattle.cap_base.specs.properties.Seen.{contains_bytes}
+use Rattle.cap_base.specs.properties.Values.{digits_max, value_at, value_of, is_name_under, as_names, as_amounts, number_within, state_of, names_for, names_of, are_new, amounts_of}
 use Rattle.cap_text.specs.Numbers.{number_of}
-use Rattle.cap_config.specs.Entries.{entry_of, with_value, with_key, with_parts, line_parts, read_after, read_lines, and_then, is_passed_over, key_text}
+use Rattle.cap_base.specs.properties.Entries.{entry_of, with_value, with_key, with_parts, line_parts, read_after, read_lines, and_then, is_passed_over, key_text}
 use Rattle.cap_config.specs.Bounds.{most_of, is_kept, is_bounded, are_bounded}
 
 kept_as : (most : ℕ) (queue : Option (List ℕ)) (value v : Value) → value ≡ v → is_kept most value queue ≡ true → is_kept most v queue ≡ true

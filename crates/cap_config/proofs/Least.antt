@@ -3,13 +3,13 @@ use Rattle.std.proofs.Common.{◌≡◌, ℕ, zero, suc, ◌+◌, ◌<◌, ◌�
 use Rattle.std.specs.Prelude.{◌&&◌}
 use Rattle.std.specs.Str.Lines.{lines}
 use Rattle.std.proofs.lemmas.Bool.Decides.{nat_tests}
-use Rattle.cap_config.specs.declared.entry.Entry.{Entry}
-use Rattle.cap_config.specs.Keys.{root, parts_at_last_dot}
-use Rattle.cap_config.specs.Seen.{contains_bytes}
-use Rattle.cap_config.specs.Values.{is_name_under}
-use Rattle.cap_config.specs.Queues.{is_queue, leads_to_root, above, names_below, child}
-use Rattle.cap_config.specs.Tests.{too_deep_line, level}
-use Rattle.cap_config.specs.Entries.{read_lines}
+use Rattle.cap_base.specs.declared.properties.entry.Entry.{Entry}
+use Rattle.cap_base.specs.properties.Keys.{root, parts_at_last_dot}
+use Rattle.cap_base.specs.properties.Seen.{contains_bytes}
+use Rattle.cap_base.specs.properties.Values.{is_name_under}
+use Rattle.cap_base.specs.properties.Queues.{is_queue, leads_to_root, above, names_below, child}
+use Rattle.cap_base.specs.properties.Tests.{too_deep_line, level}
+use Rattle.cap_base.specs.properties.Entries.{read_lines}
 use Rattle.cap_config.specs.Bounds.{are_bounded}
 use Rattle.cap_config.specs.Laws.{HasListed}
 use Rattle.cap_config.proofs.Above.{parent_is, no_parent}

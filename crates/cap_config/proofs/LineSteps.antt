@@ -8,7 +8,7 @@ use Rattle.std.proofs.lemmas.List.Elements.{All-weaker}
 use Rattle.std.proofs.lemmas.List.Sums.{AllPass-from_list_all}
 use Rattle.std.proofs.lemmas.Str.{IsUtf8-from_ascii}
 use Rattle.std.proofs.lemmas.Str.Ascii.{IsAscii-from_all}
-use Rattle.cap_config.specs.Entries.{is_printable}
+use Rattle.cap_base.specs.properties.Entries.{is_printable}
 use Rattle.cap_config.specs.LineKeys.{nth_line, first_with, shows}
 
 pub nth_here : (n : ℕ) (line : List ℕ) (more : List (List ℕ)) → (n == 1) ≡ true → nth_line n (line ∷ more) ≡ Some line

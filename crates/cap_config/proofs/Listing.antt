@@ -12,12 +12,12 @@ use Rattle.cap_base.specs.Trees.{depth}
 use Rattle.cap_base.proofs.paths.Paths.{under_is, is_under_it, under_itself}
 use Rattle.cap_base.specs.Listing.{MayFollow, IsListed, IsListedFromRoot, IsListing}
 use Rattle.cap_base.specs.Limits.{factor_max}
-use Rattle.cap_config.specs.declared.entry.Entry.{Entry}
-use Rattle.cap_config.specs.Keys.{root, is_dot}
-use Rattle.cap_config.specs.Values.{is_name_under}
-use Rattle.cap_config.specs.Queues.{names_below, child}
-use Rattle.cap_config.specs.Tests.{whole_fault, level}
-use Rattle.cap_config.specs.Rows.{rows_under, row_of, settings_of}
+use Rattle.cap_base.specs.declared.properties.entry.Entry.{Entry}
+use Rattle.cap_base.specs.properties.Keys.{root, is_dot}
+use Rattle.cap_base.specs.properties.Values.{is_name_under}
+use Rattle.cap_base.specs.properties.Queues.{names_below, child}
+use Rattle.cap_base.specs.properties.Tests.{whole_fault, level}
+use Rattle.cap_base.specs.properties.Rows.{rows_under, row_of, settings_of}
 use Rattle.cap_config.specs.Bounds.{are_bounded}
 use Rattle.cap_config.specs.TreeLaws.{SettingsAreListed}
 use Rattle.cap_config.proofs.Kept.{lines_kept}

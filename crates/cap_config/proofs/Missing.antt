@@ -1,10 +1,10 @@
 -- The first path that is not listed, and the sums of capacities, one queue after another.
 use Rattle.std.proofs.Common.{◌≡◌, ℕ, suc, ◌+◌, ◌<◌, ◌≤◌, List, [], ◌∷◌, length, get_or, drop, drop-cons, true, false, Option, Some, None, refl, sym, ap, ◌∙◌, add-one}
 use Rattle.std.proofs.lemmas.List.{drop_all}
-use Rattle.cap_config.specs.declared.entry.Entry.{Entry}
-use Rattle.cap_config.specs.Keys.{parts_at_last_dot}
-use Rattle.cap_config.specs.Queues.{above, child, guaranteed, is_below, names_below}
-use Rattle.cap_config.specs.Seen.{contains_bytes}
+use Rattle.cap_base.specs.declared.properties.entry.Entry.{Entry}
+use Rattle.cap_base.specs.properties.Keys.{parts_at_last_dot}
+use Rattle.cap_base.specs.properties.Queues.{above, child, guaranteed, is_below, names_below}
+use Rattle.cap_base.specs.properties.Seen.{contains_bytes}
 use Rattle.cap_config.specs.Details.{missing_from, missing_or, added_below, both_added}
 use Rattle.cap_config.proofs.Above.{parent_is, no_parent}
 

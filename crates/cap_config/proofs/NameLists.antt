@@ -4,8 +4,8 @@ use Rattle.std.specs.Prelude.{◌&&◌, map}
 use Rattle.std.specs.List.{list_all, slice_split}
 use Rattle.std.proofs.lemmas.List.{append-nil}
 use Rattle.cap_text.specs.Pieces.{trimmed_bytes, lacks, IsCut}
-use Rattle.cap_config.specs.Seen.{contains_bytes}
-use Rattle.cap_config.specs.Values.{is_next, is_name_under, are_new, names_for, names_of, name_under}
+use Rattle.cap_base.specs.properties.Seen.{contains_bytes}
+use Rattle.cap_base.specs.properties.Values.{is_next, is_name_under, are_new, names_for, names_of, name_under}
 use Rattle.cap_text.proofs.Cuts.{split_cut, split_uncut}
 
 -- the names of the parts, after those before

@@ -5,7 +5,7 @@ use Rattle.std.proofs.lemmas.Bool.{false_from_ne_true}
 use Rattle.std.proofs.lemmas.Bool.Decides.{nat_tests}
 use Rattle.cap_base.specs.Limits.{resources}
 use Rattle.cap_vector.specs.Vector.{IsVector, amount_max}
-use Rattle.cap_config.specs.Values.{resource}
+use Rattle.cap_base.specs.properties.Values.{resource}
 
 two_within : (m v : ℕ) → m ≤ amount_max → v ≤ amount_max → (k : ℕ) → get_or (m ∷ v ∷ []) k 0 ≤ amount_max
 two_within m v hm hv zero = hm

@@ -9,16 +9,16 @@ use Rattle.std.proofs.lemmas.List.Sums.{sum_by-cons, sum_by-append}
 use Rattle.cap_base.specs.Settings.{QueueRow}
 use Rattle.cap_base.proofs.lists.Sums.{sum_of_two}
 use Rattle.cap_base.proofs.lists.Tests.{bytes_turned}
-use Rattle.cap_config.specs.declared.entry.Entry.{Entry}
-use Rattle.cap_config.specs.declared.value.Value.{Value}
-use Rattle.cap_config.specs.declared.value.Value.TheVariants.{Names, Amounts, Number, Running}
-use Rattle.cap_config.specs.declared.setting.Setting.TheVariants.{Queues}
-use Rattle.cap_config.specs.Keys.{root}
-use Rattle.cap_config.specs.Queues.{entry_for, is_entry_for, is_path_at, same_setting, names_below, names_or_none, names_in_value, child}
-use Rattle.cap_config.specs.Tests.{listed_by, line_past, whole_fault}
-use Rattle.cap_config.specs.Entries.{read_lines}
+use Rattle.cap_base.specs.declared.properties.entry.Entry.{Entry}
+use Rattle.cap_base.specs.declared.properties.value.Value.{Value}
+use Rattle.cap_base.specs.declared.properties.value.Value.TheVariants.{Names, Amounts, Number, Running}
+use Rattle.cap_base.specs.declared.properties.setting.Setting.TheVariants.{Queues}
+use Rattle.cap_base.specs.properties.Keys.{root}
+use Rattle.cap_base.specs.properties.Queues.{entry_for, is_entry_for, is_path_at, same_setting, names_below, names_or_none, names_in_value, child}
+use Rattle.cap_base.specs.properties.Tests.{listed_by, line_past, whole_fault}
+use Rattle.cap_base.specs.properties.Entries.{read_lines}
 use Rattle.cap_config.specs.Bounds.{are_bounded}
-use Rattle.cap_config.specs.Rows.{rows_under, row_of, settings_of}
+use Rattle.cap_base.specs.properties.Rows.{rows_under, row_of, settings_of}
 use Rattle.cap_config.proofs.Kept.{lines_kept}
 use Rattle.cap_config.proofs.RowPaths.{shape_of, rows_of_settings}
 use Rattle.cap_config.proofs.RowCounts.{rows_for, rows_at_most}

@@ -11,14 +11,14 @@ use Rattle.std.proofs.lemmas.Slice.Eq.{bytes_eq-Decides}
 use Rattle.std.proofs.lemmas.Bool.{or_parts, false_from_ne_true, not-true}
 use Rattle.cap_base.specs.Settings.{QueueRow}
 use Rattle.cap_base.proofs.paths.Paths.{IsUnder, before_dot, child_to, only_child}
-use Rattle.cap_config.specs.declared.entry.Entry.{Entry}
-use Rattle.cap_config.specs.Keys.{root, last_dot}
-use Rattle.cap_config.specs.Seen.{contains_bytes}
-use Rattle.cap_config.specs.Values.{are_new, is_name_under}
-use Rattle.cap_config.specs.Queues.{is_queue, names_below, child}
-use Rattle.cap_config.specs.Tests.{whole_fault}
-use Rattle.cap_config.specs.Entries.{read_lines}
-use Rattle.cap_config.specs.Rows.{rows_under, row_of, settings_of}
+use Rattle.cap_base.specs.declared.properties.entry.Entry.{Entry}
+use Rattle.cap_base.specs.properties.Keys.{root, last_dot}
+use Rattle.cap_base.specs.properties.Seen.{contains_bytes}
+use Rattle.cap_base.specs.properties.Values.{are_new, is_name_under}
+use Rattle.cap_base.specs.properties.Queues.{is_queue, names_below, child}
+use Rattle.cap_base.specs.properties.Tests.{whole_fault}
+use Rattle.cap_base.specs.properties.Entries.{read_lines}
+use Rattle.cap_base.specs.properties.Rows.{rows_under, row_of, settings_of}
 use Rattle.cap_config.specs.Bounds.{are_bounded}
 use Rattle.cap_config.proofs.Kept.{lines_kept}
 use Rattle.cap_config.proofs.Found.{both, same_bytes, names_once, under_path}

@@ -3,9 +3,9 @@ use Rattle.std.proofs.Common.{◌≡◌, ℕ, suc, ◌≤◌, List, ◌∷◌, �
 use Rattle.std.specs.List.{flat_map}
 use Rattle.std.proofs.lemmas.List.{append-nil, take_all}
 use Rattle.cap_base.specs.Settings.{QueueRow}
-use Rattle.cap_config.specs.declared.entry.Entry.{Entry}
-use Rattle.cap_config.specs.Queues.{child, names_below}
-use Rattle.cap_config.specs.Rows.{rows_under, row_of}
+use Rattle.cap_base.specs.declared.properties.entry.Entry.{Entry}
+use Rattle.cap_base.specs.properties.Queues.{child, names_below}
+use Rattle.cap_base.specs.properties.Rows.{rows_under, row_of}
 
 pub rows_none : (old : List QueueRow) (levels : ℕ) (entries : List Entry) (path : List ℕ) → levels ≡ 0 → old ≡ old ++ rows_under levels entries path
 unfolding rows_under

@@ -9,16 +9,16 @@ use Rattle.std.proofs.lemmas.Option.{same_Some}
 use Rattle.cap_base.specs.Settings.{QueueRow, Settings}
 use Rattle.cap_base.specs.Trees.{IsTree, HasDistinctPaths, has_path}
 use Rattle.cap_base.proofs.lists.Tests.{bytes_itself}
-use Rattle.cap_config.specs.declared.entry.Entry.{Entry}
-use Rattle.cap_config.specs.declared.fault.ConfigFault.{ConfigFault}
-use Rattle.cap_config.specs.Keys.{root, last_dot, is_dot}
-use Rattle.cap_config.specs.Seen.{contains_bytes}
-use Rattle.cap_config.specs.Queues.{is_queue, child}
-use Rattle.cap_config.specs.Entries.{read_lines}
-use Rattle.cap_config.specs.Tests.{whole_fault}
-use Rattle.cap_config.specs.Rows.{settings_of, rows_under}
+use Rattle.cap_base.specs.declared.properties.entry.Entry.{Entry}
+use Rattle.cap_base.specs.declared.properties.fault.ConfigFault.{ConfigFault}
+use Rattle.cap_base.specs.properties.Keys.{root, last_dot, is_dot}
+use Rattle.cap_base.specs.properties.Seen.{contains_bytes}
+use Rattle.cap_base.specs.properties.Queues.{is_queue, child}
+use Rattle.cap_base.specs.properties.Entries.{read_lines}
+use Rattle.cap_base.specs.properties.Tests.{whole_fault}
+use Rattle.cap_base.specs.properties.Rows.{settings_of, rows_under}
 use Rattle.cap_config.specs.Bounds.{are_bounded}
-use Rattle.cap_config.specs.First.{settings_in, settings_after, unless_fault}
+use Rattle.cap_base.specs.properties.First.{settings_in, settings_after, unless_fault}
 use Rattle.cap_config.proofs.Children.{dotless_cons}
 use Rattle.cap_config.proofs.Least.{of_queues}
 use Rattle.cap_config.proofs.RowPaths.{paths_of, first_of_two, second_of_two, queue_rows}

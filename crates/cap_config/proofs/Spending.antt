@@ -5,9 +5,9 @@ use Rattle.std.proofs.lemmas.Bool.Decides.{nat_tests}
 use Rattle.std.proofs.lemmas.List.{drop_all}
 use Rattle.std.proofs.lemmas.List.Sums.{sum_by-cons}
 use Rattle.std.proofs.lemmas.Bool.{or_parts}
-use Rattle.cap_config.specs.declared.entry.Entry.{Entry}
-use Rattle.cap_config.specs.Queues.{guaranteed, child}
-use Rattle.cap_config.specs.Tests.{exceeds, guaranteed_below, sum_below}
+use Rattle.cap_base.specs.declared.properties.entry.Entry.{Entry}
+use Rattle.cap_base.specs.properties.Queues.{guaranteed, child}
+use Rattle.cap_base.specs.properties.Tests.{exceeds, guaranteed_below, sum_below}
 
 -- what is left of two amounts
 abbrev pub left_of : List ℕ → List ℕ → List ℕ

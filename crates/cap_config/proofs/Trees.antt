@@ -3,14 +3,15 @@ use Rattle.std.proofs.Common.{◌≡◌, ℕ, List, [], true, false, Option, Som
 use Rattle.std.specs.Str.{bytes_eq}
 use Rattle.std.specs.BTreeMap.{BTreeMap}
 use denote.Ref.{Bor}
-use Rattle.cap_config.specs.declared.entry.Entry.{Entry}
-use Rattle.cap_config.specs.declared.value.Value.{Value}
-use Rattle.cap_config.specs.declared.value.Value.TheVariants.{Names, Amounts, Number, Running}
-use Rattle.cap_config.specs.declared.setting.Setting.{Setting}
-use Rattle.cap_config.specs.declared.setting.Setting.TheVariants.{MaximumCapacity}
-use Rattle.cap_config.specs.Keys.{root, parts_at_last_dot}
-use Rattle.cap_config.specs.Seen.{contains_bytes}
-use Rattle.cap_config.specs.Queues.{is_queue, maximum, nearest_maximum, leads_to_root, above, names_below, amounts_at, amounts_or, entry_for, entry_at, FindsAll}
+use Rattle.cap_base.specs.declared.properties.entry.Entry.{Entry}
+use Rattle.cap_base.specs.declared.properties.value.Value.{Value}
+use Rattle.cap_base.specs.declared.properties.value.Value.TheVariants.{Names, Amounts, Number, Running}
+use Rattle.cap_base.specs.declared.properties.setting.Setting.{Setting}
+use Rattle.cap_base.specs.declared.properties.setting.Setting.TheVariants.{MaximumCapacity}
+use Rattle.cap_base.specs.properties.Keys.{root, parts_at_last_dot}
+use Rattle.cap_base.specs.properties.Seen.{contains_bytes}
+use Rattle.cap_base.specs.properties.Queues.{is_queue, maximum, nearest_maximum, leads_to_root, above, names_below, amounts_at, amounts_or, entry_for}
+use Rattle.cap_config.specs.Index.{entry_at, FindsAll}
 use Rattle.cap_config.proofs.Above.{IsParent, parent_is}
 
 pub queue_not_listed : (entries : List Entry) (path parent name : List ℕ) → parts_at_last_dot path ≡ Some (parent, name) → contains_bytes (names_below entries parent) name ≡ false →

@@ -3,13 +3,13 @@ use Rattle.std.specs.Prelude.{ℕ, List, [], ◌&&◌, Option, Some, None, Bool,
 use Rattle.std.specs.List.{list_all}
 use Rattle.cap_vector.specs.Vector.{amount_max}
 use Rattle.cap_base.specs.Limits.{applications_max, factor_max}
-use Rattle.cap_config.specs.declared.setting.Setting.{Setting}
-use Rattle.cap_config.specs.declared.setting.Setting.TheVariants.{MaximumApplications, UserLimitFactor}
-use Rattle.cap_config.specs.Queues.{same_setting}
-use Rattle.cap_config.specs.declared.entry.Entry.{Entry}
-use Rattle.cap_config.specs.declared.value.Value.{Value}
-use Rattle.cap_config.specs.declared.value.Value.TheVariants.{Names, Amounts, Number, Running}
-use Rattle.cap_config.specs.Values.{is_name_under, are_new}
+use Rattle.cap_base.specs.declared.properties.setting.Setting.{Setting}
+use Rattle.cap_base.specs.declared.properties.setting.Setting.TheVariants.{MaximumApplications, UserLimitFactor}
+use Rattle.cap_base.specs.properties.Queues.{same_setting}
+use Rattle.cap_base.specs.declared.properties.entry.Entry.{Entry}
+use Rattle.cap_base.specs.declared.properties.value.Value.{Value}
+use Rattle.cap_base.specs.declared.properties.value.Value.TheVariants.{Names, Amounts, Number, Running}
+use Rattle.cap_base.specs.properties.Values.{is_name_under, are_new}
 
 -- whether each name makes a path below this one, and stands once
 abbrev pub are_under : Option (List ℕ) → List (List ℕ) → Bool

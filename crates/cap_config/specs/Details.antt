@@ -6,19 +6,19 @@ use Rattle.cap_config.specs.declared.detail.Detail.{Detail}
 use Rattle.cap_config.specs.declared.detail.Detail.TheVariants.{Plain, Earlier, Form, Unlisted, Over}
 use Rattle.cap_config.specs.declared.detail.Limit.{Limit}
 use Rattle.cap_config.specs.declared.detail.Limit.TheVariants.{MaximumAllocation, OwnMaximum, InheritedMaximum, MaximumAbove, OwnCapacity}
-use Rattle.cap_config.specs.declared.entry.Entry.{Entry}
-use Rattle.cap_config.specs.declared.key.Key.{Key}
-use Rattle.cap_config.specs.declared.value.Value.{Value}
-use Rattle.cap_config.specs.declared.value.Value.TheVariants.{Names, Amounts, Number, Running}
-use Rattle.cap_config.specs.declared.setting.Setting.TheVariants.{Capacity, MaximumCapacity, MinimumMemory, MinimumVcores, MaximumMemory, MaximumVcores}
-use Rattle.cap_config.specs.declared.fault.ConfigFault.{ConfigFault}
-use Rattle.cap_config.specs.declared.fault.ConfigFaultKind.{ConfigFaultKind}
-use Rattle.cap_config.specs.declared.fault.ConfigFaultKind.TheVariants.{Repeated, BadValue, NoSuchQueue, GuaranteeOverMaximum, OverParent}
-use Rattle.cap_config.specs.Entries.{read_lines}
-use Rattle.cap_config.specs.Keys.{key_of, parts_at_last_dot}
+use Rattle.cap_base.specs.declared.properties.entry.Entry.{Entry}
+use Rattle.cap_base.specs.declared.properties.key.Key.{Key}
+use Rattle.cap_base.specs.declared.properties.value.Value.{Value}
+use Rattle.cap_base.specs.declared.properties.value.Value.TheVariants.{Names, Amounts, Number, Running}
+use Rattle.cap_base.specs.declared.properties.setting.Setting.TheVariants.{Capacity, MaximumCapacity, MinimumMemory, MinimumVcores, MaximumMemory, MaximumVcores}
+use Rattle.cap_base.specs.declared.properties.fault.ConfigFault.{ConfigFault}
+use Rattle.cap_base.specs.declared.properties.fault.ConfigFaultKind.{ConfigFaultKind}
+use Rattle.cap_base.specs.declared.properties.fault.ConfigFaultKind.TheVariants.{Repeated, BadValue, NoSuchQueue, GuaranteeOverMaximum, OverParent}
+use Rattle.cap_base.specs.properties.Entries.{read_lines}
+use Rattle.cap_base.specs.properties.Keys.{key_of, parts_at_last_dot}
 use Rattle.cap_config.specs.LineKeys.{line_key, first_with}
-use Rattle.cap_config.specs.Queues.{above, amounts_at, child, entry_for, guaranteed, is_below, maximum}
-use Rattle.cap_config.specs.Tests.{cluster_entry, exceeds, number_or}
+use Rattle.cap_base.specs.properties.Queues.{above, amounts_at, child, entry_for, guaranteed, is_below, maximum}
+use Rattle.cap_base.specs.properties.Tests.{cluster_entry, exceeds, number_or}
 
 -- amounts over a limit, where one of them is
 unfoldable pub over : Limit → List ℕ → List ℕ → Detail

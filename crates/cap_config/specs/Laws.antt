@@ -2,14 +2,14 @@
 use Rattle.std.specs.Prelude.{◌≡◌, ◌↔◌, ◌≤◌, ℕ, List, None, Some, Ok, Bool, true, false, IsSome, count_by, length, if◌then◌else◌}
 use Rattle.std.specs.Str.{bytes_eq}
 use Rattle.std.specs.Str.Lines.{lines}
-use Rattle.cap_config.specs.declared.entry.Entry.{Entry}
-use Rattle.cap_config.specs.Keys.{root}
-use Rattle.cap_config.specs.Seen.{contains_bytes}
-use Rattle.cap_config.specs.Queues.{is_queue, names_below, child, guaranteed, maximum}
-use Rattle.cap_config.specs.Entries.{read_lines}
-use Rattle.cap_config.specs.Tests.{whole_fault, level, exceeds, exceeds_limit, guaranteed_below}
-use Rattle.cap_config.specs.Rows.{settings_of}
-use Rattle.cap_config.specs.First.{first_fault, settings_in}
+use Rattle.cap_base.specs.declared.properties.entry.Entry.{Entry}
+use Rattle.cap_base.specs.properties.Keys.{root}
+use Rattle.cap_base.specs.properties.Seen.{contains_bytes}
+use Rattle.cap_base.specs.properties.Queues.{is_queue, names_below, child, guaranteed, maximum}
+use Rattle.cap_base.specs.properties.Entries.{read_lines}
+use Rattle.cap_base.specs.properties.Tests.{whole_fault, level, exceeds, exceeds_limit, guaranteed_below}
+use Rattle.cap_base.specs.properties.Rows.{settings_of}
+use Rattle.cap_base.specs.properties.First.{first_fault, settings_in}
 
 -- a text has settings exactly where it has no fault: each has one of the two, and not both
 abbrev pub HasOneAnswer : Type 0

@@ -1,14 +1,5 @@
-pub mod Fault
-pub mod Keys
-pub mod Seen
-pub mod Values
-pub mod Entries
-pub mod Queues
 pub mod Bounds
 pub mod Index
-pub mod Tests
-pub mod Rows
-pub mod First
 pub mod Laws
 pub mod TreeLaws
 pub mod LineKeys

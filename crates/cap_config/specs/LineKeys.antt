@@ -4,7 +4,7 @@ use Rattle.std.specs.List.{list_all}
 use Rattle.std.specs.Str.{bytes_eq}
 use Rattle.std.specs.Str.Lines.{lines}
 use Rattle.cap_text.specs.Pieces.{parts_at, trimmed_bytes}
-use Rattle.cap_config.specs.Entries.{is_passed_over, is_printable}
+use Rattle.cap_base.specs.properties.Entries.{is_passed_over, is_printable}
 
 -- bytes that may be shown: at least one, and each printable
 unfoldable pub shown : List ℕ → Option (List ℕ)

@@ -3,23 +3,22 @@ ghost use Rattle.std.specs.Prelude.{◌≡◌, ◌≤◌, ◌++◌, ◌∷◌, [
 ghost use Rattle.cap_vector.specs.Vector.{amount_max};
 ghost use Rattle.cap_config.specs.Bounds.{are_bounded, most_of};
 ghost use Rattle.cap_base.specs.Texts.{is_text};
-ghost use Rattle.cap_config.specs.Queues.{child};
-ghost use Rattle.cap_config.specs.Tests.{cluster_entry, number_or, whole_fault};
+ghost use Rattle.cap_base.specs.properties.Queues.{child};
+ghost use Rattle.cap_base.specs.properties.Tests.{cluster_entry, number_or, whole_fault};
 ghost use Rattle.cap_config.specs.Index.{IsIndex};
-ghost use Rattle.cap_config.specs.Rows.{row_of, rows_under, settings_of};
+ghost use Rattle.cap_base.specs.properties.Rows.{row_of, rows_under, settings_of};
 
-use crate::entry::Entry;
 use crate::index::{Index, child_bytes};
 use crate::key::ROOT;
 use crate::queues::{LEVELS_MAX, factor, guaranteed, is_running, maximum, names_below, number_or};
 use crate::second_pass::cluster_entry;
-use crate::setting::Setting;
+use cap_base::properties::{Entry, Setting};
 use cap_base::{Config, PathText, QueueRow, RESOURCES, ShortText};
 use cap_vector::Resource;
 use std::alloc::{AllocError, Global};
 
 /// The settings that lines without a fault make. An error means that an allocation failed.
-#[tactic(auto, unfolding(crate::specs::Rows::settings_of, crate::specs::Keys::root))]
+#[tactic(auto, unfolding(cap_base::specs::properties::Rows::settings_of, cap_base::specs::properties::Keys::root))]
 pub fn config_of(alloc: Global, index: &Index) -> Result<Config<RESOURCES>, AllocError>
     requires index { IsIndex index.now }
     requires bounded { are_bounded index.now.entries.now ≡ true }
@@ -104,7 +103,7 @@ fn child_path(alloc: Global, path: &PathText, name: &ShortText) -> Result<PathTe
     Ok(child)
 }
 
-#[tactic(auto, unfolding(crate::specs::Rows::row_of))]
+#[tactic(auto, unfolding(cap_base::specs::properties::Rows::row_of))]
 fn row_of(index: &Index, path: PathText) -> QueueRow<RESOURCES>
     requires { IsIndex index.now }
     ensures { result ≡ row_of index.now.entries.now path }

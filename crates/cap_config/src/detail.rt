@@ -2,12 +2,10 @@
 ghost use Rattle.std.specs.Prelude.{◌≡◌, ◌∷◌, [], IfOk};
 ghost use Rattle.std.specs.Option.{option_map, option_copied};
 ghost use Rattle.cap_config.specs.Index.{IsIndex};
-ghost use Rattle.cap_config.specs.Keys.{key_of, parts_at_last_dot};
+ghost use Rattle.cap_base.specs.properties.Keys.{key_of, parts_at_last_dot};
 ghost use Rattle.cap_config.specs.LineKeys.{line_key};
 ghost use Rattle.cap_config.specs.Details.{detail_in, line_detail, key_detail, earlier, form_of, limit_of, whole_detail, entry_on, entry_detail, allocation_detail, unlisted, unlisted_at, missing_path, over_maximum, over_own, over_parent, over_above, over_capacity, added_below, over, over_some};
 
-use crate::entry::Entry;
-use crate::fault::{ConfigFault, ConfigFaultKind};
 use crate::first_pass::read_lines;
 use crate::guarantees::exceeds;
 use crate::index::{Index, child_bytes, entry_at, index_of};
@@ -15,8 +13,7 @@ use crate::key::{key_of, split_last_dot};
 use crate::line_keys::{first_with, line_key};
 use crate::queues::{amounts_at, guaranteed, lists, maximum, number_or};
 use crate::second_pass::cluster_entry;
-use crate::setting::Setting;
-use crate::value::Value;
+use cap_base::properties::{ConfigFault, ConfigFaultKind, Entry, Setting, Value};
 use cap_base::{PathText, RESOURCES, ShortText};
 use cap_vector::Resource;
 use std::alloc::{AllocError, Global};

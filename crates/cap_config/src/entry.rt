@@ -1,21 +1,8 @@
-//! A line that sets a property (`Entry`).
+//! The line of an entry that was looked for (`line_of`).
 ghost use Rattle.std.specs.Prelude.{◌≡◌};
 ghost use Rattle.std.specs.Option.{option_map, option_copied};
 
-use crate::setting::Setting;
-use crate::value::Value;
-use cap_base::PathText;
-
-/// A line that sets a property.
-#[derive(Drop)]
-pub struct Entry<'t> {
-    /// The line, counted from 1.
-    pub line: usize,
-    /// The queue that it is about, if it is about one.
-    pub queue: Option<PathText>,
-    pub setting: Setting,
-    pub value: Value<'t>,
-}
+use cap_base::properties::Entry;
 
 /// The line of an entry that was found.
 pub fn line_of(entry: Option<&Entry>) -> Option<usize>

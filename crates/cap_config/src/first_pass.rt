@@ -3,15 +3,14 @@ ghost use Rattle.std.specs.Prelude.{◌≡◌, ◌++◌, ◌∷◌, [], List, �
 ghost use Rattle.std.specs.List.{list_all};
 ghost use Rattle.std.specs.Option.{option_map};
 ghost use Rattle.std.specs.Str.Lines.{lines};
-ghost use Rattle.cap_config.specs.Fault.{Gives};
-ghost use Rattle.cap_config.specs.Seen.{HasAll};
-ghost use Rattle.cap_config.specs.Entries.{is_passed_over, is_printable, line_parts, key_text, entry_of, read_lines};
+ghost use Rattle.cap_base.specs.properties.Fault.{Gives};
+ghost use Rattle.cap_base.specs.properties.Seen.{HasAll};
+ghost use Rattle.cap_base.specs.properties.Entries.{is_passed_over, is_printable, line_parts, key_text, entry_of, read_lines};
 
-use crate::entry::Entry;
-use crate::fault::{ConfigFault, ConfigFaultKind};
 use crate::key::key_of;
 use crate::seen::add_new;
 use crate::value::value_of;
+use cap_base::properties::{ConfigFault, ConfigFaultKind, Entry};
 use cap_text::{split_line, split_once, trimmed};
 use std::alloc::Global;
 use std::collections::HashMap;
@@ -91,7 +90,7 @@ fn entry_of<'a>(
 }
 
 /// The key and the value of a line of printable bytes that is cut at its first `=`.
-#[tactic(auto, unfolding(crate::specs::Entries::line_parts))]
+#[tactic(auto, unfolding(cap_base::specs::properties::Entries::line_parts))]
 fn parts_of(bytes: &[u8]) -> Option<(&[u8], &[u8])>
     ensures { option_map (λ parts. (parts.0.now, parts.1.now)) result ≡ line_parts bytes.now }
 {

@@ -1,21 +1,21 @@
 //! The tests of capacities and maximum capacities, each of a queue's own and of those of the queue above.
 ghost use Rattle.std.specs.Prelude.{◌≡◌, IfOk};
 ghost use Rattle.cap_config.specs.Index.{IsIndex};
-ghost use Rattle.cap_config.specs.Tests.{exceeds, exceeds_limit, is_over_limit, is_over_maximum, over_maximum_line, is_over_parts, guaranteed_below, is_overspent, is_over_parent, over_parent_line};
-ghost use Rattle.cap_config.specs.Keys.{parts_at_last_dot};
+ghost use Rattle.cap_base.specs.properties.Tests.{exceeds, exceeds_limit, is_over_limit, is_over_maximum, over_maximum_line, is_over_parts, guaranteed_below, is_overspent, is_over_parent, over_parent_line};
+ghost use Rattle.cap_base.specs.properties.Keys.{parts_at_last_dot};
 
-use crate::entry::{Entry, line_of};
+use crate::entry::line_of;
 use crate::index::{Index, child_bytes};
 use crate::key::split_last_dot;
 use crate::queues::{guaranteed, is_root, maximum};
-use crate::setting::Setting;
-use crate::value::Value;
+use crate::setting::same_setting;
+use cap_base::properties::{Entry, Setting, Value};
 use cap_base::{RESOURCES, ShortText};
 use cap_vector::Resource;
 use std::alloc::{AllocError, Global};
 
 /// The first line that guarantees a queue more than its maximum capacity, own or inherited.
-#[tactic(auto, unfolding(crate::specs::Tests::line_where))]
+#[tactic(auto, unfolding(cap_base::specs::properties::Tests::line_where))]
 pub fn over_maximum_line(index: &Index) -> Option<usize>
     requires { IsIndex index.now }
     ensures { result ≡ over_maximum_line index.now.entries.now }
@@ -32,7 +32,7 @@ fn is_over_maximum(index: &Index, entry: &Entry) -> bool
     requires { IsIndex index.now }
     ensures { result ≡ is_over_maximum index.now.entries.now entry.now }
 {
-    entry.setting.is(Setting::Capacity) && is_over_limit(index, entry)
+    same_setting(entry.setting, Setting::Capacity) && is_over_limit(index, entry)
 }
 
 fn is_over_limit(index: &Index, entry: &Entry) -> bool
@@ -84,7 +84,7 @@ fn is_over_parent(alloc: Global, index: &Index, entry: &Entry) -> Result<bool, A
     match (&entry.value, &entry.queue) {
         (Value::Amounts(amounts), Some(path)) => {
             let over = is_over_parts(index, amounts, path.as_bytes());
-            Ok(entry.setting.is(Setting::MaximumCapacity) && over)
+            Ok(same_setting(entry.setting, Setting::MaximumCapacity) && over)
         }
         (Value::Names(names), Some(path)) => {
             is_overspent(alloc, index, path.as_bytes(), names.names())

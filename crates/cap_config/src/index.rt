@@ -1,11 +1,11 @@
 //! The entries of a text, and where those of a queue are found by its path (`Index`).
 ghost use Rattle.std.specs.Prelude.{◌≡◌, IfOk};
 ghost use Rattle.std.specs.Option.{option_map, option_copied};
-ghost use Rattle.cap_config.specs.Queues.{FindsAll, entry_at, path_for, child};
-ghost use Rattle.cap_config.specs.Index.{IsIndex};
+ghost use Rattle.cap_base.specs.properties.Queues.{path_for, child};
+ghost use Rattle.cap_config.specs.Index.{FindsAll, entry_at, IsIndex};
 
-use crate::entry::Entry;
-use crate::setting::Setting;
+use crate::setting::same_setting;
+use cap_base::properties::{Entry, Setting};
 use std::alloc::{AllocError, Global};
 use std::collections::BTreeMap;
 
@@ -61,7 +61,7 @@ fn places_of<'e, 't>(
 fn path_for<'e, 't>(entry: &'e Entry<'t>, setting: Setting) -> Option<&'e [u8]>
     ensures { option_map (λ path. path.now) result ≡ path_for setting entry.now }
 {
-    if !entry.setting.is(setting) {
+    if !same_setting(entry.setting, setting) {
         return None;
     }
     match &entry.queue {

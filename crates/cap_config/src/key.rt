@@ -1,20 +1,32 @@
-//! The keys of property lines: the queue that a key is of, and its property (`Key`, `key_of`).
+//! The key that the bytes of a property line spell: the queue that it is of, and its property (`key_of`).
 ghost use Rattle.std.specs.Prelude.{◌≡◌, ◌++◌, ◌∷◌, [], ◌||◌, nat_eq};
 ghost use Rattle.std.specs.List.{list_all, starts_with};
 ghost use Rattle.std.specs.Option.{option_map};
 ghost use Rattle.std.specs.Str.{bytes_eq};
-ghost use Rattle.cap_config.specs.Keys.{key_of, queue_key, key_at, setting_named, takes, parts_at_last_dot, path_of, root, is_name, is_name_byte, names_in};
+ghost use Rattle.cap_base.specs.properties.Keys.{key_of, queue_key, key_at, setting_named, takes, parts_at_last_dot, path_of, root, is_name, is_name_byte, names_in};
 
-use crate::setting::{CLUSTER_SETTINGS, QUEUE_SETTINGS, Setting};
+use crate::setting::{is_of_root, spelling};
 use cap_base::PathText;
+use cap_base::properties::{Key, Setting};
 use cap_text::split_once;
 
-/// A key: the queue that it is of, if it is of one, and the property.
-#[derive(Clone, Copy)]
-pub struct Key {
-    pub queue: Option<PathText>,
-    pub setting: Setting,
-}
+/// The properties of the whole cluster.
+const CLUSTER_SETTINGS: [Setting; 5] = [
+    Setting::MaximumApplications,
+    Setting::MinimumMemory,
+    Setting::MinimumVcores,
+    Setting::MaximumMemory,
+    Setting::MaximumVcores,
+];
+
+/// The properties of one queue.
+const QUEUE_SETTINGS: [Setting; 5] = [
+    Setting::Queues,
+    Setting::Capacity,
+    Setting::MaximumCapacity,
+    Setting::UserLimitFactor,
+    Setting::State,
+];
 
 /// What every key of a queue begins with.
 const PREFIX: &[u8] = b"yarn.scheduler.capacity.";
@@ -26,7 +38,7 @@ pub const ROOT: &[u8] = b"root";
 const NAME_MAX: usize = 64;
 
 /// The key that these bytes spell. None where they spell none.
-#[tactic(auto, unfolding(crate::specs::Keys::key_of))]
+#[tactic(auto, unfolding(cap_base::specs::properties::Keys::key_of))]
 pub fn key_of(bytes: &[u8]) -> Option<Key>
     ensures { result ≡ key_of bytes.now }
 {
@@ -40,18 +52,18 @@ pub fn key_of(bytes: &[u8]) -> Option<Key>
 }
 
 /// The property among these that the bytes spell.
-#[tactic(auto, unfolding(crate::specs::Keys::setting_named))]
+#[tactic(auto, unfolding(cap_base::specs::properties::Keys::setting_named))]
 fn setting_named(settings: &[Setting], bytes: &[u8]) -> Option<Setting>
     ensures { result ≡ setting_named settings.now bytes.now }
 {
     settings
         .iter()
         .copied()
-        .find(|setting| bytes == setting.spelling())
+        .find(|setting| bytes == spelling(*setting))
 }
 
 /// The key of a queue, taken apart at its last dot.
-#[tactic(auto, unfolding(crate::specs::Keys::queue_key, crate::specs::Keys::prefix))]
+#[tactic(auto, unfolding(cap_base::specs::properties::Keys::queue_key, cap_base::specs::properties::Keys::prefix))]
 fn queue_key(bytes: &[u8]) -> Option<Key>
     ensures { result ≡ queue_key bytes.now }
 {
@@ -65,7 +77,7 @@ fn queue_key(bytes: &[u8]) -> Option<Key>
 }
 
 /// The key of the queue with this path for a property. None where there is no such path, property or key.
-#[tactic(auto, unfolding(crate::specs::Keys::key_at))]
+#[tactic(auto, unfolding(cap_base::specs::properties::Keys::key_at))]
 fn key_at(path: &[u8], setting: Option<Setting>) -> Option<Key>
     ensures { result ≡ key_at path.now setting }
 {
@@ -79,15 +91,15 @@ fn key_at(path: &[u8], setting: Option<Setting>) -> Option<Key>
 }
 
 /// Whether the queue has this property: `root` has its queues and its state alone.
-#[tactic(auto, unfolding(crate::specs::Keys::root))]
+#[tactic(auto, unfolding(cap_base::specs::properties::Keys::root))]
 fn takes(path: &[u8], setting: Setting) -> bool
     ensures { result ≡ takes path.now setting }
 {
-    path != ROOT || setting.is_of_root()
+    path != ROOT || is_of_root(setting)
 }
 
 /// The path that these bytes are. None where they are none.
-#[tactic(auto, unfolding(crate::specs::Keys::path_of))]
+#[tactic(auto, unfolding(cap_base::specs::properties::Keys::path_of))]
 fn path_of(bytes: &[u8]) -> Option<PathText>
     ensures { result ≡ path_of bytes.now }
 {
@@ -98,7 +110,7 @@ fn path_of(bytes: &[u8]) -> Option<PathText>
 }
 
 /// What is before the last dot and what is after it. `None` where there is no dot.
-#[tactic(auto, unfolding(crate::specs::Keys::parts_at_last_dot))]
+#[tactic(auto, unfolding(cap_base::specs::properties::Keys::parts_at_last_dot))]
 pub fn split_last_dot(bytes: &[u8]) -> Option<(&[u8], &[u8])>
     ensures { option_map (λ parts. (parts.0.now, parts.1.now)) result ≡
         parts_at_last_dot bytes.now }
@@ -113,7 +125,7 @@ pub fn split_last_dot(bytes: &[u8]) -> Option<(&[u8], &[u8])>
     None
 }
 
-#[tactic(auto, unfolding(crate::specs::Keys::root))]
+#[tactic(auto, unfolding(cap_base::specs::properties::Keys::root))]
 fn begins_with_root(bytes: &[u8]) -> bool
     ensures { result ≡ (bytes_eq bytes.now root || starts_with nat_eq bytes.now (root ++ 46 ∷ [])) }
 {
@@ -135,7 +147,7 @@ fn all_names(bytes: &[u8]) -> bool
 }
 
 /// Whether this is the name of a queue: 1 to 64 letters, digits, `_` or `-` of ASCII.
-#[tactic(auto, unfolding(crate::specs::Keys::is_name))]
+#[tactic(auto, unfolding(cap_base::specs::properties::Keys::is_name))]
 pub fn is_name(bytes: &[u8]) -> bool
     ensures { result ≡ is_name bytes.now }
 {

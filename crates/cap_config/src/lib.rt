@@ -4,7 +4,6 @@
 mod config;
 mod detail;
 mod entry;
-mod fault;
 mod first_pass;
 mod guarantees;
 mod index;
@@ -19,9 +18,8 @@ mod seen;
 mod setting;
 mod value;
 
+pub use cap_base::properties::{ConfigFault, ConfigFaultKind, Setting};
 pub use cap_base::{Config, QueueRow};
 pub use detail::{Detail, Limit, detail_of};
-pub use fault::{ConfigFault, ConfigFaultKind};
 pub use line_keys::line_key;
 pub use reading::read_config;
-pub use setting::Setting;

@@ -1,59 +1,22 @@
-//! The names in the value of a `queues` line, each once (`Names`, `names_for`).
+//! The names that the value of a `queues` line has, each once (`names_for`).
 ghost use Rattle.std.specs.Prelude.{◌≡◌, ◌≤◌, ◌++◌, ◌∷◌, [], IfOk, true, length, count_by, nat_eq};
-ghost use Rattle.cap_config.specs.Seen.{HasAll};
-ghost use Rattle.cap_config.specs.Values.{names_for, is_next, name_under};
+ghost use Rattle.cap_base.specs.properties.Seen.{HasAll};
+ghost use Rattle.cap_base.specs.properties.Values.{names_for, is_next, name_under};
 
 use crate::key::is_name;
-use crate::seen::{add_new, was_seen};
-use cap_base::{PathText, ShortText};
+use crate::seen::add_new;
+use cap_base::ShortText;
+use cap_base::properties::Names;
 use cap_text::{split_once, trimmed};
 use std::alloc::{AllocError, Global};
 use std::collections::HashMap;
-use std::marker::Model;
 
 /// The greatest length of a queue's path, in bytes.
 const PATH_MAX: usize = 255;
 
-/// The names of the queues below a queue, in the order of its list. Contracts see it as that list.
-#[derive(Drop)]
-pub struct Names<'t> {
-    names: Vec<ShortText>,
-    /// The same names, to look one up.
-    set: HashMap<&'t [u8], ()>,
-}
-
-impl<'t> Model for Names<'t> {
-    ghost use Rattle.std.specs.Prelude.{List, ℕ};
-    ghost use Rattle.cap_config.specs.Seen.{HasAll};
-
-    ghost Value = { List (List ℕ) };
-
-    ghost view = { λ n. n.names.items };
-
-    ghost invariant = { λ n. HasAll n.set n.names.items };
-}
-
-impl<'t> Names<'t> {
-    ghost use Rattle.cap_config.specs.Seen.{contains_bytes};
-
-    /// The names, each once.
-    pub fn names(&self) -> &[ShortText]
-        ensures { result.now ≡ self.now }
-    {
-        &self.names
-    }
-
-    /// Whether this name is among them.
-    pub fn has(&self, name: &[u8]) -> bool
-        ensures { result ≡ contains_bytes self.now name.now }
-    {
-        was_seen(&self.set, name)
-    }
-}
-
 /// The names that a list for the queue at `path` has. None where a part is no name, a path would pass 255 bytes, or a
 /// name is there twice. An empty list has none.
-#[tactic(auto, unfolding(crate::specs::Values::names_for, crate::specs::Values::names_of))]
+#[tactic(auto, unfolding(cap_base::specs::properties::Values::names_for, cap_base::specs::properties::Values::names_of))]
 pub fn names_for<'t>(
     alloc: Global,
     path: &[u8],
@@ -64,7 +27,7 @@ pub fn names_for<'t>(
     let mut names = Vec::new(alloc);
     if bytes.is_empty() {
         let set = HashMap::new(alloc);
-        return Ok(Some(Names { names, set }));
+        return Ok(Some(Names::new(names, set)));
     }
     // Room for all names at once: a map that grows moves its names again and again.
     let mut set = HashMap::with_capacity(alloc, commas(bytes) + 1)?;
@@ -78,7 +41,7 @@ pub fn names_for<'t>(
     if !add_name(path, trimmed(rest), &mut names, &mut set)? {
         return Ok(None);
     }
-    Ok(Some(Names { names, set }))
+    Ok(Some(Names::new(names, set)))
 }
 
 /// How many commas there are.
@@ -113,7 +76,7 @@ fn add_name<'a>(
 }
 
 /// The name of a queue below `path`. None where it is no name, or the queue's path would pass 255 bytes.
-#[tactic(auto, unfolding(crate::specs::Values::name_under))]
+#[tactic(auto, unfolding(cap_base::specs::properties::Values::name_under))]
 fn name_under(path: &[u8], bytes: &[u8]) -> Option<ShortText>
     ensures { result ≡ name_under path.now bytes.now }
 {

@@ -2,17 +2,16 @@
 ghost use Rattle.std.specs.Prelude.{◌≡◌, ◌≤◌, None, length, count_by};
 ghost use Rattle.std.specs.Option.{option_copied};
 ghost use Rattle.std.specs.Str.{bytes_eq};
-ghost use Rattle.cap_config.specs.Keys.{root, is_dot};
+ghost use Rattle.cap_base.specs.properties.Keys.{root, is_dot};
 ghost use Rattle.cap_config.specs.Index.{IsIndex};
-ghost use Rattle.cap_config.specs.Rows.{factor, is_running, running_or};
-ghost use Rattle.cap_config.specs.Tests.{level, number_or};
-ghost use Rattle.cap_config.specs.Queues.{is_queue, names_below, names_or_none, amounts_at, guaranteed, maximum};
-ghost use Rattle.cap_config.specs.Seen.{contains_bytes};
+ghost use Rattle.cap_base.specs.properties.Rows.{factor, is_running, running_or};
+ghost use Rattle.cap_base.specs.properties.Tests.{level, number_or};
+ghost use Rattle.cap_base.specs.properties.Queues.{is_queue, names_below, names_or_none, amounts_at, guaranteed, maximum};
+ghost use Rattle.cap_base.specs.properties.Seen.{contains_bytes};
 
-use crate::entry::Entry;
 use crate::index::{Index, entry_at};
 use crate::key::{ROOT, split_last_dot};
-use crate::value::Value;
+use cap_base::properties::{Entry, Value};
 use cap_base::{RESOURCES, ShortText};
 use cap_vector::Resource;
 
@@ -75,7 +74,7 @@ fn names_or_none<'e, 't>(entry: Option<&'e Entry<'t>>) -> &'e [ShortText]
 }
 
 /// Whether this is the path of `root`.
-#[tactic(auto, unfolding(crate::specs::Keys::root))]
+#[tactic(auto, unfolding(cap_base::specs::properties::Keys::root))]
 pub fn is_root(path: &[u8]) -> bool
     ensures { result ≡ bytes_eq path.now root }
 {

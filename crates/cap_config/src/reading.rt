@@ -1,16 +1,15 @@
 //! Property lines read as settings, or refused at their first fault (`read_config`).
 ghost use Rattle.std.specs.Prelude.{◌≡◌, IfOk, Ok, Some, true};
 ghost use Rattle.cap_config.specs.Bounds.{are_bounded};
-ghost use Rattle.cap_config.specs.First.{AnswersFault, first_fault, settings_after, settings_in};
+ghost use Rattle.cap_base.specs.properties.First.{AnswersFault, first_fault, settings_after, settings_in};
 ghost use Rattle.cap_config.specs.Index.{IsIndex};
-ghost use Rattle.cap_config.specs.Tests.{whole_fault};
+ghost use Rattle.cap_base.specs.properties.Tests.{whole_fault};
 
 use crate::config::config_of;
-use crate::entry::Entry;
-use crate::fault::ConfigFault;
 use crate::first_pass::read_lines;
 use crate::index::{Index, index_of};
 use crate::second_pass::check;
+use cap_base::properties::{ConfigFault, Entry};
 use cap_base::{Config, RESOURCES};
 use std::alloc::Global;
 

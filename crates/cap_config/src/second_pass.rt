@@ -2,17 +2,16 @@
 ghost use Rattle.std.specs.Prelude.{◌≡◌};
 ghost use Rattle.std.specs.Option.{option_copied};
 ghost use Rattle.cap_config.specs.Index.{IsIndex};
-ghost use Rattle.cap_config.specs.Tests.{line_where, cluster_entry, number_or, line_or_zero, pair_line, lesser, allocation_line, lists_none, no_child_line, is_astray, no_such_queue_line, lists_deep, level, too_deep_line, listed_by, too_many_line, shape_fault, whole_fault};
-ghost use Rattle.cap_config.specs.First.{AnswersFault};
+ghost use Rattle.cap_base.specs.properties.Tests.{line_where, cluster_entry, number_or, line_or_zero, pair_line, lesser, allocation_line, lists_none, no_child_line, is_astray, no_such_queue_line, lists_deep, level, too_deep_line, listed_by, too_many_line, shape_fault, whole_fault};
+ghost use Rattle.cap_base.specs.properties.First.{AnswersFault};
 
-use crate::entry::{Entry, line_of};
-use crate::fault::{ConfigFault, ConfigFaultKind};
+use crate::entry::line_of;
 use crate::guarantees::{over_maximum_line, over_parent_line};
 use crate::index::{Index, entry_at};
 use crate::key::ROOT;
 use crate::queues::{LEVELS_MAX, is_queue, level, number_or};
-use crate::setting::Setting;
-use crate::value::Value;
+use crate::setting::same_setting;
+use cap_base::properties::{ConfigFault, ConfigFaultKind, Entry, Setting, Value};
 use std::alloc::Global;
 
 /// The greatest number of queues, root among them.
@@ -36,7 +35,7 @@ pub fn check(alloc: Global, index: &Index) -> Result<(), ConfigFault>
 }
 
 /// The first fault in the bounds of a container, in the shape of the tree and of a capacity over its maximum.
-#[tactic(auto, unfolding(crate::specs::Tests::shape_fault))]
+#[tactic(auto, unfolding(cap_base::specs::properties::Tests::shape_fault))]
 fn shape_fault(index: &Index) -> Option<ConfigFault>
     requires { IsIndex index.now }
     ensures { result ≡ shape_fault index.now.entries.now }
@@ -81,7 +80,7 @@ fn shape_fault(index: &Index) -> Option<ConfigFault>
 }
 
 /// The least line at which a maximum allocation is less than the minimum: the later of the two lines.
-#[tactic(auto, unfolding(crate::specs::Tests::allocation_line))]
+#[tactic(auto, unfolding(cap_base::specs::properties::Tests::allocation_line))]
 fn allocation_line(entries: &[Entry]) -> Option<usize>
     ensures { result ≡ allocation_line entries.now }
 {
@@ -114,7 +113,9 @@ fn lesser(a: Option<usize>, b: Option<usize>) -> Option<usize>
 pub fn cluster_entry<'e, 't>(entries: &'e [Entry<'t>], setting: Setting) -> Option<&'e Entry<'t>>
     ensures { option_copied result ≡ cluster_entry entries.now setting }
 {
-    entries.iter().find(|entry| entry.setting.is(setting))
+    entries
+        .iter()
+        .find(|entry| same_setting(entry.setting, setting))
 }
 
 /// The later of the two lines, where the maximum is less than the minimum.
@@ -155,7 +156,7 @@ fn no_child_line(index: &Index) -> Option<usize>
 }
 
 /// The first line that lists no queue.
-#[tactic(auto, unfolding(crate::specs::Tests::line_where))]
+#[tactic(auto, unfolding(cap_base::specs::properties::Tests::line_where))]
 fn childless_line(entries: &[Entry]) -> Option<usize>
     ensures { result ≡ line_where lists_none entries.now }
 {
@@ -172,7 +173,7 @@ fn lists_none(entry: &Entry) -> bool
 }
 
 /// The first line for a queue that is not in the tree.
-#[tactic(auto, unfolding(crate::specs::Tests::line_where))]
+#[tactic(auto, unfolding(cap_base::specs::properties::Tests::line_where))]
 fn no_such_queue_line(index: &Index) -> Option<usize>
     requires { IsIndex index.now }
     ensures { result ≡ no_such_queue_line index.now.entries.now }
@@ -191,7 +192,7 @@ fn is_astray(index: &Index, entry: &Entry) -> bool
 }
 
 /// The first line that lists queues on the level after the last.
-#[tactic(auto, unfolding(crate::specs::Tests::line_where))]
+#[tactic(auto, unfolding(cap_base::specs::properties::Tests::line_where))]
 fn too_deep_line(entries: &[Entry]) -> Option<usize>
     ensures { result ≡ too_deep_line entries.now }
 {

@@ -1,7 +1,7 @@
 //! Byte strings that were seen: the keys of earlier lines, the names of a list.
 ghost use Rattle.std.specs.Prelude.{◌≡◌, ℕ, List, IfOk, OnOk, not, ◌||◌};
 ghost use Rattle.std.specs.Str.{bytes_eq};
-ghost use Rattle.cap_config.specs.Seen.{has};
+ghost use Rattle.cap_base.specs.properties.Seen.{has};
 
 use std::alloc::AllocError;
 use std::collections::HashMap;
@@ -14,11 +14,4 @@ pub fn add_new<'a>(seen: &mut HashMap<&'a [u8], ()>, bytes: &'a [u8]) -> Result<
 {
     let old = seen.insert(bytes, ())?;
     Ok(old.is_none())
-}
-
-/// Whether these bytes are among those that were seen.
-pub fn was_seen(seen: &HashMap<&[u8], ()>, bytes: &[u8]) -> bool
-    ensures { result ≡ has seen.now bytes.now }
-{
-    seen.contains_key(bytes)
 }

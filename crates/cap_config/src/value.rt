@@ -1,11 +1,10 @@
-//! The value of a property line: amounts, a number, a state or a list of names (`Value`, `value_of`).
+//! The value that the bytes of a property line give its key: amounts, a number, a state or a list of names (`value_of`).
 ghost use Rattle.std.specs.Prelude.{◌≡◌, IfOk};
 ghost use Rattle.std.specs.Option.{option_map};
-ghost use Rattle.cap_config.specs.Values.{value_of, listed_names, as_amounts, number_within, state_of, amounts_of, amounts_in, in_brackets, number_after, resource};
+ghost use Rattle.cap_base.specs.properties.Values.{value_of, listed_names, as_amounts, number_within, state_of, amounts_of, amounts_in, in_brackets, number_after, resource};
 
-use crate::key::Key;
-use crate::names::{Names, names_for};
-use crate::setting::Setting;
+use crate::names::names_for;
+use cap_base::properties::{Key, Setting, Value};
 use cap_base::{PathText, RESOURCES};
 use cap_text::{number_of, split_once, trimmed};
 use cap_vector::{AMOUNT_MAX, Resource};
@@ -20,20 +19,8 @@ const FACTOR_MAX: u64 = 1000;
 /// The greatest number of active applications that may be set.
 const APPLICATIONS_MAX: u64 = 1_000_000;
 
-/// What a line sets its property to.
-#[derive(Drop)]
-pub enum Value<'t> {
-    /// The names of the queues below.
-    Names(Names<'t>),
-    /// Memory in MiB, and vcores.
-    Amounts(Resource<RESOURCES>),
-    Number(u64),
-    /// RUNNING, and not STOPPED.
-    Running(bool),
-}
-
 /// The value that these bytes give a key. None where they have another form or range.
-#[tactic(auto, unfolding(crate::specs::Values::value_at))]
+#[tactic(auto, unfolding(cap_base::specs::properties::Values::value_at))]
 pub fn value_of<'t>(
     alloc: Global,
     key: &Key,
@@ -81,7 +68,7 @@ fn as_amounts<'t>(amounts: Option<Resource<RESOURCES>>) -> Option<Value<'t>>
 }
 
 /// A number from 1 to `most`.
-#[tactic(auto, unfolding(crate::specs::Values::number_within))]
+#[tactic(auto, unfolding(cap_base::specs::properties::Values::number_within))]
 fn number_within<'t>(bytes: &[u8], most: u64) -> Option<Value<'t>>
     ensures { result ≡ number_within most bytes.now }
 {
@@ -91,7 +78,7 @@ fn number_within<'t>(bytes: &[u8], most: u64) -> Option<Value<'t>>
     }
 }
 
-#[tactic(auto, unfolding(crate::specs::Values::state_of))]
+#[tactic(auto, unfolding(cap_base::specs::properties::Values::state_of))]
 fn state_of<'t>(bytes: &[u8]) -> Option<Value<'t>>
     ensures { result ≡ state_of bytes.now }
 {
@@ -105,7 +92,7 @@ fn state_of<'t>(bytes: &[u8]) -> Option<Value<'t>>
 }
 
 /// `[memory=N,vcores=N]`, the two in either order, with spaces allowed round each.
-#[tactic(auto, unfolding(crate::specs::Values::amounts_of))]
+#[tactic(auto, unfolding(cap_base::specs::properties::Values::amounts_of))]
 fn amounts_of(bytes: &[u8]) -> Option<Resource<RESOURCES>>
     ensures { result ≡ amounts_of bytes.now }
 {
@@ -119,7 +106,7 @@ fn amounts_of(bytes: &[u8]) -> Option<Resource<RESOURCES>>
 }
 
 /// Memory and vcores, in either order.
-#[tactic(auto, unfolding(crate::specs::Values::amounts_in))]
+#[tactic(auto, unfolding(cap_base::specs::properties::Values::amounts_in))]
 fn amounts_in(first: &[u8], second: &[u8]) -> Option<Resource<RESOURCES>>
     ensures { result ≡ amounts_in first.now second.now }
 {
@@ -137,7 +124,7 @@ fn amounts_in(first: &[u8], second: &[u8]) -> Option<Resource<RESOURCES>>
 }
 
 /// A resource of these amounts, each at most the greatest.
-#[tactic(auto, unfolding(crate::specs::Values::resource))]
+#[tactic(auto, unfolding(cap_base::specs::properties::Values::resource))]
 fn resource(memory: Option<u64>, vcores: Option<u64>) -> Option<Resource<RESOURCES>>
     ensures { result ≡ resource memory vcores }
 {
@@ -148,7 +135,7 @@ fn resource(memory: Option<u64>, vcores: Option<u64>) -> Option<Resource<RESOURC
 }
 
 /// The bytes between brackets.
-#[tactic(auto, unfolding(crate::specs::Values::in_brackets))]
+#[tactic(auto, unfolding(cap_base::specs::properties::Values::in_brackets))]
 fn in_brackets(bytes: &[u8]) -> Option<&[u8]>
     ensures { option_map (λ inner. inner.now) result ≡ in_brackets bytes.now }
 {
@@ -159,7 +146,7 @@ fn in_brackets(bytes: &[u8]) -> Option<&[u8]>
 }
 
 /// The number after a name.
-#[tactic(auto, unfolding(crate::specs::Values::number_after))]
+#[tactic(auto, unfolding(cap_base::specs::properties::Values::number_after))]
 fn number_after(name: &[u8], part: &[u8]) -> Option<u64>
     ensures { result ≡ number_after name.now part.now }
 {

@@ -6,7 +6,7 @@ use Rattle.std.proofs.lemmas.List.Folds.{list_all-append}
 use Rattle.std.specs.Io.KnownBytes.{Consumes}
 use Rattle.cap_text.specs.Pieces.{lacks, IsCut}
 use Rattle.cap_text.proofs.Cuts.{first_line, last_line}
-use Rattle.cap_config.specs.declared.fault.ConfigFault.{ConfigFault}
+use Rattle.cap_base.specs.declared.properties.fault.ConfigFault.{ConfigFault}
 use Rattle.cap_replay.specs.Script.{IsScript, HasBadLine}
 use Rattle.cap_replay.specs.declared.simulation.Simulation.{Simulation}
 use Rattle.cap_replay.specs.Settings.{settings_fault, AreReadBefore, HasSettingsFault}

@@ -2,7 +2,7 @@
 use Rattle.std.proofs.Common.{◌≡◌, ◌⊎◌, inl, inr, ℕ, ◌<◌, arith, refl}
 use Rattle.std.specs.Prelude.{Result, Ok, Err, IsOk, OnOk, IfErr}
 use Rattle.cap_session.specs.Counted.{StreamState, CanCount}
-use Rattle.cap_config.specs.declared.fault.ConfigFault.{ConfigFault}
+use Rattle.cap_base.specs.declared.properties.fault.ConfigFault.{ConfigFault}
 use Rattle.cap_replay.specs.declared.stop.Stop.{Stop}
 use Rattle.cap_replay.specs.declared.stop.Stop.TheVariants.{BadLine, Config, NoMemory, Input, Output}
 use Rattle.cap_replay.specs.Streams.{IsRefused, IsOfScript, MayWrite, CountsReads, GivesNoEnd, misses, input_failures, output_failures}

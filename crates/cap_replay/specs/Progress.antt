@@ -2,8 +2,8 @@
 use Rattle.std.specs.Prelude.{◌≡◌, ℕ, List, [], ◌∷◌, ◌++◌, Some}
 use Rattle.std.specs.List.{All}
 use Rattle.std.specs.Str.Lines.{lines, strip_carriage_return}
-use Rattle.cap_config.specs.declared.fault.ConfigFault.{ConfigFault}
-use Rattle.cap_config.specs.declared.fault.ConfigFaultKind.TheVariants.{NoMemory as no_room}
+use Rattle.cap_base.specs.declared.properties.fault.ConfigFault.{ConfigFault}
+use Rattle.cap_base.specs.declared.properties.fault.ConfigFaultKind.TheVariants.{NoMemory as no_room}
 use Rattle.cap_replay.specs.declared.simulation.Simulation.{Simulation}
 use Rattle.cap_replay.specs.declared.stop.Stop.{Stop}
 use Rattle.cap_replay.specs.declared.stop.Stop.TheVariants.{Config, NoMemory}

@@ -2,8 +2,8 @@
 use Rattle.std.specs.Prelude.{◌≡◌, ℕ, List, [], ◌∷◌, ◌++◌, codes, eqb, drop, Option, None, Some, if◌then◌else◌}
 use Rattle.std.specs.List.{All, fold, filter_map, starts_with}
 use Rattle.std.specs.Str.Lines.{lines}
-use Rattle.cap_config.specs.declared.fault.ConfigFault.{ConfigFault}
-use Rattle.cap_config.specs.First.{first_fault}
+use Rattle.cap_base.specs.declared.properties.fault.ConfigFault.{ConfigFault}
+use Rattle.cap_base.specs.properties.First.{first_fault}
 use Rattle.cap_replay.specs.Script.{IsOpeningLine, IsStep, IsScript}
 
 -- the property that a line brings, where it is a property line

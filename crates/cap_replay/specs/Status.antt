@@ -1,6 +1,6 @@
 -- What the exit status of a replay says of its script and of its streams.
 use Rattle.std.specs.Prelude.{◌≡◌, ◌<◌, ◌⊎◌, ℕ, List, Option}
-use Rattle.cap_config.specs.declared.fault.ConfigFault.{ConfigFault}
+use Rattle.cap_base.specs.declared.properties.fault.ConfigFault.{ConfigFault}
 use Rattle.cap_session.specs.declared.counted.Counted.{Counted}
 use Rattle.cap_session.specs.Counted.{state_of}
 use Rattle.cap_replay.specs.Script.{HasBadLine}

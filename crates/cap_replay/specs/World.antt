@@ -6,8 +6,8 @@ use Rattle.hex.specs.Hex.{decode_of}
 use Rattle.cap_base.specs.Limits.{resources}
 use Rattle.cap_base.specs.Settings.{Settings}
 use Rattle.cap_model.specs.Flat.{Flat, opened_cluster}
-use Rattle.cap_config.specs.declared.fault.ConfigFault.{ConfigFault}
-use Rattle.cap_config.specs.First.{first_fault, settings_in}
+use Rattle.cap_base.specs.declared.properties.fault.ConfigFault.{ConfigFault}
+use Rattle.cap_base.specs.properties.First.{first_fault, settings_in}
 use Rattle.cap_world.specs.declared.step.Step.{Step}
 use Rattle.cap_world.specs.declared.step.Step.TheVariants as steps
 use Rattle.cap_world.specs.declared.step.Did.{Did}

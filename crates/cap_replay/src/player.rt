@@ -1,7 +1,7 @@
 //! A script played from a reader to a writer, to an exit status (`replay`, `replay_with_words`).
 ghost use Rattle.std.specs.Prelude.{◌≡◌, ◌<◌, ◌+◌, ◌++◌, [], ℕ, true, length, Err, OnOk, IfOk, IfErr, None};
 ghost use Rattle.cap_text.specs.Pieces.{lacks};
-ghost use Rattle.cap_config.specs.declared.fault.ConfigFault.{ConfigFault};
+ghost use Rattle.cap_base.specs.declared.properties.fault.ConfigFault.{ConfigFault};
 ghost use Rattle.cap_replay.specs.declared.stop.Stop.TheVariants.{BadLine, Config as bad_config, Input as read_failed};
 ghost use Rattle.cap_replay.specs.Script.{HasBadLine};
 ghost use Rattle.cap_replay.specs.Settings.{HasSettingsFault};

@@ -1,7 +1,7 @@
 //! A script that is being played: a step a line, and what is printed of it (`Script`).
 ghost use Rattle.std.specs.Prelude.{◌≡◌, ◌≢◌, ◌+◌, ◌<◌, ℕ, None, Some, Err, Ok, OnOk, IfOk, IfErr, true, false, is_some, is_err, if◌then◌else◌, vec_len, take, length, ◌≤◌, ◌/◌, IsOk};
 ghost use Rattle.hex.specs.Hex.{decode_of};
-ghost use Rattle.cap_config.specs.declared.fault.ConfigFault.{ConfigFault};
+ghost use Rattle.cap_base.specs.declared.properties.fault.ConfigFault.{ConfigFault};
 ghost use Rattle.cap_replay.specs.declared.command.Command.{Command};
 ghost use Rattle.cap_replay.specs.declared.stop.Stop.TheVariants.{BadLine, Config as bad_config, Output as write_failed};
 ghost use Rattle.cap_replay.specs.Script.{IsPiece};

@@ -1,7 +1,7 @@
 //! The property lines of a script, joined, and the world that they open (`Settings`).
 ghost use Rattle.std.specs.Prelude.{◌≡◌, ℕ, None, Some, Err, OnOk, IfOk, IfErr};
-ghost use Rattle.cap_config.specs.declared.fault.ConfigFault.{ConfigFault};
-ghost use Rattle.cap_config.specs.First.{first_fault};
+ghost use Rattle.cap_base.specs.declared.properties.fault.ConfigFault.{ConfigFault};
+ghost use Rattle.cap_base.specs.properties.First.{first_fault};
 ghost use Rattle.cap_replay.specs.declared.stop.Stop.TheVariants.{BadLine, Config as bad_config};
 ghost use Rattle.cap_replay.specs.Progress.{IsStopOf};
 ghost use Rattle.cap_replay.specs.Settings.{with_line, settings_text};

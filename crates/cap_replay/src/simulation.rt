@@ -1,6 +1,6 @@
 //! The world of a script, opened by its settings at the first step (`Simulation`).
 ghost use Rattle.std.specs.Prelude.{◌≡◌, ℕ, None, Err, OnOk, IfOk, IfErr, is_some};
-ghost use Rattle.cap_config.specs.declared.fault.ConfigFault.{ConfigFault};
+ghost use Rattle.cap_base.specs.declared.properties.fault.ConfigFault.{ConfigFault};
 ghost use Rattle.cap_replay.specs.declared.stop.Stop.TheVariants.{BadLine, Config as bad_config};
 ghost use Rattle.cap_replay.specs.Settings.{with_line};
 ghost use Rattle.cap_replay.specs.Streams.{IsOfScript};

@@ -12,7 +12,7 @@ use Rattle.cap_base.specs.Members.{IsRising}
 use Rattle.cap_model.specs.Events.{ever_granted, ever_ended, Run}
 use Rattle.cap_laws.specs.EngineLaws.{container_numbers}
 use Rattle.cap_laws.specs.NewsLaws.{ever_told_grants, ever_new_grants, untold_grants, ever_told_ends, ever_new_ends, untold_ends}
-use Rattle.cap_config.specs.First.{settings_in}
+use Rattle.cap_base.specs.properties.First.{settings_in}
 use Rattle.cap_world.specs.declared.step.Step.{Step}
 use Rattle.cap_world.specs.World.{WorldState}
 use Rattle.cap_world.specs.Hearing.{IsHeadline}

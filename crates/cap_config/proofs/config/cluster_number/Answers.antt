@@ -1,6 +1,6 @@
 use Rattle.std.proofs.Common.{Option, ◌∙◌, ap}
-use Rattle.cap_config.specs.declared.entry.Entry.{Entry}
-use Rattle.cap_config.specs.Tests.{number_or}
+use Rattle.cap_base.specs.declared.properties.entry.Entry.{Entry}
+use Rattle.cap_base.specs.properties.Tests.{number_or}
 use Rattle.cap_config.proofs.Found.{number_small}
 use Rattle.cap_config.proofs.config.cluster_number.Goals as goal
 

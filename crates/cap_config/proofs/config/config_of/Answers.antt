@@ -3,8 +3,8 @@ use Rattle.std.specs.Prelude.{List, length}
 use Rattle.cap_base.specs.Limits.{applications_max, queues_max}
 use Rattle.cap_base.specs.Settings.{QueueRow}
 use Rattle.cap_base.specs.Listing.{IsListing}
-use Rattle.cap_config.specs.Keys.{root}
-use Rattle.cap_config.specs.Rows.{rows_under}
+use Rattle.cap_base.specs.properties.Keys.{root}
+use Rattle.cap_base.specs.properties.Rows.{rows_under}
 use Rattle.cap_config.proofs.Listing.{rows_are_listing}
 use Rattle.cap_config.proofs.RowBounds.{few_rows}
 use Rattle.cap_config.proofs.config.config_of.Goals as goal

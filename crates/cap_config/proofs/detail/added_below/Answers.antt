@@ -1,5 +1,5 @@
 use Rattle.std.proofs.Common.{◌≡◌, ◌∷◌, ◌+◌, [], List, ℕ, sym, ◌∙◌, ap, drop}
-use Rattle.cap_config.specs.Queues.{guaranteed, child}
+use Rattle.cap_base.specs.properties.Queues.{guaranteed, child}
 use Rattle.cap_config.specs.Details.{added_below, both_added}
 use Rattle.cap_config.proofs.Missing.{added_later, added_all}
 use Rattle.cap_config.proofs.Spending.{two_are}

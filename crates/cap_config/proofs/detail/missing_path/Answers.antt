@@ -1,7 +1,7 @@
 use Rattle.std.proofs.Common.{◌≡◌, sym, ◌∙◌, true, false}
 use Rattle.std.specs.Option.{option_map}
-use Rattle.cap_config.specs.Seen.{contains_bytes}
-use Rattle.cap_config.specs.Queues.{names_below}
+use Rattle.cap_base.specs.properties.Seen.{contains_bytes}
+use Rattle.cap_base.specs.properties.Queues.{names_below}
 use Rattle.cap_config.proofs.Above.{parent_is}
 use Rattle.cap_config.proofs.Missing.{missing_here, missing_above, missing_top}
 use Rattle.cap_config.proofs.detail.missing_path.Goals as goal

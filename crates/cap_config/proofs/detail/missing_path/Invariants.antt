@@ -1,6 +1,6 @@
 use Rattle.std.proofs.Common.{◌≡◌, length}
 use Rattle.std.specs.Option.{option_map}
-use Rattle.cap_config.specs.Queues.{above}
+use Rattle.cap_base.specs.properties.Queues.{above}
 use Rattle.cap_config.specs.Details.{missing_path, missing_from}
 use Rattle.cap_config.proofs.detail.missing_path.Given as goal
 

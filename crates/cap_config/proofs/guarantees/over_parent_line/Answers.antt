@@ -1,5 +1,5 @@
 use Rattle.std.proofs.Common.{sym, ◌∙◌, arith}
-use Rattle.cap_config.specs.Tests.{is_over_parent}
+use Rattle.cap_base.specs.properties.Tests.{is_over_parent}
 use Rattle.cap_config.proofs.FirstLines.{line_here, line_later, line_nowhere}
 use Rattle.cap_config.proofs.guarantees.over_parent_line.Goals as goal
 

@@ -1,5 +1,5 @@
 use Rattle.std.proofs.Common.{◌≡◌, drop}
-use Rattle.cap_config.specs.Tests.{line_where, is_over_parent}
+use Rattle.cap_base.specs.properties.Tests.{line_where, is_over_parent}
 use Rattle.cap_config.proofs.guarantees.over_parent_line.Given as goal
 
 -- none of the entries so far

@@ -1,5 +1,5 @@
 use Rattle.std.proofs.Common.{◌≡◌, ◌∷◌, ◌+◌, [], List, ℕ, sym, ◌∙◌, ap, arith, drop}
-use Rattle.cap_config.specs.Queues.{guaranteed, child}
+use Rattle.cap_base.specs.properties.Queues.{guaranteed, child}
 use Rattle.cap_config.proofs.Spending.{left_of, overspends, spend_here, spend_later, spend_none, two_are}
 use Rattle.cap_config.proofs.guarantees.overspends.Goals as goal
 

@@ -2,7 +2,7 @@ use Rattle.std.proofs.Common.{◌≡◌, sym, ◌∙◌, ap, true, false}
 use Rattle.std.specs.Prelude.{◌&&◌}
 use Rattle.std.specs.List.{list_all}
 use Rattle.std.proofs.Math.Bool.{and-true}
-use Rattle.cap_config.specs.Keys.{is_name, names_in}
+use Rattle.cap_base.specs.properties.Keys.{is_name, names_in}
 use Rattle.cap_text.proofs.Cuts.{cut_shorter, split_cut, split_uncut}
 use Rattle.cap_config.proofs.key.all_names.Goals as goal
 

@@ -1,6 +1,6 @@
 use Rattle.std.proofs.Common.{◌≡◌, length}
 use Rattle.std.specs.List.{list_all}
-use Rattle.cap_config.specs.Keys.{is_name, names_in}
+use Rattle.cap_base.specs.properties.Keys.{is_name, names_in}
 use Rattle.cap_config.proofs.key.all_names.Given as goal
 
 -- all are names where those that are left are

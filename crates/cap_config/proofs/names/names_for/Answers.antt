@@ -2,7 +2,7 @@ use Rattle.std.proofs.Common.{◌≡◌, ◌++◌, ◌∷◌, [], ◌<◌, lengt
 use Rattle.std.specs.List.{slice_split}
 use Rattle.std.proofs.lemmas.Bool.Decides.{nat_tests}
 use Rattle.cap_text.specs.Pieces.{trimmed_bytes}
-use Rattle.cap_config.specs.Values.{is_next}
+use Rattle.cap_base.specs.properties.Values.{is_next}
 use Rattle.cap_text.proofs.Cuts.{cut_shorter}
 use Rattle.cap_config.proofs.NameLists.{names_from, names_for_is, cut_yes, cut_no, last_yes, last_no}
 use Rattle.cap_config.proofs.names.names_for.Goals as goal
@@ -45,4 +45,4 @@ returns c =
     ap (is_next c.args.path.now c.loop-part.names.items) (sym c.trimmed-2.ensures) ∙ sym c.in_ok-add_name-2.ensures.taken ∙ c.if-not-branch-2.false in
     let all : c.add_name-2.new.names.items ≡ c.loop-part.names.items ++ trimmed_bytes c.loop-part.rest.now ∷ [] =
     c.in_ok-add_name-2.ensures.names c.if-not-branch-2.false ∙ ap (λ (n : List ℕ). c.loop-part.names.items ++ n ∷ []) c.trimmed-2.ensures in
-    ap Some all ∙ sym (sym (names_for_is c.args.path.now c.args.bytes.now full) ∙ c.loop-part.invariant.so_far ∙ last_yes _ _ _ c.in_default.ensures.none yes)
+    ap Some (c.new-2.ensures ∙ all) ∙ sym (sym (names_for_is c.args.path.now c.args.bytes.now full) ∙ c.loop-part.invariant.so_far ∙ last_yes _ _ _ c.in_default.ensures.none yes)

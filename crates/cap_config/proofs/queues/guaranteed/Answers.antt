@@ -1,7 +1,7 @@
 use Rattle.std.proofs.Common.{sym, ◌∙◌, ap, None, Option}
-use Rattle.cap_config.specs.declared.entry.Entry.{Entry}
-use Rattle.cap_config.specs.declared.setting.Setting.TheVariants.{Capacity}
-use Rattle.cap_config.specs.Queues.{amounts_at, or_zero}
+use Rattle.cap_base.specs.declared.properties.entry.Entry.{Entry}
+use Rattle.cap_base.specs.declared.properties.setting.Setting.TheVariants.{Capacity}
+use Rattle.cap_base.specs.properties.Queues.{amounts_at, or_zero}
 use Rattle.cap_config.proofs.Trees.{entry_found}
 use Rattle.cap_config.proofs.queues.guaranteed.Goals as goal
 

@@ -1,6 +1,6 @@
 use Rattle.std.proofs.Common.{◌≡◌, sym, ◌∙◌, true, false}
-use Rattle.cap_config.specs.Seen.{contains_bytes}
-use Rattle.cap_config.specs.Queues.{names_below}
+use Rattle.cap_base.specs.properties.Seen.{contains_bytes}
+use Rattle.cap_base.specs.properties.Queues.{names_below}
 use Rattle.cap_config.proofs.Above.{parent_is, no_parent}
 use Rattle.cap_config.proofs.Trees.{queue_not_listed, queue_listed, queue_at_top}
 use Rattle.cap_config.proofs.queues.is_queue.Goals as goal

@@ -1,5 +1,5 @@
 use Rattle.std.proofs.Common.{◌≡◌, length}
-use Rattle.cap_config.specs.Queues.{is_queue}
+use Rattle.cap_base.specs.properties.Queues.{is_queue}
 use Rattle.cap_config.proofs.queues.is_queue.Given as goal
 
 -- the path is a queue exactly where what is left is one

@@ -1,8 +1,8 @@
 use Rattle.std.proofs.Common.{◌∙◌, ap, sym, Some}
 use Rattle.std.proofs.lemmas.Result.{err_from_is_err_and}
-use Rattle.cap_config.specs.First.{unless_fault}
-use Rattle.cap_config.specs.Rows.{settings_of}
-use Rattle.cap_config.specs.Tests.{whole_fault}
+use Rattle.cap_base.specs.properties.First.{unless_fault}
+use Rattle.cap_base.specs.properties.Rows.{settings_of}
+use Rattle.cap_base.specs.properties.Tests.{whole_fault}
 use Rattle.cap_config.proofs.Firsts.{no_fault, to_other, passes}
 use Rattle.cap_config.proofs.reading.indexed_settings.Goals as goal
 

@@ -1,6 +1,6 @@
 use Rattle.std.proofs.Common.{◌≡◌, List, ℕ, Option, None, Some, Ok, refl, ap, sym, subst, ◌∙◌}
-use Rattle.cap_config.specs.declared.fault.ConfigFault.{ConfigFault}
-use Rattle.cap_config.specs.First.{AnswersFault, first_fault, settings_in}
+use Rattle.cap_base.specs.declared.properties.fault.ConfigFault.{ConfigFault}
+use Rattle.cap_base.specs.properties.First.{AnswersFault, first_fault, settings_in}
 use Rattle.cap_world.specs.World.{Known, start}
 use Rattle.cap_replay.specs.Settings.{settings_text}
 use Rattle.cap_replay.proofs.settings.Settings.open.Goals as goal

@@ -1,19 +1,15 @@
 -- The queues that entries set up, and what is set for each.
-use Rattle.std.specs.Prelude.{◌≡◌, ℕ, List, [], ◌∷◌, ◌++◌, map, find, Option, Some, None, Bool, true, false, ◌&&◌, ◌==◌, if◌then◌else◌}
+use Rattle.std.specs.Prelude.{ℕ, List, [], ◌∷◌, ◌++◌, map, find, Option, Some, None, Bool, true, false, ◌&&◌, ◌==◌, if◌then◌else◌}
 use Rattle.std.specs.Str.{bytes_eq}
-use Rattle.std.specs.BTreeMap.{BTreeMap, get_by}
-use Rattle.std.specs.Cmp.Lexicographic.{slice_cmp}
-use Rattle.std.specs.Ordering.{nat_cmp}
-use denote.Ref.{Bor}
 use Rattle.cap_base.specs.Limits.{resources}
 use Rattle.cap_vector.specs.Vector.{zeros}
-use Rattle.cap_config.specs.declared.entry.Entry.{Entry}
-use Rattle.cap_config.specs.declared.value.Value.{Value}
-use Rattle.cap_config.specs.declared.value.Value.TheVariants.{Names, Amounts, Number, Running}
-use Rattle.cap_config.specs.declared.setting.Setting.{Setting}
-use Rattle.cap_config.specs.declared.setting.Setting.TheVariants.{Queues, Capacity, MaximumCapacity, UserLimitFactor, State, MaximumApplications, MinimumMemory, MinimumVcores, MaximumMemory, MaximumVcores}
-use Rattle.cap_config.specs.Keys.{root, is_dot, parts_at_last_dot}
-use Rattle.cap_config.specs.Seen.{contains_bytes}
+use Rattle.cap_base.specs.declared.properties.entry.Entry.{Entry}
+use Rattle.cap_base.specs.declared.properties.value.Value.{Value}
+use Rattle.cap_base.specs.declared.properties.value.Value.TheVariants.{Names, Amounts, Number, Running}
+use Rattle.cap_base.specs.declared.properties.setting.Setting.{Setting}
+use Rattle.cap_base.specs.declared.properties.setting.Setting.TheVariants.{Queues, Capacity, MaximumCapacity, UserLimitFactor, State, MaximumApplications, MinimumMemory, MinimumVcores, MaximumMemory, MaximumVcores}
+use Rattle.cap_base.specs.properties.Keys.{root, is_dot, parts_at_last_dot}
+use Rattle.cap_base.specs.properties.Seen.{contains_bytes}
 use Rattle.cap_base.specs.Texts.{dot}
 
 abbrev pub setting_number : Setting → ℕ
@@ -45,18 +41,6 @@ is_entry_for setting q entry = is_path_at (path_for setting entry) q
 -- the entry that sets a property for the queue of a path
 unfoldable pub entry_for : List Entry → Setting → List ℕ → Option Entry
 entry_for entries setting q = find (is_entry_for setting q) entries
-
--- what a map from paths to entries has at a path
-abbrev pub pointed_entry : Option (Bor Entry) → Option Entry
-pointed_entry (Some entry) = Some entry.now
-pointed_entry None = None
-
-abbrev pub entry_at : BTreeMap (Bor (List ℕ)) (Bor Entry) → List ℕ → Option Entry
-entry_at places q = pointed_entry (get_by (λ k. slice_cmp nat_cmp q k.now) places)
-
--- the map has each entry of a property at its path
-abbrev pub FindsAll : BTreeMap (Bor (List ℕ)) (Bor Entry) → Setting → List Entry → Type 0
-FindsAll places setting entries = (q : List ℕ) → entry_at places q ≡ find (is_entry_for setting q) entries
 
 -- the path of the queue with this name below another
 abbrev pub child : List ℕ → List ℕ → List ℕ

@@ -3,17 +3,17 @@ use Rattle.std.specs.Prelude.{ℕ, ◌+◌, List, [], ◌∷◌, length, find, O
 use Rattle.std.specs.List.{sum_by}
 use Rattle.std.specs.Option.{option_map}
 use Rattle.std.specs.Str.{bytes_eq}
-use Rattle.cap_config.specs.declared.entry.Entry.{Entry}
-use Rattle.cap_config.specs.declared.value.Value.{Value}
-use Rattle.cap_config.specs.declared.value.Value.TheVariants.{Names, Amounts, Number, Running}
-use Rattle.cap_config.specs.declared.setting.Setting.{Setting}
-use Rattle.cap_config.specs.declared.setting.Setting.TheVariants.{Queues, Capacity, MaximumCapacity, MinimumMemory, MinimumVcores, MaximumMemory, MaximumVcores}
-use Rattle.cap_config.specs.declared.fault.ConfigFault.{ConfigFault}
-use Rattle.cap_config.specs.declared.fault.ConfigFaultKind.{ConfigFaultKind}
-use Rattle.cap_config.specs.declared.fault.ConfigFaultKind.TheVariants.{BadValue, NoChild, NoSuchQueue, TooDeep, TooManyQueues, GuaranteeOverMaximum, OverParent}
-use Rattle.cap_config.specs.Fault.{fault_at}
-use Rattle.cap_config.specs.Keys.{root, names_in, parts_at_last_dot}
-use Rattle.cap_config.specs.Queues.{same_setting, entry_for, is_queue, maximum, guaranteed, child}
+use Rattle.cap_base.specs.declared.properties.entry.Entry.{Entry}
+use Rattle.cap_base.specs.declared.properties.value.Value.{Value}
+use Rattle.cap_base.specs.declared.properties.value.Value.TheVariants.{Names, Amounts, Number, Running}
+use Rattle.cap_base.specs.declared.properties.setting.Setting.{Setting}
+use Rattle.cap_base.specs.declared.properties.setting.Setting.TheVariants.{Queues, Capacity, MaximumCapacity, MinimumMemory, MinimumVcores, MaximumMemory, MaximumVcores}
+use Rattle.cap_base.specs.declared.properties.fault.ConfigFault.{ConfigFault}
+use Rattle.cap_base.specs.declared.properties.fault.ConfigFaultKind.{ConfigFaultKind}
+use Rattle.cap_base.specs.declared.properties.fault.ConfigFaultKind.TheVariants.{BadValue, NoChild, NoSuchQueue, TooDeep, TooManyQueues, GuaranteeOverMaximum, OverParent}
+use Rattle.cap_base.specs.properties.Fault.{fault_at}
+use Rattle.cap_base.specs.properties.Keys.{root, names_in, parts_at_last_dot}
+use Rattle.cap_base.specs.properties.Queues.{same_setting, entry_for, is_queue, maximum, guaranteed, child}
 
 -- the line of the first entry that passes a test
 unfoldable pub line_where : (Entry → Bool) → List Entry → Option ℕ

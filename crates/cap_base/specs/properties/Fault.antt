@@ -1,8 +1,8 @@
 -- The answers that a text of settings may get in place of settings.
 use Rattle.std.specs.Prelude.{◌≡◌, ℕ, Result, Ok, Err}
-use Rattle.cap_config.specs.declared.fault.ConfigFault.{ConfigFault}
-use Rattle.cap_config.specs.declared.fault.ConfigFaultKind.{ConfigFaultKind}
-use Rattle.cap_config.specs.declared.fault.ConfigFaultKind.TheVariants.{NoMemory}
+use Rattle.cap_base.specs.declared.properties.fault.ConfigFault.{ConfigFault}
+use Rattle.cap_base.specs.declared.properties.fault.ConfigFaultKind.{ConfigFaultKind}
+use Rattle.cap_base.specs.declared.properties.fault.ConfigFaultKind.TheVariants.{NoMemory}
 
 abbrev pub fault_at : ℕ → ConfigFaultKind → ConfigFault
 fault_at line kind = record { line = line; kind = kind }

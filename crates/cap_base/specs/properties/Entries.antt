@@ -1,16 +1,16 @@
 -- What the lines of a text set, line by line, and the first line with a fault of its own.
 use Rattle.std.specs.Prelude.{ℕ, ◌+◌, List, [], ◌∷◌, ◌++◌, Option, Some, None, Result, Ok, Err, Bool, true, ◌&&◌, ◌==◌, nat_le, if◌then◌else◌}
 use Rattle.std.specs.List.{list_all}
-use Rattle.cap_config.specs.declared.entry.Entry.{Entry}
-use Rattle.cap_config.specs.declared.key.Key.{Key}
-use Rattle.cap_config.specs.declared.value.Value.{Value}
-use Rattle.cap_config.specs.declared.fault.ConfigFault.{ConfigFault}
-use Rattle.cap_config.specs.declared.fault.ConfigFaultKind.TheVariants.{BadLine, UnknownKey, Repeated, BadValue}
-use Rattle.cap_config.specs.Fault.{fault_at}
+use Rattle.cap_base.specs.declared.properties.entry.Entry.{Entry}
+use Rattle.cap_base.specs.declared.properties.key.Key.{Key}
+use Rattle.cap_base.specs.declared.properties.value.Value.{Value}
+use Rattle.cap_base.specs.declared.properties.fault.ConfigFault.{ConfigFault}
+use Rattle.cap_base.specs.declared.properties.fault.ConfigFaultKind.TheVariants.{BadLine, UnknownKey, Repeated, BadValue}
+use Rattle.cap_base.specs.properties.Fault.{fault_at}
 use Rattle.cap_text.specs.Pieces.{parts_at, trimmed_bytes}
-use Rattle.cap_config.specs.Keys.{key_of}
-use Rattle.cap_config.specs.Seen.{contains_bytes}
-use Rattle.cap_config.specs.Values.{value_of}
+use Rattle.cap_base.specs.properties.Keys.{key_of}
+use Rattle.cap_base.specs.properties.Seen.{contains_bytes}
+use Rattle.cap_base.specs.properties.Values.{value_of}
 
 -- whether a line says nothing: it is empty, or begins with `#`
 abbrev pub is_passed_over : List ℕ → Bool

@@ -2,12 +2,12 @@
 use Rattle.std.specs.Prelude.{List, ℕ, Option, Some, None, Result, Ok, Err}
 use Rattle.std.specs.Str.Lines.{lines}
 use Rattle.cap_base.specs.Settings.{Settings}
-use Rattle.cap_config.specs.declared.entry.Entry.{Entry}
-use Rattle.cap_config.specs.declared.fault.ConfigFault.{ConfigFault}
-use Rattle.cap_config.specs.Fault.{FailsBy}
-use Rattle.cap_config.specs.Entries.{read_lines}
-use Rattle.cap_config.specs.Tests.{whole_fault}
-use Rattle.cap_config.specs.Rows.{settings_of}
+use Rattle.cap_base.specs.declared.properties.entry.Entry.{Entry}
+use Rattle.cap_base.specs.declared.properties.fault.ConfigFault.{ConfigFault}
+use Rattle.cap_base.specs.properties.Fault.{FailsBy}
+use Rattle.cap_base.specs.properties.Entries.{read_lines}
+use Rattle.cap_base.specs.properties.Tests.{whole_fault}
+use Rattle.cap_base.specs.properties.Rows.{settings_of}
 
 abbrev pub fault_after : Result (List Entry) ConfigFault → Option ConfigFault
 fault_after (Ok entries) = whole_fault entries

@@ -4,15 +4,15 @@ use Rattle.std.specs.List.{list_all, slice_split, starts_with}
 use Rattle.std.specs.Str.{bytes_eq}
 use Rattle.cap_base.specs.Texts.{is_text}
 use Rattle.cap_vector.specs.Vector.{amount_max}
-use Rattle.cap_config.specs.declared.value.Value.{Value}
-use Rattle.cap_config.specs.declared.value.Value.TheVariants.{Names, Amounts, Number, Running}
-use Rattle.cap_config.specs.declared.key.Key.{Key}
-use Rattle.cap_config.specs.declared.setting.Setting.{Setting}
-use Rattle.cap_config.specs.declared.setting.Setting.TheVariants.{Queues, Capacity, MaximumCapacity, UserLimitFactor, State, MaximumApplications, MinimumMemory, MinimumVcores, MaximumMemory, MaximumVcores}
+use Rattle.cap_base.specs.declared.properties.value.Value.{Value}
+use Rattle.cap_base.specs.declared.properties.value.Value.TheVariants.{Names, Amounts, Number, Running}
+use Rattle.cap_base.specs.declared.properties.key.Key.{Key}
+use Rattle.cap_base.specs.declared.properties.setting.Setting.{Setting}
+use Rattle.cap_base.specs.declared.properties.setting.Setting.TheVariants.{Queues, Capacity, MaximumCapacity, UserLimitFactor, State, MaximumApplications, MinimumMemory, MinimumVcores, MaximumMemory, MaximumVcores}
 use Rattle.cap_text.specs.Pieces.{parts_at, trimmed_bytes}
 use Rattle.cap_text.specs.Numbers.{number_of}
-use Rattle.cap_config.specs.Keys.{is_name}
-use Rattle.cap_config.specs.Seen.{contains_bytes}
+use Rattle.cap_base.specs.properties.Keys.{is_name}
+use Rattle.cap_base.specs.properties.Seen.{contains_bytes}
 
 -- the names of a list; an empty one has none
 unfoldable pub names_of : List ℕ → List (List ℕ)

@@ -2,13 +2,13 @@
 use Rattle.std.specs.Prelude.{ℕ, zero, suc, List, [], ◌∷◌, Option, Some, None, Bool, true}
 use Rattle.std.specs.List.{flat_map}
 use Rattle.cap_base.specs.Settings.{QueueRow, Settings}
-use Rattle.cap_config.specs.declared.entry.Entry.{Entry}
-use Rattle.cap_config.specs.declared.value.Value.{Value}
-use Rattle.cap_config.specs.declared.value.Value.TheVariants.{Names, Amounts, Number, Running}
-use Rattle.cap_config.specs.declared.setting.Setting.TheVariants.{UserLimitFactor, State, MaximumApplications, MinimumMemory, MinimumVcores, MaximumMemory, MaximumVcores}
-use Rattle.cap_config.specs.Keys.{root}
-use Rattle.cap_config.specs.Queues.{entry_for, guaranteed, maximum, child, names_below}
-use Rattle.cap_config.specs.Tests.{number_or, cluster_entry}
+use Rattle.cap_base.specs.declared.properties.entry.Entry.{Entry}
+use Rattle.cap_base.specs.declared.properties.value.Value.{Value}
+use Rattle.cap_base.specs.declared.properties.value.Value.TheVariants.{Names, Amounts, Number, Running}
+use Rattle.cap_base.specs.declared.properties.setting.Setting.TheVariants.{UserLimitFactor, State, MaximumApplications, MinimumMemory, MinimumVcores, MaximumMemory, MaximumVcores}
+use Rattle.cap_base.specs.properties.Keys.{root}
+use Rattle.cap_base.specs.properties.Queues.{entry_for, guaranteed, maximum, child, names_below}
+use Rattle.cap_base.specs.properties.Tests.{number_or, cluster_entry}
 
 -- the user limit factor of a queue
 abbrev pub factor : List Entry → List ℕ → ℕ
