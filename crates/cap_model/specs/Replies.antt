@@ -2,6 +2,7 @@
 use Rattle.std.specs.Prelude.{◌≡◌, ◌⊎◌, ℕ, Bool, true, false, not, Option, Some, None}
 use Rattle.cap_model.specs.declared.request.Request.{Request}
 use Rattle.cap_model.specs.declared.refusal.Refusal.{Refusal}
+use Rattle.cap_model.specs.declared.reply.ReplyWith.{ReplyWith}
 use Rattle.cap_model.specs.declared.reply.ReplyWith.TheVariants as Reply
 use Rattle.cap_model.specs.News.{Reply}
 use Rattle.cap_model.specs.Flat.{Flat}
@@ -94,3 +95,17 @@ module _ {K : ℕ} where
   abbrev pub Replies : Flat K → Request K → Reply K → Flat K → Type 0
   Replies old request reply new =
       RepliesAlways old request reply new ⊎ (LacksMemory old request reply × (new ≡ old))
+
+  -- the same reply, where what an allocate is answered is taken from what it was
+  abbrev pub map_reply : {A B : Type 0} → (A → B) → ReplyWith K A → ReplyWith K B
+  map_reply f (Reply.Refused refusal) = Reply.Refused refusal
+  map_reply f (Reply.Submit app) = Reply.Submit app
+  map_reply f (Reply.RegisterMaster minimum maximum) = Reply.RegisterMaster minimum maximum
+  map_reply f (Reply.Allocate reply) = Reply.Allocate (f reply)
+  map_reply f (Reply.FinishMaster ended) = Reply.FinishMaster ended
+  map_reply f (Reply.RegisterNode node) = Reply.RegisterNode node
+  map_reply f (Reply.Heartbeat reply) = Reply.Heartbeat reply
+  map_reply f (Reply.NodeGone ended) = Reply.NodeGone ended
+  map_reply f (Reply.QueueInfo report) = Reply.QueueInfo report
+  map_reply f Reply.SetQueueState = Reply.SetQueueState
+  map_reply f (Reply.ClusterInfo report) = Reply.ClusterInfo report

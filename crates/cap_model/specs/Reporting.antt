@@ -11,7 +11,7 @@ use Rattle.cap_model.specs.declared.reply.ReplyWith.TheVariants as Reply
 use Rattle.cap_model.specs.News.{AllocateReply, Reply}
 use Rattle.cap_model.specs.Flat.{Flat, App, app_at}
 use Rattle.cap_model.specs.Allocate.{kept_reply}
-use Rattle.cap_model.specs.Replies.{Replies, RepliesAlways}
+use Rattle.cap_model.specs.Replies.{map_reply, Replies, RepliesAlways}
 
 -- the numbers of the answer to an allocate
 abbrev pub reported_of : AllocateReply → Reported
@@ -33,20 +33,6 @@ news_most app id releases =
     else record { grants = min news_max (length app.grants); ends = min news_max (length app.ends + releases) }
 
 module _ {K : ℕ} where
-  -- the same reply, where what an allocate is answered is taken from what it was
-  abbrev pub map_reply : {A B : Type 0} → (A → B) → ReplyWith K A → ReplyWith K B
-  map_reply f (Reply.Refused refusal) = Reply.Refused refusal
-  map_reply f (Reply.Submit app) = Reply.Submit app
-  map_reply f (Reply.RegisterMaster minimum maximum) = Reply.RegisterMaster minimum maximum
-  map_reply f (Reply.Allocate reply) = Reply.Allocate (f reply)
-  map_reply f (Reply.FinishMaster ended) = Reply.FinishMaster ended
-  map_reply f (Reply.RegisterNode node) = Reply.RegisterNode node
-  map_reply f (Reply.Heartbeat reply) = Reply.Heartbeat reply
-  map_reply f (Reply.NodeGone ended) = Reply.NodeGone ended
-  map_reply f (Reply.QueueInfo report) = Reply.QueueInfo report
-  map_reply f Reply.SetQueueState = Reply.SetQueueState
-  map_reply f (Reply.ClusterInfo report) = Reply.ClusterInfo report
-
   -- what holds of the answer to an allocate, where the reply is one
   abbrev pub IfAllocate : {A : Type 0} → (A → Type 0) → ReplyWith K A → Type 0
   IfAllocate P (Reply.Allocate reply) = P reply

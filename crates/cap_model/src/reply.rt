@@ -1,6 +1,7 @@
 //! The answer to a request (`ReplyWith`) in its three forms: in numbers (`Reply`), lent and owned.
 ghost use Rattle.std.specs.Prelude.{◌≡◌};
-ghost use Rattle.cap_model.specs.Reporting.{map_reply, IfAllocate};
+ghost use Rattle.cap_model.specs.Replies.{map_reply};
+ghost use Rattle.cap_model.specs.Reporting.{IfAllocate};
 
 use crate::refusal::Refusal;
 use crate::replies::{AllocateNumbers, AllocateReply, AllocateView, HeartbeatReply};
