@@ -6,7 +6,8 @@ use Rattle.std.proofs.lemmas.Bool.{lt-ltb}
 use Rattle.std.proofs.Math.Seq.{drop-drop}
 use Rattle.cap_base.specs.Cascade.{holds_of}
 use Rattle.cap_grammar.specs.Fields.{byte_at, number_at, pair_at, passing_at, times_at, counted_at}
-use Rattle.cap_grammar.specs.Reading.{HasItemsAt, ListsItems, CarriesItems, head_at}
+use Rattle.cap_grammar.specs.Bodies.{HasItemsAt, ListsItems}
+use Rattle.cap_grammar.specs.Reading.{CarriesItems, head_at}
 use Rattle.cap_grammar.proofs.FieldLaws.{bind_then, guard_else, guard_then}
 use Rattle.cap_grammar.proofs.RequestLaws.{second_is_kind}
 

@@ -1,4 +1,4 @@
--- What is spelled is bytes.
+-- What is spelled in requests and replies is bytes.
 use Rattle.std.proofs.Common.{◌≡◌, ℕ, ◌%◌, ◌<◌, ◌≤◌, Bool, true, false, Option, List, [], ◌∷◌, ◌++◌, length, arith}
 use Rattle.std.specs.Prelude.{nat_le, nat_lt, ◌&&◌, is_some, unwrap_or}
 use Rattle.std.specs.List.{list_all, flat_map, AllByRecursion}
@@ -8,11 +8,7 @@ use Rattle.std.proofs.lemmas.Bool.Decides.{nat_tests}
 use Rattle.std.proofs.lemmas.List.Elements.{All-nil, All-cons, All-append, All-from_recursion}
 use Rattle.cap_vector.specs.Vector.{zeros}
 use Rattle.cap_base.specs.Texts.{is_graphic, is_text}
-use Rattle.cap_model.specs.Refusals.{status_of}
-use Rattle.cap_model.specs.declared.refusal.Refusal.{Refusal}
-use Rattle.cap_model.specs.declared.request.Request.{Request}
-use Rattle.cap_model.specs.declared.reply.ReplyWith.TheVariants as Reply
-use Rattle.cap_model.specs.News.{Reply, Grant, AllocateReply, cause_number}
+use Rattle.cap_model.specs.News.{Grant, AllocateReply, cause_number}
 use Rattle.cap_grammar.specs.Texts.{is_host, is_rack}
 use Rattle.cap_model.specs.Asks.{Ask}
 use Rattle.cap_model.specs.declared.report.QueueReport.{QueueReport}
@@ -21,26 +17,25 @@ use Rattle.cap_model.specs.declared.news.End.{End}
 use Rattle.cap_model.specs.declared.news.Cause.{Cause}
 use Rattle.cap_model.specs.declared.replies.HeartbeatReply.{HeartbeatReply}
 use Rattle.cap_base.specs.Limits.{news_max, resources}
-use Rattle.cap_grammar.specs.Spelling.{list_bytes, FitsListed, ask, FitsAsk, counted_list, grant, FitsGrant, end, FitsEnd, allocate_bytes, FitsAllocated, beat, FitsReply, text, resource, flag, limit, queue_report, cluster_report, kind_of, request_body, request_bytes, FitsRequest, reply_body, reply_bytes}
+use Rattle.cap_grammar.specs.Spelling.{list_bytes, FitsListed, ask, FitsAsk, counted_list, grant, FitsGrant, end, FitsEnd, allocate_bytes, FitsAllocated, beat, text, resource, flag, limit, queue_report, cluster_report}
 use Rattle.cap_frames.specs.Stream.{IsBytes}
-use Rattle.cap_grammar.proofs.RequestLaws.{kind_fits}
 
-abbrev Small : ℕ → Type 0
+abbrev pub Small : ℕ → Type 0
 Small b = b < 256
 
 small : (n : ℕ) → n % 256 < 256
 small n = omega arith
 
-one : (b : ℕ) (bytes : List ℕ) → b < 256 → IsBytes bytes → IsBytes (b ∷ bytes)
+pub one : (b : ℕ) (bytes : List ℕ) → b < 256 → IsBytes bytes → IsBytes (b ∷ bytes)
 one b bytes lt is = All-cons Small b bytes lt is
 
-both : (a b : List ℕ) → IsBytes a → IsBytes b → IsBytes (a ++ b)
+pub both : (a b : List ℕ) → IsBytes a → IsBytes b → IsBytes (a ++ b)
 both a b is is' = All-append Small a b is is'
 
-word : (n : ℕ) → IsBytes (to_be_bytes w32 n)
+pub word : (n : ℕ) → IsBytes (to_be_bytes w32 n)
 word n = All-from_recursion Small (to_be_bytes w32 n) (small _, (small _, (small _, (small _, tt))))
 
-long : (n : ℕ) → IsBytes (to_be_bytes w64 n)
+pub long : (n : ℕ) → IsBytes (to_be_bytes w64 n)
 long n = All-from_recursion Small (to_be_bytes w64 n) (small _, (small _, (small _, (small _, (small _, (small _, (small _, (small _, tt))))))))
 
 each_graphic : (t : List ℕ) → list_all is_graphic t ≡ true → IsBytes t
@@ -50,34 +45,34 @@ each_graphic (b ∷ t) h =
     let q = and_parts (nat_le 33 b) (nat_le b 126) p.0 in
     one b t (grind (arith, nat_tests)) (each_graphic t p.1)
 
-a_text : (most : ℕ) (t : List ℕ) → most < 256 → is_text most t ≡ true → IsBytes (text t)
+pub a_text : (most : ℕ) (t : List ℕ) → most < 256 → is_text most t ≡ true → IsBytes (text t)
 a_text most t small h =
     let p = and_parts (nat_lt 0 (length t) && nat_le (length t) most) (list_all is_graphic t) h in
     let q = and_parts (nat_lt 0 (length t)) (nat_le (length t) most) p.0 in
     one (length t) t (grind (arith, nat_tests)) (each_graphic t p.1)
 
-host_is_text : (t : List ℕ) → is_host t ≡ true → is_text 64 t ≡ true
+pub host_is_text : (t : List ℕ) → is_host t ≡ true → is_text 64 t ≡ true
 host_is_text t h = (and_parts (is_text 64 t) _ (and_parts _ _ h).0).0
 
-rack_is_text : (t : List ℕ) → is_rack t ≡ true → is_text 64 t ≡ true
+pub rack_is_text : (t : List ℕ) → is_rack t ≡ true → is_text 64 t ≡ true
 rack_is_text t h = (and_parts (is_text 64 t) _ h).0
 
 each_amount : (v : List ℕ) → IsBytes (flat_map (to_be_bytes w64) v)
 each_amount [] = All-nil Small
 each_amount (n ∷ v) = both (to_be_bytes w64 n) (flat_map (to_be_bytes w64) v) (long n) (each_amount v)
 
-amounts : (v : List ℕ) → IsBytes (resource v)
+pub amounts : (v : List ℕ) → IsBytes (resource v)
 unfolding resource
 amounts v = each_amount v
 
-a_flag : (holds : Bool) → IsBytes (flag holds)
+pub a_flag : (holds : Bool) → IsBytes (flag holds)
 a_flag false = one 0 [] (omega arith) (All-nil Small)
 a_flag true = one 1 [] (omega arith) (All-nil Small)
 
 a_limit : (maximum : Option (List ℕ)) → IsBytes (limit maximum)
 a_limit maximum = both (flag (is_some maximum)) (resource (unwrap_or maximum (zeros resources))) (a_flag (is_some maximum)) (amounts (unwrap_or maximum (zeros resources)))
 
-a_queue : (r : QueueReport resources) → IsBytes (queue_report r)
+pub a_queue : (r : QueueReport resources) → IsBytes (queue_report r)
 unfolding queue_report
 a_queue r =
     let flags = flag r.running ++ flag r.leaf in
@@ -89,7 +84,7 @@ a_queue r =
     (amounts r.used))
     (word r.apps)
 
-a_cluster : (r : ClusterReport resources) → IsBytes (cluster_report r)
+pub a_cluster : (r : ClusterReport resources) → IsBytes (cluster_report r)
 unfolding cluster_report
 a_cluster r =
     let counts = to_be_bytes w32 r.nodes ++ to_be_bytes w32 r.apps ++ to_be_bytes w32 r.containers in
@@ -108,11 +103,11 @@ each_of : {A : Type 0} (spell : A → List ℕ) (F : A → Type 0) → ((x : A) 
 each_of spell F is [] fits = All-nil Small
 each_of spell F is (x ∷ xs) fits = both (spell x) (flat_map spell xs) (is x fits.0) (each_of spell F is xs fits.1)
 
-a_list : {A : Type 0} (most : ℕ) (spell : A → List ℕ) (F : A → Type 0) → ((x : A) → F x → IsBytes (spell x)) → (xs : List A) → FitsListed most F xs → IsBytes (list_bytes spell xs)
+pub a_list : {A : Type 0} (most : ℕ) (spell : A → List ℕ) (F : A → Type 0) → ((x : A) → F x → IsBytes (spell x)) → (xs : List A) → FitsListed most F xs → IsBytes (list_bytes spell xs)
 unfolding list_bytes
 a_list most spell F is xs fits = both (to_be_bytes w16 (length xs)) (flat_map spell xs) (two (length xs)) (each_of spell F is xs fits.each)
 
-an_ask : (a : Ask) → FitsAsk a → IsBytes (ask a)
+pub an_ask : (a : Ask) → FitsAsk a → IsBytes (ask a)
 unfolding ask
 an_ask a fits =
     both (to_be_bytes w32 a.key.priority) (to_be_bytes w64 a.key.request ++ (to_be_bytes w32 a.count ++ (resource a.resource ++ text a.place))) (word a.key.priority)
@@ -141,53 +136,13 @@ an_end : (e : End) → FitsEnd e → IsBytes (end e)
 unfolding end
 an_end e fits = both (to_be_bytes w64 e.container) (cause_number e.cause ∷ []) (long e.container) (one (cause_number e.cause) [] (a_cause e.cause) (All-nil Small))
 
-an_allocated : (r : AllocateReply) → FitsAllocated r → IsBytes (allocate_bytes r)
+pub an_allocated : (r : AllocateReply) → FitsAllocated r → IsBytes (allocate_bytes r)
 unfolding allocate_bytes
 an_allocated r fits =
     both (to_be_bytes w32 r.response) (to_be_bytes w16 r.ignored ++ (counted_list grant r.grants ++ counted_list end r.ends)) (word r.response)
     (both (to_be_bytes w16 r.ignored) (counted_list grant r.grants ++ counted_list end r.ends) (two r.ignored)
     (both (counted_list grant r.grants) (counted_list end r.ends) (a_told grant FitsGrant a_grant r.grants fits.grants) (a_told end FitsEnd an_end r.ends fits.ends)))
 
-a_beat : (r : HeartbeatReply) → IsBytes (beat r)
+pub a_beat : (r : HeartbeatReply) → IsBytes (beat r)
 unfolding beat
 a_beat r = both (to_be_bytes w32 r.response) (to_be_bytes w16 r.ignored ++ to_be_bytes w32 r.live) (word r.response) (both (to_be_bytes w16 r.ignored) (to_be_bytes w32 r.live) (two r.ignored) (word r.live))
-
-body_bytes : (r : Request resources) → FitsRequest r → IsBytes (request_body r)
-body_bytes (Request.Submit path user) fits = both (text path) (text user) (a_text 255 path (omega arith) fits.0) (a_text 64 user (omega arith) fits.1)
-body_bytes (Request.RegisterMaster app) fits = long app
-body_bytes (Request.Allocate app response asks releases) fits =
-    both (to_be_bytes w64 app) (to_be_bytes w32 response ++ (list_bytes ask asks ++ list_bytes (to_be_bytes w64) releases)) (long app)
-    (both (to_be_bytes w32 response) (list_bytes ask asks ++ list_bytes (to_be_bytes w64) releases) (word response)
-    (both (list_bytes ask asks) (list_bytes (to_be_bytes w64) releases) (a_list _ ask FitsAsk an_ask asks fits.2) (a_list _ (to_be_bytes w64) _ (λ n f. long n) releases fits.3)))
-body_bytes (Request.FinishMaster app) fits = long app
-body_bytes (Request.RegisterNode host rack total) fits =
-    both (text host) (text rack ++ resource total) (a_text 64 host (omega arith) (host_is_text host fits.0)) (both (text rack) (resource total) (a_text 64 rack (omega arith) (rack_is_text rack fits.1)) (amounts total))
-body_bytes (Request.Heartbeat node response ended) fits =
-    both (to_be_bytes w64 node) (to_be_bytes w32 response ++ list_bytes (to_be_bytes w64) ended) (long node) (both (to_be_bytes w32 response) (list_bytes (to_be_bytes w64) ended) (word response) (a_list _ (to_be_bytes w64) _ (λ n f. long n) ended fits.2))
-body_bytes (Request.NodeGone node) fits = long node
-body_bytes (Request.QueueInfo path) fits = a_text 255 path (omega arith) fits
-body_bytes (Request.SetQueueState path running) fits = both (text path) (flag running) (a_text 255 path (omega arith) fits) (a_flag running)
-body_bytes Request.ClusterInfo fits = All-nil Small
-
-pub request_is_bytes : (id : ℕ) (r : Request resources) → FitsRequest r → IsBytes (request_bytes id r)
-request_is_bytes id r fits = one 1 (kind_of r ∷ to_be_bytes w32 id ++ request_body r) (omega arith) (one (kind_of r) (to_be_bytes w32 id ++ request_body r) (kind_fits r) (both (to_be_bytes w32 id) (request_body r) (word id) (body_bytes r fits)))
-
-status_small : (refusal : Refusal) → status_of refusal < 256
-status_small Refusal.NoMemory = omega arith
-status_small _ = omega arith
-
-reply_body_bytes : (r : Reply resources) → FitsReply r → IsBytes (reply_body r)
-reply_body_bytes (Reply.Refused refusal) fits = one (status_of refusal) [] (status_small refusal) (All-nil Small)
-reply_body_bytes (Reply.Submit app) fits = one 0 (to_be_bytes w64 app) (omega arith) (long app)
-reply_body_bytes (Reply.RegisterMaster minimum maximum) fits = one 0 (resource minimum ++ resource maximum) (omega arith) (both (resource minimum) (resource maximum) (amounts minimum) (amounts maximum))
-reply_body_bytes (Reply.Allocate reply) fits = one 0 (allocate_bytes reply) (omega arith) (an_allocated reply fits)
-reply_body_bytes (Reply.FinishMaster ended) fits = one 0 (to_be_bytes w32 ended) (omega arith) (word ended)
-reply_body_bytes (Reply.RegisterNode node) fits = one 0 (to_be_bytes w64 node) (omega arith) (long node)
-reply_body_bytes (Reply.Heartbeat reply) fits = one 0 (beat reply) (omega arith) (a_beat reply)
-reply_body_bytes (Reply.NodeGone ended) fits = one 0 (to_be_bytes w32 ended) (omega arith) (word ended)
-reply_body_bytes (Reply.QueueInfo report) fits = one 0 (queue_report report) (omega arith) (a_queue report)
-reply_body_bytes Reply.SetQueueState fits = one 0 [] (omega arith) (All-nil Small)
-reply_body_bytes (Reply.ClusterInfo report) fits = one 0 (cluster_report report) (omega arith) (a_cluster report)
-
-pub reply_is_bytes : (id kind : ℕ) (r : Reply resources) → kind < 256 → FitsReply r → IsBytes (reply_bytes id kind r)
-reply_is_bytes id kind r lt fits = one 1 (kind ∷ to_be_bytes w32 id ++ reply_body r) (omega arith) (one kind (to_be_bytes w32 id ++ reply_body r) lt (both (to_be_bytes w32 id) (reply_body r) (word id) (reply_body_bytes r fits)))

@@ -6,7 +6,8 @@ ghost use Rattle.cap_vector.specs.Vector.{amount_max, IsResource};
 ghost use Rattle.cap_grammar.specs.Fields.{Gives, byte_at, flag_at, number_at, text_at, amount_at, amounts_at};
 
 use crate::fault::MessageFault;
-use cap_vector::AMOUNT_MAX;
+use cap_base::RESOURCES;
+use cap_vector::{AMOUNT_MAX, Amounts};
 
 pub(crate) fn byte_of(bytes: &[u8]) -> Result<(u8, &[u8]), MessageFault>
     ensures { Gives (λ x. (x.0, x.1.now)) result (byte_at bytes.now) }
@@ -96,4 +97,21 @@ pub(crate) fn amounts_of(bytes: &[u8]) -> Result<([u64; 2], &[u8]), MessageFault
     let (memory, rest) = amount_of(bytes)?;
     let (vcores, rest) = amount_of(rest)?;
     Ok(([memory, vcores], rest))
+}
+
+/// Memory in MiB and vcores.
+pub(crate) fn pair_of(bytes: &[u8]) -> Result<([u64; 2], &[u8]), MessageFault> {
+    let (memory, rest) = u64_of(bytes)?;
+    let (vcores, rest) = u64_of(rest)?;
+    Ok(([memory, vcores], rest))
+}
+
+/// The amounts, each at most `MAX`.
+pub(crate) fn amounts_in<const MAX: u64>(
+    amounts: [u64; 2],
+) -> Result<Amounts<RESOURCES, MAX>, MessageFault> {
+    match Amounts::new(amounts) {
+        Some(amounts) => Ok(amounts),
+        None => Err(MessageFault::Bad),
+    }
 }

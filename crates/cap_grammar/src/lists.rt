@@ -2,8 +2,8 @@
 ghost use Rattle.std.specs.Prelude.{◌≡◌, ◌≤◌, nat_le, IfOk, IsErrOf};
 ghost use Rattle.std.specs.Int.{w16, w64};
 ghost use Rattle.cap_grammar.specs.Fields.{Gives, counted_at, number_at, passing_at};
-ghost use Rattle.cap_grammar.specs.MasterCalls.{ask_at};
-ghost use Rattle.cap_grammar.specs.Reading.{GivesInMemory, HasItemsAt};
+ghost use Rattle.cap_grammar.specs.Bodies.{HasItemsAt, ask_at};
+ghost use Rattle.cap_grammar.specs.Reading.{GivesInMemory};
 ghost use Rattle.cap_base.specs.Limits.{asks_max, numbers_max};
 
 use crate::fault::MessageFault;
@@ -88,7 +88,7 @@ pub(crate) fn asks_of(alloc: Global, bytes: &[u8]) -> Result<(Asks<RESOURCES>, &
 }
 
 // One ask: priority, request id, count, resource and place.
-#[tactic(auto, unfolding(crate::specs::MasterCalls::ask_at))]
+#[tactic(auto, unfolding(crate::specs::Bodies::ask_at))]
 fn ask_of(bytes: &[u8]) -> Result<(Ask<RESOURCES>, &[u8]), MessageFault>
     ensures { Gives (λ x. (x.0, x.1.now)) result (ask_at bytes.now) }
 {

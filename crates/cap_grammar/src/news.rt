@@ -1,11 +1,18 @@
-//! The replies to an Allocate, with its grants and ends, and to a Heartbeat written.
-ghost use Rattle.std.specs.Prelude.{◌≡◌, ◌≤◌, ◌+◌, ◌*◌, ◌++◌, length};
+//! What an Allocate, with its grants and ends, and a Heartbeat give, written as bytes and read from them.
+ghost use Rattle.std.specs.Prelude.{◌≡◌, ◌≤◌, ◌+◌, ◌*◌, ◌++◌, length, IfOk};
 ghost use Rattle.std.specs.List.{flat_map, AllByRecursion};
-ghost use Rattle.cap_grammar.specs.Spelling.{grant, end, counted_list, allocate_bytes, beat, FitsGrant, FitsEnd, FitsAllocated, FitsBeat};
+ghost use Rattle.cap_grammar.specs.Spelling.{grant, end, counted_list, allocate_bytes, beat, FitsGrant, FitsEnd, FitsAllocated, FitsBeat, IsOfKind};
 
+use crate::fault::MessageFault;
+use crate::fields::{amounts_in, byte_of, pair_of, text_of, u16_of, u32_of, u64_of};
 use crate::output::{Out, put_amounts};
+use crate::texts::place_from;
 use cap_base::RESOURCES;
-use cap_model::{AllocateView, End, Grant, HeartbeatReply};
+use cap_model::{
+    AllocateReply, AllocateView, Cause, End, Grant, HeartbeatReply, Key, NEWS_MAX, OwnedReply,
+    ReplyWith,
+};
+use std::alloc::Global;
 
 // One grant.
 #[tactic(auto, unfolding(crate::specs::Spelling::grant))]
@@ -67,7 +74,7 @@ fn put_ends(ends: &[End], out: &mut Out)
     }
 }
 
-// What an Allocate gives.
+// What an Allocate gives, written.
 #[tactic(auto, unfolding(crate::specs::Spelling::allocate_bytes))]
 pub(crate) fn put_allocated(reply: &AllocateView<'_, RESOURCES>, out: &mut Out)
     requires { 7560 ≤ out.old.spare }
@@ -86,7 +93,7 @@ pub(crate) fn put_allocated(reply: &AllocateView<'_, RESOURCES>, out: &mut Out)
     put_ends(ends, out);
 }
 
-// What a Heartbeat gives.
+// What a Heartbeat gives, written.
 #[tactic(auto, unfolding(crate::specs::Spelling::beat))]
 pub(crate) fn put_beat(reply: &HeartbeatReply, out: &mut Out)
     requires { 10 ≤ out.old.spare }
@@ -98,4 +105,104 @@ pub(crate) fn put_beat(reply: &HeartbeatReply, out: &mut Out)
     out.extend_reserved(&reply.response.to_be_bytes());
     out.extend_reserved(&reply.ignored.to_be_bytes());
     out.extend_reserved(&reply.live.to_be_bytes());
+}
+
+// Grants, with their number before them.
+fn grants_of(alloc: Global, bytes: &[u8]) -> Result<(Vec<Grant<RESOURCES>>, &[u8]), MessageFault> {
+    let (length, mut rest) = byte_of(bytes)?;
+    let Ok(mut grants) = Vec::with_capacity(alloc, length as usize) else {
+        return Err(MessageFault::NoMemory);
+    };
+    for _ in 0..length {
+        let Ok(read) = grant_of(rest) else {
+            return Err(MessageFault::Bad);
+        };
+        let Ok(()) = grants.push(read.0) else {
+            return Err(MessageFault::NoMemory);
+        };
+        rest = read.1;
+    }
+    Ok((grants, rest))
+}
+
+// One grant, read.
+fn grant_of(bytes: &[u8]) -> Result<(Grant<RESOURCES>, &[u8]), MessageFault> {
+    let (container, rest) = u64_of(bytes)?;
+    let (priority, rest) = u32_of(rest)?;
+    let (request, rest) = u64_of(rest)?;
+    let (node, rest) = u64_of(rest)?;
+    let (host, rest) = text_of(rest)?;
+    let host = place_from(host)?;
+    let (resource, rest) = pair_of(rest)?;
+    let resource = amounts_in(resource)?;
+    let key = Key { priority, request };
+    Ok((Grant::new(container, &key, node, &host, &resource), rest))
+}
+
+// Ends, with their number before them.
+fn ends_of(alloc: Global, bytes: &[u8]) -> Result<(Vec<End>, &[u8]), MessageFault> {
+    let (length, mut rest) = byte_of(bytes)?;
+    let Ok(mut ends) = Vec::with_capacity(alloc, length as usize) else {
+        return Err(MessageFault::NoMemory);
+    };
+    for _ in 0..length {
+        let Ok(read) = end_of(rest) else {
+            return Err(MessageFault::Bad);
+        };
+        let Ok(()) = ends.push(read.0) else {
+            return Err(MessageFault::NoMemory);
+        };
+        rest = read.1;
+    }
+    Ok((ends, rest))
+}
+
+// One end, read.
+fn end_of(bytes: &[u8]) -> Result<(End, &[u8]), MessageFault> {
+    let (container, rest) = u64_of(bytes)?;
+    let (cause, rest) = byte_of(rest)?;
+    let cause = match cause {
+        1 => Cause::Released,
+        2 => Cause::EndedOnNode,
+        3 => Cause::NodeLost,
+        _ => return Err(MessageFault::Bad),
+    };
+    Ok((End { container, cause }, rest))
+}
+
+// What an Allocate gives, read.
+pub(crate) fn allocated(alloc: Global, bytes: &[u8]) -> Result<OwnedReply<RESOURCES>, MessageFault>
+    ensures { IfOk result (λ reply. IsOfKind 3 reply) }
+{
+    let (response, rest) = u32_of(bytes)?;
+    let (ignored, rest) = u16_of(rest)?;
+    let (grants, rest) = grants_of(alloc, rest)?;
+    let (ends, _) = ends_of(alloc, rest)?;
+    if grants.len() > NEWS_MAX || ends.len() > NEWS_MAX {
+        return Err(MessageFault::Bad);
+    }
+    Ok(ReplyWith::Allocate {
+        reply: AllocateReply {
+            response,
+            ignored,
+            grants,
+            ends,
+        },
+    })
+}
+
+// What a Heartbeat gives, read.
+pub(crate) fn beaten(bytes: &[u8]) -> Result<OwnedReply<RESOURCES>, MessageFault>
+    ensures { IfOk result (λ reply. IsOfKind 6 reply) }
+{
+    let (response, rest) = u32_of(bytes)?;
+    let (ignored, rest) = u16_of(rest)?;
+    let (live, _) = u32_of(rest)?;
+    Ok(ReplyWith::Heartbeat {
+        reply: HeartbeatReply {
+            response,
+            ignored,
+            live,
+        },
+    })
 }

@@ -1,14 +1,20 @@
-//! Replies and fault replies written as bytes (`write_reply`, `write_fault`).
-ghost use Rattle.std.specs.Prelude.{◌≡◌, ◌≤◌, ◌<◌, ◌+◌, ◌++◌, ◌∷◌, length};
+//! Replies of each kind written as bytes (`write_reply`, `write_fault`), and read from them by kind and status.
+ghost use Rattle.std.specs.Prelude.{◌≡◌, ◌≤◌, ◌<◌, ◌+◌, ◌++◌, ◌∷◌, length, IfOk};
 ghost use Rattle.std.specs.Int.{w32, w64, to_be_bytes};
 ghost use Rattle.cap_grammar.specs.Spelling.{IsKind, IsOfKind, FitsReply, IsReply, reply_bytes, reply_body, fault_reply};
 
-use crate::cluster_info::put_cluster_report;
-use crate::news::{put_allocated, put_beat};
+use crate::fault::MessageFault;
+use crate::fields::{amounts_in, pair_of, u32_of, u64_of};
+use crate::news::{allocated, beaten, put_allocated, put_beat};
 use crate::output::{FAULT_ROOM, Out, REPLY_ROOM, put_amounts};
-use crate::queue_calls::put_queue_report;
+use crate::reports::{cluster_shown, put_cluster_report, put_queue_report, queue_shown};
+use crate::requests::{
+    ALLOCATE, CLUSTER_INFO, FINISH_MASTER, HEARTBEAT, LAST_KIND, NODE_GONE, QUEUE_INFO,
+    REGISTER_MASTER, REGISTER_NODE, SET_QUEUE_STATE, SUBMIT,
+};
 use cap_base::RESOURCES;
-use cap_model::{ReplyView, ReplyWith};
+use cap_model::{OwnedReply, ReplyView, ReplyWith};
+use std::alloc::Global;
 
 /// The status of the reply to a length that no frame has.
 pub const BAD_LENGTH: u8 = 40;
@@ -102,4 +108,57 @@ pub fn write_fault(status: u8, out: &mut Out)
     ensures room { length (fault_reply status) ≡ FAULT_ROOM }
 {
     out.extend_reserved(&[1, 0, 0, 0, 0, 0, status]);
+}
+
+/// The kind of a reply, which is that of a request.
+pub(crate) fn kind_of(kind: u8) -> Result<u8, MessageFault>
+    ensures { IfOk result (λ kind. IsKind kind) }
+{
+    match kind {
+        SUBMIT..=LAST_KIND => Ok(kind),
+        _ => Err(MessageFault::Bad),
+    }
+}
+
+/// The reply to a request of this kind that is not refused, from what follows the status.
+pub(crate) fn granted_of(
+    alloc: Global,
+    kind: u8,
+    bytes: &[u8],
+) -> Result<OwnedReply<RESOURCES>, MessageFault>
+    ensures { IfOk result (λ reply. IsOfKind kind reply) }
+{
+    match kind {
+        SUBMIT => Ok(ReplyWith::Submit {
+            app: u64_of(bytes)?.0,
+        }),
+        REGISTER_MASTER => registered(bytes),
+        ALLOCATE => allocated(alloc, bytes),
+        FINISH_MASTER => Ok(ReplyWith::FinishMaster {
+            ended: u32_of(bytes)?.0,
+        }),
+        REGISTER_NODE => Ok(ReplyWith::RegisterNode {
+            node: u64_of(bytes)?.0,
+        }),
+        HEARTBEAT => beaten(bytes),
+        NODE_GONE => Ok(ReplyWith::NodeGone {
+            ended: u32_of(bytes)?.0,
+        }),
+        QUEUE_INFO => queue_shown(bytes),
+        SET_QUEUE_STATE => Ok(ReplyWith::SetQueueState),
+        CLUSTER_INFO => cluster_shown(bytes),
+        _ => Err(MessageFault::Bad),
+    }
+}
+
+/// What a RegisterMaster gives.
+fn registered(bytes: &[u8]) -> Result<OwnedReply<RESOURCES>, MessageFault>
+    ensures { IfOk result (λ reply. IsOfKind 2 reply) }
+{
+    let (minimum, rest) = pair_of(bytes)?;
+    let (maximum, _) = pair_of(rest)?;
+    Ok(ReplyWith::RegisterMaster {
+        minimum: amounts_in(minimum)?,
+        maximum: amounts_in(maximum)?,
+    })
 }

@@ -1,26 +1,212 @@
-//! A payload read as a request of one of the ten kinds (`read_request`).
-ghost use Rattle.std.specs.Prelude.{◌≡◌, ℕ, IfOk, IsErrOf};
+//! Requests: the numbers of the ten kinds (`kind`), and a payload read as a request of one of them (`read_request`).
+ghost use Rattle.std.specs.Prelude.{◌≡◌, ◌⊎◌, ℕ, IfOk, IsErrOf};
 ghost use Rattle.cap_base.specs.Limits.{resources};
 ghost use Rattle.cap_model.specs.declared.request.Request.{Request};
-ghost use Rattle.cap_grammar.specs.Spelling.{IsRequest, IsNoRequest};
+ghost use Rattle.cap_grammar.specs.Spelling.{IsRequest, IsNoRequest, kind_of};
 ghost use Rattle.cap_grammar.specs.Fields.{Gives};
-ghost use Rattle.cap_grammar.specs.Reading.{GivesInMemory, ListsItems, CarriesItems, head_at, body_at, request_at};
+ghost use Rattle.cap_grammar.specs.Bodies.{submit_at, register_master_at, allocate_at, finish_master_at, register_node_at, heartbeat_at, node_gone_at, queue_info_at, set_queue_state_at, cluster_info_at, body_at, HasItemsAt, ListsItems};
+ghost use Rattle.cap_grammar.specs.Reading.{GivesInMemory, CarriesItems, head_at, request_at};
 
-use crate::cluster_info::cluster_info_of;
 use crate::fault::MessageFault;
-use crate::fields::{byte_of, u32_of};
-use crate::kinds::{
-    ALLOCATE, CLUSTER_INFO, FINISH_MASTER, HEARTBEAT, NODE_GONE, QUEUE_INFO, REGISTER_MASTER,
-    REGISTER_NODE, SET_QUEUE_STATE, SUBMIT,
-};
-use crate::master_calls::{allocate_of, finish_master_of, register_master_of};
-use crate::node_calls::{heartbeat_of, node_gone_of};
-use crate::queue_calls::{queue_info_of, set_queue_state_of};
-use crate::register_node::register_node_of;
-use crate::submit::submit_of;
+use crate::fields::{amounts_of, byte_of, flag_of, text_of, u32_of, u64_of};
+use crate::lists::{asks_of, numbers_of};
+use crate::texts::{host_from, path_from, rack_from, user_from};
 use cap_base::RESOURCES;
 use cap_model::Request;
+use cap_vector::Resource;
 use std::alloc::Global;
+
+pub(crate) const SUBMIT: u8 = 1;
+
+pub(crate) const REGISTER_MASTER: u8 = 2;
+
+pub(crate) const ALLOCATE: u8 = 3;
+
+pub(crate) const FINISH_MASTER: u8 = 4;
+
+pub(crate) const REGISTER_NODE: u8 = 5;
+
+pub(crate) const HEARTBEAT: u8 = 6;
+
+pub(crate) const NODE_GONE: u8 = 7;
+
+pub(crate) const QUEUE_INFO: u8 = 8;
+
+pub(crate) const SET_QUEUE_STATE: u8 = 9;
+
+pub(crate) const CLUSTER_INFO: u8 = 10;
+
+/// The last of the kinds.
+pub(crate) const LAST_KIND: u8 = CLUSTER_INFO;
+
+/// The number of the request's kind, which its reply repeats: 1 for Submit, 2 for RegisterMaster, 3 for Allocate,
+/// 4 for FinishMaster, 5 for RegisterNode, 6 for Heartbeat, 7 for NodeGone, 8 for QueueInfo, 9 for SetQueueState,
+/// 10 for ClusterInfo.
+pub fn kind(request: &Request<RESOURCES>) -> u8
+    ensures { result ≡ kind_of request.now }
+{
+    match request {
+        Request::Submit { .. } => SUBMIT,
+        Request::RegisterMaster { .. } => REGISTER_MASTER,
+        Request::Allocate { .. } => ALLOCATE,
+        Request::FinishMaster { .. } => FINISH_MASTER,
+        Request::RegisterNode { .. } => REGISTER_NODE,
+        Request::Heartbeat { .. } => HEARTBEAT,
+        Request::NodeGone { .. } => NODE_GONE,
+        Request::QueueInfo { .. } => QUEUE_INFO,
+        Request::SetQueueState { .. } => SET_QUEUE_STATE,
+        Request::ClusterInfo => CLUSTER_INFO,
+    }
+}
+
+// The body of a Submit, all of the bytes.
+#[tactic(auto, unfolding(crate::specs::Bodies::submit_at))]
+fn submit_of(bytes: &[u8]) -> Result<Request<RESOURCES>, MessageFault>
+    ensures { Gives (λ x. x) result (submit_at bytes.now) }
+{
+    let (path, rest) = text_of(bytes)?;
+    let path = path_from(path)?;
+    let (user, rest) = text_of(rest)?;
+    let user = user_from(user)?;
+    if !rest.is_empty() {
+        return Err(MessageFault::Bad);
+    }
+    Ok(Request::Submit { path, user })
+}
+
+// The body of a RegisterMaster, all of the bytes.
+#[tactic(auto, unfolding(crate::specs::Bodies::register_master_at))]
+fn register_master_of(bytes: &[u8]) -> Result<Request<RESOURCES>, MessageFault>
+    ensures { Gives (λ x. x) result (register_master_at bytes.now) }
+{
+    let (app, rest) = u64_of(bytes)?;
+    if !rest.is_empty() {
+        return Err(MessageFault::Bad);
+    }
+    Ok(Request::RegisterMaster { app })
+}
+
+// The body of an Allocate, all of the bytes.
+#[tactic(auto, unfolding(crate::specs::Bodies::allocate_at))]
+fn allocate_of(alloc: Global, bytes: &[u8]) -> Result<Request<RESOURCES>, MessageFault>
+    ensures gives { GivesInMemory (λ x. x) result (allocate_at bytes.now) }
+    ensures memory { IsErrOf result MessageFault.NoMemory
+        → HasItemsAt 12 bytes.now ⊎ HasItemsAt 14 bytes.now }
+{
+    let (app, rest) = u64_of(bytes)?;
+    let (response, rest) = u32_of(rest)?;
+    let (asks, rest) = asks_of(alloc, rest)?;
+    let (releases, rest) = numbers_of(alloc, rest)?;
+    if !rest.is_empty() {
+        return Err(MessageFault::Bad);
+    }
+    Ok(Request::Allocate {
+        app,
+        response,
+        asks,
+        releases,
+    })
+}
+
+// The body of a FinishMaster, all of the bytes.
+#[tactic(auto, unfolding(crate::specs::Bodies::finish_master_at))]
+fn finish_master_of(bytes: &[u8]) -> Result<Request<RESOURCES>, MessageFault>
+    ensures { Gives (λ x. x) result (finish_master_at bytes.now) }
+{
+    let (app, rest) = u64_of(bytes)?;
+    if !rest.is_empty() {
+        return Err(MessageFault::Bad);
+    }
+    Ok(Request::FinishMaster { app })
+}
+
+// The body of a RegisterNode, all of the bytes.
+#[tactic(auto, unfolding(crate::specs::Bodies::register_node_at))]
+fn register_node_of(bytes: &[u8]) -> Result<Request<RESOURCES>, MessageFault>
+    ensures { Gives (λ x. x) result (register_node_at bytes.now) }
+{
+    let (host, rest) = text_of(bytes)?;
+    let host = host_from(host)?;
+    let (rack, rest) = text_of(rest)?;
+    let rack = rack_from(rack)?;
+    let (amounts, rest) = amounts_of(rest)?;
+    let Some(total) = Resource::new(amounts) else {
+        return Err(MessageFault::Bad);
+    };
+    if !rest.is_empty() {
+        return Err(MessageFault::Bad);
+    }
+    Ok(Request::RegisterNode { host, rack, total })
+}
+
+// The body of a Heartbeat, all of the bytes.
+#[tactic(auto, unfolding(crate::specs::Bodies::heartbeat_at))]
+fn heartbeat_of(alloc: Global, bytes: &[u8]) -> Result<Request<RESOURCES>, MessageFault>
+    ensures gives { GivesInMemory (λ x. x) result (heartbeat_at bytes.now) }
+    ensures memory { IsErrOf result MessageFault.NoMemory → HasItemsAt 12 bytes.now }
+{
+    let (node, rest) = u64_of(bytes)?;
+    let (response, rest) = u32_of(rest)?;
+    let (ended, rest) = numbers_of(alloc, rest)?;
+    if !rest.is_empty() {
+        return Err(MessageFault::Bad);
+    }
+    Ok(Request::Heartbeat {
+        node,
+        response,
+        ended,
+    })
+}
+
+// The body of a NodeGone, all of the bytes.
+#[tactic(auto, unfolding(crate::specs::Bodies::node_gone_at))]
+fn node_gone_of(bytes: &[u8]) -> Result<Request<RESOURCES>, MessageFault>
+    ensures { Gives (λ x. x) result (node_gone_at bytes.now) }
+{
+    let (node, rest) = u64_of(bytes)?;
+    if !rest.is_empty() {
+        return Err(MessageFault::Bad);
+    }
+    Ok(Request::NodeGone { node })
+}
+
+// The body of a QueueInfo, all of the bytes.
+#[tactic(auto, unfolding(crate::specs::Bodies::queue_info_at))]
+fn queue_info_of(bytes: &[u8]) -> Result<Request<RESOURCES>, MessageFault>
+    ensures { Gives (λ x. x) result (queue_info_at bytes.now) }
+{
+    let (path, rest) = text_of(bytes)?;
+    let path = path_from(path)?;
+    if !rest.is_empty() {
+        return Err(MessageFault::Bad);
+    }
+    Ok(Request::QueueInfo { path })
+}
+
+// The body of a SetQueueState, all of the bytes.
+#[tactic(auto, unfolding(crate::specs::Bodies::set_queue_state_at))]
+fn set_queue_state_of(bytes: &[u8]) -> Result<Request<RESOURCES>, MessageFault>
+    ensures { Gives (λ x. x) result (set_queue_state_at bytes.now) }
+{
+    let (path, rest) = text_of(bytes)?;
+    let path = path_from(path)?;
+    let (running, rest) = flag_of(rest)?;
+    if !rest.is_empty() {
+        return Err(MessageFault::Bad);
+    }
+    Ok(Request::SetQueueState { path, running })
+}
+
+// The body of a ClusterInfo, which is empty.
+#[tactic(auto, unfolding(crate::specs::Bodies::cluster_info_at))]
+fn cluster_info_of(bytes: &[u8]) -> Result<Request<RESOURCES>, MessageFault>
+    ensures { Gives (λ x. x) result (cluster_info_at bytes.now) }
+{
+    if !bytes.is_empty() {
+        return Err(MessageFault::Bad);
+    }
+    Ok(Request::ClusterInfo)
+}
 
 // Version, kind and call id.
 #[tactic(auto, unfolding(crate::specs::Reading::head_at))]
@@ -33,7 +219,7 @@ pub(crate) fn head_of(bytes: &[u8]) -> Result<((u8, u8, u32), &[u8]), MessageFau
     Ok(((version, kind, call_id), rest))
 }
 
-#[tactic(auto, unfolding(crate::specs::Reading::body_at))]
+#[tactic(auto, unfolding(crate::specs::Bodies::body_at))]
 fn body_of(alloc: Global, kind: u8, bytes: &[u8]) -> Result<Request<RESOURCES>, MessageFault>
     ensures gives { GivesInMemory (λ x. x) result (body_at kind bytes.now) }
     ensures memory { IsErrOf result MessageFault.NoMemory → ListsItems kind bytes.now }

@@ -1,7 +1,6 @@
 use Rattle.std.proofs.Common.{refl, arith}
 use Rattle.cap_grammar.specs.Spelling.{reply_bytes}
-use Rattle.cap_grammar.proofs.ReplyLaws.{one_reply, no_fault, one_answer}
-use Rattle.cap_grammar.proofs.SpelledBytes.{reply_is_bytes}
+use Rattle.cap_grammar.proofs.ReplyLaws.{one_reply, no_fault, one_answer, reply_is_bytes}
 use Rattle.cap_grammar.proofs.laws.replies_have_one_spelling.Goals as goal
 
 pub returns-clause-some : goal.returns-clause-some

@@ -1,8 +1,6 @@
 use Rattle.std.proofs.Common.{refl}
 use Rattle.cap_grammar.specs.Spelling.{request_bytes}
-use Rattle.cap_grammar.proofs.RequestLaws.{one_request}
-use Rattle.cap_grammar.proofs.Beginnings.{none_begins_another}
-use Rattle.cap_grammar.proofs.SpelledBytes.{request_is_bytes}
+use Rattle.cap_grammar.proofs.RequestLaws.{one_request, none_begins_another, request_is_bytes}
 use Rattle.cap_grammar.proofs.laws.requests_have_one_spelling.Goals as goal
 
 pub returns-clause-some : goal.returns-clause-some

@@ -1,6 +1,6 @@
 use Rattle.std.proofs.Common.{length, length-append, ap, ◌∙◌, arith}
 use Rattle.std.specs.Prelude.{nat_le}
-use Rattle.cap_grammar.specs.MasterCalls.{ask_at}
+use Rattle.cap_grammar.specs.Bodies.{ask_at}
 use Rattle.cap_base.specs.Limits.{asks_max}
 use Rattle.cap_grammar.proofs.ItemLaws.{has_items}
 use Rattle.cap_grammar.proofs.ListLaws.{counted_start, counted_fails, more_step, more_fails, more_ends}

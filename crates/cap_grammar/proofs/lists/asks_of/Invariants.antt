@@ -1,6 +1,6 @@
 use Rattle.std.proofs.Common.{◌≡◌, ◌-◌, length}
 use Rattle.cap_grammar.specs.Fields.{counted_at}
-use Rattle.cap_grammar.specs.MasterCalls.{ask_at}
+use Rattle.cap_grammar.specs.Bodies.{ask_at}
 use Rattle.cap_base.specs.Limits.{asks_max}
 use Rattle.cap_grammar.proofs.ListLaws.{more_at}
 use Rattle.cap_grammar.proofs.lists.asks_of.Given as goal

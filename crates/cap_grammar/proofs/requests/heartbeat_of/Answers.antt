@@ -2,7 +2,7 @@ use Rattle.std.proofs.Common.{◌≡◌, ap, Err}
 use Rattle.std.proofs.lemmas.Result.{err_from_is_err_and}
 use Rattle.cap_grammar.specs.declared.fault.MessageFault.TheVariants.{NoMemory}
 use Rattle.cap_grammar.proofs.ItemLaws.{first_list}
-use Rattle.cap_grammar.proofs.node_calls.heartbeat_of.Goals as goal
+use Rattle.cap_grammar.proofs.requests.heartbeat_of.Goals as goal
 
 pub returns-in_err-ended-clause-memory : goal.returns-in_err-ended-clause-memory
 returns-in_err-ended-clause-memory c = λ is.

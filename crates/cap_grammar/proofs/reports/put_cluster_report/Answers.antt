@@ -1,7 +1,7 @@
 use Rattle.std.specs.Int.{w32, to_be_bytes}
 use Rattle.cap_grammar.specs.Spelling.{cluster_report, resource}
 use Rattle.cap_grammar.proofs.Appends.{five}
-use Rattle.cap_grammar.proofs.cluster_info.put_cluster_report.Goals as goal
+use Rattle.cap_grammar.proofs.reports.put_cluster_report.Goals as goal
 
 pub returns-clause-appends : goal.returns-clause-appends
 unfolding cluster_report

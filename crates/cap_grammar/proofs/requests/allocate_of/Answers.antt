@@ -2,7 +2,7 @@ use Rattle.std.proofs.Common.{◌≡◌, ap, Err, inl}
 use Rattle.std.proofs.lemmas.Result.{err_from_is_err_and}
 use Rattle.cap_grammar.specs.declared.fault.MessageFault.TheVariants.{NoMemory}
 use Rattle.cap_grammar.proofs.ItemLaws.{first_list, second_list}
-use Rattle.cap_grammar.proofs.master_calls.allocate_of.Goals as goal
+use Rattle.cap_grammar.proofs.requests.allocate_of.Goals as goal
 
 pub returns-in_err-asks-clause-memory : goal.returns-in_err-asks-clause-memory
 returns-in_err-asks-clause-memory c = λ is.

@@ -1,0 +1,297 @@
+-- The fields of replies, each with what spells it: refusals, and what calls give that is more than a number. No function reads
+-- replies so: these readers serve the laws alone.
+use Rattle.std.proofs.Common.{◌≡◌, ℕ, ◌^◌, ◌<◌, ◌≤◌, List, [], ◌∷◌, ◌++◌, length, Option, Some, None, refl, sym, ap, ◌∙◌, append_assoc, true, arith, zero, suc, Bool}
+use Rattle.std.specs.Prelude.{◌==◌, if◌then◌else◌, is_some, unwrap_or, IfSome}
+use Rattle.std.specs.List.{flat_map, AllByRecursion}
+use Rattle.std.specs.Int.{w16, w32, w64, to_be_bytes}
+use Rattle.std.proofs.lemmas.List.{append-nil}
+use Rattle.cap_vector.specs.Vector.{IsResource, IsSum, amount, amount_max, sum_max, zeros}
+use Rattle.cap_base.specs.Limits.{news_max, resources}
+use Rattle.cap_model.specs.declared.refusal.Refusal.{Refusal}
+use Rattle.cap_model.specs.declared.refusal.Refusal.TheVariants.{UnknownQueue, NotLeaf, QueueStopped, TooManyApplications, UnknownApplication, AlreadyRegistered, NotRegistered, BadResponseId, AskTooLarge, TooManyAsks, UnknownNode, HostTaken, TotalTooLarge, TooManyNodes, ZeroResource, NumbersSpent, NoMemory}
+use Rattle.cap_model.specs.News.{Grant, cause_number}
+use Rattle.cap_model.specs.declared.news.End.{End}
+use Rattle.cap_model.specs.declared.news.Cause.{Cause}
+use Rattle.cap_grammar.specs.Texts.{is_place}
+use Rattle.cap_grammar.specs.Spelling.{counted_list, FitsListed, grant, FitsGrant, end, FitsEnd, text, resource, flag}
+use Rattle.cap_grammar.specs.Fields.{◌>>=◌, byte_at, flag_at, number_at, amounts_at, text_at, pair_at, passing_at, times_at}
+use Rattle.cap_grammar.proofs.FieldLaws.{IsField, is_pair, is_flag, is_u16, is_u32, is_u64, is_amounts, is_text_passing, is_times, is_made, is_field_of}
+
+-- ---- refusals
+
+abbrev pub refusal_at : ℕ → Option Refusal
+refusal_at status =
+    if status == 1 then Some UnknownQueue else
+    if status == 2 then Some NotLeaf else
+    if status == 3 then Some QueueStopped else
+    if status == 4 then Some TooManyApplications else
+    if status == 5 then Some UnknownApplication else
+    if status == 6 then Some AlreadyRegistered else
+    if status == 7 then Some NotRegistered else
+    if status == 8 then Some BadResponseId else
+    if status == 9 then Some AskTooLarge else
+    if status == 10 then Some TooManyAsks else
+    if status == 11 then Some UnknownNode else
+    if status == 12 then Some HostTaken else
+    if status == 13 then Some TotalTooLarge else
+    if status == 14 then Some TooManyNodes else
+    if status == 15 then Some ZeroResource else
+    if status == 16 then Some NumbersSpent else
+    if status == 20 then Some NoMemory else
+    None
+
+-- ---- what a QueueInfo gives
+
+-- whether there is a maximum, and the amounts in its place
+abbrev pub Limit : Type 0
+Limit = Bool × List ℕ
+
+abbrev pub FitsLimit : Limit → Type 0
+FitsLimit x = Unit {0} × IsResource resources x.1
+
+abbrev pub limit_of : Limit → List ℕ
+limit_of x = flag x.0 ++ resource x.1
+
+abbrev pub limit_at : List ℕ → Option (Limit × List ℕ)
+limit_at bytes = pair_at flag_at (amounts_at resources amount_max) bytes
+
+pub is_limit : IsField limit_at limit_of FitsLimit
+is_limit = is_pair flag_at flag (λ holds. Unit {0}) (amounts_at resources amount_max) resource (IsResource resources) is_flag (is_amounts resources amount_max (omega arith))
+
+abbrev pub maximum_of : Limit → Option (List ℕ)
+maximum_of x = if x.0 then Some x.1 else None
+
+abbrev pub limit_to : Option (List ℕ) → Limit
+limit_to maximum = (is_some maximum, unwrap_or maximum (zeros resources))
+
+pub maximum_again : (maximum : Option (List ℕ)) → maximum_of (limit_to maximum) ≡ maximum
+maximum_again None = refl
+maximum_again (Some amounts) = refl
+
+pub zeros_within : (k : ℕ) → amount (zeros resources) k ≤ amount_max
+zeros_within zero = omega arith
+zeros_within (suc zero) = omega arith
+zeros_within (suc (suc k)) = omega arith
+
+pub limit_fits : (maximum : Option (List ℕ)) → IfSome maximum (IsResource resources) → FitsLimit (limit_to maximum)
+limit_fits None fits = (tt, record { count = refl; within = zeros_within })
+limit_fits (Some amounts) fits = (tt, fits)
+
+-- running and leaf, guaranteed, maximum, use and applications
+abbrev pub Report : Type 0
+Report = ((((Bool × Bool) × List ℕ) × Limit) × List ℕ) × ℕ
+
+abbrev pub FitsReport : Report → Type 0
+FitsReport x = ((((Unit {0} × Unit {0}) × IsResource resources x.0.0.0.1) × FitsLimit x.0.0.1) × IsSum resources x.0.1) × (x.1 < 2 ^ 32)
+
+abbrev pub report_of : Report → List ℕ
+report_of x = ((((flag x.0.0.0.0.0 ++ flag x.0.0.0.0.1) ++ resource x.0.0.0.1) ++ limit_of x.0.0.1) ++ resource x.0.1) ++ to_be_bytes w32 x.1
+
+abbrev pub flags_at : List ℕ → Option ((Bool × Bool) × List ℕ)
+flags_at bytes = pair_at flag_at flag_at bytes
+
+abbrev pub guarantee_at : List ℕ → Option (((Bool × Bool) × List ℕ) × List ℕ)
+guarantee_at bytes = pair_at flags_at (amounts_at resources amount_max) bytes
+
+abbrev pub limits_at : List ℕ → Option ((((Bool × Bool) × List ℕ) × Limit) × List ℕ)
+limits_at bytes = pair_at guarantee_at limit_at bytes
+
+abbrev pub uses_at : List ℕ → Option (((((Bool × Bool) × List ℕ) × Limit) × List ℕ) × List ℕ)
+uses_at bytes = pair_at limits_at (amounts_at resources sum_max) bytes
+
+abbrev pub queue_report_at : List ℕ → Option (Report × List ℕ)
+queue_report_at bytes = pair_at uses_at (number_at w32) bytes
+
+pub is_flags : IsField flags_at (λ (x : Bool × Bool). flag x.0 ++ flag x.1) (λ (x : Bool × Bool). Unit {0} × Unit {0})
+is_flags = is_pair flag_at flag (λ holds. Unit {0}) flag_at flag (λ holds. Unit {0}) is_flag is_flag
+
+pub is_report : IsField queue_report_at report_of FitsReport
+is_report =
+    is_pair _ _ _ _ _ _
+    (is_pair _ _ _ _ _ _
+    (is_pair _ _ _ _ _ _
+    (is_pair _ _ _ _ _ _ is_flags (is_amounts resources amount_max (omega arith)))
+    is_limit)
+    (is_amounts resources sum_max (omega arith)))
+    is_u32
+
+-- ---- the bounds of a container
+
+abbrev pub Bounds : Type 0
+Bounds = List ℕ × List ℕ
+
+abbrev pub bounds_at : List ℕ → Option (Bounds × List ℕ)
+bounds_at bytes = pair_at (amounts_at resources amount_max) (amounts_at resources amount_max) bytes
+
+abbrev pub bounds_of : Bounds → List ℕ
+bounds_of x = resource x.0 ++ resource x.1
+
+abbrev pub FitsBounds : Bounds → Type 0
+FitsBounds x = IsResource resources x.0 × IsResource resources x.1
+
+pub is_bounds : IsField bounds_at bounds_of FitsBounds
+is_bounds = is_pair (amounts_at resources amount_max) resource (IsResource resources) (amounts_at resources amount_max) resource (IsResource resources) (is_amounts resources amount_max (omega arith)) (is_amounts resources amount_max (omega arith))
+
+-- ---- lists with their length in one byte
+
+abbrev pub told_at : {A : Type 0} → (List ℕ → Option (A × List ℕ)) → List ℕ → Option (List A × List ℕ)
+told_at field bytes = do
+  n ← byte_at bytes
+  times_at n.0 field n.1
+
+pub told_again : {A : Type 0} (field : List ℕ → Option (A × List ℕ)) (s : A → List ℕ) (F : A → Type 0) → IsField field s F → (xs : List A) (rest : List ℕ) → FitsListed news_max F xs → told_at field (counted_list s xs ++ rest) ≡ Some (xs, rest)
+told_again field s F is xs rest fits = (is_times (length xs) field s F is).again xs rest (refl, fits.each)
+
+-- ---- what an Allocate gives
+
+abbrev pub GrantParts : Type 0
+GrantParts = ℕ × (ℕ × (ℕ × (ℕ × (List ℕ × List ℕ))))
+
+abbrev pub FitsGrantParts : GrantParts → Type 0
+FitsGrantParts x = (x.0 < 2 ^ 64) × ((x.1.0 < 2 ^ 32) × ((x.1.1.0 < 2 ^ 64) × ((x.1.1.1.0 < 2 ^ 64) × ((is_place x.1.1.1.1.0 ≡ true) × IsResource resources x.1.1.1.1.1))))
+
+abbrev pub grant_parts : GrantParts → List ℕ
+grant_parts x = to_be_bytes w64 x.0 ++ (to_be_bytes w32 x.1.0 ++ (to_be_bytes w64 x.1.1.0 ++ (to_be_bytes w64 x.1.1.1.0 ++ (text x.1.1.1.1.0 ++ resource x.1.1.1.1.1))))
+
+abbrev pub grant_parts_at : List ℕ → Option (GrantParts × List ℕ)
+grant_parts_at bytes = pair_at (number_at w64) (pair_at (number_at w32) (pair_at (number_at w64) (pair_at (number_at w64) (pair_at (passing_at is_place text_at) (amounts_at resources amount_max))))) bytes
+
+pub is_grant_parts : IsField grant_parts_at grant_parts FitsGrantParts
+is_grant_parts =
+    is_pair _ _ _ _ _ _ is_u64
+    (is_pair _ _ _ _ _ _ is_u32
+    (is_pair _ _ _ _ _ _ is_u64
+    (is_pair _ _ _ _ _ _ is_u64
+    (is_pair (passing_at is_place text_at) text (λ t. is_place t ≡ true) (amounts_at resources amount_max) resource (IsResource resources) (is_text_passing is_place) (is_amounts resources amount_max (omega arith))))))
+
+abbrev pub grant_from : GrantParts → Grant
+grant_from x = record { container = x.0; key = record { priority = x.1.0; request = x.1.1.0 }; node = x.1.1.1.0; host = x.1.1.1.1.0; resource = x.1.1.1.1.1 }
+
+abbrev pub grant_to : Grant → GrantParts
+grant_to g = (g.container, (g.key.priority, (g.key.request, (g.node, (g.host, g.resource)))))
+
+abbrev pub grant_at : List ℕ → Option (Grant × List ℕ)
+grant_at bytes = do
+  x ← grant_parts_at bytes
+  Some (grant_from x.0, x.1)
+
+pub is_grant : IsField grant_at grant FitsGrant
+unfolding grant
+is_grant =
+    is_field_of grant_at grant (λ g. FitsGrantParts (grant_to g)) FitsGrant
+    (is_made grant_from grant_to grant_parts_at grant_parts FitsGrantParts (λ x. refl) (λ g. refl) is_grant_parts)
+    (λ g h. record { container = h.0; priority = h.1.0; request = h.1.1.0; node = h.1.1.1.0; host = h.1.1.1.1.0; resource = h.1.1.1.1.1 })
+    (λ g h. (h.container, (h.priority, (h.request, (h.node, (h.host, h.resource))))))
+
+abbrev pub cause_of : ℕ → Cause
+cause_of n = if n == 1 then Cause.Released else if n == 2 then Cause.EndedOnNode else Cause.NodeLost
+
+pub cause_again : (c : Cause) → cause_of (cause_number c) ≡ c
+cause_again Cause.Released = refl
+cause_again Cause.EndedOnNode = refl
+cause_again Cause.NodeLost = refl
+
+-- the end of a container, whatever the byte of its cause
+abbrev pub end_at : List ℕ → Option (End × List ℕ)
+end_at bytes = do
+  n ← number_at w64 bytes
+  b ← byte_at n.1
+  Some (record { container = n.0; cause = cause_of b.0 }, b.1)
+
+pub end_again : (e : End) (rest : List ℕ) → FitsEnd e → end_at (end e ++ rest) ≡ Some (e, rest)
+unfolding end
+end_again e rest fits =
+    ap end_at (append_assoc (to_be_bytes w64 e.container) (cause_number e.cause ∷ []) rest)
+    ∙ ap (λ (o : Option (ℕ × List ℕ)). o >>= λ n. byte_at n.1 >>= λ b. Some (record { container = n.0; cause = cause_of b.0 }, b.1)) (is_u64.again e.container (cause_number e.cause ∷ rest) fits)
+    ∙ ap (λ (c : Cause). Some (record { container = e.container; cause = c }, rest)) (cause_again e.cause)
+
+pub ends_again : (es : List End) (rest : List ℕ) → AllByRecursion FitsEnd es → times_at (length es) end_at (flat_map end es ++ rest) ≡ Some (es, rest)
+ends_again [] rest fits = refl
+ends_again (e ∷ es) rest fits = ap (times_at (suc (length es)) end_at) (append_assoc (end e) (flat_map end es) rest) ∙ rw (end_again e (flat_map end es ++ rest) fits.0, ends_again es rest fits.1) refl
+
+abbrev pub Allocated : Type 0
+Allocated = (ℕ × ℕ) × (List Grant × List End)
+
+abbrev pub allocated_at : List ℕ → Option (Allocated × List ℕ)
+allocated_at bytes = do
+  response ← number_at w32 bytes
+  ignored ← number_at w16 response.1
+  grants ← told_at grant_at ignored.1
+  ends ← told_at end_at grants.1
+  Some (((response.0, ignored.0), (grants.0, ends.0)), ends.1)
+
+abbrev pub from_response : Option (ℕ × List ℕ) → Option (Allocated × List ℕ)
+from_response o = do
+  response ← o
+  ignored ← number_at w16 response.1
+  grants ← told_at grant_at ignored.1
+  ends ← told_at end_at grants.1
+  Some (((response.0, ignored.0), (grants.0, ends.0)), ends.1)
+
+abbrev pub from_ignored : ℕ → Option (ℕ × List ℕ) → Option (Allocated × List ℕ)
+from_ignored response o = do
+  ignored ← o
+  grants ← told_at grant_at ignored.1
+  ends ← told_at end_at grants.1
+  Some (((response, ignored.0), (grants.0, ends.0)), ends.1)
+
+abbrev pub from_grants : ℕ → ℕ → Option (List Grant × List ℕ) → Option (Allocated × List ℕ)
+from_grants response ignored o = do
+  grants ← o
+  ends ← told_at end_at grants.1
+  Some (((response, ignored), (grants.0, ends.0)), ends.1)
+
+abbrev pub from_ends : ℕ → ℕ → List Grant → Option (List End × List ℕ) → Option (Allocated × List ℕ)
+from_ends response ignored grants o = do
+  ends ← o
+  Some (((response, ignored), (grants, ends.0)), ends.1)
+
+pub allocated_again : (response ignored : ℕ) (grants : List Grant) (ends : List End) → response < 2 ^ 32 → ignored < 2 ^ 16 → FitsListed news_max FitsGrant grants → FitsListed news_max FitsEnd ends →
+    allocated_at (to_be_bytes w32 response ++ (to_be_bytes w16 ignored ++ (counted_list grant grants ++ counted_list end ends))) ≡ Some (((response, ignored), (grants, ends)), [])
+allocated_again response ignored grants ends r i g e =
+    ap from_response (is_u32.again response (to_be_bytes w16 ignored ++ (counted_list grant grants ++ counted_list end ends)) r)
+    ∙ ap (from_ignored response) (is_u16.again ignored (counted_list grant grants ++ counted_list end ends) i)
+    ∙ ap (from_grants response ignored) (told_again grant_at grant FitsGrant is_grant grants (counted_list end ends) g)
+    ∙ ap (from_ends response ignored grants) (ap (times_at (length ends) end_at) (sym (append-nil (flat_map end ends))) ∙ ends_again ends [] e.each)
+
+-- ---- what a Heartbeat gives
+
+abbrev pub Beat : Type 0
+Beat = ℕ × (ℕ × ℕ)
+
+abbrev pub beat_at : List ℕ → Option (Beat × List ℕ)
+beat_at bytes = pair_at (number_at w32) (pair_at (number_at w16) (number_at w32)) bytes
+
+abbrev pub beat_of : Beat → List ℕ
+beat_of x = to_be_bytes w32 x.0 ++ (to_be_bytes w16 x.1.0 ++ to_be_bytes w32 x.1.1)
+
+abbrev pub FitsBeatParts : Beat → Type 0
+FitsBeatParts x = (x.0 < 2 ^ 32) × ((x.1.0 < 2 ^ 16) × (x.1.1 < 2 ^ 32))
+
+pub is_beat : IsField beat_at beat_of FitsBeatParts
+is_beat = is_pair _ _ _ _ _ _ is_u32 (is_pair (number_at w16) (to_be_bytes w16) (λ n. n < 2 ^ 16) (number_at w32) (to_be_bytes w32) (λ n. n < 2 ^ 32) is_u16 is_u32)
+
+-- ---- what a ClusterInfo gives
+
+-- nodes, applications and containers, totals and use
+abbrev pub Info : Type 0
+Info = (((ℕ × ℕ) × ℕ) × List ℕ) × List ℕ
+
+abbrev pub FitsInfo : Info → Type 0
+FitsInfo x = ((((x.0.0.0.0 < 2 ^ 32) × (x.0.0.0.1 < 2 ^ 32)) × (x.0.0.1 < 2 ^ 32)) × IsResource resources x.0.1) × IsSum resources x.1
+
+abbrev pub info_of : Info → List ℕ
+info_of x = (((to_be_bytes w32 x.0.0.0.0 ++ to_be_bytes w32 x.0.0.0.1) ++ to_be_bytes w32 x.0.0.1) ++ resource x.0.1) ++ resource x.1
+
+abbrev pub info_at : List ℕ → Option (Info × List ℕ)
+info_at bytes = pair_at (pair_at (pair_at (pair_at (number_at w32) (number_at w32)) (number_at w32)) (amounts_at resources amount_max)) (amounts_at resources sum_max) bytes
+
+pub is_info : IsField info_at info_of FitsInfo
+is_info =
+    is_pair _ _ _ _ _ _
+    (is_pair _ _ _ _ _ _
+    (is_pair _ _ _ _ _ _
+    (is_pair (number_at w32) (to_be_bytes w32) (λ n. n < 2 ^ 32) (number_at w32) (to_be_bytes w32) (λ n. n < 2 ^ 32) is_u32 is_u32)
+    is_u32)
+    (is_amounts resources amount_max (omega arith)))
+    (is_amounts resources sum_max (omega arith))

@@ -1,0 +1,116 @@
+-- Reading the body of each kind of request, and which bodies have lists.
+use Rattle.std.specs.Prelude.{◌≡◌, ◌⊎◌, ℕ, List, length, drop, Option, Some, None, Bool, true, nat_lt, ◌==◌, if◌then◌else◌}
+use Rattle.std.specs.Int.{w16, w32, w64}
+use Rattle.cap_vector.specs.Vector.{amount_max}
+use Rattle.cap_base.specs.Limits.{asks_max, numbers_max, resources}
+use Rattle.cap_model.specs.Asks.{Ask}
+use Rattle.cap_model.specs.Cascade.{holds_of}
+use Rattle.cap_model.specs.declared.request.Request.{Request}
+use Rattle.cap_grammar.specs.Fields.{◌>>=◌, pair_at, passing_at, all_at, counted_at, number_at, text_at, flag_at, amounts_at}
+use Rattle.cap_grammar.specs.Texts.{is_host, is_rack, is_path, is_user, is_place}
+
+-- path of the leaf queue, and user
+abbrev pub submission_at : List ℕ → Option ((List ℕ × List ℕ) × List ℕ)
+submission_at bytes = pair_at (passing_at is_path text_at) (passing_at is_user text_at) bytes
+
+unfoldable pub submit_at : List ℕ → Option (Request resources)
+submit_at bytes = do
+  x ← all_at submission_at bytes
+  Some (Request.Submit x.0 x.1)
+
+unfoldable pub register_master_at : List ℕ → Option (Request resources)
+register_master_at bytes = do
+  app ← all_at (number_at w64) bytes
+  Some (Request.RegisterMaster app)
+
+-- priority, request id, count, resource and place
+abbrev pub wish_at : List ℕ → Option ((ℕ × (ℕ × (ℕ × (List ℕ × List ℕ)))) × List ℕ)
+wish_at bytes = pair_at (number_at w32) (pair_at (number_at w64) (pair_at (number_at w32) (pair_at (amounts_at resources amount_max) (passing_at is_place text_at)))) bytes
+
+abbrev pub ask_of : ℕ × (ℕ × (ℕ × (List ℕ × List ℕ))) → Ask
+ask_of x = record { key = record { priority = x.0; request = x.1.0 }; count = x.1.1.0; resource = x.1.1.1.0; place = x.1.1.1.1 }
+
+unfoldable pub ask_at : List ℕ → Option (Ask × List ℕ)
+ask_at bytes = do
+  x ← wish_at bytes
+  Some (ask_of x.0, x.1)
+
+-- application, response id, asks and releases
+abbrev pub wishes_at : List ℕ → Option ((ℕ × (ℕ × (List Ask × List ℕ))) × List ℕ)
+wishes_at bytes = pair_at (number_at w64) (pair_at (number_at w32) (pair_at (counted_at asks_max ask_at) (counted_at numbers_max (number_at w64)))) bytes
+
+unfoldable pub allocate_at : List ℕ → Option (Request resources)
+allocate_at bytes = do
+  x ← all_at wishes_at bytes
+  Some (Request.Allocate x.0 x.1.0 x.1.1.0 x.1.1.1)
+
+unfoldable pub finish_master_at : List ℕ → Option (Request resources)
+finish_master_at bytes = do
+  app ← all_at (number_at w64) bytes
+  Some (Request.FinishMaster app)
+
+-- host, rack and total
+abbrev pub registration_at : List ℕ → Option ((List ℕ × (List ℕ × List ℕ)) × List ℕ)
+registration_at bytes = pair_at (passing_at is_host text_at) (pair_at (passing_at is_rack text_at) (amounts_at resources amount_max)) bytes
+
+unfoldable pub register_node_at : List ℕ → Option (Request resources)
+register_node_at bytes = do
+  x ← all_at registration_at bytes
+  Some (Request.RegisterNode x.0 x.1.0 x.1.1)
+
+-- node, response id and ended containers
+abbrev pub report_at : List ℕ → Option ((ℕ × (ℕ × List ℕ)) × List ℕ)
+report_at bytes = pair_at (number_at w64) (pair_at (number_at w32) (counted_at numbers_max (number_at w64))) bytes
+
+unfoldable pub heartbeat_at : List ℕ → Option (Request resources)
+heartbeat_at bytes = do
+  x ← all_at report_at bytes
+  Some (Request.Heartbeat x.0 x.1.0 x.1.1)
+
+unfoldable pub node_gone_at : List ℕ → Option (Request resources)
+node_gone_at bytes = do
+  node ← all_at (number_at w64) bytes
+  Some (Request.NodeGone node)
+
+abbrev pub path_text_at : List ℕ → Option (List ℕ × List ℕ)
+path_text_at bytes = passing_at is_path text_at bytes
+
+unfoldable pub queue_info_at : List ℕ → Option (Request resources)
+queue_info_at bytes = do
+  path ← all_at path_text_at bytes
+  Some (Request.QueueInfo path)
+
+-- path, and whether the queue shall run
+abbrev pub queue_state_at : List ℕ → Option ((List ℕ × Bool) × List ℕ)
+queue_state_at bytes = pair_at path_text_at flag_at bytes
+
+unfoldable pub set_queue_state_at : List ℕ → Option (Request resources)
+set_queue_state_at bytes = do
+  x ← all_at queue_state_at bytes
+  Some (Request.SetQueueState x.0 x.1)
+
+unfoldable pub cluster_info_at : List ℕ → Option (Request resources)
+cluster_info_at bytes = if length bytes == 0 then Some Request.ClusterInfo else None
+
+-- the body of a request of this kind, all of the bytes
+unfoldable pub body_at : ℕ → List ℕ → Option (Request resources)
+body_at kind bytes =
+    if kind == 1 then submit_at bytes else
+    if kind == 2 then register_master_at bytes else
+    if kind == 3 then allocate_at bytes else
+    if kind == 4 then finish_master_at bytes else
+    if kind == 5 then register_node_at bytes else
+    if kind == 6 then heartbeat_at bytes else
+    if kind == 7 then node_gone_at bytes else
+    if kind == 8 then queue_info_at bytes else
+    if kind == 9 then set_queue_state_at bytes else
+    if kind == 10 then cluster_info_at bytes else
+    None
+
+-- a list that is not empty begins at a position of the bytes
+abbrev pub HasItemsAt : ℕ → List ℕ → Type 0
+HasItemsAt i bytes = holds_of (λ n. nat_lt 0 n.0) (number_at w16 (drop i bytes)) ≡ true
+
+-- memory is taken for the lists of a body of this kind, where they are not empty: asks and then releases, or ended containers
+abbrev pub ListsItems : ℕ → List ℕ → Type 0
+ListsItems kind body = ((kind ≡ 3) × (HasItemsAt 12 body ⊎ HasItemsAt 14 body)) ⊎ ((kind ≡ 6) × HasItemsAt 12 body)
