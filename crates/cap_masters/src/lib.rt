@@ -1,9 +1,12 @@
 //! The calls of clients and application masters on a cluster.
 #![tactic(auto)]
 
-mod calls;
+mod allocation;
+mod completion;
+mod registration;
+mod submission;
 
-pub use crate::calls::allocate::allocate;
-pub use crate::calls::finish_master::finish_master;
-pub use crate::calls::register_master::register_master;
-pub use crate::calls::submit::submit;
+pub use crate::allocation::allocate;
+pub use crate::completion::finish_master;
+pub use crate::registration::register_master;
+pub use crate::submission::submit;

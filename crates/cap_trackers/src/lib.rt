@@ -1,11 +1,8 @@
 //! The calls of node managers and operators on a cluster.
 #![tactic(auto)]
 
-mod calls;
+mod node_calls;
+mod queue_calls;
 
-pub use crate::calls::cluster_info::cluster_info;
-pub use crate::calls::heartbeat::heartbeat;
-pub use crate::calls::node_gone::node_gone;
-pub use crate::calls::queue_info::queue_info;
-pub use crate::calls::register_node::register_node;
-pub use crate::calls::set_queue_state::set_queue_state;
+pub use crate::node_calls::{heartbeat, node_gone, register_node};
+pub use crate::queue_calls::{cluster_info, queue_info, set_queue_state};

@@ -1,0 +1,11 @@
+use Rattle.std.proofs.Common.{◌≡◌, ◌+◌, ◌≤◌, length, take}
+use Rattle.cap_model.specs.Asking.{after_asks}
+use Rattle.cap_asks.specs.Apps.{ask_room}
+use Rattle.cap_masters.proofs.allocation.put_asks.Given as goal
+
+-- the asks so far were put, and there is room for the others
+abbrev pub invariant-loop-ask : goal.invariant-loop-ask
+invariant-loop-ask g l = record {
+  put : l.cluster.flat ≡ after_asks l.app (take l.ask-index l.asks) l.fn.cluster.flat;
+  room : length l.asks ≤ ask_room l.app l.cluster.accounts + l.ask-index;
+}

@@ -1,5 +1,0 @@
-use Rattle.cap_commit.proofs.Fitting.{apps_fit}
-use Rattle.cap_masters.proofs.calls.register_master.refusal.Goals as goal
-
-pub apps-requires : goal.apps-requires
-apps-requires g c = search apps_fit
