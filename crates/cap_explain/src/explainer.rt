@@ -1,9 +1,8 @@
 //! The frames that a line completes, in words (`Explainer`).
 
 use crate::line::{Line, line_of};
+use crate::messages::{put_answer, put_request};
 use crate::names::put_count;
-use crate::replies::put_answer;
-use crate::requests::put_request;
 use cap_frames::{FrameFault, Framer};
 use cap_grammar::{MessageFault, read_reply, read_request};
 use indexmap::IndexMap;

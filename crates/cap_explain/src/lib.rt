@@ -3,9 +3,9 @@
 
 mod explainer;
 mod line;
+mod messages;
 mod names;
-mod replies;
-mod requests;
+mod parts;
 mod text;
 
 pub use text::explain;

@@ -1,4 +1,4 @@
-//! Words for kinds of request, refusals, causes of an end, keys and amounts.
+//! Words for refusals, causes of an end, texts, numbers, keys and amounts.
 
 use cap_base::RESOURCES;
 use cap_model::{Cause, Key, Refusal};
@@ -54,23 +54,6 @@ pub(crate) fn put_key(words: &mut String, key: &Key) -> Result<(), AllocError> {
         return Ok(());
     }
     write!(words, " request {}", key.request)
-}
-
-/// The name of a request's kind.
-pub(crate) fn kind_name(kind: u8) -> &'static str {
-    match kind {
-        1 => "Submit",
-        2 => "RegisterMaster",
-        3 => "Allocate",
-        4 => "FinishMaster",
-        5 => "RegisterNode",
-        6 => "Heartbeat",
-        7 => "NodeGone",
-        8 => "QueueInfo",
-        9 => "SetQueueState",
-        10 => "ClusterInfo",
-        _ => "request",
-    }
 }
 
 /// Why a container ended.

@@ -1,60 +1,46 @@
-//! Replies in words (`put_answer`).
+//! The parts of requests and replies in words: asks, grants, ends and reports.
 
-use crate::names::{cause_words, kind_name, put_amounts, put_count, put_key, refusal_words, shown};
+use crate::names::{cause_words, put_amounts, put_count, put_key, put_number, put_text, shown};
 use cap_base::RESOURCES;
-use cap_grammar::Answer;
-use cap_model::{
-    AllocateReply, ClusterReport, End, Grant, HeartbeatReply, OwnedReply, QueueReport, ReplyWith,
-};
+use cap_model::{AllocateReply, Ask, ClusterReport, End, Grant, HeartbeatReply, QueueReport};
 use cap_vector::Resource;
 use std::alloc::AllocError;
 
-/// An answer in words: the kind and the call id of its request, and what it says.
-pub(crate) fn put_answer(words: &mut String, answer: &Answer) -> Result<(), AllocError> {
-    match answer {
-        Answer::Reply {
-            call_id,
-            kind,
-            reply,
-        } => {
-            write!(words, "{} {call_id}: ", kind_name(*kind))?;
-            put_reply(words, reply)
-        }
-        Answer::Fault(status) => {
-            let why = match *status {
-                40 => "no frame has this length, and the connection ends",
-                41 => "the payload is no request",
-                _ => "unknown",
-            };
-            write!(words, "fault {status}: {why}")
-        }
-    }
+/// Who says it, and the response id.
+pub(crate) fn put_turn(
+    words: &mut String,
+    name: &str,
+    number: u64,
+    response: u32,
+) -> Result<(), AllocError> {
+    write!(words, "{name} {number}, response {response}")
 }
 
-/// What a reply says.
-fn put_reply(words: &mut String, reply: &OwnedReply<RESOURCES>) -> Result<(), AllocError> {
-    match reply {
-        ReplyWith::Refused(refusal) => {
-            let (status, why) = (refusal.status(), refusal_words(*refusal));
-            write!(words, "refused {status}, {why}")
-        }
-        ReplyWith::Submit { app } => write!(words, "application {app}"),
-        ReplyWith::RegisterMaster { minimum, maximum } => put_range(words, minimum, maximum),
-        ReplyWith::Allocate { reply } => put_allocated(words, reply),
-        ReplyWith::FinishMaster { ended } | ReplyWith::NodeGone { ended } => {
-            put_count(words, "", u64::from(*ended), "container")?;
-            words.push_str(" ended")
-        }
-        ReplyWith::RegisterNode { node } => write!(words, "node {node}"),
-        ReplyWith::Heartbeat { reply } => put_beat(words, reply),
-        ReplyWith::QueueInfo { report } => put_queue(words, report),
-        ReplyWith::SetQueueState => words.push_str("done"),
-        ReplyWith::ClusterInfo { report } => put_cluster(words, report),
+/// The asks of an Allocate.
+pub(crate) fn put_asks(words: &mut String, asks: &[Ask<RESOURCES>]) -> Result<(), AllocError> {
+    for ask in asks {
+        write!(words, ", ask {} x ", ask.count())?;
+        put_amounts(words, "", &ask.resource())?;
+        put_key(words, &ask.key())?;
+        put_text(words, " at", ask.place().as_bytes())?;
     }
+    Ok(())
+}
+
+/// Container numbers, each after the name.
+pub(crate) fn put_numbers(
+    words: &mut String,
+    name: &str,
+    numbers: &[u64],
+) -> Result<(), AllocError> {
+    for number in numbers {
+        put_number(words, name, *number)?;
+    }
+    Ok(())
 }
 
 /// The least and the most that a container may have.
-fn put_range(
+pub(crate) fn put_range(
     words: &mut String,
     minimum: &Resource<RESOURCES>,
     maximum: &Resource<RESOURCES>,
@@ -64,7 +50,10 @@ fn put_range(
 }
 
 /// What an Allocate is answered.
-fn put_allocated(words: &mut String, reply: &AllocateReply<RESOURCES>) -> Result<(), AllocError> {
+pub(crate) fn put_allocated(
+    words: &mut String,
+    reply: &AllocateReply<RESOURCES>,
+) -> Result<(), AllocError> {
     write!(
         words,
         "response {}, {} ignored",
@@ -99,7 +88,7 @@ fn put_ends(words: &mut String, ends: &[End]) -> Result<(), AllocError> {
 }
 
 /// What a Heartbeat is answered.
-fn put_beat(words: &mut String, reply: &HeartbeatReply) -> Result<(), AllocError> {
+pub(crate) fn put_beat(words: &mut String, reply: &HeartbeatReply) -> Result<(), AllocError> {
     write!(
         words,
         "response {}, {} ignored",
@@ -110,7 +99,10 @@ fn put_beat(words: &mut String, reply: &HeartbeatReply) -> Result<(), AllocError
 }
 
 /// What is shown of a queue.
-fn put_queue(words: &mut String, report: &QueueReport<RESOURCES>) -> Result<(), AllocError> {
+pub(crate) fn put_queue(
+    words: &mut String,
+    report: &QueueReport<RESOURCES>,
+) -> Result<(), AllocError> {
     let state = if report.running { "RUNNING" } else { "STOPPED" };
     let place = if report.leaf { "leaf" } else { "parent" };
     write!(words, "{state}, {place}")?;
@@ -124,7 +116,10 @@ fn put_queue(words: &mut String, report: &QueueReport<RESOURCES>) -> Result<(), 
 }
 
 /// What is shown of the cluster.
-fn put_cluster(words: &mut String, report: &ClusterReport<RESOURCES>) -> Result<(), AllocError> {
+pub(crate) fn put_cluster(
+    words: &mut String,
+    report: &ClusterReport<RESOURCES>,
+) -> Result<(), AllocError> {
     put_count(words, "", u64::from(report.nodes), "node")?;
     put_count(words, ", ", u64::from(report.apps), "application")?;
     put_count(words, ", ", u64::from(report.containers), "container")?;

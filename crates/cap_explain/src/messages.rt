@@ -1,0 +1,119 @@
+//! Requests and replies of each kind in words (`put_request`, `put_answer`).
+
+use crate::names::{put_amounts, put_count, put_number, put_text, refusal_words};
+use crate::parts::{
+    put_allocated, put_asks, put_beat, put_cluster, put_numbers, put_queue, put_range, put_turn,
+};
+use cap_base::RESOURCES;
+use cap_grammar::{Answer, kind};
+use cap_model::{OwnedReply, ReplyWith, Request};
+use std::alloc::AllocError;
+
+/// The name of a request's kind.
+fn kind_name(kind: u8) -> &'static str {
+    match kind {
+        1 => "Submit",
+        2 => "RegisterMaster",
+        3 => "Allocate",
+        4 => "FinishMaster",
+        5 => "RegisterNode",
+        6 => "Heartbeat",
+        7 => "NodeGone",
+        8 => "QueueInfo",
+        9 => "SetQueueState",
+        10 => "ClusterInfo",
+        _ => "request",
+    }
+}
+
+/// A request in words: its kind, its call id and what it says.
+pub(crate) fn put_request(
+    words: &mut String,
+    call_id: u32,
+    request: &Request<RESOURCES>,
+) -> Result<(), AllocError> {
+    write!(words, "{} {call_id}", kind_name(kind(request)))?;
+    match request {
+        Request::Submit { path, user } => {
+            put_text(words, ": queue", path.as_bytes())?;
+            put_text(words, ", user", user.as_bytes())
+        }
+        Request::RegisterMaster { app } | Request::FinishMaster { app } => {
+            put_number(words, ": application", *app)
+        }
+        Request::Allocate {
+            app,
+            response,
+            asks,
+            releases,
+        } => {
+            put_turn(words, ": application", *app, *response)?;
+            put_asks(words, asks.as_slice())?;
+            put_numbers(words, ", release", releases.as_slice())
+        }
+        Request::RegisterNode { host, rack, total } => {
+            put_text(words, ": host", host.as_bytes())?;
+            put_text(words, ", rack", rack.as_bytes())?;
+            put_amounts(words, ", ", total)
+        }
+        Request::Heartbeat {
+            node,
+            response,
+            ended,
+        } => {
+            put_turn(words, ": node", *node, *response)?;
+            put_numbers(words, ", ended", ended.as_slice())
+        }
+        Request::NodeGone { node } => put_number(words, ": node", *node),
+        Request::QueueInfo { path } => put_text(words, ": queue", path.as_bytes()),
+        Request::SetQueueState { path, running } => {
+            put_text(words, ": queue", path.as_bytes())?;
+            words.push_str(if *running { ", RUNNING" } else { ", STOPPED" })
+        }
+        Request::ClusterInfo => Ok(()),
+    }
+}
+
+/// An answer in words: the kind and the call id of its request, and what it says.
+pub(crate) fn put_answer(words: &mut String, answer: &Answer) -> Result<(), AllocError> {
+    match answer {
+        Answer::Reply {
+            call_id,
+            kind,
+            reply,
+        } => {
+            write!(words, "{} {call_id}: ", kind_name(*kind))?;
+            put_reply(words, reply)
+        }
+        Answer::Fault(status) => {
+            let why = match *status {
+                40 => "no frame has this length, and the connection ends",
+                41 => "the payload is no request",
+                _ => "unknown",
+            };
+            write!(words, "fault {status}: {why}")
+        }
+    }
+}
+
+/// What a reply says.
+fn put_reply(words: &mut String, reply: &OwnedReply<RESOURCES>) -> Result<(), AllocError> {
+    match reply {
+        ReplyWith::Refused(refusal) => {
+            let (status, why) = (refusal.status(), refusal_words(*refusal));
+            write!(words, "refused {status}, {why}")
+        }
+        ReplyWith::Submit { app } => write!(words, "application {app}"),
+        ReplyWith::RegisterMaster { minimum, maximum } => put_range(words, minimum, maximum),
+        ReplyWith::Allocate { reply } => put_allocated(words, reply),
+        ReplyWith::FinishMaster { ended } | ReplyWith::NodeGone { ended } => {
+            put_count(words, "", u64::from(*ended), "container")?;
+            words.push_str(" ended")
+        }
+        ReplyWith::RegisterNode { node } => write!(words, "node {node}"),
+        ReplyWith::Heartbeat { reply } => put_beat(words, reply),
+        ReplyWith::QueueInfo { report } => put_queue(words, report),
+        ReplyWith::SetQueueState => words.push_str("done"),
+        ReplyWith::ClusterInfo { report } => put_cluster(words, report),
+    }
+}
