@@ -12,7 +12,7 @@ use Rattle.cap_model.specs.declared.request.Request.{Request}
 use Rattle.cap_shared.specs.declared.calls.CallRoom.{CallRoom}
 use Rattle.cap_shared.specs.declared.calls.NewsRooms.{NewsRooms}
 use Rattle.cap_shared.specs.declared.calls.ReplyCopies.{ReplyCopies}
-use Rattle.cap_shared.specs.Requests.{IsCopyIfTexts}
+use Rattle.cap_shared.specs.Requests.{IsCopyIfBoxed}
 
 -- each of the rooms has room for the grants and ends of a reply; where there are no rooms, it has none
 abbrev pub HasRoomsFor : Reply resources → Option NewsRooms → Type 0
@@ -25,7 +25,7 @@ AreRoomsFor old request rooms = (reply : Reply resources) (new : Flat resources)
 
 -- the memory for a call: a copy for its entry where it has texts, a copy for its receipt, and room for its reply
 pub record IsRoomFor (cluster : Flat resources) (request : Request resources) (room : CallRoom) : Type 0 where
-  pub entry : IsCopyIfTexts request room.entry
+  pub entry : IsCopyIfBoxed request room.entry
   pub receipt : room.receipt ≡ request
   pub news : AreRoomsFor cluster request room.news
 

@@ -8,7 +8,7 @@ ghost use Rattle.cap_grammar.specs.Spelling.{IsOfKind, kind_of};
 ghost use Rattle.cap_shared.specs.Rooms.{IsRoomFor, AreRoomsFor, HasRoomsFor, AreCopiesOf, tells_nothing};
 
 use crate::entry::Receipt;
-use crate::request::{CompactRequest, TextCopy, text_copy};
+use crate::request::{BoxedCopy, CompactRequest, boxed_copy};
 use cap_base::RESOURCES;
 use cap_commit::Cluster;
 use cap_messages::dispatch;
@@ -121,7 +121,7 @@ fn own_without_lists(alloc: Global, reply: &Reply<RESOURCES>) -> OwnedReply<RESO
 /// All the memory that a call needs beside what the cluster itself needs.
 #[derive(Drop)]
 pub struct CallRoom {
-    pub entry: Option<TextCopy>,
+    pub entry: Option<BoxedCopy>,
     pub receipt: CompactRequest,
     pub news: Option<NewsRooms>,
 }
@@ -142,7 +142,7 @@ impl CallRoom {
             return Err(NoMemory);
         }
         Ok(CallRoom {
-            entry: text_copy(alloc, request)?,
+            entry: boxed_copy(alloc, request)?,
             receipt: CompactRequest::of(alloc, request)?,
             news: news_rooms(alloc, cluster, request)?,
         })

@@ -1,6 +1,6 @@
-//! A request in little space, as a journal holds it: one with texts stands behind a pointer (`CompactRequest`).
+//! A request in little space, as a journal holds it: a short one in place, any other behind a pointer (`CompactRequest`).
 ghost use Rattle.std.specs.Prelude.{◌≡◌, IfOk};
-ghost use Rattle.cap_shared.specs.Requests.{IsCopyIfTexts};
+ghost use Rattle.cap_shared.specs.Requests.{IsCopyIfBoxed};
 
 use cap_base::RESOURCES;
 use cap_model::{Asks, List, NoMemory, Numbers, Request};
@@ -8,7 +8,8 @@ use std::alloc::Global;
 use std::marker::Model;
 use std::mem;
 
-/// How a request is kept: a request with texts, which are long, behind a pointer, and any other in place.
+/// How a request is kept: one of the kinds that are named here in place, and any other, as those with texts, which are long,
+/// behind a pointer.
 #[derive(Drop)]
 pub enum RequestForm {
     RegisterMaster {
@@ -32,7 +33,7 @@ pub enum RequestForm {
         node: u64,
     },
     ClusterInfo,
-    WithTexts(Box<Request<RESOURCES>>),
+    Boxed(Box<Request<RESOURCES>>),
 }
 
 /// A request, in at most 80 bytes and what its lists and texts take. Contracts see the request.
@@ -86,23 +87,23 @@ impl CompactRequest {
             },
             Request::NodeGone { node } => RequestForm::NodeGone { node: *node },
             Request::ClusterInfo => RequestForm::ClusterInfo,
-            _ => RequestForm::WithTexts(boxed(alloc, request)?),
+            _ => RequestForm::Boxed(boxed(alloc, request)?),
         };
         Ok(CompactRequest { form })
     }
 
-    /// The same request: its lists are taken out of it, and one with texts is its copy. It takes no memory.
+    /// The same request: its lists are taken out of it, and one that stands behind a pointer is its copy. It takes no memory.
     pub(crate) fn moved(
         alloc: Global,
         request: &mut Request<RESOURCES>,
-        copy: Option<TextCopy>,
+        copy: Option<BoxedCopy>,
     ) -> CompactRequest
-        requires { IsCopyIfTexts request.old copy }
+        requires { IsCopyIfBoxed request.old copy }
         ensures { result ≡ request.old }
     {
         if let Some(copy) = copy {
             return CompactRequest {
-                form: RequestForm::WithTexts(copy.request),
+                form: RequestForm::Boxed(copy.request),
             };
         }
         let form = match request {
@@ -164,36 +165,38 @@ impl CompactRequest {
             }),
             RequestForm::NodeGone { node } => Ok(Request::NodeGone { node: *node }),
             RequestForm::ClusterInfo => Ok(Request::ClusterInfo),
-            RequestForm::WithTexts(request) => request.copy(alloc),
+            RequestForm::Boxed(request) => request.copy(alloc),
         }
     }
 }
 
-/// A copy of a request with texts.
+/// A copy of a request behind a pointer.
 #[derive(Drop)]
-pub struct TextCopy {
+pub struct BoxedCopy {
     pub request: Box<Request<RESOURCES>>,
 }
 
-/// A copy of the request, where it has texts. If an allocation fails there is none.
-pub(crate) fn text_copy(
+/// A copy of the request, unless it is kept in place. If an allocation fails there is none.
+pub(crate) fn boxed_copy(
     alloc: Global,
     request: &Request<RESOURCES>,
-) -> Result<Option<TextCopy>, NoMemory>
-    ensures { IfOk result (IsCopyIfTexts request.now) }
+) -> Result<Option<BoxedCopy>, NoMemory>
+    ensures { IfOk result (IsCopyIfBoxed request.now) }
 {
     match request {
-        Request::Submit { .. }
-        | Request::RegisterNode { .. }
-        | Request::QueueInfo { .. }
-        | Request::SetQueueState { .. } => Ok(Some(TextCopy {
+        Request::RegisterMaster { .. }
+        | Request::Allocate { .. }
+        | Request::FinishMaster { .. }
+        | Request::Heartbeat { .. }
+        | Request::NodeGone { .. }
+        | Request::ClusterInfo => Ok(None),
+        _ => Ok(Some(BoxedCopy {
             request: boxed(alloc, request)?,
         })),
-        _ => Ok(None),
     }
 }
 
-/// A copy of a request behind a pointer. If an allocation fails there is none.
+/// The request's copy behind a pointer. If an allocation fails there is none.
 fn boxed(alloc: Global, request: &Request<RESOURCES>) -> Result<Box<Request<RESOURCES>>, NoMemory>
     ensures { IfOk result (λ copy. copy.value ≡ request.now) }
 {
