@@ -4,7 +4,7 @@ use Rattle.std.specs.Int.{w16, w32, w64}
 use Rattle.cap_vector.specs.Vector.{amount_max}
 use Rattle.cap_base.specs.Limits.{asks_max, numbers_max, resources}
 use Rattle.cap_model.specs.Asks.{Ask}
-use Rattle.cap_model.specs.Cascade.{holds_of}
+use Rattle.cap_base.specs.Cascade.{holds_of}
 use Rattle.cap_model.specs.declared.request.Request.{Request}
 use Rattle.cap_grammar.specs.Fields.{◌>>=◌, pair_at, passing_at, all_at, counted_at, number_at, text_at, flag_at, amounts_at}
 use Rattle.cap_grammar.specs.Texts.{is_host, is_rack, is_path, is_user, is_place}
