@@ -18,7 +18,8 @@ use Rattle.cap_session.specs.declared.session.Cause.{Cause}
 use Rattle.cap_session.specs.declared.session.Cause.TheVariants as causes
 use Rattle.cap_session.specs.Answers.{Call}
 use Rattle.cap_session.specs.Session.{SessionState, AnswersBy, IsSession}
-use Rattle.cap_world.specs.Connection.{Connection, new_connection, is_open_standing, AnswersAs, AnswersSome, HasAnswers}
+use Rattle.cap_world.specs.Answers.{AnswersSome}
+use Rattle.cap_world.specs.Connection.{Connection, new_connection, is_open_standing, AnswersAs, HasAnswers}
 use Rattle.cap_world.specs.Serving.{Feeds, StandsAfter}
 use Rattle.cap_world.specs.World.{WorldState, connection_at, is_open, is_open_connection, output_of, output_from, Changes, HasAnswersAt}
 use Rattle.cap_world.specs.Steps.{Outcome, Starves}

@@ -9,11 +9,15 @@ use Rattle.cap_world.specs.declared.step.Step.{Step}
 use Rattle.cap_world.specs.declared.step.Did.{Did}
 use Rattle.cap_base.specs.declared.no_memory.NoMemory.{NoMemory}
 use Rattle.cap_world.specs.Answers.{calls_by}
-use Rattle.cap_world.specs.World.{Known, WorldState, IsWorld, IsLawful, connection_at, Adds, start}
+use Rattle.cap_world.specs.World.{Known, WorldState, IsWorld, IsLawful, connection_at, is_open, output_of, Adds, start}
 use Rattle.cap_world.specs.Steps.{Outcome}
 use Rattle.cap_world.specs.Making.{Makes, IsMade}
 use Rattle.cap_world.specs.Hearing.{IsHeadline}
 use Rattle.cap_world.proofs.Heard.{HeardSoFar, is_heard, heard_starved}
+
+-- the headline of a run that leaves this world
+abbrev HeadlineOf : Flat resources → List Step → ℕ → List (Event resources) → WorldState → Type 0
+HeadlineOf opening steps done events sight = IsHeadline opening steps done events sight.cluster (λ c. output_of c sight) (λ c. is_open c sight)
 
 -- the opening and the events of a world are those of a run
 lawful_from : (opening : Flat resources) (events : List (Event resources)) (world : Known) → world.opening ≡ opening → world.events ≡ events → IsWorld world → IsLawful opening events world.sight
@@ -21,7 +25,7 @@ lawful_from opening events world o e lawful =
     subst (λ (x : Flat resources). IsLawful x events world.sight) o (subst (λ (x : List (Event resources)). IsLawful world.opening x world.sight) e lawful)
 
 -- all steps were made
-pub headline_all : (opening : Flat resources) (all : List Step) (i : ℕ) (events : List (Event resources)) (world : Known) → i ≡ length all → world.opening ≡ opening → world.events ≡ events → IsWorld world → HeardSoFar (take i all) world.sight → IsHeadline opening all (length all) events world.sight
+pub headline_all : (opening : Flat resources) (all : List Step) (i : ℕ) (events : List (Event resources)) (world : Known) → i ≡ length all → world.opening ≡ opening → world.events ≡ events → IsWorld world → HeardSoFar (take i all) world.sight → HeadlineOf opening all (length all) events world.sight
 headline_all opening all i events world end o e lawful so_far =
     let law = lawful_from opening events world o e lawful in
     record {
@@ -45,7 +49,7 @@ was_refused (Err error) e = (error, refl)
 
 -- a step was refused memory
 pub headline_cut : (opening : Flat resources) (all : List Step) (i : ℕ) (d : Step) (r : Result Did NoMemory) (error : NoMemory) (mid new : Known) (before after : List (Event resources)) → i < length all → mid.opening ≡ opening → mid.events ≡ before → HeardSoFar (take i all) mid.sight → r ≡ Err error
-    → Outcome (get_or all i d) r mid.sight new.sight before after → Adds mid new before after → IsWorld new → IsHeadline opening all i after new.sight
+    → Outcome (get_or all i d) r mid.sight new.sight before after → Adds mid new before after → IsWorld new → HeadlineOf opening all i after new.sight
 headline_cut opening all i d r error mid new before after below o e so_far is outcome adds lawful =
     let events : new.events ≡ after = adds.kept ∙ ap (λ (es : List (Event resources)). es ++ adds.more) e ∙ sym adds.lent in
     let law = lawful_from opening after new (adds.opening ∙ o) events lawful in

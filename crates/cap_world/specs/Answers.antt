@@ -1,11 +1,20 @@
--- The calls of connections among the events.
-use Rattle.std.specs.Prelude.{ℕ, List, Option, Some, None, map, ◌==◌, if◌then◌else◌}
+-- What a connection is answered for its bytes, and its calls among the events.
+use Rattle.std.specs.Prelude.{ℕ, List, ◌++◌, Option, Some, None, map, ◌==◌, if◌then◌else◌}
 use Rattle.std.specs.List.{filter_map}
 use Rattle.cap_base.specs.Limits.{resources}
 use Rattle.cap_model.specs.declared.request.Request.{Request}
 use Rattle.cap_model.specs.News.{Reply}
 use Rattle.cap_model.specs.declared.event.Event.{Event}
-use Rattle.cap_session.specs.Answers.{Call}
+use Rattle.cap_frames.specs.Stream.{Tail, IsStream}
+use Rattle.cap_session.specs.Answers.{Call, Answers, IsAnswered}
+
+-- the output answers all payloads of the bytes, and their tail
+abbrev pub AnswersAll : List ℕ → Tail → List Call → List ℕ → Type 0
+AnswersAll taken tail calls output = (payloads : List (List ℕ)) × IsStream taken payloads tail × IsAnswered payloads tail calls output
+
+-- the output answers a beginning of the payloads of the bytes, and no tail
+abbrev pub AnswersSome : List ℕ → List Call → List ℕ → Type 0
+AnswersSome taken calls output = (payloads later : List (List ℕ)) × (tail : Tail) × IsStream taken (payloads ++ later) tail × Answers payloads calls output
 
 abbrev pub call_event : ℕ → Request resources → Reply resources → Event resources
 call_event by request reply = Event.Call by request reply

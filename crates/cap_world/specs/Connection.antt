@@ -1,10 +1,11 @@
 -- A connection, as far as anybody can see it.
-use Rattle.std.specs.Prelude.{◌≡◌, ℕ, List, [], ◌++◌, Bool, true, false, None}
-use Rattle.cap_frames.specs.Stream.{Tail, rest, fault, IsStream}
-use Rattle.cap_session.specs.Answers.{Call, Answers, IsAnswered}
+use Rattle.std.specs.Prelude.{◌≡◌, ℕ, List, [], Bool, true, false, None}
+use Rattle.cap_frames.specs.Stream.{rest, fault}
+use Rattle.cap_session.specs.Answers.{Call}
 use Rattle.cap_session.specs.Session.{SessionState, new_session}
 use Rattle.cap_world.specs.declared.connection.Standing.{Standing}
 use Rattle.cap_world.specs.declared.connection.Standing.TheVariants as standings
+use Rattle.cap_world.specs.Answers.{AnswersAll, AnswersSome}
 
 -- how it stands, and its session: the bytes of the pieces that it took are those that the session was fed, and all that it was answered is unsent
 pub record Connection : Type 0 where
@@ -20,14 +21,6 @@ is_open_standing standings.Open = true
 is_open_standing standings.Ended = false
 is_open_standing standings.Faulted = false
 is_open_standing standings.Starved = false
-
--- the output answers all payloads of the bytes, and their tail
-abbrev pub AnswersAll : List ℕ → Tail → List Call → List ℕ → Type 0
-AnswersAll taken tail calls output = (payloads : List (List ℕ)) × IsStream taken payloads tail × IsAnswered payloads tail calls output
-
--- the output answers a beginning of the payloads of the bytes, and no tail
-abbrev pub AnswersSome : List ℕ → List Call → List ℕ → Type 0
-AnswersSome taken calls output = (payloads later : List (List ℕ)) × (tail : Tail) × IsStream taken (payloads ++ later) tail × Answers payloads calls output
 
 -- What the calls answered for the bytes that a connection took, by how it stands: all payloads, with less than a frame left, while it is
 -- open and after its end; all of them and the fault where a length came that no frame has; a beginning where memory was refused.

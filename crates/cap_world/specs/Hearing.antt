@@ -8,9 +8,7 @@ use Rattle.cap_frames.specs.Stream.{Tail, rest, fault, IsStream}
 use Rattle.cap_world.specs.declared.step.Step.{Step}
 use Rattle.cap_world.specs.declared.step.Step.TheVariants as steps
 use Rattle.cap_session.specs.Answers.{Call}
-use Rattle.cap_world.specs.Answers.{calls_by}
-use Rattle.cap_world.specs.Connection.{AnswersAll, AnswersSome}
-use Rattle.cap_world.specs.World.{WorldState, is_open, output_of}
+use Rattle.cap_world.specs.Answers.{AnswersAll, AnswersSome, calls_by}
 
 -- a connection after some steps: never opened, or open or no longer open with the pieces that found it open, joined
 pub data Hearing : Type 0 where
@@ -80,9 +78,11 @@ IsHeardBefore (Some (steps.Propose w start)) c heard calls output is_open = IsHe
 IsHeardBefore (Some (steps.Commit w)) c heard calls output is_open = IsHeard heard calls output is_open
 IsHeardBefore (Some (steps.Bytes d piece)) c heard calls output is_open = MatchBool (d == c) (IsCutShort piece.now heard calls output is_open) (IsHeard heard calls output is_open)
 
--- The headline. Whatever the steps, the events are one run of the flat cluster from the opening to the world's cluster; and each connection's
--- output answers, by its calls among the events, the payloads and the tail of the pieces that found it open, joined. Where a piece was
--- refused memory, which ends the run of the steps, it answers a beginning of the payloads and no tail.
-pub record IsHeadline (opening : Flat resources) (steps : List Step) (done : ℕ) (events : List (Event resources)) (sight : WorldState) : Type 0 where
-  pub run : Run opening events sight.cluster
-  pub each : (c : ℕ) → (heard : Hearing) × Hears c (take done steps) unopened heard × IsHeardBefore (slice_get steps done) c heard (calls_by c events) (output_of c sight) (is_open c sight)
+-- The headline, over what is seen from outside: the opening cluster, the steps and how many of them were made, the events, the closing
+-- cluster, and by number each connection's output and whether it is open. Whatever the steps, the events are one run of the flat cluster
+-- from the opening to the close; and each connection's output answers, by its calls among the events, the payloads and the tail of the
+-- pieces that found it open, joined. Where a piece was refused memory, which ends the run of the steps, it answers a beginning of the
+-- payloads and no tail.
+pub record IsHeadline (opening : Flat resources) (steps : List Step) (done : ℕ) (events : List (Event resources)) (closing : Flat resources) (output : ℕ → List ℕ) (is_open : ℕ → Bool) : Type 0 where
+  pub run : Run opening events closing
+  pub each : (c : ℕ) → (heard : Hearing) × Hears c (take done steps) unopened heard × IsHeardBefore (slice_get steps done) c heard (calls_by c events) (output c) (is_open c)

@@ -1,5 +1,5 @@
 -- Laws of worlds: what else holds of every run of them.
-use Rattle.std.specs.Prelude.{◌≡◌, ℕ, ◌≤◌, ◌==◌, List, Some, IsSome, ◌++◌, count_by, filter, not}
+use Rattle.std.specs.Prelude.{◌≡◌, ℕ, ◌≤◌, ◌==◌, Bool, List, Some, IsSome, ◌++◌, count_by, filter, not}
 use Rattle.cap_base.specs.Limits.{resources}
 use Rattle.cap_model.specs.declared.event.Event.{Event}
 use Rattle.cap_model.specs.declared.news.End.{End}
@@ -14,14 +14,13 @@ use Rattle.cap_laws.specs.EngineLaws.{container_numbers}
 use Rattle.cap_laws.specs.NewsLaws.{ever_told_grants, ever_new_grants, untold_grants, ever_told_ends, ever_new_ends, untold_ends}
 use Rattle.cap_base.specs.properties.First.{settings_in}
 use Rattle.cap_world.specs.declared.step.Step.{Step}
-use Rattle.cap_world.specs.World.{WorldState}
 use Rattle.cap_world.specs.Hearing.{IsHeadline}
 
 -- it holds of the opening cluster, the events and the closing cluster of every run of steps over a bounded opening
 abbrev pub OfWorlds : (Flat resources → List (Event resources) → Flat resources → Type 0) → Type 0
 OfWorlds Holds =
-    (opening : Flat resources) (steps : List Step) (done : ℕ) (events : List (Event resources)) (sight : WorldState) → IsBounded opening → IsHeadline opening steps done events sight →
-    Holds opening events sight.cluster
+    (opening : Flat resources) (steps : List Step) (done : ℕ) (events : List (Event resources)) (closing : Flat resources) (output : ℕ → List ℕ) (is_open : ℕ → Bool) → IsBounded opening →
+    IsHeadline opening steps done events closing output is_open → Holds opening events closing
 
 -- Where the opening cluster is bounded, so is every state of the run: after each beginning of the events, and at its close.
 abbrev pub WorldsStayBounded : Type 0

@@ -1,5 +1,6 @@
 //! Steps made one after the other over an opening cluster (`World::run`), with the headline as its contract.
 ghost use Rattle.std.specs.Prelude.{◌≡◌, ◌≤◌, length, is_err};
+ghost use Rattle.cap_world.specs.World.{is_open, output_of};
 ghost use Rattle.cap_world.specs.Making.{IsMade};
 ghost use Rattle.cap_world.specs.Hearing.{IsHeadline};
 
@@ -28,7 +29,8 @@ impl World {
         ensures made { IsMade opening.flat steps.now result.done result.events.items
             result.world.sight }
         ensures headline { IsHeadline opening.flat steps.now result.done result.events.items
-            result.world.sight }
+            result.world.sight.cluster (λ c. output_of c result.world.sight)
+            (λ c. is_open c result.world.sight) }
     {
         let mut world = World::open(alloc, opening);
         let mut events = Vec::new(alloc);
