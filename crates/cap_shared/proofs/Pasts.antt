@@ -6,9 +6,10 @@ use Rattle.atomic_table.specs.Table.{Me}
 use Rattle.atomic_table.specs.Seated.{TableId}
 use Rattle.cap_base.specs.Limits.{resources}
 use Rattle.cap_model.specs.Flat.{Flat}
-use Rattle.cap_model.specs.Events.{Step}
+use Rattle.cap_model.specs.Events.{after_event, Step}
 use Rattle.cap_model.specs.declared.event.Event.{Event}
 use Rattle.cap_model.specs.declared.event.Event.TheVariants as event
+use Rattle.cap_laws.proofs.numbers.Balance.{step_is_determined}
 use Rattle.cap_shared.specs.declared.entry.Entry.{Entry}
 use Rattle.cap_shared.specs.declared.entry.Receipt.{Receipt}
 use Rattle.cap_shared.specs.declared.history.Answer.{Answer}
@@ -17,15 +18,29 @@ use Rattle.cap_shared.specs.declared.history.Moment.TheVariants.{Entered, Noted}
 use Rattle.cap_shared.specs.declared.history.Mark.{Mark}
 use Rattle.cap_shared.specs.declared.history.Sitting.{Sitting}
 use Rattle.cap_shared.specs.declared.history.View.{View}
-use Rattle.cap_shared.specs.Journal.{Replays, receipt_for, seat_entries, receipts_in, position_of, start_of, end_of, end_after, Rises, NoteHolds, NotesHold, IsBy, TagsBelow, AllHonest}
+use Rattle.cap_shared.specs.Journal.{Replays, state_after, receipt_for, seat_entries, receipts_in, position_of, start_of, end_of, end_after, Rises, NoteHolds, NotesHold, IsBy, TagsBelow, AllHonest}
 use Rattle.cap_shared.specs.Rule.{keeper, sitter, sitting, sitting_of, NotesBegin, Fits}
 use Rattle.cap_shared.specs.Parts.{IsSeat, IsDesk}
 use Rattle.cap_shared.specs.Passes.{Pass, IsNoted, IsEntered}
+use Rattle.cap_shared.specs.Laws.{JournalsLeadToStates}
 use Rattle.cap_shared.proofs.Lists.{receipts_in-told, receipts_in-noted}
 
 pub Replays-push : (s m t : Flat resources) (es : List Entry) (e : Entry) → Replays s es m → Step m e.event t → Replays s (es ++ e ∷ []) t
 Replays-push s m t [] e r h = (t, subst (λ (x : Flat resources). Step x e.event t) (sym r) h, refl)
 Replays-push s m t (d ∷ es) e r h = (r.0, r.1, Replays-push r.0 m t es e r.2 h)
+
+-- the state that entries lead to is the one after them
+pub state_is : (s t : Flat resources) (es : List Entry) → Replays s es t → t ≡ state_after s es
+state_is s t [] r = sym r
+state_is s t (e ∷ es) r = state_is r.0 t es r.2 ∙ ap (λ (x : Flat resources). state_after x es) (step_is_determined resources s r.0 e.event r.1)
+
+pub leads_to_states : JournalsLeadToStates
+leads_to_states opening closing [] rest r = (refl, r, state_is opening closing rest r)
+leads_to_states opening closing (e ∷ first) rest r =
+    let P : Flat resources → Type 0 = λ x. Replays x first (state_after x first) × Replays (state_after x first) rest closing × (closing ≡ state_after x (first ++ rest)) in
+    let at = step_is_determined resources opening r.0 e.event r.1 in
+    let on : P (after_event opening e.event) = subst P at (leads_to_states r.0 closing first rest r.2) in
+    ((after_event opening e.event, subst (λ (x : Flat resources). Step opening e.event x) at r.1, on.0), on.1, on.2)
 
 pub TagsBelow-push : (n : ℕ) (es : List Entry) (e : Entry) → TagsBelow n es → (e.seat < n) × IsBy e.seat e.event → TagsBelow n (es ++ e ∷ [])
 TagsBelow-push n [] e h l = (l, tt)
@@ -71,12 +86,14 @@ met_less log s x limit h is less = subst (λ (y : Sitting). end_after 0 y.past <
 NotesHold-told : (o : Flat resources) (limit : ℕ) (ms : List Moment) (r : Receipt) → NotesHold o limit ms → NotesHold o limit (ms ++ Entered r ∷ [])
 NotesHold-told o limit [] r h = tt
 NotesHold-told o limit (Entered q ∷ ms) r h = NotesHold-told o limit ms r h
-NotesHold-told o limit (Noted es a ∷ ms) r h = (h.0, NotesHold-told o limit ms r h.1)
+NotesHold-told o limit (Noted es a ∷ ms) r h = (h.0, h.1, NotesHold-told o limit ms r h.2)
 
-NotesHold-noted : (o : Flat resources) (limit : ℕ) (ms : List Moment) (es : List Entry) (a : Answer) → NotesHold o limit ms → NoteHolds o limit es a → NotesHold o limit (ms ++ Noted es a ∷ [])
-NotesHold-noted o limit [] es a h k = (k, tt)
-NotesHold-noted o limit (Entered q ∷ ms) es a h k = NotesHold-noted o limit ms es a h k
-NotesHold-noted o limit (Noted fs b ∷ ms) es a h k = (h.0, NotesHold-noted o limit ms es a h.1 k)
+NotesHold-noted : (o : Flat resources) (limit : ℕ) (ms : List Moment) (es : List Entry) (cluster : Flat resources) (a : Answer) → NotesHold o limit ms → Replays o es cluster → NoteHolds limit es cluster a → NotesHold o limit (ms ++ Noted es a ∷ [])
+NotesHold-noted o limit [] es cluster a h run k =
+    let at = state_is o cluster es run in
+    (subst (λ (x : Flat resources). Replays o es x) at run, subst (λ (x : Flat resources). NoteHolds limit es x a) at k, tt)
+NotesHold-noted o limit (Entered q ∷ ms) es cluster a h run k = NotesHold-noted o limit ms es cluster a h run k
+NotesHold-noted o limit (Noted fs b ∷ ms) es cluster a h run k = (h.0, h.1, NotesHold-noted o limit ms es cluster a h.2 run k)
 
 -- the seat after a receipt, and after a note
 module _ (T : TableId) (o : Flat resources) (limit seats n : ℕ) (rs : List Receipt) (at : TableId) (me : Me Mark View) (h : IsSeat T o limit seats n rs at me) (log : List Entry) (f : Fits log (sitting_of me.0)) (at' : TableId) (same : at' ≡ at) where
@@ -96,9 +113,9 @@ module _ (T : TableId) (o : Flat resources) (limit seats n : ℕ) (rs : List Rec
       } in
       subst (λ (m : Me Mark View). IsSeat T o limit seats n rs' at' m) (sym me_is) new
 
-  pub seat_noted : (a : Answer) (rs' : List Receipt) (me' : Me Mark View) → rs' ≡ rs → NoteHolds o limit log a → me' ≡ (sitter (sitting (sitting_of me.0).seat ((sitting_of me.0).past ++ Noted log a ∷ [])), [])
+  pub seat_noted : (cluster : Flat resources) (a : Answer) (rs' : List Receipt) (me' : Me Mark View) → rs' ≡ rs → Replays o log cluster → NoteHolds limit log cluster a → me' ≡ (sitter (sitting (sitting_of me.0).seat ((sitting_of me.0).past ++ Noted log a ∷ [])), [])
       → IsSeat T o limit seats n rs' at' me'
-  seat_noted a rs' me' rs_is k me_is =
+  seat_noted cluster a rs' me' rs_is run k me_is =
       let past = (sitting_of me.0).past in
       let e = fits_ends log (sitting_of me.0) f in
       let new : IsSeat T o limit seats n rs' at' (sitter (sitting (sitting_of me.0).seat (past ++ Noted log a ∷ [])), []) = record {
@@ -108,7 +125,7 @@ module _ (T : TableId) (o : Flat resources) (limit seats n : ℕ) (rs : List Rec
         below = h.below;
         receipts_are = rs_is ∙ h.receipts_are ∙ sym (receipts_in-noted past log a);
         rises = Rises-push 0 past (Noted log a) h.rises e;
-        notes = NotesHold-noted o limit past log a h.notes k;
+        notes = NotesHold-noted o limit past log cluster a h.notes run k;
       } in
       subst (λ (m : Me Mark View). IsSeat T o limit seats n rs' at' m) (sym me_is) new
 
@@ -129,8 +146,8 @@ desk_entered T o limit seats s t log log' at at' me me' bound room room' e h ste
 
 -- the same from what was added under the lock
 module _ (T : TableId) (o : Flat resources) (limit seats : ℕ) (log : List Entry) (d d' s s' : Pass) where
-  pub noted_seat : (n : ℕ) (rs rs' : List Receipt) (a : Answer) → IsSeat T o limit seats n rs s.table_id s.me → IsNoted log a d d' s s' → rs' ≡ rs → NoteHolds o limit log a → IsSeat T o limit seats n rs' s'.table_id s'.me
-  noted_seat n rs rs' a h m same holds = seat_noted T o limit seats n rs s.table_id s.me h log m.fits s'.table_id m.seat_table a rs' s'.me same holds m.sits
+  pub noted_seat : (n : ℕ) (rs rs' : List Receipt) (cluster : Flat resources) (a : Answer) → IsSeat T o limit seats n rs s.table_id s.me → IsNoted log a d d' s s' → rs' ≡ rs → Replays o log cluster → NoteHolds limit log cluster a → IsSeat T o limit seats n rs' s'.table_id s'.me
+  noted_seat n rs rs' cluster a h m same run holds = seat_noted T o limit seats n rs s.table_id s.me h log m.fits s'.table_id m.seat_table cluster a rs' s'.me same run holds m.sits
 
   pub noted_desk : (cluster : Flat resources) (bound room : ℕ) (a : Answer) → IsDesk T o limit seats cluster log d.table_id d.me bound room → IsNoted log a d d' s s' → IsDesk T o limit seats cluster log d'.table_id d'.me bound room
   noted_desk cluster bound room a h m = record {

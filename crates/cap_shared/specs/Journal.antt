@@ -4,7 +4,7 @@ use Rattle.cap_base.specs.Limits.{resources}
 use Rattle.cap_model.specs.Flat.{Flat}
 use Rattle.cap_model.specs.Sight.{sight_of}
 use Rattle.cap_model.specs.Admission.{IsAdmissible, reason_of}
-use Rattle.cap_model.specs.Events.{Run}
+use Rattle.cap_model.specs.Events.{after_event, Run}
 use Rattle.cap_model.specs.declared.event.Event.{Event}
 use Rattle.cap_model.specs.declared.event.Event.TheVariants as event
 use Rattle.cap_shared.specs.declared.entry.Entry.{Entry}
@@ -22,6 +22,11 @@ events_in entries = map (λ e. e.event) entries
 -- the events of the entries lead from old to new, one step each
 abbrev pub Replays : Flat resources → List Entry → Flat resources → Type 0
 Replays old entries new = Run old (events_in entries) new
+
+-- the cluster after these entries, one event after the other; where they lead to a cluster, it is this one
+abbrev pub state_after : Flat resources → List Entry → Flat resources
+state_after old [] = old
+state_after old (e ∷ es) = state_after (after_event old e.event) es
 
 -- the receipt for an event that is entered at a position
 abbrev pub receipt_for : ℕ → Event resources → Receipt
@@ -63,19 +68,20 @@ abbrev pub Rises : ℕ → List Moment → Type 0
 Rises n [] = Unit {0}
 Rises n (m ∷ ms) = (n ≤ start_of m) × Rises (end_of m) ms
 
--- What an answer without an entry says of the cluster after the entries of then: a proposal is rejected for that reason, or is admissible;
--- or it says that the journal was full.
-abbrev pub NoteHolds : Flat resources → ℕ → List Entry → Answer → Type 0
-NoteHolds opening limit es (Rejected p reason) = (mid : Flat resources) × Replays opening es mid × (reason_of (sight_of mid) p ≡ Some reason)
-NoteHolds opening limit es (SealedCall request) = length es ≡ limit
-NoteHolds opening limit es (SealedCommit p) = length es ≡ limit
-NoteHolds opening limit es (NoMemory p) = (mid : Flat resources) × Replays opening es mid × IsAdmissible (sight_of mid) p
-NoteHolds opening limit es Copied = (mid : Flat resources) × Replays opening es mid
+-- What an answer without an entry says of the cluster as it was after the entries of then: a proposal is rejected for that reason, or is
+-- admissible; or it says that the journal was full.
+abbrev pub NoteHolds : ℕ → List Entry → Flat resources → Answer → Type 0
+NoteHolds limit es cluster (Rejected p reason) = reason_of (sight_of cluster) p ≡ Some reason
+NoteHolds limit es cluster (SealedCall request) = length es ≡ limit
+NoteHolds limit es cluster (SealedCommit p) = length es ≡ limit
+NoteHolds limit es cluster (NoMemory p) = IsAdmissible (sight_of cluster) p
+NoteHolds limit es cluster Copied = Unit {0}
 
+-- the entries of each note lead from the opening to the state after them, of which the note holds
 abbrev pub NotesHold : Flat resources → ℕ → List Moment → Type 0
 NotesHold opening limit [] = Unit {0}
 NotesHold opening limit (Entered r ∷ ms) = NotesHold opening limit ms
-NotesHold opening limit (Noted es a ∷ ms) = NoteHolds opening limit es a × NotesHold opening limit ms
+NotesHold opening limit (Noted es a ∷ ms) = Replays opening es (state_after opening es) × NoteHolds limit es (state_after opening es) a × NotesHold opening limit ms
 
 -- a call is by the seat that made its entry
 abbrev pub IsBy : ℕ → Event resources → Type 0

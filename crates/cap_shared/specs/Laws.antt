@@ -1,12 +1,12 @@
 -- Laws of journals.
-use Rattle.std.specs.Prelude.{List, ◌++◌}
+use Rattle.std.specs.Prelude.{◌≡◌, List, ◌++◌}
 use Rattle.cap_base.specs.Limits.{resources}
 use Rattle.cap_base.specs.Settings.{Settings}
 use Rattle.cap_base.specs.Listing.{IsListing}
 use Rattle.cap_model.specs.Flat.{Flat, opened_cluster}
 use Rattle.cap_model.specs.Bounds.{IsBounded}
 use Rattle.cap_shared.specs.declared.entry.Entry.{Entry}
-use Rattle.cap_shared.specs.Journal.{Replays}
+use Rattle.cap_shared.specs.Journal.{Replays, state_after}
 
 -- where a journal leads from a bounded cluster to another, the state after each beginning of it is bounded, and so is the last
 abbrev pub JournalsStayBounded : Type 0
@@ -19,3 +19,9 @@ abbrev pub FirstJournalsStayBounded : Type 0
 FirstJournalsStayBounded =
     (settings : Settings) (closing : Flat resources) (first rest : List Entry) → IsListing settings.queues → Replays (opened_cluster settings) (first ++ rest) closing →
     (mid : Flat resources) × Replays (opened_cluster settings) first mid × Replays mid rest closing × IsBounded mid × IsBounded closing
+
+-- where a journal leads from a cluster to another, each beginning of it leads to the state after its entries, and the whole to the last
+abbrev pub JournalsLeadToStates : Type 0
+JournalsLeadToStates =
+    (opening closing : Flat resources) (first rest : List Entry) → Replays opening (first ++ rest) closing →
+    Replays opening first (state_after opening first) × Replays (state_after opening first) rest closing × (closing ≡ state_after opening (first ++ rest))

@@ -1,5 +1,5 @@
-//! Laws of journals, for callers to cite. The function does nothing.
-ghost use Rattle.cap_shared.specs.Laws.{FirstJournalsStayBounded, JournalsStayBounded};
+//! Laws of journals, for callers to cite. The functions do nothing.
+ghost use Rattle.cap_shared.specs.Laws.{FirstJournalsStayBounded, JournalsLeadToStates, JournalsStayBounded};
 
 /// Whatever threads do, every state of the cluster is bounded, where the opening is: each queue's use is within its maximum, each
 /// user's within the user limit, no node is over its total, reservations are on different nodes, and no container number is there
@@ -8,4 +8,10 @@ ghost use Rattle.cap_shared.specs.Laws.{FirstJournalsStayBounded, JournalsStayBo
 pub fn journals_stay_bounded()
     ensures further { JournalsStayBounded }
     ensures first { FirstJournalsStayBounded }
+{}
+
+/// After so many entries of a journal the cluster is the one state that their events lead to, which is computed from the opening
+/// cluster; the journal goes on from there.
+pub fn journals_lead_to_states()
+    ensures { JournalsLeadToStates }
 {}

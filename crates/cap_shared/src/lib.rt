@@ -25,7 +25,7 @@ pub use entry::{Entry, Receipt};
 pub use event::{CompactEvent, EventForm};
 pub use faults::{CallFault, CommitFault, Fault};
 pub use history::{Answer, Mark, Moment, Sitting, View};
-pub use laws::journals_stay_bounded;
+pub use laws::{journals_lead_to_states, journals_stay_bounded};
 pub use request::CompactRequest;
 pub use seat::{Naming, Seat};
 pub use shared::{Held, Shared};

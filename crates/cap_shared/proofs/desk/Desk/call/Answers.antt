@@ -11,7 +11,7 @@ use Rattle.cap_shared.proofs.desk.Desk.call.Goals as goal
 pub invariant_of-seat : goal.invariant_of-seat
 invariant_of-seat g c =
     let len = c.self.inside.journal.ok.0 in
-    noted_seat _ _ _ _ c.self.inside.journal.items c.self.inside.pass c.note_sealed_call.new.desk c.seat.inside.pass c.note_sealed_call.new.seat _ _ _ (answer.SealedCall c.args.request.now) c.seat.invariant c.note_sealed_call.ensures refl (omega (arith, c.self.invariant.fits, c.self.invariant.limit_is))
+    noted_seat _ _ _ _ c.self.inside.journal.items c.self.inside.pass c.note_sealed_call.new.desk c.seat.inside.pass c.note_sealed_call.new.seat _ _ _ c.self.inside.cluster.flat (answer.SealedCall c.args.request.now) c.seat.invariant c.note_sealed_call.ensures refl c.self.invariant.run (omega (arith, c.self.invariant.fits, c.self.invariant.limit_is))
 
 pub returns-in_default-clause-answer : goal.returns-in_default-clause-answer
 returns-in_default-clause-answer g c =

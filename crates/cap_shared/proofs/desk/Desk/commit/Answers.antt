@@ -9,11 +9,11 @@ use Rattle.cap_shared.proofs.desk.Desk.commit.Goals as goal
 pub invariant_of-seat : goal.invariant_of-seat
 invariant_of-seat g c =
     let len = c.self.inside.journal.ok.0 in
-    noted_seat _ _ _ _ c.self.inside.journal.items c.self.inside.pass c.note_sealed_commit.new.desk c.seat.inside.pass c.note_sealed_commit.new.seat _ _ _ (answer.SealedCommit c.args.proposal) c.seat.invariant c.note_sealed_commit.ensures refl (omega (arith, c.self.invariant.fits, c.self.invariant.limit_is))
+    noted_seat _ _ _ _ c.self.inside.journal.items c.self.inside.pass c.note_sealed_commit.new.desk c.seat.inside.pass c.note_sealed_commit.new.seat _ _ _ c.self.inside.cluster.flat (answer.SealedCommit c.args.proposal) c.seat.invariant c.note_sealed_commit.ensures refl c.self.invariant.run (omega (arith, c.self.invariant.fits, c.self.invariant.limit_is))
 
 pub invariant_of-seat-in-Some : goal.invariant_of-seat-in-Some
 invariant_of-seat-in-Some g c =
-    noted_seat _ _ _ _ c.self.inside.journal.items c.self.inside.pass c.note_rejected.new.desk c.seat.inside.pass c.note_rejected.new.seat _ _ _ (answer.Rejected c.args.proposal c.in-Some.reason) c.seat.invariant c.note_rejected.ensures refl (c.self.inside.cluster.flat, c.self.invariant.run, sym c.in-Some.ensures)
+    noted_seat _ _ _ _ c.self.inside.journal.items c.self.inside.pass c.note_rejected.new.desk c.seat.inside.pass c.note_rejected.new.seat _ _ _ c.self.inside.cluster.flat (answer.Rejected c.args.proposal c.in-Some.reason) c.seat.invariant c.note_rejected.ensures refl c.self.invariant.run (sym c.in-Some.ensures)
 
 pub make-requires-clause-admitted : goal.make-requires-clause-admitted
 make-requires-clause-admitted g c =

@@ -19,7 +19,7 @@ make_proposed-requires g c =
 
 pub invariant_of-seat : goal.invariant_of-seat
 invariant_of-seat g c =
-    noted_seat _ _ _ _ c.self.inside.journal.items c.self.inside.pass c.note_no_memory.new.desk c.seat.inside.pass c.note_no_memory.new.seat _ _ _ (answer.NoMemory c.args.proposal) c.seat.invariant c.note_no_memory.ensures c.in_default.ensures.receipts (c.self.inside.cluster.flat, c.self.invariant.run, c.in_default.ensures.admissible)
+    noted_seat _ _ _ _ c.self.inside.journal.items c.self.inside.pass c.note_no_memory.new.desk c.seat.inside.pass c.note_no_memory.new.seat _ _ _ c.self.inside.cluster.flat (answer.NoMemory c.args.proposal) c.seat.invariant c.note_no_memory.ensures c.in_default.ensures.receipts c.self.invariant.run c.in_default.ensures.admissible
 
 pub invariant_of-self-2 : goal.invariant_of-self-2
 invariant_of-self-2 g c =
