@@ -1,6 +1,6 @@
 -- What is said of a run after some steps.
 use Rattle.std.proofs.Common.{◌≡◌, ℕ, ◌<◌, ◌+◌, List, [], ◌∷◌, ◌++◌, length, get_or, take, Result, Ok, Err, true, false, is_err, refl, sym, ap, subst, ◌∙◌, arith}
-use Rattle.std.proofs.lemmas.List.{take_more}
+use Rattle.std.proofs.lemmas.List.{take_all, take_more}
 use Rattle.std.proofs.lemmas.Option.{slice_get_past, slice_get-get_or}
 use Rattle.cap_base.specs.Limits.{resources}
 use Rattle.cap_model.specs.declared.event.Event.{Event}
@@ -11,9 +11,10 @@ use Rattle.cap_base.specs.declared.no_memory.NoMemory.{NoMemory}
 use Rattle.cap_world.specs.Answers.{calls_by}
 use Rattle.cap_world.specs.World.{Known, WorldState, IsWorld, IsLawful, connection_at, is_open, output_of, Adds, start}
 use Rattle.cap_world.specs.Steps.{Outcome}
-use Rattle.cap_world.specs.Making.{Makes, IsMade}
-use Rattle.cap_world.specs.Hearing.{IsHeadline}
-use Rattle.cap_world.proofs.Heard.{HeardSoFar, is_heard, heard_starved}
+use Rattle.cap_world.specs.Making.{Makes, IsMade, MadeStepsHaveTheHeadline}
+use Rattle.cap_world.specs.Hearing.{Hearing, unopened, Hears, IsHeadline}
+use Rattle.cap_world.proofs.Heard.{Agrees, HeardSoFar, hears_done, is_heard, heard_starved}
+use Rattle.cap_world.proofs.Lawful.{outcome_goes}
 
 -- the headline of a run that leaves this world
 abbrev HeadlineOf : Flat resources → List Step → ℕ → List (Event resources) → WorldState → Type 0
@@ -90,3 +91,29 @@ made_cut opening all i d r error mid new before after below made is outcome = re
   made = made;
   stops = rw (slice_get-get_or all i d below) (subst (λ (x : Result Did NoMemory). Outcome (get_or all i d) x mid new before after) is outcome);
 }
+
+-- ---- steps that were made have the headline
+
+lawful_made : (opening : Flat resources) (steps : List Step) (old new : WorldState) (before after : List (Event resources)) → Makes steps old new before after → IsLawful opening before old → IsLawful opening after new
+lawful_made opening [] old new before after made lawful =
+    subst (λ (s : WorldState). IsLawful opening after s) (sym made.0) (subst (λ (es : List (Event resources)). IsLawful opening es old) (sym made.1) lawful)
+lawful_made opening (step ∷ steps) old new before after made lawful =
+    let goes = outcome_goes step (Ok made.2) old made.0 before made.1 made.3 in
+    lawful_made opening steps made.0 new made.1 after made.4 (subst (λ (es : List (Event resources)). IsLawful opening es made.0) (sym goes.1) (goes.2 opening before lawful))
+
+heard_made : (c : ℕ) (steps : List Step) (old new : WorldState) (before after : List (Event resources)) (heard : Hearing) → Makes steps old new before after → Agrees heard (connection_at c old.connections) → (last : Hearing) × Hears c steps heard last × Agrees last (connection_at c new.connections)
+heard_made c [] old new before after heard made a = (heard, refl, subst (λ (s : WorldState). Agrees heard (connection_at c s.connections)) (sym made.0) a)
+heard_made c (step ∷ steps) old new before after heard made a =
+    let next = hears_done c step made.2 old made.0 before made.1 heard made.3 a in
+    let last = heard_made c steps made.0 new made.1 after next.0 made.4 next.2 in
+    (last.0, (next.0, next.1, last.1), last.2)
+
+pub made_steps_have_the_headline : MadeStepsHaveTheHeadline
+made_steps_have_the_headline opening steps sight events made =
+    let law = lawful_made opening steps (start opening).sight sight [] events made (record { run = refl; each = λ c. refl }) in
+    record {
+      run = law.run;
+      each = λ c.
+          let was = heard_made c steps (start opening).sight sight [] events unopened made tt in
+          (was.0, rw (take_all (length steps) steps (omega arith)) was.1, rw (slice_get_past steps (length steps) (omega arith)) (is_heard was.0 (calls_by c events) (connection_at c sight.connections) was.2 (law.each c)));
+    }

@@ -5,7 +5,7 @@ pub mod Worker
 pub mod World
 pub mod Working
 pub mod Steps
-pub mod Making
 pub mod Hearing
+pub mod Making
 pub mod Laws
 pub mod WorkerLaws

@@ -1,12 +1,13 @@
 -- Steps that are made one after the other.
-use Rattle.std.specs.Prelude.{◌≡◌, ℕ, List, [], ◌∷◌, Option, Some, None, Ok, take, slice_get}
+use Rattle.std.specs.Prelude.{◌≡◌, ℕ, List, [], ◌∷◌, length, Option, Some, None, Ok, take, slice_get}
 use Rattle.cap_base.specs.Limits.{resources}
 use Rattle.cap_model.specs.declared.event.Event.{Event}
 use Rattle.cap_model.specs.Flat.{Flat}
 use Rattle.cap_world.specs.declared.step.Step.{Step}
 use Rattle.cap_world.specs.declared.step.Did.{Did}
-use Rattle.cap_world.specs.World.{WorldState, start}
+use Rattle.cap_world.specs.World.{WorldState, is_open, output_of, start}
 use Rattle.cap_world.specs.Steps.{Outcome, Starves}
+use Rattle.cap_world.specs.Hearing.{IsHeadline}
 
 -- each step was made, or did not apply, where the one before left the world, and its events follow those of the one before
 abbrev pub Makes : List Step → WorldState → WorldState → List (Event resources) → List (Event resources) → Type 0
@@ -26,3 +27,9 @@ pub record IsMade (opening : Flat resources) (steps : List Step) (done : ℕ) (e
   pub before : List (Event resources)
   pub made : Makes (take done steps) (start opening).sight mid [] before
   pub stops : Stops (slice_get steps done) mid sight before events
+
+-- Steps that were made one after the other from an opening have the headline.
+abbrev pub MadeStepsHaveTheHeadline : Type 0
+MadeStepsHaveTheHeadline =
+    (opening : Flat resources) (steps : List Step) (sight : WorldState) (events : List (Event resources)) → Makes steps (start opening).sight sight [] events →
+    IsHeadline opening steps (length steps) events sight.cluster (λ c. output_of c sight) (λ c. is_open c sight)

@@ -1,6 +1,13 @@
 //! Laws of worlds, for callers to cite. The functions do nothing.
 ghost use Rattle.cap_world.specs.Laws.{WorldsStayBounded, OpeningsAreBounded, ContainersAreUsedOnce, ContainersAreKept, GrantsAreReportedOnce, EndsAreReportedOnce};
+ghost use Rattle.cap_world.specs.Making.{MadeStepsHaveTheHeadline};
 ghost use Rattle.cap_world.specs.WorkerLaws.{CommitsAreExact, CopiedChoicesAreMade, ProposalsAreOfCopies, QuietStepsMakeNoEvent};
+
+/// Steps that `World::step` made one after the other, from an opening on, have the headline, as those of `World::run` have it: of
+/// each nothing is asked but its `outcome`.
+pub fn made_steps_have_the_headline()
+    ensures { MadeStepsHaveTheHeadline }
+{}
 
 /// Whatever the steps, every state of the cluster is bounded, where the opening is: each queue's use is the sum under it and
 /// within its maximum, each user's within the user limit, and no node is over its total. The cluster that the settings of a

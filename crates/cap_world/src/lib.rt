@@ -13,8 +13,8 @@ mod world;
 
 pub use cap_model::NoMemory;
 pub use laws::{
-    commits_are_exact, containers_are_used_once, news_is_reported_once, proposals_are_of_copies,
-    worlds_stay_bounded,
+    commits_are_exact, containers_are_used_once, made_steps_have_the_headline,
+    news_is_reported_once, proposals_are_of_copies, worlds_stay_bounded,
 };
 pub use run::Outcome;
 pub use step::{Did, Step};
