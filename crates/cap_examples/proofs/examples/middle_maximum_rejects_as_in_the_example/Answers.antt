@@ -1,0 +1,7 @@
+use Rattle.std.specs.Prelude.{refl}
+use Rattle.cap_vector.specs.Vector.{plus, less}
+use Rattle.cap_examples.proofs.examples.middle_maximum_rejects_as_in_the_example.Goals as goal
+
+pub returns : goal.returns
+unfolding plus less
+returns c = (refl, refl, refl)

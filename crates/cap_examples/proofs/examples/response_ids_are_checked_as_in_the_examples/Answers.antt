@@ -1,0 +1,11 @@
+use Rattle.std.specs.Prelude.{refl}
+use Rattle.cap_vector.specs.Vector.{plus, less}
+use Rattle.cap_examples.proofs.examples.response_ids_are_checked_as_in_the_examples.Goals as goal
+
+pub returns-clause-ids : goal.returns-clause-ids
+unfolding plus less
+returns-clause-ids c = (refl, refl, refl, refl, refl, refl)
+
+pub returns-clause-wrap : goal.returns-clause-wrap
+unfolding plus less
+returns-clause-wrap c = (refl, refl, refl)

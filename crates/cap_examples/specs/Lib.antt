@@ -1,0 +1,4 @@
+pub mod ExampleClusters
+pub mod ExampleShares
+pub mod ExampleProposals
+pub mod ExampleCalls

@@ -1,7 +1,0 @@
-use Rattle.std.specs.Prelude.{refl}
-use Rattle.cap_vector.specs.Vector.{plus, less}
-use Rattle.cap_laws.proofs.examples.containers_are_released_as_in_the_example.Goals as goal
-
-pub returns : goal.returns
-unfolding plus less
-returns c = (refl, refl)
