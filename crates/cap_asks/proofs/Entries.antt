@@ -7,7 +7,7 @@ use Rattle.std.proofs.lemmas.Bool.Decides.{nat_tests}
 use Rattle.cap_model.specs.Flat.{App}
 use Rattle.cap_base.specs.Members.{IsRising}
 use Rattle.cap_model.specs.FinishMaster.{remove_app}
-use Rattle.cap_asks.specs.Held.{Account, HeldApp, TakesRoom, HasRoom}
+use Rattle.cap_asks.specs.Accounts.{Account, HeldApp, TakesRoom, HasRoom}
 use Rattle.cap_model.specs.Reporting.{reported_of}
 use Rattle.cap_asks.specs.Apps.{AreNumbered, UsesRoom, HasRooms, IsEntered, IsLeft, account_of, new_account}
 use Rattle.cap_model.specs.News.{AllocateReply}

@@ -13,7 +13,7 @@ use Rattle.cap_model.specs.Asking.{without_key, with_ask, put_ask}
 use Rattle.cap_model.specs.Events.{take_one}
 use Rattle.cap_model.proofs.calls.KeptAsks.{same_key_is, same_key_itself, put_is_found, others_are_found, one_less, not_same_other}
 use Rattle.cap_base.proofs.lists.Tests.{first_is}
-use Rattle.cap_asks.specs.Held.{is_before, AreAfter, AreKept, IsKeyIndex, index_of}
+use Rattle.cap_asks.specs.Accounts.{is_before, AreAfter, AreKept, IsKeyIndex, index_of}
 use Rattle.cap_base.specs.Limits.{keys_max}
 
 -- the order of keys in numbers

@@ -4,7 +4,7 @@ use Rattle.std.specs.Option.{option_map_or}
 use Rattle.std.specs.Map.{lookup}
 use Rattle.cap_model.specs.Flat.{AppTable, app_in, App}
 use Rattle.cap_model.specs.News.{AllocateReply, Grant}
-use Rattle.cap_asks.specs.Held.{Account, HeldApp}
+use Rattle.cap_asks.specs.Accounts.{Account, HeldApp}
 use Rattle.cap_model.specs.Reporting.{reported_of}
 use Rattle.cap_model.specs.declared.ask.Key.{Key}
 use Rattle.cap_model.specs.declared.news.End.{End}

@@ -1,2 +1,2 @@
 pub mod Apps
-pub mod Held
+pub mod Accounts

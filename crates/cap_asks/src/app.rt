@@ -7,7 +7,7 @@ ghost use Rattle.cap_model.specs.Allocate.{has_too_many_keys, after_telling};
 ghost use Rattle.cap_model.specs.Events.{take_one};
 ghost use Rattle.cap_model.specs.ResponseIds.{is_repeated, is_bad_id};
 ghost use Rattle.cap_model.specs.Submit.{new_app};
-ghost use Rattle.cap_asks.specs.Held.{AreKept, TakesRoom, HasRoom, repeated_numbers, with_numbers};
+ghost use Rattle.cap_asks.specs.Accounts.{AreKept, TakesRoom, HasRoom, repeated_numbers, with_numbers};
 ghost use Rattle.cap_model.specs.Reporting.{reported_of, news_most};
 ghost use Rattle.cap_asks.specs.Apps.{new_account};
 
@@ -44,7 +44,7 @@ pub struct App<const K: usize> {
 impl<const K: usize> Model for App<K> {
     ghost use Rattle.std.specs.Prelude.{◌<◌, ◌≤◌, option_map};
     ghost use Rattle.cap_base.specs.Limits.{response_end};
-    ghost use Rattle.cap_asks.specs.Held.{HeldApp};
+    ghost use Rattle.cap_asks.specs.Accounts.{HeldApp};
 
     ghost Value = { HeldApp };
 

@@ -5,7 +5,7 @@ ghost use Rattle.cap_model.specs.Flat.{ask_at};
 ghost use Rattle.cap_model.specs.Asking.{put_ask};
 ghost use Rattle.cap_base.specs.Limits.{keys_max};
 ghost use Rattle.cap_model.specs.Events.{take_one};
-ghost use Rattle.cap_asks.specs.Held.{AreKept, is_before, IsKeyIndex};
+ghost use Rattle.cap_asks.specs.Accounts.{AreKept, is_before, IsKeyIndex};
 
 use cap_model::{Ask, Key, NoMemory};
 use std::alloc::Global;
@@ -23,7 +23,7 @@ pub(crate) struct Asks<const K: usize> {
 
 impl<const K: usize> Model for Asks<K> {
     ghost use Rattle.std.specs.Prelude.{◌-◌, vec_len, vec_capacity};
-    ghost use Rattle.cap_asks.specs.Held.{HeldAsks, AreKept};
+    ghost use Rattle.cap_asks.specs.Accounts.{HeldAsks, AreKept};
 
     ghost Value = { HeldAsks };
 

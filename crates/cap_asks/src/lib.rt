@@ -8,3 +8,4 @@ mod news;
 
 pub use app::{App, Position};
 pub use apps::Apps;
+pub use cap_model::AllocateReply;

@@ -17,7 +17,7 @@ pub(crate) struct News<T> {
 impl<T> Model for News<T> {
     ghost use Rattle.std.specs.Prelude.{◌≤◌, ◌-◌, take, drop, length, vec_len, vec_capacity};
     ghost use Rattle.cap_base.specs.Limits.{news_max};
-    ghost use Rattle.cap_asks.specs.Held.{HeldNews};
+    ghost use Rattle.cap_asks.specs.Accounts.{HeldNews};
 
     ghost Value = { HeldNews T };
 

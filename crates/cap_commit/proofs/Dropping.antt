@@ -9,7 +9,7 @@ use Rattle.cap_model.specs.Flat.{Flat, Reservation, with_reserved}
 use Rattle.cap_base.proofs.lists.Members.{IsIn, found, none_in, of_filter}
 use Rattle.cap_base.proofs.lists.Filters.{length-kept}
 use Rattle.cap_nodes.proofs.Reserved.{is_elsewhere, others_elsewhere}
-use Rattle.cap_commit.specs.Held.{Held}
+use Rattle.cap_commit.specs.ClusterState.{ClusterState}
 
 -- none of those that pass stay: the others do
 pub keep_none : {A : Type 0} (t : A → Bool) (xs : List A) → keep_first t 0 xs ≡ filter (λ x. not (t x)) xs
@@ -119,22 +119,22 @@ module _ (t : Reservation → Bool) where
       by false h m k more = rw (stays (in_rest m k), h) (ap (λ xs. r ∷ xs) (more m k))
 
 -- as far as reservations that do not stay were dropped
-pub record IsKeeping {K : ℕ} (test : Reservation → Bool) (most : ℕ) (old now : Held K) : Type 0 where
+pub record IsKeeping {K : ℕ} (test : Reservation → Bool) (most : ℕ) (old now : ClusterState K) : Type 0 where
   pub flat : now.flat ≡ with_reserved now.flat.nodes.reserved old.flat
   pub accounts : now.accounts ≡ old.accounts
   pub stays : keep_first test most now.flat.nodes.reserved ≡ keep_first test most old.flat.nodes.reserved
 
-module _ {K : ℕ} (test : Reservation → Bool) (most : ℕ) (old : Held K) where
+module _ {K : ℕ} (test : Reservation → Bool) (most : ℕ) (old : ClusterState K) where
   pub none_dropped : IsKeeping test most old old
   none_dropped = record { flat = refl; accounts = refl; stays = refl }
 
-  module _ (now : Held K) (h : IsKeeping test most old now) where
+  module _ (now : ClusterState K) (h : IsKeeping test most old now) where
     -- none is left to drop
     pub all_dropped : slice_get (filter test now.flat.nodes.reserved) most ≡ None → now.flat ≡ with_reserved (keep_first test most old.flat.nodes.reserved) old.flat
     all_dropped none = h.flat ∙ ap (λ rs. with_reserved rs old.flat) (sym (all_stay test most now.flat.nodes.reserved none) ∙ h.stays)
 
     -- one more is dropped
-    module _ (x : Reservation) (apart : AreApart now.flat.nodes.reserved) (e : slice_get (filter test now.flat.nodes.reserved) most ≡ Some x) (new : Held K)
+    module _ (x : Reservation) (apart : AreApart now.flat.nodes.reserved) (e : slice_get (filter test now.flat.nodes.reserved) most ≡ Some x) (new : ClusterState K)
         (is : new.flat ≡ with_reserved (filter (is_elsewhere x.node) now.flat.nodes.reserved) now.flat) where
       left : new.flat.nodes.reserved ≡ filter (is_elsewhere x.node) now.flat.nodes.reserved
       left = ap (λ (f : Flat K). f.nodes.reserved) is

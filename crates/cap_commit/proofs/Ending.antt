@@ -26,7 +26,7 @@ use Rattle.cap_tree.proofs.OneUser.{count_where}
 use Rattle.cap_tree.specs.Rows.{Row, lowered_row, queues_of, user_row_at}
 use Rattle.cap_asks.specs.Apps.{HeldApps, UsesRoom, live_of, position_of}
 use Rattle.cap_laws.specs.Reservations.{AreReserved}
-use Rattle.cap_commit.specs.Held.{Parts, IsHeld, IsInLeaf, flat_of, of_cluster}
+use Rattle.cap_commit.specs.ClusterState.{Parts, IsCluster, IsInLeaf, flat_of, of_cluster}
 use Rattle.cap_laws.proofs.uses.Counting.{count_positive}
 use Rattle.cap_commit.proofs.Holding.{leaf_same, still_placed}
 use Rattle.cap_commit.proofs.Moving.{HasMoved, gives, may_give, moved_settings, moved_stays, tied_moved}
@@ -63,7 +63,7 @@ told_all : (cause : Cause) (c : Container) (apps : List App) → map (telling ca
 told_all cause c [] = refl
 told_all cause c (app ∷ apps) = λ i. told cause c app i ∷ told_all cause c apps i
 
-module _ {K : ℕ} (p : Parts K) (h : IsHeld p) (number : ℕ) (c : Container) (found_it : find (λ d. d.number == number) p.nodes.live ≡ Some c) where
+module _ {K : ℕ} (p : Parts K) (h : IsCluster p) (number : ℕ) (c : Container) (found_it : find (λ d. d.number == number) p.nodes.live ≡ Some c) where
   abbrev old : Flat K
   old = flat_of p
 
@@ -126,7 +126,7 @@ module _ {K : ℕ} (p : Parts K) (h : IsHeld p) (number : ℕ) (c : Container) (
 
     -- after it has ended, and its application is to be told of it
     pub held_ended : (apps' : HeldApps) (nodes' : NodeTable) (n : ℕ) (end : End) → nodes' ≡ complete (c ∷ []) p.nodes → n ≡ c.app → apps'.table ≡ change_app n (λ app. record app { ends = app.ends ++ end ∷ [] }) p.apps.table →
-        UsesRoom n 0 0 1 p.apps.accounts apps'.accounts → IsHeld (record p { rows = map (lowered_row K a.leaf a.user c.resource) p.rows; apps = apps'; nodes = nodes' })
+        UsesRoom n 0 0 1 p.apps.accounts apps'.accounts → IsCluster (record p { rows = map (lowered_row K a.leaf a.user c.resource) p.rows; apps = apps'; nodes = nodes' })
     held_ended apps' nodes' n end lift same tell room =
         let q : Parts K = record p { rows = map (lowered_row K a.leaf a.user c.resource) p.rows; apps = apps'; nodes = nodes' } in
         let f : App → App = λ app. if app.number == n then record app { ends = app.ends ++ end ∷ [] } else app in

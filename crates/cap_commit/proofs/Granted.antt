@@ -34,11 +34,11 @@ use Rattle.cap_tree.specs.Measure.{Measure}
 use Rattle.cap_tree.specs.Queue.{MayGive}
 use Rattle.cap_tree.specs.Count.{use_alone}
 use Rattle.cap_tree.specs.Rows.{Row, applied_row, queues_of, root_use, user_row_at}
-use Rattle.cap_asks.specs.Held.{Account}
+use Rattle.cap_asks.specs.Accounts.{Account}
 use Rattle.cap_asks.specs.Apps.{HasRooms, HeldApps, UsesRoom, live_of, position_of}
 use Rattle.cap_nodes.specs.Tables.{IsSound}
 use Rattle.cap_laws.specs.Reservations.{AreReserved, fits_its_node}
-use Rattle.cap_commit.specs.Held.{Parts, IsHeld, IsInLeaf, IsRowOf, flat_of, of_cluster}
+use Rattle.cap_commit.specs.ClusterState.{Parts, IsCluster, IsInLeaf, IsRowOf, flat_of, of_cluster}
 use Rattle.cap_commit.specs.Admission.{taken_back}
 use Rattle.cap_laws.proofs.uses.Counting.{count_positive}
 use Rattle.cap_commit.proofs.Granting.{grants}
@@ -137,7 +137,7 @@ twice_changed n f g same (x ∷ apps) = λ i. here (x.number == n) refl i ∷ tw
     here true e = ap (λ m. cond (m == n) (g (f x)) (f x)) (same x) ∙ ap (λ c. cond c (g (f x)) (f x)) e
     here false e = ap (λ c. cond c (g x) x) e
 
-module _ {K : ℕ} (p : Parts K) (h : IsHeld p) (q : NodeProposal) (passes : reason_of (sight_of (flat_of p)) q ≡ None) (kind : is_grant q.kind ≡ true)
+module _ {K : ℕ} (p : Parts K) (h : IsCluster p) (q : NodeProposal) (passes : reason_of (sight_of (flat_of p)) q ≡ None) (kind : is_grant q.kind ≡ true)
     (a : App) (owner : find (λ (x : App). x.number == q.app) p.apps.table.active ≡ Some a) (short : length (taken_back (sight_of (flat_of p)) q) ≤ K) (count : length q.resource ≡ K) where
   abbrev old : Flat K
   old = flat_of p
@@ -250,7 +250,7 @@ module _ {K : ℕ} (p : Parts K) (h : IsHeld p) (q : NodeProposal) (passes : rea
         made : List App → Flat K
         made apps = record { settings = old.settings; apps = record p.apps.table { active = apps }; nodes = nodes_after }
 
-    pub held_granted : IsHeld (record p { rows = map (applied_row K a.leaf a.user back q.resource) p.rows; apps = apps'; nodes = nodes_after })
+    pub held_granted : IsCluster (record p { rows = map (applied_row K a.leaf a.user back q.resource) p.rows; apps = apps'; nodes = nodes_after })
     held_granted = record {
       tied = tied_moved old (flat_of after) a.leaf a.user (use_alone back) (use_alone q.resource) (moved_to (flat_of after) change refl refl) p.rows h.tied;
       placed =

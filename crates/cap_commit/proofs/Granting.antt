@@ -27,7 +27,7 @@ use Rattle.cap_nodes.specs.Tables.{free_on}
 use Rattle.cap_tree.specs.Measure.{Measure}
 use Rattle.cap_tree.specs.Count.{use_alone}
 use Rattle.cap_tree.proofs.OneUser.{count_where}
-use Rattle.cap_commit.specs.Held.{Parts, IsHeld, flat_of}
+use Rattle.cap_commit.specs.ClusterState.{Parts, IsCluster, flat_of}
 use Rattle.cap_commit.specs.Admission.{own_reservation, taken_back}
 use Rattle.cap_commit.proofs.Moving.{HasMoved, of_test}
 use Rattle.cap_commit.proofs.Seen.{free_seen, node_there, own_is, reservation_is_seen}
@@ -89,7 +89,7 @@ its_app {K} old q passes =
     let g = of_filter (λ (app : App). app.registered) old.apps.active (m.0) (m.1) in
     some_found (λ (x : App). x.number == q.app) old.apps.active (m.0) (g.1) (ap (λ s. s.number == q.app) (m.2) ∙ f.1)
 
-module _ {K : ℕ} (p : Parts K) (h : IsHeld p) (q : NodeProposal) (passes : reason_of (sight_of (flat_of p)) q ≡ None) (kind : is_grant q.kind ≡ true) where
+module _ {K : ℕ} (p : Parts K) (h : IsCluster p) (q : NodeProposal) (passes : reason_of (sight_of (flat_of p)) q ≡ None) (kind : is_grant q.kind ≡ true) where
   abbrev old : Flat K
   old = flat_of p
 

@@ -27,7 +27,7 @@ use Rattle.cap_tree.specs.Rows.{Row, applied_row, queues_of, root_use, user_row_
 use Rattle.cap_tree.proofs.OneUser.{count_where}
 use Rattle.cap_asks.specs.Apps.{position_of}
 use Rattle.cap_laws.specs.Reservations.{AreReserved, fits_its_node}
-use Rattle.cap_commit.specs.Held.{Parts, IsHeld, IsInLeaf, IsRowOf, flat_of, of_cluster}
+use Rattle.cap_commit.specs.ClusterState.{Parts, IsCluster, IsInLeaf, IsRowOf, flat_of, of_cluster}
 use Rattle.cap_laws.proofs.uses.Counting.{count_positive}
 use Rattle.cap_nodes.specs.Tables.{IsSound}
 use Rattle.cap_commit.proofs.Granted.{live_few, reserved_few}
@@ -47,7 +47,7 @@ reserve_kind ProposalKind.Grant e = absurd (cc e)
 reserve_kind ProposalKind.Reserve e = refl
 
 -- the node of a proposal that passes is present
-pub node_of_it : {K : ℕ} (p : Parts K) (h : IsHeld p) (q : NodeProposal) → reason_of (sight_of (flat_of p)) q ≡ None → IsSome (node_in p.nodes q.node)
+pub node_of_it : {K : ℕ} (p : Parts K) (h : IsCluster p) (q : NodeProposal) → reason_of (sight_of (flat_of p)) q ≡ None → IsSome (node_in p.nodes q.node)
 node_of_it {K} p h q passes = sym (node_there p h q.node) ∙ (((rejected_exactly K (sight_of (flat_of p)) q).0 passes).0).present
 
 -- the cluster with one more reservation
@@ -58,7 +58,7 @@ reserved_is p rows' r nodes' same is = λ i. record { settings = record (flat_of
 abbrev pub reserved_of : NodeProposal → Reservation
 reserved_of q = record { app = q.app; key = q.key; node = q.node; resource = q.resource }
 
-module _ {K : ℕ} (p : Parts K) (h : IsHeld p) (q : NodeProposal) (passes : reason_of (sight_of (flat_of p)) q ≡ None) (kind : is_grant q.kind ≡ false)
+module _ {K : ℕ} (p : Parts K) (h : IsCluster p) (q : NodeProposal) (passes : reason_of (sight_of (flat_of p)) q ≡ None) (kind : is_grant q.kind ≡ false)
     (a : App) (owner : find (λ (x : App). x.number == q.app) p.apps.table.active ≡ Some a) (count : length q.resource ≡ K) where
   abbrev old : Flat K
   old = flat_of p
@@ -185,7 +185,7 @@ module _ {K : ℕ} (p : Parts K) (h : IsHeld p) (q : NodeProposal) (passes : rea
   settings : (flat_of after).settings.queues ≡ old.settings.queues
   settings = moved_settings K a.leaf a.user (use_alone (zeros K)) (use_alone q.resource) p.rows
 
-  pub held_reserved : IsHeld (record p { rows = map (applied_row K a.leaf a.user (zeros K) q.resource) p.rows; nodes = add_reservation made p.nodes })
+  pub held_reserved : IsCluster (record p { rows = map (applied_row K a.leaf a.user (zeros K) q.resource) p.rows; nodes = add_reservation made p.nodes })
   held_reserved = record {
     tied = tied_moved old (flat_of after) a.leaf a.user (use_alone (zeros K)) (use_alone q.resource) (reserves (flat_of after) refl refl) p.rows h.tied;
     placed =

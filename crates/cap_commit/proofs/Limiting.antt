@@ -29,9 +29,9 @@ use Rattle.cap_tree.specs.Spot.{item_at, path_at}
 use Rattle.cap_tree.specs.Limits.{over_limit}
 use Rattle.cap_tree.specs.Limits as limits
 use Rattle.cap_tree.specs.Rows.{Row, AreRows, IsAt, queues_of, rows_to, settings_of_row}
-use Rattle.cap_tree.specs.declared.limits.OverLimit.{OverLimit}
-use Rattle.cap_tree.specs.declared.limits.OverLimit.TheVariants.{Maximum, User}
-use Rattle.cap_commit.specs.Held.{Parts, IsHeld, IsRowOf, flat_of}
+use Rattle.cap_tree.specs.declared.over_limit.OverLimit.{OverLimit}
+use Rattle.cap_tree.specs.declared.over_limit.OverLimit.TheVariants.{Maximum, User}
+use Rattle.cap_commit.specs.ClusterState.{Parts, IsCluster, IsRowOf, flat_of}
 use Rattle.cap_commit.specs.Admission.{limit_tests, place_tests, size_tests, taken_back}
 use Rattle.cap_tree.specs.QueueLaws.{user_counts}
 use Rattle.cap_commit.proofs.RowsAt.{IsRowAt, row_at, found_row}
@@ -106,7 +106,7 @@ which None maxima true e = ap (λ b. cond (not b) (Some (OverMaximum 0)) None) e
 which None maxima false e = ap (λ b. cond (not b) (Some (OverMaximum 0)) (Some OverUser)) e
 which (Some n) maxima user e = ap (λ b. cond (not b) (Some (OverMaximum n)) (cond (not user) (Some OverUser) None)) e
 
-module _ {K : ℕ} (p : Parts K) (h : IsHeld p) (q : NodeProposal) where
+module _ {K : ℕ} (p : Parts K) (h : IsCluster p) (q : NodeProposal) where
   abbrev cluster : Flat K
   cluster = flat_of p
 

@@ -23,7 +23,7 @@ use Rattle.cap_tree.specs.Rows.{Row, IsAt, moved_row, queues_of, user_row_at}
 use Rattle.cap_tree.proofs.Listings.{settings_stay}
 use Rattle.cap_base.proofs.paths.Paths.{under_itself}
 use Rattle.cap_tree.proofs.OneUser.{count_where, moved_own, some_row}
-use Rattle.cap_commit.specs.Held.{IsRowOf, of_cluster}
+use Rattle.cap_commit.specs.ClusterState.{IsRowOf, of_cluster}
 use Rattle.cap_commit.proofs.RowsAt.{still_at}
 use Rattle.cap_commit.proofs.Ties.{changed_path, changed_position, changed_row, changed_rows, in_queue, of_user_in}
 

@@ -10,7 +10,7 @@ use Rattle.cap_base.proofs.lists.Members.{IsIn, in_filter, each_of, of_each}
 use Rattle.cap_laws.proofs.calls.Lessening.{IsSite, change_stands}
 use Rattle.cap_model.proofs.uses.Measures.{standing}
 use Rattle.cap_laws.proofs.calls.Moves.{ends_change}
-use Rattle.cap_asks.specs.Held.{Account}
+use Rattle.cap_asks.specs.Accounts.{Account}
 use Rattle.cap_asks.specs.Apps.{UsesRoom, live_of}
 
 -- how many live containers an application has

@@ -12,14 +12,14 @@ use Rattle.cap_tree.specs.Spot.{item_at, path_at}
 use Rattle.cap_tree.specs.Queue.{Queue}
 use Rattle.cap_tree.specs.Rows.{Row, AreRows, IsAt, queues_of, root_use, settings_of_row, has_children, is_running}
 use Rattle.cap_model.specs.declared.report.QueueReport.{QueueReport}
-use Rattle.cap_commit.specs.Held.{Parts, IsHeld, IsRowOf, flat_of}
+use Rattle.cap_commit.specs.ClusterState.{Parts, IsCluster, IsRowOf, flat_of}
 use Rattle.cap_laws.proofs.bounds.KeptReservations.{report_is}
 use Rattle.cap_commit.proofs.RowsAt.{IsRowAt, row_at, found_row, active_few}
 
 some_same : {A : Type 0} (x y : A) → Some x ≡ Some y → x ≡ y
 some_same x y e = cc e
 
-module _ {K : ℕ} (p : Parts K) (path position : List ℕ) (tree : AreRows p.rows) (at : IsAt p.rows path position) (h : IsHeld p) where
+module _ {K : ℕ} (p : Parts K) (path position : List ℕ) (tree : AreRows p.rows) (at : IsAt p.rows path position) (h : IsCluster p) where
   abbrev rows : List Row
   rows = p.rows
 
@@ -63,7 +63,7 @@ module _ {K : ℕ} (p : Parts K) (path position : List ℕ) (tree : AreRows p.ro
       (ap (λ (x : Queue). x.active) (sym item) ∙ tied.active ∙ ap (λ x. count_by (λ (a : App). is_under x a.leaf) cluster.apps.active) it.path_is)
 
 -- what the root uses is what the flat cluster says of `root`
-module _ {K : ℕ} (p : Parts K) (tree : AreRows p.rows) (h : IsHeld p) where
+module _ {K : ℕ} (p : Parts K) (tree : AreRows p.rows) (h : IsCluster p) where
   of_first : (rows : List Row) → IsListedFromRoot (queues_of rows) → ((r : Row) → IsIn r rows → IsRowOf (flat_of p) r) → root_use rows ≡ queue_use (flat_of p) root_path
   of_first [] l tied = absurd l
   of_first (r ∷ rows) l tied = (tied r (inl refl)).used ∙ ap (queue_use (flat_of p)) l.0

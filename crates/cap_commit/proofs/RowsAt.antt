@@ -14,7 +14,7 @@ use Rattle.cap_base.proofs.lists.Tests.{bytes_itself}
 use Rattle.cap_tree.specs.Spot.{HoldsOfItem, IsPosition, item_at, path_at}
 use Rattle.cap_tree.specs.Rows.{Row, AreRows, IsAt, queues_of, settings_of_row, active_in}
 use Rattle.cap_tree.proofs.RowPaths.{at_position}
-use Rattle.cap_commit.specs.Held.{Parts, IsHeld, IsRowOf, flat_of}
+use Rattle.cap_commit.specs.ClusterState.{Parts, IsCluster, IsRowOf, flat_of}
 
 -- of paths that are all others, each is found
 or_no : (a b : Bool) → a || b ≡ false → (a ≡ false) × (b ≡ false)
@@ -70,13 +70,13 @@ is_found rows path position h =
         either false f = f
 
 -- no queue has more applications than are allowed
-pub active_few : {K : ℕ} (p : Parts K) → IsHeld p → (r : Row) → IsIn r p.rows → r.item.active ≤ applications_max
+pub active_few : {K : ℕ} (p : Parts K) → IsCluster p → (r : Row) → IsIn r p.rows → r.item.active ≤ applications_max
 active_few p h r m =
     let t = (each_of (IsRowOf (flat_of p)) p.rows h.tied r m).active in
     let few = h.few in
     omega (arith, t, few, count_by-le-length (λ (app : App). is_under r.path app.leaf) p.apps.table.active)
 
-pub all_few : {K : ℕ} (p : Parts K) → IsHeld p → active_in p.rows ≤ applications_max
+pub all_few : {K : ℕ} (p : Parts K) → IsCluster p → active_in p.rows ≤ applications_max
 all_few p h = by p.rows (λ r m. active_few p h r m)
   where
     by : (rows : List Row) → ((r : Row) → IsIn r rows → r.item.active ≤ applications_max) → active_in rows ≤ applications_max

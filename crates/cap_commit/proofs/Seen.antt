@@ -21,7 +21,7 @@ use Rattle.cap_laws.proofs.choice.Proposers.{seen_is}
 use Rattle.cap_laws.proofs.bounds.Wanting.{nodes_on, on_nodes}
 use Rattle.cap_nodes.specs.Tables.{free_on}
 use Rattle.cap_laws.specs.Reservations.{AreReserved, fits_its_node}
-use Rattle.cap_commit.specs.Held.{Parts, IsHeld, flat_of}
+use Rattle.cap_commit.specs.ClusterState.{Parts, IsCluster, flat_of}
 use Rattle.cap_commit.specs.Admission.{own_reservation}
 use Rattle.cap_laws.proofs.bounds.ReservedNodes.{its_node_there}
 
@@ -29,7 +29,7 @@ use Rattle.cap_laws.proofs.bounds.ReservedNodes.{its_node_there}
 abbrev pub suits_node : List ℕ → ClusterNode → Bool
 suits_node place node = bytes_eq place (42 ∷ []) || bytes_eq place node.host || bytes_eq place node.rack
 
-module _ {K : ℕ} (p : Parts K) (h : IsHeld p) where
+module _ {K : ℕ} (p : Parts K) (h : IsCluster p) where
   abbrev cluster : Flat K
   cluster = flat_of p
 

@@ -12,7 +12,7 @@ use Rattle.cap_tree.specs.Measure.{Measure}
 use Rattle.cap_tree.specs.Queue.{Queue, IsUnused, of_user, with_running}
 use Rattle.cap_tree.specs.UserLaws.{no_user_counts}
 use Rattle.cap_tree.specs.Rows.{Row, changed_at, with_state}
-use Rattle.cap_commit.specs.Held.{IsRowOf, of_cluster}
+use Rattle.cap_commit.specs.ClusterState.{IsRowOf, of_cluster}
 use Rattle.cap_laws.proofs.uses.Idle.{idle_use}
 
 -- what counts for a queue, and for a user in a leaf

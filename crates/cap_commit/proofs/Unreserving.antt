@@ -17,7 +17,7 @@ use Rattle.cap_tree.specs.Rows.{Row, lowered_row, queues_of, user_row_at}
 use Rattle.cap_asks.specs.Apps.{position_of}
 use Rattle.cap_model.specs.Bounds.{AreApart}
 use Rattle.cap_nodes.proofs.Reserved.{is_elsewhere, others_elsewhere}
-use Rattle.cap_commit.specs.Held.{Parts, IsHeld, IsInLeaf, flat_of, of_cluster}
+use Rattle.cap_commit.specs.ClusterState.{Parts, IsCluster, IsInLeaf, flat_of, of_cluster}
 use Rattle.cap_laws.proofs.uses.Counting.{count_positive}
 use Rattle.cap_commit.proofs.Holding.{leaf_same, still_placed}
 use Rattle.cap_commit.proofs.Moving.{HasMoved, gives, may_give, moved_settings, moved_stays, tied_moved}
@@ -65,7 +65,7 @@ place_of n (x ∷ rs) r a e = by (x.node == n) refl e (place_of n rs r a.1)
           gone = ap (λ xs. x ∷ xs) later.gone ∙ sym (ap (λ b. cond (not b) (x ∷ filter (is_elsewhere n) rs) (filter (is_elsewhere n) rs)) h);
         }
 
-module _ {K : ℕ} (p : Parts K) (h : IsHeld p) (i : ℕ) (r : Reservation) (below : i < length p.nodes.reserved) (at : r ≡ get_or p.nodes.reserved i r) where
+module _ {K : ℕ} (p : Parts K) (h : IsCluster p) (i : ℕ) (r : Reservation) (below : i < length p.nodes.reserved) (at : r ≡ get_or p.nodes.reserved i r) where
   abbrev old : Flat K
   old = flat_of p
 
@@ -110,8 +110,8 @@ module _ {K : ℕ} (p : Parts K) (h : IsHeld p) (i : ℕ) (r : Reservation) (bel
         may_give old dropped a.leaf a.user (use_alone r.resource) (zero_count K) (less_used old.settings) some_active p.rows h.tied (position_of a.number p.apps.accounts) row.row row.member row.path_is row.item_is
 
     -- after it was dropped
-    pub held_dropped : (nodes' : NodeTable) → nodes' ≡ record p.nodes { reserved = remove p.nodes.reserved i } → IsHeld (record p { rows = map (lowered_row K a.leaf a.user r.resource) p.rows; nodes = nodes' })
-    held_dropped nodes' is = subst (λ (t : NodeTable). IsHeld (record p { rows = map (lowered_row K a.leaf a.user r.resource) p.rows; nodes = t })) (sym is) here
+    pub held_dropped : (nodes' : NodeTable) → nodes' ≡ record p.nodes { reserved = remove p.nodes.reserved i } → IsCluster (record p { rows = map (lowered_row K a.leaf a.user r.resource) p.rows; nodes = nodes' })
+    held_dropped nodes' is = subst (λ (t : NodeTable). IsCluster (record p { rows = map (lowered_row K a.leaf a.user r.resource) p.rows; nodes = t })) (sym is) here
       where
         q : Parts K
         q = record p { rows = map (lowered_row K a.leaf a.user r.resource) p.rows; nodes = record p.nodes { reserved = remove p.nodes.reserved i } }
@@ -119,7 +119,7 @@ module _ {K : ℕ} (p : Parts K) (h : IsHeld p) (i : ℕ) (r : Reservation) (bel
         settings : (flat_of q).settings.queues ≡ old.settings.queues
         settings = moved_settings K a.leaf a.user (use_alone r.resource) (zero_count K) p.rows
 
-        here : IsHeld q
+        here : IsCluster q
         here = record {
           tied = tied_moved old (flat_of q) a.leaf a.user (use_alone r.resource) (zero_count K) (less_used (flat_of q).settings) p.rows h.tied;
           placed =

@@ -1,3 +1,3 @@
-pub mod Held
+pub mod ClusterState
 pub mod Owners
 pub mod Admission

@@ -20,13 +20,13 @@ ghost use Rattle.cap_model.specs.Heartbeat.{after_beat};
 ghost use Rattle.cap_tree.specs.Rows.{IsAt, queues_of};
 ghost use Rattle.cap_tree.specs.Spot.{IsPosition, path_at};
 ghost use Rattle.cap_asks.specs.Apps.{KeepsNumbers, ask_room, HasRooms, UsesRoom, position_of};
-ghost use Rattle.cap_commit.specs.Held.{IsRowOf};
+ghost use Rattle.cap_commit.specs.ClusterState.{IsRowOf};
 ghost use Rattle.cap_laws.specs.Reservations.{kept_by_ask};
 ghost use Rattle.cap_commit.specs.Owners.{owns, containers_owned, containers_named};
 
 use crate::limits::Limits;
 use crate::owner::Owner;
-use crate::report::report_of;
+use crate::queue_report::report_of;
 use cap_asks::{Apps, Position};
 use cap_model::{
     Ask, Cause, Config, End, HeartbeatReply, NoMemory, PathText, QueueReport, Reported, ShortText,
@@ -60,20 +60,20 @@ impl<const K: usize> Drop for Cluster<K> {
 impl<const K: usize> Model for Cluster<K> {
     ghost use Rattle.std.specs.Coded.{codes};
     ghost use Rattle.cap_tree.specs.Queue.{users_code};
-    ghost use Rattle.cap_commit.specs.Held.{Held, held_of, IsHeld};
+    ghost use Rattle.cap_commit.specs.ClusterState.{ClusterState, cluster_of, IsCluster};
 
-    ghost Value = { Held K };
+    ghost Value = { ClusterState K };
 
     ghost coded = { Prim.hlevel (codes, users_code) };
 
-    ghost view = { λ c. held_of (record {
+    ghost view = { λ c. cluster_of (record {
       rows = c.tree.value;
       limits = c.limits;
       apps = c.apps;
       nodes = c.nodes;
     }) };
 
-    ghost invariant = { λ c. IsHeld {K = K} (record {
+    ghost invariant = { λ c. IsCluster {K = K} (record {
       rows = c.tree.value;
       limits = c.limits;
       apps = c.apps;

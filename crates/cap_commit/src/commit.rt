@@ -49,7 +49,7 @@ impl<const K: usize> Cluster<K> {
             Ok(number) => number,
             Err(NoMemory) => return Err(NoMemory),
         };
-        self.nodes.unreserve_on(node);
+        self.nodes.unreserve(node);
         let Some(home) = self.nodes.node(node) else {
             unreachable!()
         };

@@ -6,8 +6,8 @@ mod cluster;
 mod commit;
 mod limits;
 mod owner;
+mod queue_report;
 mod replies;
-mod report;
 mod reservations;
 
 pub use cap_asks::{App, Apps, Position};

@@ -21,7 +21,7 @@ impl<const K: usize> Cluster<K> {
         };
         let tree = &mut *self.tree;
         tree.give_back(app.position(), app.user(), &reservation.resource());
-        self.nodes.unreserve_on(reservation.node());
+        self.nodes.unreserve(reservation.node());
     }
 
     /// Drops all reservations of an application.

@@ -11,7 +11,7 @@ use Rattle.cap_base.specs.properties.Entries.{read_lines}
 use Rattle.cap_base.specs.properties.Tests.{or_else, shape_fault, allocation_line, no_child_line, no_such_queue_line, too_deep_line, too_many_line, over_maximum_line, over_parent_line, whole_fault}
 use Rattle.cap_base.specs.properties.Rows.{settings_of}
 use Rattle.cap_base.specs.properties.First.{fault_after, first_fault, AnswersFault, settings_in, settings_after, unless_fault}
-use Rattle.cap_config.proofs.Steps.{fails_after}
+use Rattle.cap_config.proofs.NextLine.{fails_after}
 
 pub early_by_line : (text : List ℕ) (fault : ConfigFault) → read_lines (lines text) ≡ Err fault → first_fault text ≡ Some fault
 unfolding first_fault

@@ -3,7 +3,7 @@ pub mod QueueKeys
 pub mod Resources
 pub mod Among
 pub mod NameLists
-pub mod Steps
+pub mod NextLine
 pub mod Places
 pub mod Above
 pub mod Trees

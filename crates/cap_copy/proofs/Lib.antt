@@ -1,7 +1,7 @@
 pub mod Blocks
 pub mod Found
 pub mod Limiting
-pub mod Serving
+pub mod ServedAsks
 pub mod Sights
-pub mod Steps
+pub mod LoopSteps
 pub mod Fitting

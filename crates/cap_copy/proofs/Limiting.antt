@@ -16,10 +16,10 @@ use Rattle.cap_base.proofs.lists.Members.{IsIn, all_in, of_filter}
 use Rattle.cap_tree.specs.Queue.{Queue}
 use Rattle.cap_tree.specs.Rows.{Row, items_to}
 use Rattle.cap_tree.specs.Spot.{item_at, path_at}
-use Rattle.cap_asks.specs.Held.{HeldApp}
+use Rattle.cap_asks.specs.Accounts.{HeldApp}
 use Rattle.cap_copy.specs.Limits.{AreStored, IsEachOnce, IsLast, IsUserAdded, IsUserSeen, StoredUser, fits_in_queue, limit_at, limit_in, limit_of, limits_in, no_limit, no_user, queue_use}
 use Rattle.cap_copy.specs.Snapshot.{Limit, QueueUse, stays_within}
-use Rattle.cap_copy.proofs.Steps.{slice_get_in}
+use Rattle.cap_copy.proofs.LoopSteps.{slice_get_in}
 
 -- all so far pass a test, and one that doesn't
 module _ {A : Type 0} (t : A → Bool) (xs : List A) (i : ℕ) (x : A) (lt : i < length xs) (is : x ≡ get_or xs i x) where

@@ -25,11 +25,11 @@ use Rattle.cap_tree.specs.Queue.{Queue}
 use Rattle.cap_tree.specs.Rows.{AreRows, IsAt, Row, items_to, rows_to}
 use Rattle.cap_tree.specs.Service.{levels_at}
 use Rattle.cap_tree.specs.ServiceOrder.{IsServiceOrder, position_nth}
-use Rattle.cap_tree.specs.Serving.{Waiter}
+use Rattle.cap_tree.specs.ServedWaiters.{Waiter}
 use Rattle.cap_tree.specs.Spot.{IsPosition, path_at}
 use Rattle.cap_tree.proofs.RowPaths.{at_position}
 use Rattle.cap_asks.specs.Apps.{account_of, position_of}
-use Rattle.cap_asks.specs.Held.{Account, AreKept, HeldApp}
+use Rattle.cap_asks.specs.Accounts.{Account, AreKept, HeldApp}
 use Rattle.cap_asks.proofs.Keeping.{before_not_same}
 use Rattle.cap_copy.specs.Entries.{ask_entries, registered_of, wanted_of}
 use Rattle.cap_copy.specs.Limits.{IsEachOnce, limit_in, limit_of, no_limit, queue_use}
@@ -37,8 +37,8 @@ use Rattle.cap_copy.specs.Snapshot.{AskEntry, IsAskEntry, IsLimitOf, IsSnapshot,
 use Rattle.cap_copy.specs.Taking.{IsSnapshotOf, node_seen}
 use Rattle.cap_copy.proofs.Blocks.{asks_for_is}
 use Rattle.cap_copy.proofs.Found.{row_found}
-use Rattle.cap_copy.proofs.Serving.{after_in, all_in_order, ask_in, levels_of, once}
-use Rattle.cap_copy.proofs.Steps.{slice_get_in}
+use Rattle.cap_copy.proofs.ServedAsks.{after_in, all_in_order, ask_in, levels_of, once}
+use Rattle.cap_copy.proofs.LoopSteps.{slice_get_in}
 
 -- the index of what is in a list
 index_in : {A : Type 0} (xs : List A) (x : A) → IsIn x xs → (i : ℕ) × (slice_get xs i ≡ Some x)

@@ -7,7 +7,7 @@ use Rattle.cap_base.specs.LimitTests.{fits_maximum}
 use Rattle.cap_tree.specs.Queue.{Queue, use_of, user_row}
 use Rattle.cap_tree.specs.Rows.{Row, items_to}
 use Rattle.cap_tree.specs.Spot.{item_at, path_at}
-use Rattle.cap_asks.specs.Held.{HeldApp}
+use Rattle.cap_asks.specs.Accounts.{HeldApp}
 use Rattle.cap_copy.specs.Snapshot.{Limit, QueueUse}
 
 abbrev pub queue_use : Queue → QueueUse

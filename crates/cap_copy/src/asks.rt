@@ -2,7 +2,7 @@
 ghost use Rattle.std.specs.Prelude.{◌≡◌, ◌<◌, ◌≤◌, ◌++◌, IfOk, OnOk, length, map};
 ghost use Rattle.std.specs.List.{All};
 ghost use Rattle.cap_base.specs.Limits.{resources_max};
-ghost use Rattle.cap_asks.specs.Held.{AreKept};
+ghost use Rattle.cap_asks.specs.Accounts.{AreKept};
 ghost use Rattle.cap_copy.specs.Entries.{ask_entries, asks_of, wanted_of};
 
 use crate::registered::Registered;

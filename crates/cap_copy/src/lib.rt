@@ -2,10 +2,10 @@
 #![tactic(auto)]
 
 mod asks;
-mod limits;
 mod nodes;
 mod registered;
 mod seen;
+mod seen_limits;
 mod snapshot;
 mod taking;
 

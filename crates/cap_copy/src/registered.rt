@@ -5,7 +5,7 @@ ghost use Rattle.cap_base.specs.Members.{IsRising};
 ghost use Rattle.cap_base.specs.Limits.{applications_max};
 ghost use Rattle.cap_asks.specs.Apps.{account_of};
 ghost use Rattle.cap_copy.specs.Entries.{registered_of};
-ghost use Rattle.cap_tree.specs.Serving.{AreNumbered};
+ghost use Rattle.cap_tree.specs.ServedWaiters.{AreNumbered};
 
 use cap_asks::{App, Apps};
 use cap_model::NoMemory;
@@ -20,7 +20,7 @@ pub(crate) struct Registered<'a, const K: usize> {
 }
 
 impl<'a, const K: usize> Model for Registered<'a, K> {
-    ghost use Rattle.cap_asks.specs.Held.{HeldApp};
+    ghost use Rattle.cap_asks.specs.Accounts.{HeldApp};
 
     ghost Value = { HeldApp };
 

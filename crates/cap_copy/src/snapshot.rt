@@ -4,8 +4,8 @@ ghost use Rattle.std.specs.List.{slice_get};
 ghost use Rattle.cap_base.specs.Cascade.{holds_of};
 ghost use Rattle.cap_copy.specs.Snapshot.{IsSnapshot, stays_within};
 
-use crate::limits::Limits;
 use crate::seen::{SeenAsk, SeenNode};
+use crate::seen_limits::SeenLimits;
 use cap_asks::Apps;
 use cap_tree::QueueTree;
 use cap_vector::Resource;
@@ -18,7 +18,7 @@ use std::marker::Model;
 /// number of the next. It is a value of its own, and no change of the cluster is seen in it. Contracts see the sight of the cluster.
 #[derive(Drop)]
 pub struct Snapshot<const K: usize, B: Allocator> {
-    pub(crate) limits: Limits<K, B>,
+    pub(crate) limits: SeenLimits<K, B>,
     pub(crate) asks: Vec<SeenAsk<K>, B>,
     pub(crate) nodes: Vec<SeenNode<K>, B>,
     pub(crate) live: usize,

@@ -10,9 +10,9 @@ ghost use Rattle.cap_copy.specs.Sizes.{CopyFitsInMemory};
 ghost use Rattle.cap_copy.specs.Taking.{IsSnapshotOf};
 
 use crate::asks::seen_asks;
-use crate::limits::limits_of;
 use crate::nodes::seen_nodes;
 use crate::registered::{registered_apps, waiters};
+use crate::seen_limits::limits_of;
 use crate::snapshot::Snapshot;
 use cap_asks::Apps;
 use cap_model::NoMemory;

@@ -3,8 +3,8 @@
 #![tactic(auto)]
 
 mod serve;
-mod words;
+mod with_serve;
 
 pub use cap_commands::{Counted, replay};
 pub use cap_server::{Sizes, serve_on};
-pub use words::run;
+pub use with_serve::run;

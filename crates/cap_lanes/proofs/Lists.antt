@@ -12,7 +12,7 @@ use Rattle.cap_lanes.specs.declared.item.Item.{Item}
 use Rattle.cap_lanes.specs.declared.view.Lane.{Lane}
 use Rattle.cap_lanes.specs.declared.view.View.{View}
 use Rattle.cap_lanes.specs.Items.{messages_of, proposals, is_over, EndsLast, puts_if, puts_in, tagged}
-use Rattle.cap_lanes.specs.Rule.{lane, fresh, rest_of, head_of, Fits, AllFit, times, total, WorkersBelow}
+use Rattle.cap_lanes.specs.ChannelRule.{lane, fresh, rest_of, head_of, Fits, AllFit, times, total, WorkersBelow}
 
 abbrev pub one : ℕ → ℕ → ℕ
 one a x = if a == x then 1 else 0

@@ -10,7 +10,7 @@ use Rattle.cap_lanes.specs.declared.item.Item.{Item}
 use Rattle.cap_lanes.specs.declared.view.Lane.{Lane}
 use Rattle.cap_lanes.specs.declared.view.View.{View}
 use Rattle.cap_lanes.specs.Items.{messages_of, is_over, EndsLast}
-use Rattle.cap_lanes.specs.Rule.{lane, view_of, sender, nobody, first_view, without_first, only_first, with_guest, Fits, Sound, Knows, Holds, Tally, Tells, IsPut, IsTaken, lane_of}
+use Rattle.cap_lanes.specs.ChannelRule.{lane, view_of, sender, nobody, first_view, without_first, only_first, with_guest, Fits, Sound, Knows, Holds, Tally, Tells, IsPut, IsTaken, lane_of}
 use Rattle.cap_lanes.proofs.Lists.{one, one_same, same_of, test_same, messages_of-append, times-append, times-parts, total-set, total-push, total_at, total_two, fresh_fits, fresh_once, all_fit-append, all_fit_rest, all_fit_head, all_fit_popped, all_fit_others, fits_mine, of_mine, of_other, of_pushed, of_popped, WorkersBelow-push, EndsLast-push, not_over_before}
 
 off : false ≡ true → ⊥

@@ -14,7 +14,7 @@ use Rattle.cap_lanes.specs.declared.item.Message.TheVariants.{Put, End}
 use Rattle.cap_lanes.specs.declared.item.Item.{Item}
 use Rattle.cap_lanes.specs.declared.view.View.{View}
 use Rattle.cap_lanes.specs.Items.{proposals, is_over}
-use Rattle.cap_lanes.specs.Rule.{sender, lane_of, IsPut}
+use Rattle.cap_lanes.specs.ChannelRule.{sender, lane_of, IsPut}
 use Rattle.cap_lanes.specs.Sides.{LanesId, WorkerSide, worker_side}
 use Rattle.cap_lanes.specs.Ends.{IsSender, IsOpen, IsShut, put_in}
 use Rattle.cap_lanes.proofs.Lists.{proposals-append, is_over-push_put, is_over-push_end}

@@ -8,7 +8,7 @@ use Rattle.cap_lanes.specs.declared.item.Message.TheVariants.{Put, End}
 use Rattle.cap_lanes.specs.declared.item.Item.{Item}
 use Rattle.cap_lanes.specs.declared.view.View.{View}
 use Rattle.cap_lanes.specs.Items.{messages_of, is_over, puts_if, puts_in}
-use Rattle.cap_lanes.specs.Rule.{view_of, taker, IsTaken, Tally}
+use Rattle.cap_lanes.specs.ChannelRule.{view_of, taker, IsTaken, Tally}
 use Rattle.cap_lanes.specs.Ends.{Flags}
 use Rattle.cap_lanes.proofs.Lists.{messages_of-append, of_mine, of_other, is_over-push_put, is_over-push_end, puts_in-append, length-puts_in, same_of}
 use Rattle.cap_lanes.proofs.Tallies.{weight, weight_is, AllEnded, IsSoFar}

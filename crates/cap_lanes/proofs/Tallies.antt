@@ -8,7 +8,7 @@ use Rattle.cap_lanes.specs.declared.item.Item.{Item}
 use Rattle.cap_lanes.specs.declared.view.Lane.{Lane}
 use Rattle.cap_lanes.specs.Items.{messages_of, proposals, is_over, puts_in, tagged}
 use Rattle.cap_lanes.specs.declared.view.View.{View}
-use Rattle.cap_lanes.specs.Rule.{view_of, AllFit, times, WorkersBelow, Tally, puts_by}
+use Rattle.cap_lanes.specs.ChannelRule.{view_of, AllFit, times, WorkersBelow, Tally, puts_by}
 use Rattle.cap_lanes.specs.Sides.{WorkerSide, Alike, put_by, ends_of, AllOver}
 use Rattle.cap_lanes.specs.Ends.{Flags}
 use Rattle.cap_lanes.proofs.Lists.{one, same_of, proposals-append, puts_in-append, tagged-append, tagged_puts}

@@ -11,7 +11,7 @@ use Rattle.cap_lanes.specs.declared.item.Item.{Item}
 use Rattle.cap_lanes.specs.declared.view.Lane.{Lane}
 use Rattle.cap_lanes.specs.declared.view.View.{View}
 use Rattle.cap_lanes.specs.Items.{messages_of, is_over, proposals, puts_in, tagged}
-use Rattle.cap_lanes.specs.Rule.{sender, taker, lane_of, puts_by}
+use Rattle.cap_lanes.specs.ChannelRule.{sender, taker, lane_of, puts_by}
 use Rattle.cap_lanes.specs.Sides.{LanesId, WorkerSide, Alike}
 
 -- what the worker of a pass put

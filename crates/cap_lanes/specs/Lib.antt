@@ -1,4 +1,4 @@
 pub mod Items
-pub mod Rule
+pub mod ChannelRule
 pub mod Sides
 pub mod Ends

@@ -1,13 +1,13 @@
 //! Lanes from eight workers to one committer: each worker puts proposals in order, and the committer takes each once.
 #![tactic(auto)]
 
+mod channel_rule;
 mod committer;
 mod faults;
 mod item;
 mod making;
 mod putter;
 mod putting;
-mod rule;
 mod taking;
 mod view;
 

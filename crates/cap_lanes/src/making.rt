@@ -2,15 +2,15 @@
 ghost use Rattle.std.specs.Prelude.{◌≡◌, ◌≤◌, ◌<◌, ◌+◌, [], IfOk};
 ghost use Rattle.crossbeam_channel.specs.Ends.{sends_on, ruled_capacity};
 ghost use Rattle.crossbeam_channel.specs.Claims.{view, IsSeatAt};
-ghost use Rattle.cap_lanes.specs.Rule.{taker, fresh};
+ghost use Rattle.cap_lanes.specs.ChannelRule.{taker, fresh};
 ghost use Rattle.cap_lanes.specs.Ends.{lanes_id};
 ghost use Rattle.cap_lanes.specs.Sides.{worker_side, eight_workers, NoneOver};
 
+use crate::channel_rule::{Handover, LanesRule};
 use crate::committer::Committer;
 use crate::item::Item;
 use crate::putter::Putter;
 use crate::putting::{Back, LanePass};
-use crate::rule::{Handover, LanesRule};
 use crate::view::View;
 use cap_model::{NoMemory, Proposal};
 use crossbeam_channel::bounded_with;

@@ -3,9 +3,9 @@ ghost use Rattle.std.specs.Prelude.{◌≡◌, ◌++◌, ◌∷◌, [], MatchRes
 ghost use Rattle.crossbeam_channel.specs.Ends.{sends_on};
 ghost use Rattle.cap_lanes.specs.Ends.{IsOpen, IsShut, put_in};
 
+use crate::channel_rule::{LanesRule, Puts};
 use crate::faults::PutFault;
 use crate::item::{Item, Message};
-use crate::rule::{LanesRule, Puts};
 use crate::view::View;
 use cap_base::RESOURCES;
 use cap_model::Proposal;

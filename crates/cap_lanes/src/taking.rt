@@ -2,14 +2,14 @@
 ghost use Rattle.std.specs.Prelude.{◌≡◌, ◌<◌, ◌≤◌, ◌↔◌, ℕ, true, [], IfSome, IfNone, IsTrue, length, vec_capacity};
 ghost use Rattle.crossbeam_channel.specs.Ends.{sends_on, receives_on};
 ghost use Rattle.crossbeam_channel.specs.Claims.{view, IsSeatAt};
-ghost use Rattle.cap_lanes.specs.Rule.{taker, times};
+ghost use Rattle.cap_lanes.specs.ChannelRule.{taker, times};
 ghost use Rattle.cap_lanes.specs.Sides.{AllOf, AllOver, IsNext, StayOver};
 ghost use Rattle.cap_lanes.specs.Ends.{Flags, AllEnded, AreAllIn, HasLaneOf, HasLanesOf, SameSeat, lanes_id, taken_in};
 
+use crate::channel_rule::{Handover, LanesRule, Takes};
 use crate::item::Item;
 use crate::putter::Ended;
 use crate::putting::{Back, LanePass};
-use crate::rule::{Handover, LanesRule, Takes};
 use crate::view::View;
 use cap_base::RESOURCES;
 use cap_model::Proposal;

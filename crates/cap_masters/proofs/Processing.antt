@@ -23,7 +23,7 @@ use Rattle.cap_model.proofs.lists.Numbered.{find_changed}
 use Rattle.cap_laws.proofs.numbers.ContainerNumbers.{asks_keep}
 use Rattle.cap_base.proofs.lists.Tests.{first_holds, kept_if}
 use Rattle.cap_model.specs.declared.replies.Reported.{Reported}
-use Rattle.cap_asks.specs.Held.{repeated_numbers}
+use Rattle.cap_asks.specs.Accounts.{repeated_numbers}
 use Rattle.cap_model.specs.Reporting.{reported_of}
 use Rattle.cap_masters.proofs.Refused.{repeats_it, repeats_none}
 use Rattle.cap_masters.specs.Processed.{HasResponse}

@@ -14,7 +14,7 @@ use Rattle.cap_model.specs.FinishMaster.{finish_master_refusal}
 use Rattle.cap_base.proofs.Amounts.{fits_amounts, amounts_fit}
 use Rattle.cap_model.specs.News.{AllocateReply}
 use Rattle.cap_model.specs.declared.replies.Reported.{Reported}
-use Rattle.cap_asks.specs.Held.{repeated_numbers}
+use Rattle.cap_asks.specs.Accounts.{repeated_numbers}
 use Rattle.cap_model.specs.Reporting.{reported_of}
 
 -- the first test says that there is one

@@ -1,7 +1,7 @@
 -- Before an allocate is processed.
 use Rattle.std.specs.Prelude.{◌≡◌, ℕ, Some, Option, option_and_then}
 use Rattle.cap_model.specs.Flat.{Flat, App, app_at}
-use Rattle.cap_asks.specs.Held.{repeated_numbers}
+use Rattle.cap_asks.specs.Accounts.{repeated_numbers}
 use Rattle.cap_model.specs.declared.replies.Reported.{Reported}
 
 -- an application is active, and this is the response id that it was given last

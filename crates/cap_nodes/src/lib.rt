@@ -8,6 +8,6 @@ mod nodes;
 mod owners;
 mod present;
 
-pub use cap_model::Container;
+pub use cap_model::{Container, HeartbeatReply};
 pub use node::Node;
 pub use nodes::Nodes;

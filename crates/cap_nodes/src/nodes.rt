@@ -324,7 +324,7 @@ impl<const K: usize> Nodes<K> {
     }
 
     /// Drops the reservation that a node holds. Where it holds none, nothing changes.
-    pub fn unreserve_on(&mut self, node: u64)
+    pub fn unreserve(&mut self, node: u64)
         requires { AreApart self.old.reserved }
         ensures { self.new ≡ record self.old
             { reserved = filter (λ r. not (r.node == node)) self.old.reserved } }

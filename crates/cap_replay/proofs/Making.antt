@@ -16,7 +16,7 @@ use Rattle.cap_world.specs.declared.step.Step.TheVariants as steps
 use Rattle.cap_world.specs.declared.step.Did.{Did}
 use Rattle.cap_world.specs.declared.step.Did.TheVariants as dids
 use Rattle.cap_world.specs.World.{WorldState, Known, Adds}
-use Rattle.cap_world.specs.Steps.{Outcome}
+use Rattle.cap_world.specs.Steps.{StepOutcome}
 use Rattle.cap_world.specs.Working.{Tried, made_by}
 use Rattle.cap_world.specs.Making.{Makes}
 use Rattle.cap_replay.specs.Script.{IsOpeningLine}
@@ -25,9 +25,9 @@ use Rattle.cap_replay.specs.declared.stop.Stop.{Stop}
 use Rattle.cap_replay.specs.World.{BringSteps, at_start, passed, brought, IsStepOf, Advances, Brings}
 
 -- one more step
-pub makes_more : (made : List Step) (step : Step) (did : Did) (old mid new : WorldState) (before between after : List (Event resources)) → Makes made old mid before between → Outcome step (Ok did) mid new between after → Makes (made ++ step ∷ []) old new before after
+pub makes_more : (made : List Step) (step : Step) (did : Did) (old mid new : WorldState) (before between after : List (Event resources)) → Makes made old mid before between → StepOutcome step (Ok did) mid new between after → Makes (made ++ step ∷ []) old new before after
 makes_more [] step did old mid new before between after m o =
-    let one : Outcome step (Ok did) old new before after = subst (λ (s : WorldState). Outcome step (Ok did) s new before after) m.0 (subst (λ (es : List (Event resources)). Outcome step (Ok did) mid new es after) m.1 o) in
+    let one : StepOutcome step (Ok did) old new before after = subst (λ (s : WorldState). StepOutcome step (Ok did) s new before after) m.0 (subst (λ (es : List (Event resources)). StepOutcome step (Ok did) mid new es after) m.1 o) in
     (new, after, did, one, (refl, refl))
 makes_more (s ∷ made) step did old mid new before between after m o =
     (m.0, m.1, m.2, m.3, makes_more made step did m.0 mid new m.1 between after m.4 o)
@@ -70,7 +70,7 @@ tried_from w old new before after more base grows tried = record {
 }
 
 -- the same step, after other events
-outcome_from : (step : Step) (did : Did) (old new : WorldState) (before after more base : List (Event resources)) → after ≡ before ++ more → Outcome step (Ok did) old new before after → Outcome step (Ok did) old new base (base ++ more)
+outcome_from : (step : Step) (did : Did) (old new : WorldState) (before after more base : List (Event resources)) → after ≡ before ++ more → StepOutcome step (Ok did) old new before after → StepOutcome step (Ok did) old new base (base ++ more)
 outcome_from step dids.Idle old new before after more base grows o = (o.0, o.1, same_events before after more base grows o.2)
 outcome_from (steps.Open c) dids.Done old new before after more base grows o = (o.0, o.1, o.2, o.3, same_events before after more base grows o.4)
 outcome_from (steps.End c) dids.Done old new before after more base grows o = (o.0, o.1, o.2, same_events before after more base grows o.3)
@@ -82,9 +82,9 @@ outcome_from (steps.Propose w start) dids.Done old new before after more base gr
 outcome_from (steps.Commit w) dids.Done old new before after more base grows o = tried_from w old new before after more base grows o
 
 -- a step by the events that the world keeps
-pub outcome_kept : (step : Step) (did : Did) (old new : Known) (before after : List (Event resources)) → Adds old new before after → Outcome step (Ok did) old.sight new.sight before after → Outcome step (Ok did) old.sight new.sight old.events new.events
+pub outcome_kept : (step : Step) (did : Did) (old new : Known) (before after : List (Event resources)) → Adds old new before after → StepOutcome step (Ok did) old.sight new.sight before after → StepOutcome step (Ok did) old.sight new.sight old.events new.events
 outcome_kept step did old new before after adds o =
-    subst (λ (es : List (Event resources)). Outcome step (Ok did) old.sight new.sight old.events es) (sym adds.kept) (outcome_from step did old.sight new.sight before after adds.more old.events adds.lent o)
+    subst (λ (es : List (Event resources)). StepOutcome step (Ok did) old.sight new.sight old.events es) (sym adds.kept) (outcome_from step did old.sight new.sight before after adds.more old.events adds.lent o)
 
 -- opening lines bring no step
 pub bring_none : (done : List (List ℕ)) → All IsOpeningLine done → BringSteps done []

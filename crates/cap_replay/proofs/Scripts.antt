@@ -15,7 +15,7 @@ use Rattle.cap_world.specs.declared.step.Step.{Step}
 use Rattle.cap_world.specs.declared.step.Step.TheVariants as steps
 use Rattle.cap_world.specs.declared.step.Did.{Did}
 use Rattle.cap_world.specs.World.{Known, start}
-use Rattle.cap_world.specs.Steps.{Outcome}
+use Rattle.cap_world.specs.Steps.{StepOutcome}
 use Rattle.cap_replay.specs.declared.simulation.Simulation.{Simulation}
 use Rattle.cap_replay.specs.World.{IsStepFor, IsStepOf, IsOpened, HasPlayed, IsWorldOf, HasPlayedAll, Begins, FailsToBegin, MakesStep, Performs}
 use Rattle.cap_replay.specs.Progress.{Stands, StopsAtStep}
@@ -195,7 +195,7 @@ played_now : (done : List (List ℕ)) (s : Simulation) (now : Known) → Stands 
 played_now done s now stands opened = played_in done (settings_text s.settings) s.world now (ap settings_text stands.gathered) stands.world opened
 
 -- one more step of the world
-played_step : (done : List (List ℕ)) (line : List ℕ) (step : Step) (did : Did) (mid now : Known) → property_of line ≡ None → IsStepOf line step → now.opening ≡ mid.opening → Outcome step (Ok did) mid.sight now.sight mid.events now.events → HasPlayed done mid → HasPlayed (done ++ line ∷ []) now
+played_step : (done : List (List ℕ)) (line : List ℕ) (step : Step) (did : Did) (mid now : Known) → property_of line ≡ None → IsStepOf line step → now.opening ≡ mid.opening → StepOutcome step (Ok did) mid.sight now.sight mid.events now.events → HasPlayed done mid → HasPlayed (done ++ line ∷ []) now
 played_step done line step did mid now none is same made played = record {
   opened = rw (unchanged done line none, same) played.opened;
   steps = played.steps ++ step ∷ [];

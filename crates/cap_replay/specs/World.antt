@@ -12,7 +12,7 @@ use Rattle.cap_world.specs.declared.step.Step.{Step}
 use Rattle.cap_world.specs.declared.step.Step.TheVariants as steps
 use Rattle.cap_world.specs.declared.step.Did.{Did}
 use Rattle.cap_world.specs.World.{Known, start}
-use Rattle.cap_world.specs.Steps.{Outcome}
+use Rattle.cap_world.specs.Steps.{StepOutcome}
 use Rattle.cap_world.specs.Making.{Makes}
 use Rattle.cap_replay.specs.declared.command.Command.{Command}
 use Rattle.cap_replay.specs.declared.simulation.Simulation.{Simulation}
@@ -102,7 +102,7 @@ pub record Advances (step : Step) (did : Did) (old new : Simulation) : Type 0 wh
   pub stands : new.world ≡ Some now
   pub opened : IsOpened (settings_text old.settings) old.world mid
   pub opening : now.opening ≡ mid.opening
-  pub made : Outcome step (Ok did) mid.sight now.sight mid.events now.events
+  pub made : StepOutcome step (Ok did) mid.sight now.sight mid.events now.events
 
 -- the world that stood or was opened now made this step, or it did not apply
 abbrev pub MakesStep : Step → Simulation → Simulation → Type 0

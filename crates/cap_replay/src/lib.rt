@@ -2,15 +2,15 @@
 #![tactic(auto)]
 
 mod command;
+mod complaint;
 mod expected;
+mod finish;
 mod player;
 mod print;
-mod report;
 mod script;
 mod settings;
 mod simulation;
 mod stop;
-mod words;
 
 pub use cap_session::Counted;
 pub use player::{replay, replay_with_words};

@@ -10,10 +10,10 @@ ghost use Rattle.cap_session.specs.Counted.{state_of, CanCount};
 ghost use Rattle.cap_replay.specs.Status.{IsReplayed};
 ghost use Rattle.cap_replay.specs.Streams.{misses, IsRead, HasEnded, GaveText, GaveWholeText, after_bytes, CountsReads, MayWrite, input_failures, output_failures, IsOfScript};
 
-use crate::report::finish;
+use crate::complaint::explain_end;
+use crate::finish::finish;
 use crate::script::Script;
 use crate::stop::Stop;
-use crate::words::explain_end;
 use cap_session::{Counted, Got};
 use cap_text::{split_once, without_return};
 use std::alloc::{AllocError, Global};

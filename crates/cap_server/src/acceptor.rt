@@ -1,5 +1,5 @@
 //! Where connections come in, and where those wait to which nothing comes (`Acceptor`).
-use crate::connection::Connection;
+use crate::connection::ClientConnection;
 use crate::signal::EndSignal;
 use mio::unix::SourceFd;
 use mio::{Events, Interest, Poll, Token};
@@ -133,7 +133,7 @@ impl<'a> Acceptor<'a> {
     }
 
     /// Has the connection reported once something comes, and says whether it will be: the system may refuse.
-    pub(crate) fn watch(&self, connection: &mut Connection) -> bool {
+    pub(crate) fn watch(&self, connection: &mut ClientConnection) -> bool {
         if !connection.is_watched {
             let token = Token(connection.number.saturating_add(FIRST));
             let descriptor = connection.descriptor();
@@ -147,7 +147,7 @@ impl<'a> Acceptor<'a> {
     }
 
     /// The connection is not reported any more.
-    pub(crate) fn unwatch(&self, connection: &mut Connection) {
+    pub(crate) fn unwatch(&self, connection: &mut ClientConnection) {
         if connection.is_watched {
             let descriptor = connection.descriptor();
             let _unwatched = self.poll.registry().deregister(&mut SourceFd(&descriptor));

@@ -1,4 +1,4 @@
-//! A connection, served from epoch to epoch (`Connection`).
+//! A connection, served from epoch to epoch (`ClientConnection`).
 ghost use Rattle.std.specs.Prelude.{◌≡◌, None, IfSome};
 ghost use Rattle.cap_session.specs.Session.{new_session};
 ghost use Rattle.cap_workers.specs.Sessions.{pending_request, IsServed};
@@ -65,7 +65,7 @@ enum Phase {
 
 /// A connection from epoch to epoch.
 #[derive(Drop)]
-pub(crate) struct Connection {
+pub(crate) struct ClientConnection {
     /// Connections are numbered from 0, in the order in which they were accepted.
     pub number: usize,
     /// Whether it is reported to the thread of the daemon once something comes.
@@ -102,7 +102,7 @@ enum Course {
     Over,
 }
 
-impl Connection {
+impl ClientConnection {
     /// A connection that was accepted. An error means that its stream can't be set up, or that an allocation failed.
     pub(crate) fn new<H: Net>(
         rt: &H,
@@ -110,7 +110,7 @@ impl Connection {
         stream: TcpStream,
         number: usize,
         signal: &EndSignal,
-    ) -> io::Result<Connection> {
+    ) -> io::Result<ClientConnection> {
         stream.set_nodelay(true)?;
         stream.set_nonblocking(true)?;
         let poller = Poller::new(rt, alloc, &stream, Interest::READABLE, signal)?;
@@ -118,7 +118,7 @@ impl Connection {
         let Some(open_session) = new_open_session(alloc) else {
             return Err(io::Error::from(ErrorKind::OutOfMemory));
         };
-        Ok(Connection {
+        Ok(ClientConnection {
             number,
             is_watched: false,
             socket: ClientSocket {

@@ -3,7 +3,7 @@ ghost use Rattle.std.specs.Prelude.{◌<◌, ◌≤◌};
 ghost use Rattle.std.specs.Option.{ForSome};
 
 use crate::acceptor::Acceptor;
-use crate::connection::Connection;
+use crate::connection::ClientConnection;
 use crate::signal::EndSignal;
 use crate::task::{Done, Records, Remains};
 use cap_model::NoMemory;
@@ -18,7 +18,7 @@ use std::time::Clock;
 #[derive(Drop)]
 pub(crate) struct Participants<'a> {
     pub acceptor: Acceptor<'a>,
-    pub connections: Vec<Connection>,
+    pub connections: Vec<ClientConnection>,
     pub workers: Vec<Worker>,
     pub records: Option<Records>,
 }
@@ -27,7 +27,12 @@ impl<'a> Participants<'a> {
     /// Its parts, in their order.
     pub(crate) fn into_parts(
         self,
-    ) -> (Acceptor<'a>, Vec<Connection>, Vec<Worker>, Option<Records>) {
+    ) -> (
+        Acceptor<'a>,
+        Vec<ClientConnection>,
+        Vec<Worker>,
+        Option<Records>,
+    ) {
         let Participants {
             acceptor,
             connections,
@@ -96,9 +101,9 @@ pub(crate) struct EpochThreads<J: Naming> {
     pub seats: Vec<Seat<J>>,
     pub threads: Vec<JoinHandle<Done<J>>>,
     /// Those that wait for their threads. The last has waited longest.
-    pub waiting: Vec<Connection>,
+    pub waiting: Vec<ClientConnection>,
     /// Those that have no thread and wait for none.
-    pub connections: Vec<Connection>,
+    pub connections: Vec<ClientConnection>,
     pub workers: Vec<Worker>,
     /// Whether an allocation failed, or a thread could not be made.
     pub has_failed: bool,
@@ -138,7 +143,7 @@ impl<J: Naming> EpochThreads<J> {
         &mut self,
         rt: &H,
         signal: &EndSignal,
-        connection: Connection,
+        connection: ClientConnection,
     ) {
         if !is_added(&mut self.connections, connection) {
             self.fail(rt, signal);
@@ -151,7 +156,7 @@ impl<J: Naming> EpochThreads<J> {
         rt: &H,
         signal: &EndSignal,
         acceptor: &Acceptor<'_>,
-        connection: Connection,
+        connection: ClientConnection,
     ) {
         if !self.is_taken_in(acceptor, connection) {
             self.fail(rt, signal);
@@ -159,7 +164,7 @@ impl<J: Naming> EpochThreads<J> {
     }
 
     /// The same. Whether memory was found for it.
-    fn is_taken_in(&mut self, acceptor: &Acceptor<'_>, mut connection: Connection) -> bool {
+    fn is_taken_in(&mut self, acceptor: &Acceptor<'_>, mut connection: ClientConnection) -> bool {
         if !connection.is_busy() && acceptor.watch(&mut connection) {
             return is_added(&mut self.connections, connection);
         }
@@ -168,7 +173,7 @@ impl<J: Naming> EpochThreads<J> {
     }
 
     /// Takes the connection that has waited longest for its thread.
-    pub(crate) fn next_waiting(&mut self) -> Option<Connection> {
+    pub(crate) fn next_waiting(&mut self) -> Option<ClientConnection> {
         self.waiting.pop()
     }
 
@@ -187,7 +192,7 @@ impl<J: Naming> EpochThreads<J> {
         &mut self,
         acceptor: &Acceptor<'_>,
         number: usize,
-    ) -> Option<Connection> {
+    ) -> Option<ClientConnection> {
         let mut connection = taken(&mut self.connections, number)?;
         acceptor.unwatch(&mut connection);
         Some(connection)
@@ -258,12 +263,12 @@ impl<J: Naming> EpochThreads<J> {
 }
 
 /// Adds a connection to a list. Whether memory was found for it.
-fn is_added(list: &mut Vec<Connection>, connection: Connection) -> bool {
+fn is_added(list: &mut Vec<ClientConnection>, connection: ClientConnection) -> bool {
     list.push(connection).is_ok()
 }
 
 /// Takes the connection of this number out of a list.
-fn taken(list: &mut Vec<Connection>, number: usize) -> Option<Connection> {
+fn taken(list: &mut Vec<ClientConnection>, number: usize) -> Option<ClientConnection> {
     let place = list.iter().position(|it| it.number == number)?;
     Some(list.swap_remove(place))
 }

@@ -1,5 +1,5 @@
 //! What the threads of an epoch do: those of workers and of the committer (`Task`), and those that serve connections.
-use crate::connection::Connection;
+use crate::connection::ClientConnection;
 use crate::state::SharedState;
 use cap_shared::{Entry, Naming, Seat, SeatReport, Shared};
 use cap_workers::{
@@ -28,7 +28,7 @@ pub(crate) enum Task {
 /// What a thread leaves for the next epoch.
 #[derive(Drop)]
 pub(crate) enum Remains {
-    Connection(Connection),
+    Connection(ClientConnection),
     Worker(Worker),
     /// The connection has ended, or the next epoch has a committer of its own.
     Nothing,
@@ -87,7 +87,7 @@ pub(crate) fn serve<J: Naming, H: Wait + Clock, G>(
     rt: &H,
     shared: &Shared<J>,
     state: &SharedState<'_, G>,
-    mut connection: Connection,
+    mut connection: ClientConnection,
     mut seat: Seat<J>,
 ) -> Done<J> {
     let remains = if connection.serve(rt, shared, &mut seat, &state.signal) {

@@ -2,7 +2,7 @@
 ghost use denote.Param.Send.{IsSend, IsSync};
 
 use crate::acceptor::{Accept, Acceptor};
-use crate::connection::Connection;
+use crate::connection::ClientConnection;
 use crate::participants::{EpochThreads, Lanes, Participants};
 use crate::state::SharedState;
 use crate::task::{Done, Records, Task, serve};
@@ -111,7 +111,7 @@ impl<
     }
 
     /// Begins a thread for a connection. Where the epoch is ending that is left to the next one; where no thread can be made it ends.
-    fn begin_connection(&self, running: &mut EpochThreads<J>, connection: Connection) {
+    fn begin_connection(&self, running: &mut EpochThreads<J>, connection: ClientConnection) {
         if self.state.signal.is_over() {
             running.keep(self.rt, &self.state.signal, connection);
             return;
@@ -250,7 +250,7 @@ impl<
         number: usize,
     ) {
         let signal = &self.state.signal;
-        match Connection::new(self.rt, self.alloc, stream, number, signal) {
+        match ClientConnection::new(self.rt, self.alloc, stream, number, signal) {
             Ok(connection) => running.wait_or_watch(self.rt, signal, acceptor, connection),
             Err(error) => {
                 let _told = eprintln!(self.rt; "connection: {error}");
@@ -282,7 +282,7 @@ fn begin_serving<'s, 'a, E, J: Naming + Send + Sync, H: Wait + Clock + Sync, G: 
     rt: &'s H,
     shared: &'s Shared<J>,
     state: &'s SharedState<'a, G>,
-    connection: Connection,
+    connection: ClientConnection,
     seat: Seat<J>,
 ) -> Option<JoinHandle<Done<J>>> {
     let work = move || serve(rt, shared, state, connection, seat);

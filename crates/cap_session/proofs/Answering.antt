@@ -8,8 +8,8 @@ use Rattle.cap_grammar.specs.Spelling.{IsNoRequest, fault_reply}
 use Rattle.cap_session.specs.Answers.{Call, Answers, nothing, replied, refused}
 use Rattle.cap_session.specs.Counted.{sent_count}
 use Rattle.cap_session.specs.Session.{SessionState, OpenRequest, SpellsAnswer, all_answers, answer_bytes, with_answer, after_sent, ended_after, AnswersBy, HasAnswered}
-use Rattle.cap_session.specs.declared.session.Cause.{Cause}
-use Rattle.cap_session.specs.declared.session.Cause.TheVariants as causes
+use Rattle.cap_session.specs.declared.session.SessionCause.{SessionCause}
+use Rattle.cap_session.specs.declared.session.SessionCause.TheVariants as causes
 use Rattle.cap_session.specs.declared.counted.Sent.{Sent}
 use Rattle.cap_session.specs.declared.counted.Sent.TheVariants as sents
 
@@ -27,7 +27,7 @@ pub one_replied : (o : OpenRequest) (reply : Reply resources) → SpellsAnswer (
 one_replied o reply is =
     subst (λ (x : List ℕ). Answers (o.payload ∷ []) (record { request = o.request; reply = reply } ∷ []) x) (append-nil (frame_of (answer_bytes o reply))) (replied {call = record { request = o.request; reply = reply }} is.0 is.1 nothing)
 
-open_answers : (c : Option Cause) (s : SessionState) → c ≡ None → AnswersBy c s → Answers s.answered s.calls (all_answers s)
+open_answers : (c : Option SessionCause) (s : SessionState) → c ≡ None → AnswersBy c s → Answers s.answered s.calls (all_answers s)
 open_answers None s is a = a
 open_answers (Some c) s is a = absurd cc
 
@@ -36,17 +36,17 @@ pub answers_open : (s : SessionState) → s.ended ≡ None → HasAnswered s →
 answers_open s is a = open_answers s.ended s is a
 
 -- or not for a length that no frame has
-pub answers_unless : (c : Option Cause) (s : SessionState) → (c ≡ Some causes.BadLength → ⊥) → AnswersBy c s → Answers s.answered s.calls (all_answers s)
+pub answers_unless : (c : Option SessionCause) (s : SessionState) → (c ≡ Some causes.BadLength → ⊥) → AnswersBy c s → Answers s.answered s.calls (all_answers s)
 answers_unless None s fine a = a
 answers_unless (Some causes.NoMemory) s fine a = a
 answers_unless (Some causes.WriteFault) s fine a = a
 answers_unless (Some causes.BadLength) s fine a = absurd (fine refl)
 
 pub answered_open : (s : SessionState) → s.ended ≡ None → Answers s.answered s.calls (all_answers s) → HasAnswered s
-answered_open s is a = subst (λ (c : Option Cause). AnswersBy c s) (sym is) a
+answered_open s is a = subst (λ (c : Option SessionCause). AnswersBy c s) (sym is) a
 
 pub answered_starved : (s : SessionState) → s.ended ≡ Some causes.NoMemory → Answers s.answered s.calls (all_answers s) → HasAnswered s
-answered_starved s is a = subst (λ (c : Option Cause). AnswersBy c s) (sym is) a
+answered_starved s is a = subst (λ (c : Option SessionCause). AnswersBy c s) (sym is) a
 
 -- payloads that are no requests were answered
 pub answers_refused : (s t : SessionState) (payloads : List (List ℕ)) (frames : List ℕ) → Answers s.answered s.calls (all_answers s) → Answers payloads [] frames → t.answered ≡ s.answered ++ payloads → t.calls ≡ s.calls → t.sent ≡ s.sent → t.unsent ≡ s.unsent ++ frames → Answers t.answered t.calls (all_answers t)
@@ -63,7 +63,7 @@ answered_fault s t payloads frames after old answers done calls sent unsent ende
     let more = answers_more old answers in
     let last = frame_of (fault_reply 40) in
     let all : all_answers t ≡ (all_answers s ++ frames) ++ last = ap₂ (λ (x y : List ℕ). x ++ y) sent unsent ∙ sym (append_assoc s.sent s.unsent (frames ++ last)) ∙ sym (append_assoc (all_answers s) frames last) in
-    subst (λ (c : Option Cause). AnswersBy c t) (sym ended) (
+    subst (λ (c : Option SessionCause). AnswersBy c t) (sym ended) (
       after,
       (
         all_answers s ++ frames,
@@ -80,21 +80,21 @@ answers_one s t o reply old is now =
     (subst (λ (x : List ℕ). Answers (s.answered ++ o.payload ∷ []) (s.calls ++ record { request = o.request; reply = reply } ∷ []) x) (append_assoc s.sent s.unsent (frame_of (answer_bytes o reply))) (answers_more old (one_replied o reply is)))
 
 -- the open request is answered; none is open after a length that no frame has
-pub answered_answer : (c : Option Cause) (s t : SessionState) (o : OpenRequest) (reply : Reply resources) → (c ≡ Some causes.BadLength → ⊥) → AnswersBy c s → SpellsAnswer (Some o) reply → t ≡ with_answer s (Some o) reply → AnswersBy c t
+pub answered_answer : (c : Option SessionCause) (s t : SessionState) (o : OpenRequest) (reply : Reply resources) → (c ≡ Some causes.BadLength → ⊥) → AnswersBy c s → SpellsAnswer (Some o) reply → t ≡ with_answer s (Some o) reply → AnswersBy c t
 answered_answer None s t o reply none old is now = answers_one s t o reply old is now
 answered_answer (Some causes.NoMemory) s t o reply none old is now = answers_one s t o reply old is now
 answered_answer (Some causes.WriteFault) s t o reply none old is now = answers_one s t o reply old is now
 answered_answer (Some causes.BadLength) s t o reply none old is now = absurd (none refl)
 
 -- the same was fed and answered
-same_answers : (c : Option Cause) (s t : SessionState) → t.fed ≡ s.fed → t.answered ≡ s.answered → t.calls ≡ s.calls → all_answers t ≡ all_answers s → AnswersBy c s → AnswersBy c t
+same_answers : (c : Option SessionCause) (s t : SessionState) → t.fed ≡ s.fed → t.answered ≡ s.answered → t.calls ≡ s.calls → all_answers t ≡ all_answers s → AnswersBy c s → AnswersBy c t
 same_answers None s t fed done calls all a = rw (done, calls, all) a
 same_answers (Some causes.NoMemory) s t fed done calls all a = rw (done, calls, all) a
 same_answers (Some causes.WriteFault) s t fed done calls all a = rw (done, calls, all) a
 same_answers (Some causes.BadLength) s t fed done calls all a = rw (fed, done, calls, all) a
 
 -- it ended for a fault of the writer, where it had not ended before
-same_until : (c : Option Cause) (sent : Sent) (s : SessionState) → AnswersBy c s → AnswersBy (ended_after c sent) s
+same_until : (c : Option SessionCause) (sent : Sent) (s : SessionState) → AnswersBy c s → AnswersBy (ended_after c sent) s
 same_until c (sents.All n) s a = a
 same_until None (sents.Fault n) s a = a
 same_until (Some c) (sents.Fault n) s a = a

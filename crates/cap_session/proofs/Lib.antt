@@ -1,7 +1,7 @@
 mod Logs
 mod ReadingAhead
 pub mod Answering
-mod Steps
+mod SessionSteps
 pub mod Continuing
 mod Unanswered
 mod Bytes

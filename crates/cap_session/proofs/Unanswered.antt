@@ -3,8 +3,8 @@ use Rattle.std.proofs.Common.{◌≡◌, ℕ, ◌+◌, ◌<◌, ◌≤◌, List,
 use Rattle.std.proofs.lemmas.List.Concat.{flat_map-append}
 use Rattle.cap_frames.specs.Stream.{frame_of, frames_of, tail_bytes}
 use Rattle.cap_session.specs.Session.{SessionState, FollowsStream, EndsNow, NextGives, bytes_unanswered, open_payload}
-use Rattle.cap_session.specs.declared.session.Cause.{Cause}
-use Rattle.cap_session.specs.declared.session.Cause.TheVariants as causes
+use Rattle.cap_session.specs.declared.session.SessionCause.{SessionCause}
+use Rattle.cap_session.specs.declared.session.SessionCause.TheVariants as causes
 use Rattle.cap_session.specs.declared.session.Next.{Next}
 use Rattle.cap_session.specs.declared.session.Next.TheVariants as nexts
 
@@ -33,7 +33,7 @@ one_unanswered s t payload follows opens fed answered =
       length-append (frame_of payload) [],
     )
 
-ends_fewer : (s t : SessionState) (cause : Cause) → EndsNow s t cause → bytes_unanswered t ≤ bytes_unanswered s
+ends_fewer : (s t : SessionState) (cause : SessionCause) → EndsNow s t cause → bytes_unanswered t ≤ bytes_unanswered s
 ends_fewer s t causes.BadLength (payloads, frames, answers, now, end) = fewer_unanswered s t payloads (ap (λ (x : SessionState). x.fed) now) (ap (λ (x : SessionState). x.answered) now)
 ends_fewer s t causes.NoMemory (payloads, frames, answers, now) = fewer_unanswered s t payloads (ap (λ (x : SessionState). x.fed) now) (ap (λ (x : SessionState). x.answered) now)
 ends_fewer s t causes.WriteFault ends = absurd ends

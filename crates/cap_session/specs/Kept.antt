@@ -10,12 +10,12 @@ use Rattle.cap_grammar.specs.Spelling.{IsRequest, kind_of, fault_reply}
 use Rattle.cap_session.specs.Answers.{Call, Answers}
 use Rattle.cap_session.specs.Asked.{ReadResult, PayloadLog, payloads_in}
 use Rattle.cap_session.specs.Session.{SessionState, OpenRequest, open_payload, HasAnswered}
-use Rattle.cap_session.specs.declared.session.Cause.TheVariants as causes
+use Rattle.cap_session.specs.declared.session.SessionCause.TheVariants as causes
 use Rattle.cap_session.specs.declared.session.Session.TheInside.{Inside}
 use Rattle.cap_session.specs.declared.find.TheConstants.{FRAME_ROOM}
 use Rattle.cap_session.specs.declared.asked.Head.{Head}
-use Rattle.cap_session.specs.declared.find.Found.{Found}
-use Rattle.cap_session.specs.declared.find.Found.TheVariants as found
+use Rattle.cap_session.specs.declared.find.FoundPayload.{FoundPayload}
+use Rattle.cap_session.specs.declared.find.FoundPayload.TheVariants as found
 
 abbrev pub ReplyLog : Type 0
 ReplyLog = List (Reply resources × Unit {0})
@@ -97,7 +97,7 @@ pub record AnswersAllBad (h k : History) (u v : List ℕ) (old new : AnswerLog) 
   pub ready : k.is_spent ≡ false
 
 -- what was found after some payloads that are no requests
-abbrev pub Finds : History → History → Filled → Filled → AnswerLog → AnswerLog → Found → Type 0
+abbrev pub Finds : History → History → Filled → Filled → AnswerLog → AnswerLog → FoundPayload → Type 0
 Finds h k u v old new (found.Request head opened request) = (payloads : List (List ℕ)) × (frames : List ℕ) × (p : Filled) × AnswersBad h k u.items v.items old new payloads frames × (k.given ≡ h.given ++ (payloads ++ p.items ∷ [])) × (k.is_spent ≡ false)
     × IsReading k × (opened.items ≡ (p, Ok (head.call_id, request)) ∷ []) × IsRequest p.items head.call_id request × (head.kind ≡ kind_of request) × (FRAME_ROOM ≤ v.spare)
 Finds h k u v old new found.Rest = AnswersAllBad h k u.items v.items old new × IsAtRest k
@@ -106,7 +106,7 @@ Finds h k u v old new found.BadLength = (payloads : List (List ℕ)) × (frames 
 Finds h k u v old new found.NoMemory = (payloads : List (List ℕ)) × (frames : List ℕ) × (lost : List (List ℕ)) × AnswersBad h k u.items v.items old new payloads frames × (k.given ≡ h.given ++ (payloads ++ lost)) × IsReading k
 
 -- the fault reply 40 was written, or memory was refused for it
-abbrev pub EndsWith : List ℕ → List ℕ → Found → Type 0
+abbrev pub EndsWith : List ℕ → List ℕ → FoundPayload → Type 0
 EndsWith u v (found.Request head opened request) = ⊥
 EndsWith u v found.Rest = ⊥
 EndsWith u v found.BadLength = v ≡ u ++ frame_of (fault_reply 40)

@@ -7,8 +7,8 @@ use Rattle.cap_frames.specs.Stream.{frame_of, frames_of, Tail, rest, fault, IsSt
 use Rattle.cap_grammar.specs.Spelling.{IsRequest, IsReply, IsOfKind, kind_of, reply_bytes, fault_reply}
 use Rattle.cap_session.specs.Counted.{sent_count}
 use Rattle.cap_session.specs.Answers.{Call, Answers, IsAnswered}
-use Rattle.cap_session.specs.declared.session.Cause.{Cause}
-use Rattle.cap_session.specs.declared.session.Cause.TheVariants as causes
+use Rattle.cap_session.specs.declared.session.SessionCause.{SessionCause}
+use Rattle.cap_session.specs.declared.session.SessionCause.TheVariants as causes
 use Rattle.cap_session.specs.declared.session.Fed.{Fed}
 use Rattle.cap_session.specs.declared.session.Fed.TheVariants as feds
 use Rattle.cap_session.specs.declared.session.Next.{Next}
@@ -31,7 +31,7 @@ pub record SessionState : Type 0 where
   pub calls : List Call
   pub sent : List ℕ
   pub unsent : List ℕ
-  pub ended : Option Cause
+  pub ended : Option SessionCause
 
 -- a session that was fed nothing
 abbrev pub new_session : SessionState
@@ -52,7 +52,7 @@ FollowsStream s = (later : List (List ℕ)) × (tail : Tail) × IsStream s.fed (
 
 -- All bytes of its answers answer, by its calls, the payloads that were answered. Where it has ended for a length that no frame has, the
 -- bytes that were fed are these payloads and then such a length, and the fault reply 40 follows the answers.
-abbrev pub AnswersBy : Option Cause → SessionState → Type 0
+abbrev pub AnswersBy : Option SessionCause → SessionState → Type 0
 AnswersBy None s = Answers s.answered s.calls (all_answers s)
 AnswersBy (Some causes.NoMemory) s = Answers s.answered s.calls (all_answers s)
 AnswersBy (Some causes.WriteFault) s = Answers s.answered s.calls (all_answers s)
@@ -93,7 +93,7 @@ abbrev pub after_bad_messages : SessionState → List (List ℕ) → List ℕ �
 after_bad_messages s payloads frames = record s { answered = s.answered ++ payloads; unsent = s.unsent ++ frames }
 
 -- It ends now, after some payloads that are no requests: a length that no frame has is answered, or memory was refused.
-abbrev pub EndsNow : SessionState → SessionState → Cause → Type 0
+abbrev pub EndsNow : SessionState → SessionState → SessionCause → Type 0
 EndsNow old new causes.BadLength = (payloads : List (List ℕ)) × (frames : List ℕ) × Answers payloads [] frames
     × (new ≡ record (after_bad_messages old payloads (frames ++ frame_of (fault_reply 40))) { ended = Some causes.BadLength })
     × ((after : List ℕ) × IsStream new.fed new.answered (fault after))
@@ -137,11 +137,11 @@ SpellsAnswer (Some o) reply = IsRequest o.payload o.call_id o.request × IsReply
 -- ---- writing out
 
 -- the first cause stays
-abbrev pub first_cause : Option Cause → Cause → Option Cause
+abbrev pub first_cause : Option SessionCause → SessionCause → Option SessionCause
 first_cause None cause = Some cause
 first_cause (Some earlier) cause = Some earlier
 
-abbrev pub ended_after : Option Cause → Sent → Option Cause
+abbrev pub ended_after : Option SessionCause → Sent → Option SessionCause
 ended_after ended (sents.All n) = ended
 ended_after ended (sents.Fault n) = first_cause ended causes.WriteFault
 

@@ -22,7 +22,7 @@ pub(crate) const FRAME_ROOM: usize = 4 + REPLY_ROOM;
 pub(crate) type Answered = Log<ReadPayload, Log<OwnedReply<RESOURCES>, ()>>;
 
 /// What comes next.
-pub(crate) enum Found {
+pub(crate) enum FoundPayload {
     Request(Head, ReadPayload, Request<RESOURCES>),
     /// Less than a frame.
     Rest,
@@ -33,7 +33,11 @@ pub(crate) enum Found {
 
 /// Finds the next request, and makes room for the reply to it. Each payload before it that is none is answered so, and a length
 /// that no frame has too.
-pub(crate) fn find(payloads: &mut Payloads, unsent: &mut BytesMut, answered: &mut Answered) -> Found
+pub(crate) fn find(
+    payloads: &mut Payloads,
+    unsent: &mut BytesMut,
+    answered: &mut Answered,
+) -> FoundPayload
     requires { payloads.old.is_spent ≡ false }
     ensures { Finds payloads.old payloads.new unsent.old unsent.new
         answered.old.items answered.new.items result }
@@ -41,36 +45,36 @@ pub(crate) fn find(payloads: &mut Payloads, unsent: &mut BytesMut, answered: &mu
     loop {
         let (opened, read) = match payloads.next() {
             Ok(Some(next)) => next,
-            Ok(None) => return Found::Rest,
+            Ok(None) => return FoundPayload::Rest,
             Err(FrameFault::BadLength) => return end(unsent),
-            Err(FrameFault::NoMemory) => return Found::NoMemory,
+            Err(FrameFault::NoMemory) => return FoundPayload::NoMemory,
         };
         match read {
             Ok((call_id, request)) => {
                 if unsent.reserve(FRAME_ROOM).is_err() {
-                    return Found::NoMemory;
+                    return FoundPayload::NoMemory;
                 }
                 let kind = kind(&request);
-                return Found::Request(Head { call_id, kind }, opened, request);
+                return FoundPayload::Request(Head { call_id, kind }, opened, request);
             }
             Err(MessageFault::Bad) => {
                 let Ok(()) = put_fault(BAD_MESSAGE, unsent) else {
-                    return Found::NoMemory;
+                    return FoundPayload::NoMemory;
                 };
                 *answered = answered.and(&opened, &Log::new());
             }
-            Err(MessageFault::NoMemory) => return Found::NoMemory,
+            Err(MessageFault::NoMemory) => return FoundPayload::NoMemory,
         }
     }
 }
 
 /// Answers a length that no frame has.
-fn end(unsent: &mut BytesMut) -> Found
+fn end(unsent: &mut BytesMut) -> FoundPayload
     ensures { EndsWith unsent.old.items unsent.new.items result }
 {
     match put_fault(BAD_LENGTH, unsent) {
-        Ok(()) => Found::BadLength,
-        Err(NoMemory) => Found::NoMemory,
+        Ok(()) => FoundPayload::BadLength,
+        Err(NoMemory) => FoundPayload::NoMemory,
     }
 }
 

@@ -11,4 +11,4 @@ mod session;
 pub use batch::Batch;
 pub use cap_model::{NoMemory, OwnedReply, Request};
 pub use counted::{Counted, Got, Put, Sent, StreamFailed, write_out};
-pub use session::{Cause, Fed, Next, Session};
+pub use session::{Fed, Next, Session, SessionCause};

@@ -11,7 +11,7 @@ ghost use Rattle.cap_session.specs.Session.{new_session, FeedGives, NextGives, M
 use crate::asked::{Head, ReadPayload};
 use crate::batch::Batch;
 use crate::counted::{Counted, Sent};
-use crate::find::{Answered, FRAME_ROOM, Found, find, put_reply};
+use crate::find::{Answered, FRAME_ROOM, FoundPayload, find, put_reply};
 use crate::payloads::{Ahead, Payloads};
 use bytes::BytesMut;
 use cap_base::RESOURCES;
@@ -24,7 +24,7 @@ use std::marker::Model;
 
 /// Why a session has ended.
 #[derive(Clone, Copy, Debug, PartialEq, Eq)]
-pub enum Cause {
+pub enum SessionCause {
     /// A length came that no frame has: 0, or over 65,536.
     BadLength,
     /// An allocation failed.
@@ -39,7 +39,7 @@ pub enum Fed {
     /// All of it was taken.
     Taken,
     /// None of it was taken: the session has ended.
-    Ended(Cause),
+    Ended(SessionCause),
 }
 
 /// What comes next.
@@ -50,7 +50,7 @@ pub enum Next {
     /// More bytes are needed.
     Need,
     /// Nothing more: the session has ended.
-    Ended(Cause),
+    Ended(SessionCause),
 }
 
 /// One connection. Contracts see the bytes that it was fed, the payloads that it answered, the request that is open, its calls
@@ -60,7 +60,7 @@ pub struct Session {
     pub(crate) unsent: BytesMut,
     // That of the open request.
     pub(crate) head: Option<Head>,
-    pub(crate) ended: Option<Cause>,
+    pub(crate) ended: Option<SessionCause>,
     // These exist for contracts alone.
     pub(crate) opened: ReadPayload,
     pub(crate) answered: Answered,
@@ -123,8 +123,8 @@ impl Session {
         match self.payloads.feed(piece) {
             Ok(()) => Fed::Taken,
             Err(_) => {
-                self.ended = Some(Cause::NoMemory);
-                Fed::Ended(Cause::NoMemory)
+                self.ended = Some(SessionCause::NoMemory);
+                Fed::Ended(SessionCause::NoMemory)
             }
         }
     }
@@ -219,19 +219,19 @@ impl Session {
             return Next::Ended(cause);
         }
         match find(&mut self.payloads, &mut self.unsent, &mut self.answered) {
-            Found::Request(head, opened, request) => {
+            FoundPayload::Request(head, opened, request) => {
                 self.head = Some(head);
                 self.opened = opened;
                 Next::Request(request)
             }
-            Found::Rest => Next::Need,
-            Found::BadLength => {
-                self.ended = Some(Cause::BadLength);
-                Next::Ended(Cause::BadLength)
+            FoundPayload::Rest => Next::Need,
+            FoundPayload::BadLength => {
+                self.ended = Some(SessionCause::BadLength);
+                Next::Ended(SessionCause::BadLength)
             }
-            Found::NoMemory => {
-                self.ended = Some(Cause::NoMemory);
-                Next::Ended(Cause::NoMemory)
+            FoundPayload::NoMemory => {
+                self.ended = Some(SessionCause::NoMemory);
+                Next::Ended(SessionCause::NoMemory)
             }
         }
     }
@@ -279,7 +279,7 @@ impl Session {
         if let Sent::Fault { .. } = sent
             && self.ended.is_none()
         {
-            self.ended = Some(Cause::WriteFault);
+            self.ended = Some(SessionCause::WriteFault);
         }
         sent
     }

@@ -20,7 +20,7 @@ use Rattle.cap_shared.specs.Calls.{HasMore}
 use Rattle.cap_shared.specs.Journal.{receipt_for, IsBy}
 use Rattle.cap_shared.specs.Making.{event_of_made}
 use Rattle.cap_shared.specs.Passes.{Pass}
-use Rattle.cap_shared.specs.Rule.{sitter, sitting, sitting_of}
+use Rattle.cap_shared.specs.WordRule.{sitter, sitting, sitting_of}
 
 pub call_step : (old new : Flat resources) (by : ℕ) (request q : Request resources) (reply r : Reply resources) (e : Event resources) → Replies old request reply new → q ≡ request → r ≡ reply → e ≡ event.Call by q r → Step old e new
 call_step old new by request q reply r e is same_q same_r e_is = subst (λ (x : Event resources). Step old x new) (sym (e_is ∙ ap (λ (x : Request resources). event.Call by x r) same_q ∙ ap (λ (x : Reply resources). event.Call by request x) same_r)) is

@@ -7,13 +7,13 @@ use mathlib.Core.List.{IsPrefix}
 use lib.ListN.{get_elem?}
 use Rattle.cap_shared.specs.declared.entry.Entry.{Entry}
 use Rattle.cap_shared.specs.declared.entry.Receipt.{Receipt}
-use Rattle.cap_shared.specs.declared.history.Answer.{Answer}
+use Rattle.cap_shared.specs.declared.history.NotedAnswer.{NotedAnswer}
 use Rattle.cap_shared.specs.declared.history.Moment.{Moment}
 use Rattle.cap_shared.specs.declared.history.Moment.TheVariants.{Entered, Noted}
 use Rattle.cap_shared.specs.declared.history.Sitting.{Sitting}
 use Rattle.cap_shared.specs.declared.history.View.{View}
 use Rattle.cap_shared.specs.Journal.{receipt_for, seat_entries, receipts_in}
-use Rattle.cap_shared.specs.Rule.{Addition, Enters, Notes, Nothing, sitting, fresh, rest_of, head_of, NotesBegin, Fits, AllFit, times, total, log_after, past_after, sits_after}
+use Rattle.cap_shared.specs.WordRule.{Addition, Enters, Notes, Nothing, sitting, fresh, rest_of, head_of, NotesBegin, Fits, AllFit, times, total, log_after, past_after, sits_after}
 
 abbrev pub one : ℕ → ℕ → ℕ
 one a x = if a == x then 1 else 0
@@ -88,7 +88,7 @@ NotesBegin-told log [] r h = tt
 NotesBegin-told log (Entered q ∷ ms) r h = NotesBegin-told log ms r h
 NotesBegin-told log (Noted es a ∷ ms) r h = (h.0, NotesBegin-told log ms r h.1)
 
-pub NotesBegin-noted : (log : List Entry) (ms : List Moment) (a : Answer) → NotesBegin log ms → NotesBegin log (ms ++ Noted log a ∷ [])
+pub NotesBegin-noted : (log : List Entry) (ms : List Moment) (a : NotedAnswer) → NotesBegin log ms → NotesBegin log (ms ++ Noted log a ∷ [])
 NotesBegin-noted log [] a h = (prefix_self log, tt)
 NotesBegin-noted log (Entered q ∷ ms) a h = NotesBegin-noted log ms a h
 NotesBegin-noted log (Noted es b ∷ ms) a h = (h.0, NotesBegin-noted log ms a h.1)
@@ -98,7 +98,7 @@ receipts_in-told [] r = refl
 receipts_in-told (Entered q ∷ ms) r = ap (λ rs. q ∷ rs) (receipts_in-told ms r)
 receipts_in-told (Noted es a ∷ ms) r = receipts_in-told ms r
 
-pub receipts_in-noted : (ms : List Moment) (es : List Entry) (a : Answer) → receipts_in (ms ++ Noted es a ∷ []) ≡ receipts_in ms
+pub receipts_in-noted : (ms : List Moment) (es : List Entry) (a : NotedAnswer) → receipts_in (ms ++ Noted es a ∷ []) ≡ receipts_in ms
 receipts_in-noted [] es a = refl
 receipts_in-noted (Entered q ∷ ms) es a = ap (λ rs. q ∷ rs) (receipts_in-noted ms es a)
 receipts_in-noted (Noted fs b ∷ ms) es a = receipts_in-noted ms es a

@@ -8,7 +8,7 @@ use Rattle.cap_shared.specs.declared.entry.Entry.{Entry}
 use Rattle.cap_shared.specs.declared.history.Mark.{Mark}
 use Rattle.cap_shared.specs.declared.history.Sitting.{Sitting}
 use Rattle.cap_shared.specs.declared.history.View.{View}
-use Rattle.cap_shared.specs.Rule.{Addition, Enters, Notes, Nothing, addition_of, nobody, first_view, without_first, only_first, with_guest, IsOf, AllFit, times, total, Knows, Holds, log_after, sits_after, view_with, IsAdded, IsCompared}
+use Rattle.cap_shared.specs.WordRule.{Addition, Enters, Notes, Nothing, addition_of, nobody, first_view, without_first, only_first, with_guest, IsOf, AllFit, times, total, Knows, Holds, log_after, sits_after, view_with, IsAdded, IsCompared}
 use Rattle.cap_shared.proofs.Lists.{one, one_same, times-append, times-parts, total-set, total-push, total_at, total_two, fresh_fits, fresh_once, all_fit_after, times_after, absent_from, all_fit_others, all_fit-append, all_fit_rest, all_fit_head}
 
 off : false ≡ true → ⊥

@@ -12,14 +12,14 @@ use Rattle.cap_model.specs.declared.event.Event.TheVariants as event
 use Rattle.cap_laws.proofs.numbers.Balance.{step_is_determined}
 use Rattle.cap_shared.specs.declared.entry.Entry.{Entry}
 use Rattle.cap_shared.specs.declared.entry.Receipt.{Receipt}
-use Rattle.cap_shared.specs.declared.history.Answer.{Answer}
+use Rattle.cap_shared.specs.declared.history.NotedAnswer.{NotedAnswer}
 use Rattle.cap_shared.specs.declared.history.Moment.{Moment}
 use Rattle.cap_shared.specs.declared.history.Moment.TheVariants.{Entered, Noted}
 use Rattle.cap_shared.specs.declared.history.Mark.{Mark}
 use Rattle.cap_shared.specs.declared.history.Sitting.{Sitting}
 use Rattle.cap_shared.specs.declared.history.View.{View}
 use Rattle.cap_shared.specs.Journal.{Replays, state_after, receipt_for, seat_entries, receipts_in, position_of, start_of, end_of, end_after, Rises, NoteHolds, NotesHold, IsBy, TagsBelow, AllHonest}
-use Rattle.cap_shared.specs.Rule.{keeper, sitter, sitting, sitting_of, NotesBegin, Fits}
+use Rattle.cap_shared.specs.WordRule.{keeper, sitter, sitting, sitting_of, NotesBegin, Fits}
 use Rattle.cap_shared.specs.Parts.{IsSeat, IsDesk}
 use Rattle.cap_shared.specs.Passes.{Pass, IsNoted, IsEntered}
 use Rattle.cap_shared.specs.Laws.{JournalsLeadToStates}
@@ -88,7 +88,7 @@ NotesHold-told o limit [] r h = tt
 NotesHold-told o limit (Entered q ∷ ms) r h = NotesHold-told o limit ms r h
 NotesHold-told o limit (Noted es a ∷ ms) r h = (h.0, h.1, NotesHold-told o limit ms r h.2)
 
-NotesHold-noted : (o : Flat resources) (limit : ℕ) (ms : List Moment) (es : List Entry) (cluster : Flat resources) (a : Answer) → NotesHold o limit ms → Replays o es cluster → NoteHolds limit es cluster a → NotesHold o limit (ms ++ Noted es a ∷ [])
+NotesHold-noted : (o : Flat resources) (limit : ℕ) (ms : List Moment) (es : List Entry) (cluster : Flat resources) (a : NotedAnswer) → NotesHold o limit ms → Replays o es cluster → NoteHolds limit es cluster a → NotesHold o limit (ms ++ Noted es a ∷ [])
 NotesHold-noted o limit [] es cluster a h run k =
     let at = state_is o cluster es run in
     (subst (λ (x : Flat resources). Replays o es x) at run, subst (λ (x : Flat resources). NoteHolds limit es x a) at k, tt)
@@ -113,7 +113,7 @@ module _ (T : TableId) (o : Flat resources) (limit seats n : ℕ) (rs : List Rec
       } in
       subst (λ (m : Me Mark View). IsSeat T o limit seats n rs' at' m) (sym me_is) new
 
-  pub seat_noted : (cluster : Flat resources) (a : Answer) (rs' : List Receipt) (me' : Me Mark View) → rs' ≡ rs → Replays o log cluster → NoteHolds limit log cluster a → me' ≡ (sitter (sitting (sitting_of me.0).seat ((sitting_of me.0).past ++ Noted log a ∷ [])), [])
+  pub seat_noted : (cluster : Flat resources) (a : NotedAnswer) (rs' : List Receipt) (me' : Me Mark View) → rs' ≡ rs → Replays o log cluster → NoteHolds limit log cluster a → me' ≡ (sitter (sitting (sitting_of me.0).seat ((sitting_of me.0).past ++ Noted log a ∷ [])), [])
       → IsSeat T o limit seats n rs' at' me'
   seat_noted cluster a rs' me' rs_is run k me_is =
       let past = (sitting_of me.0).past in
@@ -146,10 +146,10 @@ desk_entered T o limit seats s t log log' at at' me me' bound room room' e h ste
 
 -- the same from what was added under the lock
 module _ (T : TableId) (o : Flat resources) (limit seats : ℕ) (log : List Entry) (d d' s s' : Pass) where
-  pub noted_seat : (n : ℕ) (rs rs' : List Receipt) (cluster : Flat resources) (a : Answer) → IsSeat T o limit seats n rs s.table_id s.me → IsNoted log a d d' s s' → rs' ≡ rs → Replays o log cluster → NoteHolds limit log cluster a → IsSeat T o limit seats n rs' s'.table_id s'.me
+  pub noted_seat : (n : ℕ) (rs rs' : List Receipt) (cluster : Flat resources) (a : NotedAnswer) → IsSeat T o limit seats n rs s.table_id s.me → IsNoted log a d d' s s' → rs' ≡ rs → Replays o log cluster → NoteHolds limit log cluster a → IsSeat T o limit seats n rs' s'.table_id s'.me
   noted_seat n rs rs' cluster a h m same run holds = seat_noted T o limit seats n rs s.table_id s.me h log m.fits s'.table_id m.seat_table cluster a rs' s'.me same run holds m.sits
 
-  pub noted_desk : (cluster : Flat resources) (bound room : ℕ) (a : Answer) → IsDesk T o limit seats cluster log d.table_id d.me bound room → IsNoted log a d d' s s' → IsDesk T o limit seats cluster log d'.table_id d'.me bound room
+  pub noted_desk : (cluster : Flat resources) (bound room : ℕ) (a : NotedAnswer) → IsDesk T o limit seats cluster log d.table_id d.me bound room → IsNoted log a d d' s s' → IsDesk T o limit seats cluster log d'.table_id d'.me bound room
   noted_desk cluster bound room a h m = record {
     same = m.desk_table ∙ h.same;
     keeps = m.keeps;

@@ -21,12 +21,12 @@ use Rattle.cap_shared.specs.declared.faults.CommitFault.{CommitFault}
 use Rattle.cap_shared.specs.declared.faults.CommitFault.TheVariants as refusal
 use Rattle.cap_shared.specs.declared.faults.Fault.{Fault}
 use Rattle.cap_shared.specs.declared.faults.Fault.TheVariants as missed
-use Rattle.cap_shared.specs.declared.history.Answer.TheVariants as answer
+use Rattle.cap_shared.specs.declared.history.NotedAnswer.TheVariants as answer
 use Rattle.cap_shared.specs.declared.history.Moment.{Moment}
 use Rattle.cap_shared.specs.declared.history.Moment.TheVariants.{Entered, Noted}
 use Rattle.cap_shared.specs.declared.history.Sitting.{Sitting}
 use Rattle.cap_shared.specs.Journal.{Replays, end_after, receipt_for}
-use Rattle.cap_shared.specs.Rule.{sitting}
+use Rattle.cap_shared.specs.WordRule.{sitting}
 
 -- the same seat was answered these moments more
 abbrev pub HasMore : Sitting → Sitting → List Moment → Type 0

@@ -10,8 +10,8 @@ use Rattle.cap_model.specs.declared.event.Event.TheVariants as event
 use Rattle.cap_shared.specs.declared.entry.Entry.{Entry}
 use Rattle.cap_shared.specs.declared.entry.Receipt.{Receipt}
 use Rattle.cap_shared.specs.declared.entry.Receipt.TheVariants as receipt
-use Rattle.cap_shared.specs.declared.history.Answer.{Answer}
-use Rattle.cap_shared.specs.declared.history.Answer.TheVariants.{Rejected, SealedCall, SealedCommit, NoMemory, Copied}
+use Rattle.cap_shared.specs.declared.history.NotedAnswer.{NotedAnswer}
+use Rattle.cap_shared.specs.declared.history.NotedAnswer.TheVariants.{Rejected, SealedCall, SealedCommit, NoMemory, Copied}
 use Rattle.cap_shared.specs.declared.history.Moment.{Moment}
 use Rattle.cap_shared.specs.declared.history.Moment.TheVariants.{Entered, Noted}
 use Rattle.cap_shared.specs.declared.history.Sitting.{Sitting}
@@ -70,7 +70,7 @@ Rises n (m ∷ ms) = (n ≤ start_of m) × Rises (end_of m) ms
 
 -- What an answer without an entry says of the cluster as it was after the entries of then: a proposal is rejected for that reason, or is
 -- admissible; or it says that the journal was full.
-abbrev pub NoteHolds : ℕ → List Entry → Flat resources → Answer → Type 0
+abbrev pub NoteHolds : ℕ → List Entry → Flat resources → NotedAnswer → Type 0
 NoteHolds limit es cluster (Rejected p reason) = reason_of (sight_of cluster) p ≡ Some reason
 NoteHolds limit es cluster (SealedCall request) = length es ≡ limit
 NoteHolds limit es cluster (SealedCommit p) = length es ≡ limit

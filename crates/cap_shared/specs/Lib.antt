@@ -7,4 +7,4 @@ pub mod Parts
 pub mod Passes
 pub mod Requests
 pub mod Rooms
-pub mod Rule
+pub mod WordRule

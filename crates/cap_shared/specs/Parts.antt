@@ -10,7 +10,7 @@ use Rattle.cap_shared.specs.declared.history.Mark.{Mark}
 use Rattle.cap_shared.specs.declared.history.Sitting.{Sitting}
 use Rattle.cap_shared.specs.declared.history.View.{View}
 use Rattle.cap_shared.specs.Journal.{Replays, receipts_in, Rises, NotesHold, TagsBelow}
-use Rattle.cap_shared.specs.Rule.{keeper, sitting_of, IsSitter}
+use Rattle.cap_shared.specs.WordRule.{keeper, sitting_of, IsSitter}
 
 -- a seat: its number, its receipts, and the pass that knows all that it was answered
 pub record IsSeat (table : TableId) (opening : Flat resources) (limit seats number : ℕ) (receipts : List Receipt) (at : TableId) (me : Me Mark View) : Type 0 where

@@ -4,12 +4,12 @@ use Rattle.atomic_table.specs.declared.shared.Seat.{Seat}
 use Rattle.atomic_table.specs.Seated.{TableId}
 use Rattle.cap_shared.specs.declared.entry.Entry.{Entry}
 use Rattle.cap_shared.specs.declared.entry.Receipt.{Receipt}
-use Rattle.cap_shared.specs.declared.history.Answer.{Answer}
+use Rattle.cap_shared.specs.declared.history.NotedAnswer.{NotedAnswer}
 use Rattle.cap_shared.specs.declared.history.Mark.{Mark}
 use Rattle.cap_shared.specs.declared.history.Moment.{Moment}
 use Rattle.cap_shared.specs.declared.history.Moment.TheVariants.{Entered, Noted}
 use Rattle.cap_shared.specs.declared.history.View.{View}
-use Rattle.cap_shared.specs.Rule.{keeper, sitter, sitting, sitting_of, IsSitter, Fits}
+use Rattle.cap_shared.specs.WordRule.{keeper, sitter, sitting, sitting_of, IsSitter, Fits}
 
 abbrev pub Pass : Type 0
 Pass = Seat Mark View
@@ -38,7 +38,7 @@ pub record IsCompared (log : List Entry) (desk_old desk_new seat_old seat_new : 
   pub sits : seat_new.me ≡ seat_old.me
   pub fits : Fits log (sitting_of seat_old.me.0)
 
-abbrev pub IsNoted : List Entry → Answer → Pass → Pass → Pass → Pass → Type 0
+abbrev pub IsNoted : List Entry → NotedAnswer → Pass → Pass → Pass → Pass → Type 0
 IsNoted log answer desk_old desk_new seat_old seat_new = HasMoment log log (Noted log answer) desk_old desk_new seat_old seat_new
 
 abbrev pub IsEntered : List Entry → Entry → Receipt → Pass → Pass → Pass → Pass → Type 0

@@ -9,9 +9,9 @@ use Rattle.cap_model.specs.declared.replies.AllocateNumbers.{AllocateNumbers}
 use Rattle.cap_model.specs.declared.reply.ReplyWith.{ReplyWith}
 use Rattle.cap_model.specs.declared.reply.ReplyWith.TheVariants as reply
 use Rattle.cap_model.specs.declared.request.Request.{Request}
-use Rattle.cap_shared.specs.declared.calls.CallRoom.{CallRoom}
-use Rattle.cap_shared.specs.declared.calls.NewsRooms.{NewsRooms}
-use Rattle.cap_shared.specs.declared.calls.ReplyCopies.{ReplyCopies}
+use Rattle.cap_shared.specs.declared.call_room.CallRoom.{CallRoom}
+use Rattle.cap_shared.specs.declared.call_room.NewsRooms.{NewsRooms}
+use Rattle.cap_shared.specs.declared.call_room.ReplyCopies.{ReplyCopies}
 use Rattle.cap_shared.specs.Requests.{IsCopyIfBoxed}
 
 -- each of the rooms has room for the grants and ends of a reply; where there are no rooms, it has none

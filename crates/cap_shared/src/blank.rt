@@ -3,7 +3,7 @@ ghost use Rattle.std.specs.Prelude.{◌≡◌, IfOk};
 
 use crate::history::{Mark, View};
 use crate::passes::Pass;
-use crate::rule::JournalRule;
+use crate::word_rule::JournalRule;
 use atomic_table::Table;
 use cap_model::NoMemory;
 use std::alloc::Global;
@@ -21,7 +21,7 @@ impl Model for Blank {
     ghost use Rattle.std.specs.Prelude.{◌≡◌, ◌<◌, ℕ, []};
     ghost use Rattle.atomic_table.specs.Seated.{TableId, table_id_coded};
     ghost use Rattle.std.specs.Coded.{coded×, coded_ℕ};
-    ghost use Rattle.cap_shared.specs.Rule.{first_view};
+    ghost use Rattle.cap_shared.specs.WordRule.{first_view};
 
     ghost Value = { TableId × ℕ };
 

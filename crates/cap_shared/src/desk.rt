@@ -4,7 +4,7 @@ ghost use Rattle.cap_model.specs.Sight.{sight_of};
 ghost use Rattle.cap_model.specs.Admission.{reason_of};
 ghost use Rattle.cap_shared.specs.Calls.{CallsOk, CallMisses, CommitAnswers, CommitsBack, CopyIs, TellsFull, TellsFullFirst};
 
-use crate::calls::{CallRoom, is_no_memory, make_call, own_copies};
+use crate::call_room::{CallRoom, is_no_memory, make_call, own_copies};
 use crate::entry::{Entry, Receipt};
 use crate::event::{CompactEvent, EventForm};
 use crate::faults::{CommitFault, Fault};

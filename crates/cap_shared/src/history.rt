@@ -7,7 +7,7 @@ use std::collections::LinkedList;
 
 /// What was answered without an entry.
 #[derive(Drop)]
-pub enum Answer {
+pub enum NotedAnswer {
     /// A proposal was rejected.
     Rejected(Proposal<RESOURCES>, Reason),
     /// The journal was full when the call was to be made.
@@ -23,7 +23,7 @@ pub enum Answer {
 /// What a seat was answered: with an entry, which its receipt names, or without one, with the entries that the journal had then.
 pub enum Moment {
     Entered(Receipt),
-    Noted(LinkedList<Entry>, Answer),
+    Noted(LinkedList<Entry>, NotedAnswer),
 }
 
 /// A seat's number, and all that it was answered, in order.

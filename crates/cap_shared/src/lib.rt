@@ -2,7 +2,7 @@
 #![tactic(auto)]
 
 mod blank;
-mod calls;
+mod call_room;
 mod closed;
 mod desk;
 mod entry;
@@ -14,18 +14,18 @@ mod making;
 mod marks;
 mod passes;
 mod request;
-mod rule;
 mod seat;
 mod shared;
 mod turnstile;
+mod word_rule;
 
 pub use blank::Blank;
 pub use closed::{Closed, SeatReport};
 pub use entry::{Entry, Receipt};
 pub use event::{CompactEvent, EventForm};
 pub use faults::{CallFault, CommitFault, Fault};
-pub use history::{Answer, Mark, Moment, Sitting, View};
+pub use history::{Mark, Moment, NotedAnswer, Sitting, View};
 pub use laws::{journals_lead_to_states, journals_stay_bounded};
 pub use request::CompactRequest;
 pub use seat::{Naming, Seat};
-pub use shared::{Held, Shared};
+pub use shared::{Hold, Shared};

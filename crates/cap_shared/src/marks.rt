@@ -1,8 +1,8 @@
 //! What is added under the lock: an entry with its receipt, a note of an answer without one, or nothing.
 ghost use Rattle.std.specs.Prelude.{◌≡◌, ◌<◌, ◌++◌, ◌∷◌, [], length, vec_len, vec_capacity};
-ghost use Rattle.cap_shared.specs.declared.history.Answer.TheVariants as answer;
+ghost use Rattle.cap_shared.specs.declared.history.NotedAnswer.TheVariants as answer;
 ghost use Rattle.cap_shared.specs.Journal.{receipt_for};
-ghost use Rattle.cap_shared.specs.Rule.{sitting_of};
+ghost use Rattle.cap_shared.specs.WordRule.{sitting_of};
 ghost use Rattle.cap_shared.specs.Passes.{AreHere, IsCompared, IsEntered, IsNoted};
 
 use crate::entry::{Entry, Receipt};

@@ -1,9 +1,9 @@
 //! A step under the lock: the pass of a seat lends its sitting to the keeper, which adds what happened.
 ghost use Rattle.std.specs.Prelude.{◌≡◌, ◌<◌, [], ◌∷◌};
-ghost use Rattle.cap_shared.specs.Rule.{addition_of, keeper, sitter, sitting_of, IsOf, IsKeeper, IsSitter, Fits, log_after, sitting_after};
+ghost use Rattle.cap_shared.specs.WordRule.{addition_of, keeper, sitter, sitting_of, IsOf, IsKeeper, IsSitter, Fits, log_after, sitting_after};
 
 use crate::history::{Mark, View};
-use crate::rule::{Adds, Handover, JournalRule};
+use crate::word_rule::{Adds, Handover, JournalRule};
 use atomic_table::{Seat, Shared};
 
 /// The word beside the lock.

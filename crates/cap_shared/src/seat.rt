@@ -3,7 +3,7 @@ ghost use Rattle.std.specs.Prelude.{◌≡◌, ◌<◌};
 ghost use Rattle.cap_base.specs.Limits.{resources};
 ghost use Rattle.cap_shared.specs.Journal.{receipts_in, Rises, NotesHold};
 ghost use Rattle.cap_shared.specs.Parts.{IsSeat};
-ghost use Rattle.cap_shared.specs.Rule.{sitting_of};
+ghost use Rattle.cap_shared.specs.WordRule.{sitting_of};
 
 use crate::entry::Receipt;
 use crate::passes::Pass;
@@ -26,7 +26,7 @@ pub trait Naming {
 }
 
 impl Naming for Brand {
-    ghost use Rattle.cap_shared.specs.Rule.{no_cluster, no_table};
+    ghost use Rattle.cap_shared.specs.WordRule.{no_cluster, no_table};
 
     ghost table = { no_table };
 
@@ -58,7 +58,7 @@ impl<J: Naming> Drop for Seat<J> {
 
 impl<J: Naming> Model for Seat<J> {
     ghost use Rattle.cap_shared.specs.declared.history.Sitting.{Sitting};
-    ghost use Rattle.cap_shared.specs.Rule.{sitting_of};
+    ghost use Rattle.cap_shared.specs.WordRule.{sitting_of};
     ghost use Rattle.cap_shared.specs.Parts.{IsSeat};
 
     ghost Value = { Sitting };

@@ -1,9 +1,9 @@
-//! The cluster that threads share, with its seats (`Shared`), and what one thread does under one lock (`Held`).
+//! The cluster that threads share, with its seats (`Shared`), and what one thread does under one lock (`Hold`).
 ghost use Rattle.std.specs.Prelude.{◌≡◌, ℕ, ◌<◌, ◌≤◌, [], length, map, vec_capacity, IfOk, OnOk, OnErr, MatchResult};
 ghost use Rattle.cap_shared.specs.Calls.{CallsOk, CallsBack, CallMisses, CommitAnswers, CommitsBack, CopyIs};
 ghost use Rattle.cap_shared.specs.Journal.{Replays, TagsBelow, AllHonest};
 ghost use Rattle.cap_shared.specs.Parts.{report_of};
-ghost use Rattle.cap_shared.specs.Rule.{first_view, fresh, keeper, AllFit, times};
+ghost use Rattle.cap_shared.specs.WordRule.{first_view, fresh, keeper, AllFit, times};
 
 use crate::blank::Blank;
 use crate::closed::{Closed, SeatReport};
@@ -12,9 +12,9 @@ use crate::entry::Entry;
 use crate::faults::{CallFault, CommitFault, Fault};
 use crate::history::{Mark, View};
 use crate::passes::{Pass, Word};
-use crate::rule::{Compares, Handover, JournalRule};
 use crate::seat::{Naming, Seat};
 use crate::turnstile::{Place, Turnstile};
+use crate::word_rule::{Compares, Handover, JournalRule};
 use atomic_table::Table;
 use bumpalo::Bump;
 use cap_base::RESOURCES;
@@ -51,7 +51,7 @@ impl<J: Naming> Drop for Shared<J> {
 }
 
 /// A cluster that one thread holds for some calls, commits and copies. All others wait until it is dropped.
-pub struct Held<'a, J: Naming> {
+pub struct Hold<'a, J: Naming> {
     alloc: Global,
     word: &'a Word,
     desk: MutexGuard<'a, Desk<J>>,
@@ -60,9 +60,9 @@ pub struct Held<'a, J: Naming> {
     ghost some: { 0 < word.now.table_id.words },
 }
 
-impl<'a, J: Naming> Drop for Held<'a, J> {
+impl<'a, J: Naming> Drop for Hold<'a, J> {
     fn drop(self) {
-        let Held {
+        let Hold {
             alloc: _,
             word: _,
             desk,
@@ -73,7 +73,7 @@ impl<'a, J: Naming> Drop for Held<'a, J> {
     }
 }
 
-impl<'a, J: Naming> Held<'a, J> {
+impl<'a, J: Naming> Hold<'a, J> {
     /// Makes a call, as `Shared::call`. The entry takes the lists of the request; where it is not made the request stays as it was.
     pub fn call(
         &mut self,
@@ -144,14 +144,14 @@ impl<J: Naming> Shared<J> {
     }
 
     /// Holds the cluster for some calls, which then take the lock once.
-    pub fn hold<R: Wait>(&self, rt: &R) -> Held<'_, J> {
+    pub fn hold<R: Wait>(&self, rt: &R) -> Hold<'_, J> {
         let place = self.turnstile.line_up(rt);
         let desk = self.desk.lock(rt);
         self.held(desk, Some(place))
     }
 
     /// The same for a thread that schedules. It waits for a few calls of others at most, however many threads call.
-    pub fn hold_to_schedule<R: Wait>(&self, rt: &R) -> Held<'_, J> {
+    pub fn hold_to_schedule<R: Wait>(&self, rt: &R) -> Hold<'_, J> {
         let place = self.turnstile.go_first(rt);
         let desk = self.desk.lock(rt);
         self.turnstile.has_gone(place);
@@ -163,8 +163,8 @@ impl<J: Naming> Shared<J> {
         &'a self,
         desk: MutexGuard<'a, Desk<J>>,
         place: Option<MutexGuard<'a, Place>>,
-    ) -> Held<'a, J> {
-        Held {
+    ) -> Hold<'a, J> {
+        Hold {
             alloc: self.alloc,
             word: &self.table.shared,
             desk,

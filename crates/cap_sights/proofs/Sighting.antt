@@ -18,7 +18,7 @@ use Rattle.cap_tree.specs.Rows.{Row, queues_of, settings_of_row}
 use Rattle.cap_nodes.specs.Tables.{left_of}
 use Rattle.cap_copy.specs.Snapshot.{Seen, queue_seen, sight_in}
 use Rattle.cap_copy.specs.Taking.{IsSnapshotOf, node_seen, sight_of_parts}
-use Rattle.cap_commit.specs.Held.{IsRowOf}
+use Rattle.cap_commit.specs.ClusterState.{IsRowOf}
 use Rattle.cap_sights.specs.Sights.{ShowTheSame, shown_queue}
 
 module _ {K : ℕ} (flat : Flat K) where

@@ -19,7 +19,7 @@ use Rattle.cap_base.proofs.lists.Filters.{filter_mapped, map_twice}
 use Rattle.cap_base.proofs.lists.Tests.{same_test}
 use Rattle.cap_base.proofs.lists.Members.{IsIn, in_either, of_filter, of_map, in_filter, in_left, in_map, in_right, each_of, of_each}
 use Rattle.cap_tree.specs.Ranking.{IsPlace, IsRanked}
-use Rattle.cap_tree.specs.Serving.{Waiter, has_none, waits_here, waits_in, first_is, lifted, AreRanked, serve_cmp, index_cmp, has_index, dealt, IsReached, kid_at, kid_cmp, AreApart, AreServed, AreServedTo, BeginsWithin, AreParts, AreNumbered, HasTop, AreKids}
+use Rattle.cap_tree.specs.ServedWaiters.{Waiter, has_none, waits_here, waits_in, first_is, lifted, AreRanked, serve_cmp, index_cmp, has_index, dealt, IsReached, kid_at, kid_cmp, AreApart, AreServed, AreServedTo, BeginsWithin, AreParts, AreNumbered, HasTop, AreKids}
 use Rattle.cap_base.specs.Levels.{level_cmp}
 use Rattle.cap_tree.specs.Rows.{Row, AreRows}
 use Rattle.cap_tree.specs.Service.{HasPathsOnce, IsTop, items_along, levels_at, queue_cmp}

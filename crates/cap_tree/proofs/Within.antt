@@ -13,7 +13,7 @@ use Rattle.cap_tree.specs.Spot.{along, first_failing, item_at, path_at, IsPositi
 use Rattle.cap_tree.specs.Queue.{stays_in_maximum, stays_in_user_limit}
 use Rattle.cap_tree.specs.Rows.{Row, HasRoomAtRoot, PositionsArePaths, root_use}
 use Rattle.cap_tree.specs.Limits.{broken_level, over_limit}
-use Rattle.cap_tree.specs.declared.limits.OverLimit.TheVariants.{Maximum, User}
+use Rattle.cap_tree.specs.declared.over_limit.OverLimit.TheVariants.{Maximum, User}
 use Rattle.cap_tree.proofs.RowPaths.{along_rows}
 
 same_test : (b c : Bool) (P : Type 0) → IsTrue b ↔ P → (c ≡ true → P) → (P → c ≡ true) → b ≡ c

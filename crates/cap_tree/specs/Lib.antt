@@ -12,6 +12,6 @@ pub mod Rows
 pub mod Service
 pub mod ServiceLaws
 pub mod ServiceOrder
-pub mod Serving
+pub mod ServedWaiters
 pub mod Spot
 pub mod UserLaws

@@ -5,8 +5,8 @@ use Rattle.cap_base.specs.Cascade.{holds_of}
 use Rattle.cap_tree.specs.Spot.{first_failing, item_at, path_at}
 use Rattle.cap_tree.specs.Queue.{stays_in_maximum, stays_in_user_limit}
 use Rattle.cap_tree.specs.Rows.{Row, rows_to}
-use Rattle.cap_tree.specs.declared.limits.OverLimit.{OverLimit}
-use Rattle.cap_tree.specs.declared.limits.OverLimit.TheVariants.{Maximum, User}
+use Rattle.cap_tree.specs.declared.over_limit.OverLimit.{OverLimit}
+use Rattle.cap_tree.specs.declared.over_limit.OverLimit.TheVariants.{Maximum, User}
 
 -- the least level on the way to a path, counted from the root as 0, whose maximum would be passed
 abbrev pub broken_level : List ℕ → List ℕ → List ℕ → List Row → Option ℕ

@@ -9,7 +9,7 @@ ghost use Rattle.cap_tree.specs.Measure.{Measure, MayChange};
 ghost use Rattle.cap_tree.specs.Spot.{HoldsOfItem, IsAdded, IsPosition, along, change_along, first, first_failing, has_below, item_at, made_of, spots};
 ghost use Rattle.cap_tree.specs.Finding.{IsFound, IsStart, is_parent};
 ghost use Rattle.cap_tree.specs.Branch.{IsBranch, root_count};
-ghost use Rattle.cap_tree.specs.Serving.{AreRanked, AreServed, index_cmp};
+ghost use Rattle.cap_tree.specs.ServedWaiters.{AreRanked, AreServed, index_cmp};
 ghost use Rattle.cap_tree.specs.Service.{HasNoneAfter, HasPathsOnce, IsFirstAfter, IsTop, child_item, children_at, is_after, is_before, items_along};
 
 use crate::found::{Kind, Path};
@@ -21,7 +21,7 @@ use std::cmp::Ordering;
 use std::marker::Model;
 
 /// What a branch holds: a name, and counts of what is its own and all below.
-pub trait Held {
+pub trait TreeItem {
     ghost name: { Self → List ℕ };
 
     ghost stored: { Self → Measure → ℕ };
@@ -33,7 +33,7 @@ pub trait Held {
 }
 
 /// A change of an item and of those above it, which takes an old count away and adds a new one.
-pub trait Change<T: Held> {
+pub trait Change<T: TreeItem> {
     ghost old: { Self → Measure → ℕ };
 
     ghost new: { Self → Measure → ℕ };
@@ -86,7 +86,7 @@ pub trait Test<T> {
 }
 
 /// A copy of an item under another allocator.
-pub trait CopyIn<U: Held, B: Allocator>: Held {
+pub trait CopyIn<U: TreeItem, B: Allocator>: TreeItem {
     ghost copied: { Self → U };
 
     fn copy_in(&self, alloc: B) -> Result<U, NoMemory>
@@ -100,7 +100,7 @@ pub trait CopyIn<U: Held, B: Allocator>: Held {
 }
 
 /// An item with its place in the order of service.
-pub trait Served: Held {
+pub trait Served: TreeItem {
     ghost order: { Self → Self → Ordering };
 
     fn cmp_served(&self, other: &Self) -> Ordering
@@ -113,12 +113,12 @@ pub trait Served: Held {
 
 /// An item, with the trees under it.
 #[derive(Drop)]
-pub struct Branch<T: Held, A: Allocator> {
+pub struct Branch<T: TreeItem, A: Allocator> {
     item: T,
     children: Vec<Branch<T, A>, A>,
 }
 
-impl<T: Held, A: Allocator> Model for Branch<T, A> {
+impl<T: TreeItem, A: Allocator> Model for Branch<T, A> {
     ghost use Rattle.std.specs.Prelude.{List, length, ℕ};
     ghost use Rattle.std.specs.Coded.{coded_list};
     ghost use Rattle.std.proofs.Common.{arith};
@@ -139,7 +139,7 @@ impl<T: Held, A: Allocator> Model for Branch<T, A> {
         (arith, most_le-length-below (T.name b.item) 0 b.children.items) };
 }
 
-impl<T: Held + Drop, A: Allocator + Copy> Branch<T, A> {
+impl<T: TreeItem + Drop, A: Allocator + Copy> Branch<T, A> {
     /// A tree of that item alone.
     pub fn leaf(alloc: A, item: T) -> Branch<T, A>
         requires { (m : Measure) → T.stored item m ≡ T.own item m }
@@ -341,7 +341,7 @@ impl<T: Held + Drop, A: Allocator + Copy> Branch<T, A> {
 
     /// A copy of the tree under another allocator, the children of an item in one piece of memory. The error means that an
     /// allocation failed.
-    pub fn copy_in<U: Held + Drop, B: Allocator + Copy>(
+    pub fn copy_in<U: TreeItem + Drop, B: Allocator + Copy>(
         &self,
         alloc: B,
     ) -> Result<Branch<U, B>, NoMemory>

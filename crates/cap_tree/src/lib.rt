@@ -5,15 +5,15 @@ mod branch;
 mod change;
 mod count;
 mod found;
-mod limits;
 mod order;
+mod over_limit;
 mod queue;
 mod serving;
 mod tree;
 mod waiting;
 
 pub use found::{Found, Path};
-pub use limits::OverLimit;
+pub use over_limit::OverLimit;
 pub use queue::Queue;
 pub use tree::QueueTree;
 pub use waiting::Waiter;

@@ -3,7 +3,7 @@ ghost use Rattle.std.specs.Prelude.{IfOk, map};
 ghost use Rattle.std.specs.List.{All};
 ghost use Rattle.cap_tree.specs.Rows.{AreRows};
 ghost use Rattle.cap_tree.specs.ServiceOrder.{IsServiceOrder};
-ghost use Rattle.cap_tree.specs.Serving.{AreNumbered};
+ghost use Rattle.cap_tree.specs.ServedWaiters.{AreNumbered};
 ghost use Rattle.cap_tree.specs.Spot.{IsPosition};
 
 use crate::tree::QueueTree;

@@ -5,7 +5,7 @@ ghost use Rattle.cap_tree.specs.Count.{IsPart, MayMove};
 ghost use Rattle.cap_tree.specs.Measure.{Measure};
 ghost use Rattle.cap_tree.specs.Queue.{IsUnused, HasSettingsOf, count_in, moved_above, moved_at, of_queue, of_users, queue_count, stays_in_maximum, stays_in_user_limit, use_of, user_row, with_count, with_running};
 
-use crate::branch::{CopyIn, Held, Served};
+use crate::branch::{CopyIn, Served, TreeItem};
 use crate::count::{Part, Total, moved};
 use cap_base::{NoMemory, PathText, QueueRow, ShortText};
 use cap_vector::{Resource, Shares, Sum, cmp_shares, fits_exchanged};
@@ -54,7 +54,7 @@ impl<const K: usize, A: Allocator> Model for Queue<K, A> {
     ghost invariant = { λ q. AreSharesOf q.count.used q.guaranteed q.shares };
 }
 
-impl<const K: usize, A: Allocator> Held for Queue<K, A> {
+impl<const K: usize, A: Allocator> TreeItem for Queue<K, A> {
     ghost use Rattle.cap_tree.specs.Queue.{of_queue, of_users};
 
     ghost name = { λ q. q.name };

@@ -2,7 +2,7 @@
 ghost use Rattle.std.specs.Prelude.{◌≡◌, ◌<◌, ◌≤◌, ◌++◌, [], filter, length, map, IfOk, OnOk};
 ghost use Rattle.std.specs.List.{All};
 ghost use Rattle.cap_tree.specs.Ranking.{IsPlace, IsRanked};
-ghost use Rattle.cap_tree.specs.Serving.{AreApart, AreKids, AreParts, BeginsWithin, HasTop, kid_at, kid_cmp, waits_here};
+ghost use Rattle.cap_tree.specs.ServedWaiters.{AreApart, AreKids, AreParts, BeginsWithin, HasTop, kid_at, kid_cmp, waits_here};
 
 use crate::branch::{Branch, Served};
 use crate::waiting::{Part, Waiter};

@@ -18,7 +18,7 @@ use crate::branch::Branch;
 use crate::change::{Move, Running, SetState};
 use crate::count::Part;
 use crate::found::{Found, Kind, Path};
-use crate::limits::{InMaximum, OverLimit};
+use crate::over_limit::{InMaximum, OverLimit};
 use crate::queue::Queue;
 use cap_base::{Config, NoMemory, QueueRow, ShortText};
 use cap_vector::{Resource, Sum};

@@ -13,7 +13,7 @@ pub struct Waiter<'a> {
 }
 
 impl<'a> Model for Waiter<'a> {
-    ghost use Rattle.cap_tree.specs.Serving.{Waiter as Waiting};
+    ghost use Rattle.cap_tree.specs.ServedWaiters.{Waiter as Waiting};
 
     ghost Value = { Waiting };
 
@@ -61,7 +61,7 @@ pub(crate) struct Part<'a, B: Allocator> {
 
 impl<'a, B: Allocator> Model for Part<'a, B> {
     ghost use Rattle.std.specs.Prelude.{List};
-    ghost use Rattle.cap_tree.specs.Serving.{Waiter as Waiting};
+    ghost use Rattle.cap_tree.specs.ServedWaiters.{Waiter as Waiting};
 
     ghost Value = { List Waiting };
 

@@ -7,14 +7,14 @@ use Rattle.cap_frames.specs.Stream.{frame_of}
 use Rattle.cap_grammar.specs.Spelling.{IsOfKind, kind_of, fault_reply}
 use Rattle.cap_session.specs.Answers.{Answers}
 use Rattle.cap_session.specs.Session.{SessionState, OpenRequest, Continues, NextGives, EndsNow, MayAnswer, SpellsAnswer, after_answer, with_answer}
-use Rattle.cap_session.specs.declared.session.Cause.{Cause}
-use Rattle.cap_session.specs.declared.session.Cause.TheVariants as causes
+use Rattle.cap_session.specs.declared.session.SessionCause.{SessionCause}
+use Rattle.cap_session.specs.declared.session.SessionCause.TheVariants as causes
 use Rattle.cap_session.specs.declared.session.Next.{Next}
 use Rattle.cap_session.specs.declared.session.Next.TheVariants as nexts
 use Rattle.cap_session.proofs.Continuing.{continues_bad, continues_answer}
 use Rattle.cap_shared.specs.Calls.{HasMore}
-use Rattle.cap_shared.specs.Rule.{sitting}
-use Rattle.cap_shared.specs.declared.history.Answer.TheVariants as answer
+use Rattle.cap_shared.specs.WordRule.{sitting}
+use Rattle.cap_shared.specs.declared.history.NotedAnswer.TheVariants as answer
 use Rattle.cap_shared.specs.declared.history.Moment.{Moment}
 use Rattle.cap_shared.specs.declared.history.Moment.TheVariants.{Noted}
 use Rattle.cap_shared.specs.declared.history.Sitting.{Sitting}
@@ -80,13 +80,13 @@ sealed_then x y = record { entries = y.entries; full = y.full; serves = serves_t
 -- ---- what comes next
 
 -- payloads that are no requests were answered, and last came these bytes
-bad_then : (b new : SessionState) (t : Sitting) (payloads : List (List ℕ)) (frames last : List ℕ) (o : Option OpenRequest) (c : Option Cause) → Answers payloads [] frames
+bad_then : (b new : SessionState) (t : Sitting) (payloads : List (List ℕ)) (frames last : List ℕ) (o : Option OpenRequest) (c : Option SessionCause) → Answers payloads [] frames
     → new ≡ record b { answered = b.answered ++ payloads; unsent = b.unsent ++ (frames ++ last); open_request = o; ended = c } → Serves b new t t last []
 bad_then b new t payloads frames last o c answers now = serves_quiet b new t [] last
     (continues_bad b new payloads frames last answers (ap (λ (x : SessionState). x.fed) now) (ap (λ (x : SessionState). x.answered) now) (ap (λ (x : SessionState). x.calls) now) (ap (λ (x : SessionState). x.sent) now) (ap (λ (x : SessionState). x.unsent) now))
 
 -- and no more bytes
-bad_only : (b new : SessionState) (t : Sitting) (payloads : List (List ℕ)) (frames : List ℕ) (o : Option OpenRequest) (c : Option Cause) → Answers payloads [] frames → new ≡ record b { answered = b.answered ++ payloads; unsent = b.unsent ++ frames; open_request = o; ended = c } → Serves b new t t [] []
+bad_only : (b new : SessionState) (t : Sitting) (payloads : List (List ℕ)) (frames : List ℕ) (o : Option OpenRequest) (c : Option SessionCause) → Answers payloads [] frames → new ≡ record b { answered = b.answered ++ payloads; unsent = b.unsent ++ frames; open_request = o; ended = c } → Serves b new t t [] []
 bad_only b new t payloads frames o c answers now =
     bad_then b new t payloads frames [] o c answers (now ∙ ap (λ (x : List ℕ). record b { answered = b.answered ++ payloads; unsent = b.unsent ++ x; open_request = o; ended = c }) (sym (append-nil frames)))
 
@@ -96,7 +96,7 @@ next_need {a} {b} {s} {t} new x none (over, payloads, frames, answers, now, at) 
   at_rest = record { left = at.0; stream = at.1; none_open = ap (λ (v : SessionState). v.open_request) now ∙ none; goes_on = ap (λ (v : SessionState). v.ended) now ∙ over };
 }
 
-ends_now : {a b : SessionState} {s t : Sitting} (limit : ℕ) (new : SessionState) (cause : Cause) → Serves a b s t [] [] → EndsNow b new cause → IsPause limit a new s t (pauses.Ended cause)
+ends_now : {a b : SessionState} {s t : Sitting} (limit : ℕ) (new : SessionState) (cause : SessionCause) → Serves a b s t [] [] → EndsNow b new cause → IsPause limit a new s t (pauses.Ended cause)
 ends_now {a} {b} {s} {t} limit new causes.BadLength x (payloads, frames, answers, now, at) = record {
   left = at.0;
   stream = at.1;
@@ -105,7 +105,7 @@ ends_now {a} {b} {s} {t} limit new causes.BadLength x (payloads, frames, answers
 ends_now {a} {b} {s} {t} limit new causes.NoMemory x (payloads, frames, answers, now) = serves_then x (bad_only b new t payloads frames b.open_request (Some causes.NoMemory) answers now)
 ends_now {a} {b} {s} {t} limit new causes.WriteFault x ends = absurd ends
 
-pub next_ended : {a b : SessionState} {s t : Sitting} (limit : ℕ) (new : SessionState) (cause : Cause) → Serves a b s t [] [] → b.ended ≡ None → NextGives b new (nexts.Ended cause) → IsPause limit a new s t (pauses.Ended cause)
+pub next_ended : {a b : SessionState} {s t : Sitting} (limit : ℕ) (new : SessionState) (cause : SessionCause) → Serves a b s t [] [] → b.ended ≡ None → NextGives b new (nexts.Ended cause) → IsPause limit a new s t (pauses.Ended cause)
 next_ended limit new cause x over (inl (was, same)) = absurd cc
 next_ended limit new cause x over (inr (was, ends)) = ends_now limit new cause x ends
 
@@ -116,7 +116,7 @@ next_request_is {a} {b} {s} {t} new q x (over, payloads, frames, o, answers, sam
   ap (λ (v : SessionState). v.ended) now,
 )
 
-ends_same : (b new : SessionState) (cause : Cause) → EndsNow b new cause → (new.fed ≡ b.fed) × (new.sent ≡ b.sent)
+ends_same : (b new : SessionState) (cause : SessionCause) → EndsNow b new cause → (new.fed ≡ b.fed) × (new.sent ≡ b.sent)
 ends_same b new causes.BadLength (payloads, frames, answers, now, at) = (ap (λ (v : SessionState). v.fed) now, ap (λ (v : SessionState). v.sent) now)
 ends_same b new causes.NoMemory (payloads, frames, answers, now) = (ap (λ (v : SessionState). v.fed) now, ap (λ (v : SessionState). v.sent) now)
 ends_same b new causes.WriteFault ends = absurd ends

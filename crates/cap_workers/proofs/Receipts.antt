@@ -7,7 +7,7 @@ use Rattle.cap_session.specs.Session.{SessionState, Continues, all_answers, afte
 use Rattle.cap_session.specs.declared.counted.Sent.{Sent}
 use Rattle.cap_session.proofs.Continuing.{continues_none, continues_then}
 use Rattle.cap_shared.specs.Calls.{HasMore}
-use Rattle.cap_shared.specs.Rule.{sitting}
+use Rattle.cap_shared.specs.WordRule.{sitting}
 use Rattle.cap_shared.specs.declared.history.Moment.{Moment}
 use Rattle.cap_shared.specs.declared.history.Sitting.{Sitting}
 use Rattle.cap_workers.specs.Sessions.{HaveReceipts, none_made, made, starved, Serves}

@@ -7,8 +7,8 @@ use Rattle.cap_session.specs.Counted.{StreamState}
 use Rattle.cap_model.specs.declared.request.Request.{Request}
 use Rattle.cap_session.specs.declared.counted.Sent.{Sent}
 use Rattle.cap_session.specs.declared.counted.Sent.TheVariants as sents
-use Rattle.cap_session.specs.declared.session.Cause.{Cause}
-use Rattle.cap_session.specs.declared.session.Cause.TheVariants as causes
+use Rattle.cap_session.specs.declared.session.SessionCause.{SessionCause}
+use Rattle.cap_session.specs.declared.session.SessionCause.TheVariants as causes
 use Rattle.cap_session.specs.declared.session.Fed.TheVariants as feds
 use Rattle.cap_session.proofs.Continuing.{continues_fed}
 use Rattle.cap_shared.specs.declared.history.Sitting.{Sitting}
@@ -66,7 +66,7 @@ starved_round limit old mid new s t (sents.All n) end x is ended = subst (λ (e 
 starved_round limit old mid new s t (sents.Fault n) end x is ended = subst (λ (e : Option EndCause). IsRound limit old new s t e) (sym ended) (inl (starved_sent new (sents.Fault n) x is))
 
 -- a piece that was not taken
-pub fed_none : (piece : List ℕ) (old new : SessionState) (c : Cause) → old.ended ≡ None → FeedGives piece old new (feds.Ended c) → new ≡ record old { ended = Some causes.NoMemory }
+pub fed_none : (piece : List ℕ) (old new : SessionState) (c : SessionCause) → old.ended ≡ None → FeedGives piece old new (feds.Ended c) → new ≡ record old { ended = Some causes.NoMemory }
 fed_none piece old new c over (inl (was, same)) = absurd cc
 fed_none piece old new c over (inr (none, is, now)) = now
 

@@ -12,9 +12,9 @@ use Rattle.cap_session.specs.Ahead.{asked_requests}
 use Rattle.cap_session.specs.Session.{SessionState, OpenRequest, Continues, SpellsAnswer, all_answers, with_answer}
 use Rattle.cap_session.proofs.Continuing.{continues_none, continues_then, continues_answer}
 use Rattle.cap_shared.specs.Calls.{HasMore}
-use Rattle.cap_shared.specs.Rule.{sitting}
+use Rattle.cap_shared.specs.WordRule.{sitting}
 use Rattle.cap_shared.specs.declared.entry.Entry.{Entry}
-use Rattle.cap_shared.specs.declared.history.Answer.TheVariants as answer
+use Rattle.cap_shared.specs.declared.history.NotedAnswer.TheVariants as answer
 use Rattle.cap_shared.specs.declared.history.Moment.{Moment}
 use Rattle.cap_shared.specs.declared.history.Moment.TheVariants.{Noted}
 use Rattle.cap_shared.specs.declared.history.Sitting.{Sitting}

@@ -10,7 +10,7 @@ use Rattle.cap_session.specs.Ahead.{asked_requests}
 use Rattle.cap_session.specs.Session.{SessionState, OpenRequest, Continues}
 use Rattle.cap_shared.specs.Calls.{HasMore, IsSealedCall}
 use Rattle.cap_shared.specs.declared.entry.Entry.{Entry}
-use Rattle.cap_shared.specs.declared.history.Answer.TheVariants as answer
+use Rattle.cap_shared.specs.declared.history.NotedAnswer.TheVariants as answer
 use Rattle.cap_shared.specs.declared.history.Moment.{Moment}
 use Rattle.cap_shared.specs.declared.history.Moment.TheVariants.{Noted}
 use Rattle.cap_shared.specs.declared.history.Sitting.{Sitting}

@@ -10,13 +10,13 @@ use Rattle.cap_frames.specs.Stream.{rest, fault, IsStream}
 use Rattle.cap_session.specs.Answers.{Call, tail_answer}
 use Rattle.cap_session.specs.Counted.{StreamState, one_failure, one_quiet, one_end}
 use Rattle.cap_session.specs.Session.{SessionState, OpenRequest, Continues}
-use Rattle.cap_session.specs.declared.session.Cause.TheVariants as causes
+use Rattle.cap_session.specs.declared.session.SessionCause.TheVariants as causes
 use Rattle.cap_session.specs.declared.counted.Sent.{Sent}
 use Rattle.cap_session.specs.declared.counted.Sent.TheVariants as sents
 use Rattle.cap_shared.specs.Calls.{HasMore, IsSealedCall}
 use Rattle.cap_shared.specs.declared.entry.Entry.{Entry}
 use Rattle.cap_shared.specs.declared.entry.Receipt.TheVariants as receipt
-use Rattle.cap_shared.specs.declared.history.Answer.TheVariants as answer
+use Rattle.cap_shared.specs.declared.history.NotedAnswer.TheVariants as answer
 use Rattle.cap_shared.specs.declared.history.Moment.{Moment}
 use Rattle.cap_shared.specs.declared.history.Moment.TheVariants.{Entered, Noted}
 use Rattle.cap_shared.specs.declared.history.Sitting.{Sitting}

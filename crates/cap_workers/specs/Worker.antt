@@ -13,13 +13,13 @@ use Rattle.cap_shared.specs.declared.history.Sitting.{Sitting}
 use Rattle.cap_shared.specs.Calls.{CommitAnswers, CommitsBack, HasMore}
 use Rattle.cap_shared.specs.Journal.{Replays}
 use Rattle.cap_shared.specs.declared.entry.Entry.{Entry}
-use Rattle.cap_shared.specs.declared.history.Answer.TheVariants as answer
+use Rattle.cap_shared.specs.declared.history.NotedAnswer.TheVariants as answer
 use Rattle.cap_shared.specs.declared.history.Moment.TheVariants.{Noted}
 use Rattle.cap_lanes.specs.Sides.{WorkerSide, after_put}
-use Rattle.cap_workers.specs.declared.gate.Outcome.{Outcome}
-use Rattle.cap_workers.specs.declared.gate.Outcome.TheVariants as outcomes
-use Rattle.cap_workers.specs.declared.worker.End.{End}
-use Rattle.cap_workers.specs.declared.worker.End.TheVariants as ends
+use Rattle.cap_workers.specs.declared.gate.CommitOutcome.{CommitOutcome}
+use Rattle.cap_workers.specs.declared.gate.CommitOutcome.TheVariants as outcomes
+use Rattle.cap_workers.specs.declared.worker.TurnEnd.{TurnEnd}
+use Rattle.cap_workers.specs.declared.worker.TurnEnd.TheVariants as ends
 use Rattle.cap_workers.specs.declared.worker.OfferEnd.{OfferEnd}
 use Rattle.cap_workers.specs.declared.worker.OfferEnd.TheVariants as offers
 
@@ -32,24 +32,24 @@ pub record Chooses (opening : Flat resources) (start : ℕ) (old new : Sitting) 
   pub chosen : choice ≡ choice_from (sight_of cluster) start
 
 -- how a turn ends whose proposal came back
-abbrev pub end_by_fault : CommitFault → End
+abbrev pub end_by_fault : CommitFault → TurnEnd
 end_by_fault (fault.Sealed back) = ends.Sealed back
 end_by_fault (fault.NoMemory back) = ends.NoMemory
 
 -- how a turn ends whose commit was answered so
-abbrev pub end_by : Result (Verdict resources) CommitFault → End
+abbrev pub end_by : Result (Verdict resources) CommitFault → TurnEnd
 end_by (Ok (verdict.Done event)) = ends.Done event
 end_by (Ok (verdict.Rejected reason)) = ends.Rejected reason
 end_by (Err missed) = end_by_fault missed
 
 -- what came of a commit that was answered so
-abbrev pub outcome_by : Result (Verdict resources) CommitFault → Outcome
+abbrev pub outcome_by : Result (Verdict resources) CommitFault → CommitOutcome
 outcome_by (Ok (verdict.Done event)) = outcomes.Made
 outcome_by (Ok (verdict.Rejected reason)) = outcomes.Rejected
 outcome_by (Err missed) = outcomes.Unmade
 
 -- the proposal was committed once, and the end is what that was answered
-abbrev pub IsCommitted : NodeProposal → ℕ → Sitting → Sitting → End → Type 0
+abbrev pub IsCommitted : NodeProposal → ℕ → Sitting → Sitting → TurnEnd → Type 0
 IsCommitted p limit old new ends.Nothing = ⊥
 IsCommitted p limit old new (ends.Done event) = CommitAnswers p old new (verdict.Done event)
 IsCommitted p limit old new (ends.Rejected reason) = CommitAnswers p old new (verdict.Rejected reason)
@@ -57,13 +57,13 @@ IsCommitted p limit old new (ends.Sealed back) = CommitsBack p limit old new (fa
 IsCommitted p limit old new ends.NoMemory = CommitsBack p limit old new (fault.NoMemory p)
 
 -- a proposal was chosen and then committed
-abbrev pub CommitsChoice : Flat resources → ℕ → ℕ → Sitting → Sitting → End → Type 0
+abbrev pub CommitsChoice : Flat resources → ℕ → ℕ → Sitting → Sitting → TurnEnd → Type 0
 CommitsChoice opening limit start old new end =
     (mid : Sitting) × (p : NodeProposal) × Chooses opening start old mid (Some p) × IsCommitted p limit mid new end
 
 -- A turn notes one copy of the cluster. Where nothing is chosen on it from the start, that is all; else the choice went to one commit, and the
 -- end is what that was answered. Where memory was refused for the copy, nothing is noted.
-abbrev pub IsTurn : Flat resources → ℕ → ℕ → Sitting → Sitting → End → Type 0
+abbrev pub IsTurn : Flat resources → ℕ → ℕ → Sitting → Sitting → TurnEnd → Type 0
 IsTurn opening limit start old new ends.Nothing = Chooses opening start old new None
 IsTurn opening limit start old new (ends.Done event) = CommitsChoice opening limit start old new (ends.Done event)
 IsTurn opening limit start old new (ends.Rejected reason) = CommitsChoice opening limit start old new (ends.Rejected reason)
@@ -91,6 +91,6 @@ IsOffer opening start old new before after (offers.Refused back) = PutsChoice op
 IsOffer opening start old new before after offers.NoMemory = (new ≡ old) × (after ≡ before)
 
 -- the proposal of a turn was committed once; then the next turn has begun, or memory was refused for its copy and nothing was noted
-abbrev pub GoesOn : {E : Type 0} → Flat resources → ℕ → ℕ → NodeProposal → Sitting → Sitting → End → Result (Option NodeProposal) E → Type 0
+abbrev pub GoesOn : {E : Type 0} → Flat resources → ℕ → ℕ → NodeProposal → Sitting → Sitting → TurnEnd → Result (Option NodeProposal) E → Type 0
 GoesOn opening limit start p old new end choice =
     (mid : Sitting) × IsCommitted p limit old mid end × MatchResult choice (Chooses opening start mid new) (λ _. new ≡ mid)

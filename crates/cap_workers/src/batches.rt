@@ -6,7 +6,7 @@ ghost use Rattle.cap_session.specs.Answers.{Call};
 use cap_base::RESOURCES;
 use cap_model::{OwnedReply, Refusal, ReplyWith, Request};
 use cap_session::{Batch, Session};
-use cap_shared::{Fault, Held, Naming, Seat, Shared};
+use cap_shared::{Fault, Hold, Naming, Seat, Shared};
 use std::collections::VecDeque;
 use std::sync::Wait;
 
@@ -65,7 +65,7 @@ fn call_all<J: Naming, H: Wait>(
 
 /// Makes a call. `None` where the journal is full, and then the request stays as it was.
 fn call_one<J: Naming>(
-    held: &mut Held<'_, J>,
+    held: &mut Hold<'_, J>,
     seat: &mut Seat<J>,
     request: &mut Request<RESOURCES>,
 ) -> Option<OwnedReply<RESOURCES>>

@@ -1,5 +1,5 @@
 //! What the workers and the committer of an epoch share beside the cluster (`Coordinator`).
-use crate::gate::{Gate, Outcome, Point};
+use crate::gate::{CommitOutcome, Gate, Point};
 use cap_lanes::Committer;
 use std::sync::{Mutex, MutexGuard, Wait};
 use std::thread::Parker;
@@ -16,20 +16,20 @@ pub(crate) struct Alone;
 pub(crate) const BATCH: usize = 8;
 
 /// What came of proposals that were committed while the cluster was held once, each with its worker's number.
-pub(crate) type Outcomes = [Option<(u32, Outcome)>; BATCH];
+pub(crate) type Outcomes = [Option<(u32, CommitOutcome)>; BATCH];
 
 /// What is answered to a worker.
 #[derive(Drop)]
-struct Answer {
+struct Mailbox {
     /// What came of the proposal that the worker has put, until the worker has seen it.
-    outcome: Mutex<Option<Outcome>>,
+    outcome: Mutex<Option<CommitOutcome>>,
     /// Where the worker waits for it.
     worker: Parker,
 }
 
-impl Answer {
-    fn new() -> Answer {
-        Answer {
+impl Mailbox {
+    fn new() -> Mailbox {
+        Mailbox {
             outcome: Mutex::new(None),
             worker: Parker::new(),
         }
@@ -48,7 +48,7 @@ pub struct Coordinator {
     /// Where the committer's thread waits.
     committer: Parker,
     /// By the number of the worker.
-    answers: [Answer; 8],
+    answers: [Mailbox; 8],
 }
 
 impl Coordinator {
@@ -60,14 +60,14 @@ impl Coordinator {
             lanes: Mutex::new(None),
             committer: Parker::new(),
             answers: [
-                Answer::new(),
-                Answer::new(),
-                Answer::new(),
-                Answer::new(),
-                Answer::new(),
-                Answer::new(),
-                Answer::new(),
-                Answer::new(),
+                Mailbox::new(),
+                Mailbox::new(),
+                Mailbox::new(),
+                Mailbox::new(),
+                Mailbox::new(),
+                Mailbox::new(),
+                Mailbox::new(),
+                Mailbox::new(),
             ],
         }
     }
@@ -103,8 +103,8 @@ impl Coordinator {
         self.committer.unpark();
     }
 
-    /// Tells the gate and the workers what came of their proposals.
-    pub(crate) fn tell<R: Wait, G: Gate>(&self, rt: &R, gate: &G, outcomes: &Outcomes) {
+    /// Notifies the gate and the workers what came of their proposals.
+    pub(crate) fn notify<R: Wait, G: Gate>(&self, rt: &R, gate: &G, outcomes: &Outcomes) {
         for (worker, outcome) in outcomes.iter().flatten() {
             gate.at(*worker, Point::Committed(*outcome));
             self.answer(rt, *worker, *outcome);
@@ -112,7 +112,7 @@ impl Coordinator {
     }
 
     /// The proposal that the worker has put is answered.
-    fn answer<R: Wait>(&self, rt: &R, worker: u32, outcome: Outcome) {
+    fn answer<R: Wait>(&self, rt: &R, worker: u32, outcome: CommitOutcome) {
         if let Some(answer) = self.answers.get(worker as usize) {
             *answer.outcome.lock(rt) = Some(outcome);
             answer.worker.unpark();
@@ -130,20 +130,20 @@ impl Coordinator {
 /// A worker's side of its lane, where it sees the answer to each proposal that it puts.
 #[derive(Drop)]
 pub(crate) struct LaneSide<'a> {
-    answer: Option<&'a Answer>,
+    answer: Option<&'a Mailbox>,
 }
 
 impl LaneSide<'_> {
     /// What came of the proposal that the worker has put. `None` if it was not answered yet, or if the worker has seen the answer.
-    pub(crate) fn answer<R: Wait>(&self, rt: &R) -> Option<Outcome> {
+    pub(crate) fn answer<R: Wait>(&self, rt: &R) -> Option<CommitOutcome> {
         let mut outcome = self.answer?.outcome.lock(rt);
         outcome.take()
     }
 
     /// Waits until that is answered.
-    pub(crate) fn await_answer<R: Wait>(&self, rt: &R) -> Outcome {
+    pub(crate) fn await_answer<R: Wait>(&self, rt: &R) -> CommitOutcome {
         let Some(answer) = self.answer else {
-            return Outcome::Unmade;
+            return CommitOutcome::Unmade;
         };
         for _ in rt.forever() {
             if let Some(outcome) = self.answer(rt) {

@@ -9,7 +9,7 @@ use std::sync::atomic::{AtomicU64, Ordering};
 
 /// What came of a commit.
 #[derive(Clone, Copy, Debug, PartialEq, Eq)]
-pub enum Outcome {
+pub enum CommitOutcome {
     /// The proposal was made.
     Made,
     /// The proposal was not admissible any more.
@@ -18,15 +18,15 @@ pub enum Outcome {
     Unmade,
 }
 
-impl Outcome {
+impl CommitOutcome {
     /// What came of a commit that was answered so.
-    pub fn of(answer: &Result<Verdict<RESOURCES>, CommitFault>) -> Outcome
+    pub fn of(answer: &Result<Verdict<RESOURCES>, CommitFault>) -> CommitOutcome
         ensures { result ≡ outcome_by answer.now }
     {
         match answer {
-            Ok(Verdict::Done(_)) => Outcome::Made,
-            Ok(Verdict::Rejected(_)) => Outcome::Rejected,
-            Err(_) => Outcome::Unmade,
+            Ok(Verdict::Done(_)) => CommitOutcome::Made,
+            Ok(Verdict::Rejected(_)) => CommitOutcome::Rejected,
+            Err(_) => CommitOutcome::Unmade,
         }
     }
 }
@@ -39,7 +39,7 @@ pub enum Point {
     /// A proposal was made, or there is nothing to propose.
     Proposed,
     /// The commit was answered, to the worker itself or to who committed for it.
-    Committed(Outcome),
+    Committed(CommitOutcome),
 }
 
 /// A hook that a worker calls at each point of its turn, and that may hold it there. The cluster is free then. Who commits what a worker
@@ -86,8 +86,8 @@ impl Tally {
 impl Gate for Tally {
     fn at(&self, _worker: u32, point: Point) {
         let count = match point {
-            Point::Committed(Outcome::Made) => &self.made,
-            Point::Committed(Outcome::Rejected) => &self.rejected,
+            Point::Committed(CommitOutcome::Made) => &self.made,
+            Point::Committed(CommitOutcome::Rejected) => &self.rejected,
             _ => return,
         };
         count.fetch_add(1, Ordering::SeqCst);

@@ -10,7 +10,7 @@ mod worker;
 
 pub use cap_lanes::{Committer, Ended, LanesClosed, PutFault, Putter, lanes};
 pub use coordinator::Coordinator;
-pub use gate::{Gate, OpenGate, Outcome, Point, Tally};
+pub use gate::{CommitOutcome, Gate, OpenGate, Point, Tally};
 pub use scheduling::{StopSignal, commit_all, schedule, schedule_by_lane};
 pub use sessions::{EndCause, SessionEnd, serve_session};
-pub use worker::{End, Offer, OfferEnd, Turn, Worker};
+pub use worker::{Offer, OfferEnd, Turn, TurnEnd, Worker};

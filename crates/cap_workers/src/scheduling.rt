@@ -1,12 +1,12 @@
 //! What a worker and the committer do in an epoch (`schedule`, `schedule_by_lane`, `commit_all`).
 use crate::coordinator::{BATCH, Coordinator, LaneSide, Outcomes};
-use crate::gate::{Gate, Outcome};
-use crate::worker::{Begun, End, Next, OfferEnd, Told, Worker, put};
+use crate::gate::{CommitOutcome, Gate};
+use crate::worker::{Begun, Next, Notices, OfferEnd, TurnEnd, Worker, put};
 use bumpalo::Bump;
 use cap_base::RESOURCES;
 use cap_lanes::{Committer, Putter};
 use cap_model::{NoMemory, Proposal};
-use cap_shared::{Held, Naming, Seat, Shared};
+use cap_shared::{Hold, Naming, Seat, Shared};
 use std::alloc::Global;
 use std::sync::Wait;
 use std::time::Clock;
@@ -159,12 +159,12 @@ struct Direct {
 }
 
 /// Whether a turn that has ended so stops the worker.
-fn stop_of(end: &End) -> Option<Stop> {
+fn stop_of(end: &TurnEnd) -> Option<Stop> {
     match end {
-        End::Done(_) | End::Nothing => None,
-        End::Rejected(_) => Some(Stop::Rejected),
-        End::Sealed(_) => Some(Stop::Sealed),
-        End::NoMemory => Some(Stop::NoMemory),
+        TurnEnd::Done(_) | TurnEnd::Nothing => None,
+        TurnEnd::Rejected(_) => Some(Stop::Rejected),
+        TurnEnd::Sealed(_) => Some(Stop::Sealed),
+        TurnEnd::NoMemory => Some(Stop::NoMemory),
     }
 }
 
@@ -219,7 +219,7 @@ impl ByLane<'_> {
         seat: &mut Seat<J>,
         gate: &G,
         worker: &mut Worker,
-    ) -> (Outcome, Option<Begun>) {
+    ) -> (CommitOutcome, Option<Begun>) {
         for _ in rt.forever() {
             let mut lanes = self.coordinator.lanes(rt);
             if let Some(outcome) = self.side.answer(rt) {
@@ -230,12 +230,12 @@ impl ByLane<'_> {
                 return (self.side.await_answer(rt), None);
             };
             let mut held = shared.hold_to_schedule(rt);
-            let told = Told {
+            let notices = Notices {
                 outcomes: commit_waiting(rt, &mut held, seat, committer),
                 coordinator: Some(self.coordinator),
             };
             drop(lanes);
-            let begun = worker.begin_held(rt, held, seat, &mut self.room.arena, gate, &told);
+            let begun = worker.begin_held(rt, held, seat, &mut self.room.arena, gate, &notices);
             if let Some(outcome) = self.side.answer(rt) {
                 return (outcome, Some(begun));
             }
@@ -266,9 +266,9 @@ impl Turns for ByLane<'_> {
             };
             let (outcome, next) = self.settle(rt, shared, seat, gate, worker);
             match outcome {
-                Outcome::Made => {}
-                Outcome::Rejected => return Stop::Rejected,
-                Outcome::Unmade => return Stop::NoMemory,
+                CommitOutcome::Made => {}
+                CommitOutcome::Rejected => return Stop::Rejected,
+                CommitOutcome::Unmade => return Stop::NoMemory,
             }
             if signal.is_raised(rt) {
                 return Stop::Over;
@@ -393,7 +393,7 @@ pub fn commit_all<J: Naming, R: Wait, G: Gate>(
     coordinator.open_lanes(rt, committer);
     for _ in rt.forever() {
         let (outcomes, is_over) = commit_once(rt, shared, seat, coordinator);
-        coordinator.tell(rt, gate, &outcomes);
+        coordinator.notify(rt, gate, &outcomes);
         if is_over {
             return;
         }
@@ -425,7 +425,7 @@ const LOOKS: usize = 2 * BATCH;
 /// Commits the proposals that wait in the lanes. Each worker has one there at most, and its end.
 fn commit_waiting<J: Naming, R: Wait>(
     rt: &R,
-    held: &mut Held<'_, J>,
+    held: &mut Hold<'_, J>,
     seat: &mut Seat<J>,
     committer: &mut Committer,
 ) -> Outcomes {
@@ -437,7 +437,7 @@ fn commit_waiting<J: Naming, R: Wait>(
         }
         if let Some((worker, proposal)) = committer.try_take(rt) {
             let answer = held.commit(seat, proposal);
-            outcomes[count] = Some((worker, Outcome::of(&answer)));
+            outcomes[count] = Some((worker, CommitOutcome::of(&answer)));
             count += 1;
         }
     }

@@ -8,7 +8,7 @@ ghost use Rattle.cap_workers.specs.Sessions.{pending_request, IsServed, IsRound,
 use crate::batches::answer_batch;
 use cap_base::RESOURCES;
 use cap_model::{OwnedReply, Refusal, ReplyWith, Request};
-use cap_session::{Cause, Counted, Fed, Got, Next, Sent, Session};
+use cap_session::{Counted, Fed, Got, Next, Sent, Session, SessionCause};
 use cap_shared::{CallFault, Naming, Seat, Shared};
 use std::io::{Read, Write};
 use std::sync::Wait;
@@ -51,7 +51,7 @@ pub(crate) enum Pause {
     /// The journal is full.
     Sealed(Request<RESOURCES>),
     /// The session has ended.
-    Ended(Cause),
+    Ended(SessionCause),
 }
 
 /// Serves a session that has not ended; `pending` is its open request, if it has one. Reads, makes the calls that are asked for,
@@ -146,9 +146,9 @@ fn serve_once<J: Naming, H: Wait, R: Read, W: Write>(
     match pause {
         Pause::Need => go_on(session, reader, writer),
         Pause::Sealed(request) => finish(session, writer, EndCause::Sealed(request)),
-        Pause::Ended(Cause::BadLength) => finish(session, writer, EndCause::Faulted),
-        Pause::Ended(Cause::NoMemory) => finish(session, writer, EndCause::NoMemory),
-        Pause::Ended(Cause::WriteFault) => unreachable!(),
+        Pause::Ended(SessionCause::BadLength) => finish(session, writer, EndCause::Faulted),
+        Pause::Ended(SessionCause::NoMemory) => finish(session, writer, EndCause::NoMemory),
+        Pause::Ended(SessionCause::WriteFault) => unreachable!(),
     }
 }
 

@@ -7,14 +7,14 @@ ghost use Rattle.cap_shared.specs.Calls.{CopyIs};
 ghost use Rattle.cap_workers.specs.Worker.{Chooses, GoesOn, IsCommitted, IsOffer, IsPut, IsTurn, end_by, end_by_fault};
 
 use crate::coordinator::{BATCH, Coordinator, Outcomes};
-use crate::gate::{Gate, Outcome, Point};
+use crate::gate::{CommitOutcome, Gate, Point};
 use bumpalo::Bump;
 use cap_base::RESOURCES;
 use cap_copy::Snapshot;
 use cap_lanes::Putter;
 use cap_model::{Event, NoMemory, Proposal, Reason, Verdict};
 use cap_propose::propose;
-use cap_shared::{CommitFault, Held, Naming, Seat, Shared};
+use cap_shared::{CommitFault, Hold, Naming, Seat, Shared};
 use std::sync::Wait;
 
 /// A worker. Contracts see its number, and the node at which its next turn starts.
@@ -26,7 +26,7 @@ pub struct Worker {
 
 /// How a turn ended.
 #[derive(Drop)]
-pub enum End {
+pub enum TurnEnd {
     /// There was nothing to propose.
     Nothing,
     /// The proposal was made: a grant or a reservation.
@@ -42,7 +42,7 @@ pub enum End {
 /// What came of a turn.
 #[derive(Drop)]
 pub struct Turn {
-    pub end: End,
+    pub end: TurnEnd,
     /// Whether the arena was reset. If not, its memory is not given back before it is dropped: use another for the next turn.
     pub reset: bool,
 }
@@ -82,37 +82,37 @@ pub(crate) struct Begun {
 /// A turn that has ended, and the next, which has begun.
 #[derive(Drop)]
 pub(crate) struct Next {
-    pub end: End,
+    pub end: TurnEnd,
     pub begun: Begun,
 }
 
 /// What came of earlier turns, which is told once the cluster is not held any more: to the gate, and through the coordinator to the workers
 /// that wait for it.
 #[derive(Drop)]
-pub(crate) struct Told<'a> {
+pub(crate) struct Notices<'a> {
     pub outcomes: Outcomes,
     pub coordinator: Option<&'a Coordinator>,
 }
 
-impl Told<'_> {
+impl Notices<'_> {
     /// Nothing came of earlier turns.
-    fn nothing() -> Told<'static> {
-        Told {
+    fn nothing() -> Notices<'static> {
+        Notices {
             outcomes: [None; BATCH],
             coordinator: None,
         }
     }
 
     /// The last turn of the worker has ended so.
-    fn of(worker: u32, outcome: Outcome) -> Told<'static> {
-        let mut told = Told::nothing();
-        told.outcomes[0] = Some((worker, outcome));
-        told
+    fn of(worker: u32, outcome: CommitOutcome) -> Notices<'static> {
+        let mut notices = Notices::nothing();
+        notices.outcomes[0] = Some((worker, outcome));
+        notices
     }
 
-    fn tell<R: Wait, G: Gate>(&self, rt: &R, gate: &G) {
+    fn notify<R: Wait, G: Gate>(&self, rt: &R, gate: &G) {
         if let Some(coordinator) = self.coordinator {
-            coordinator.tell(rt, gate, &self.outcomes);
+            coordinator.notify(rt, gate, &self.outcomes);
             return;
         }
         for (worker, outcome) in self.outcomes.iter().flatten() {
@@ -152,8 +152,8 @@ impl Worker {
         let Begun { choice, reset, .. } = self.begin(rt, shared, seat, arena, gate);
         let end = match choice {
             Ok(Some(proposal)) => self.commit(rt, shared, seat, gate, proposal),
-            Ok(None) => End::Nothing,
-            Err(NoMemory) => End::NoMemory,
+            Ok(None) => TurnEnd::Nothing,
+            Err(NoMemory) => TurnEnd::NoMemory,
         };
         Turn { end, reset }
     }
@@ -207,7 +207,7 @@ impl Worker {
             seat,
             arena,
             gate,
-            &Told::nothing(),
+            &Notices::nothing(),
         )
     }
 
@@ -230,8 +230,8 @@ impl Worker {
     {
         let mut held = shared.hold_to_schedule(rt);
         let answer = held.commit(seat, proposal);
-        let told = Told::of(self.number, Outcome::of(&answer));
-        let begun = self.begin_held(rt, held, seat, arena, gate, &told);
+        let notices = Notices::of(self.number, CommitOutcome::of(&answer));
+        let begun = self.begin_held(rt, held, seat, arena, gate, &notices);
         Next {
             end: end_of(answer),
             begun,
@@ -243,11 +243,11 @@ impl Worker {
     pub(crate) fn begin_held<J: Naming, R: Wait, G: Gate>(
         &mut self,
         rt: &R,
-        held: Held<'_, J>,
+        held: Hold<'_, J>,
         seat: &mut Seat<J>,
         arena: &mut Bump,
         gate: &G,
-        told: &Told<'_>,
+        notices: &Notices<'_>,
     ) -> Begun
         ensures start { self.new ≡ record {
           number = self.old.number;
@@ -258,7 +258,7 @@ impl Worker {
     {
         let start = self.start;
         self.start = start.wrapping_add(1);
-        let (choice, entries) = choose(rt, held, seat, arena, gate, told, self.number, start);
+        let (choice, entries) = choose(rt, held, seat, arena, gate, notices, self.number, start);
         let reset = arena.reset().is_ok();
         Begun {
             choice,
@@ -275,11 +275,11 @@ impl Worker {
         seat: &mut Seat<J>,
         gate: &G,
         proposal: Proposal<RESOURCES>,
-    ) -> End
+    ) -> TurnEnd
         ensures { IsCommitted proposal J.limit seat.old seat.new result }
     {
         let answer = shared.commit(rt, seat, proposal);
-        gate.at(self.number, Point::Committed(Outcome::of(&answer)));
+        gate.at(self.number, Point::Committed(CommitOutcome::of(&answer)));
         end_of(answer)
     }
 }
@@ -288,11 +288,11 @@ impl Worker {
 /// there is none.
 fn choose<J: Naming, R: Wait, G: Gate>(
     rt: &R,
-    held: Held<'_, J>,
+    held: Hold<'_, J>,
     seat: &mut Seat<J>,
     arena: &Bump,
     gate: &G,
-    told: &Told<'_>,
+    notices: &Notices<'_>,
     worker: u32,
     start: u32,
 ) -> (Result<Option<Proposal<RESOURCES>>, NoMemory>, usize)
@@ -300,7 +300,7 @@ fn choose<J: Naming, R: Wait, G: Gate>(
         (λ _. seat.new ≡ seat.old) }
 {
     let (copied, entries) = copy(held, seat, arena);
-    told.tell(rt, gate);
+    notices.notify(rt, gate);
     let Ok(snapshot) = copied else {
         return (Err(NoMemory), entries);
     };
@@ -309,7 +309,7 @@ fn choose<J: Naming, R: Wait, G: Gate>(
 
 /// Copies the cluster, and gives it back: the snapshot, and how many entries the journal had.
 fn copy<'a, J: Naming>(
-    held: Held<'_, J>,
+    held: Hold<'_, J>,
     seat: &mut Seat<J>,
     arena: &'a Bump,
 ) -> (Result<Snapshot<RESOURCES, &'a Bump>, NoMemory>, usize)
@@ -337,23 +337,23 @@ fn propose_on<G: Gate>(
 }
 
 /// How a turn ends whose commit was answered so.
-fn end_of(answer: Result<Verdict<RESOURCES>, CommitFault>) -> End
+fn end_of(answer: Result<Verdict<RESOURCES>, CommitFault>) -> TurnEnd
     ensures { result ≡ end_by answer }
 {
     match answer {
-        Ok(Verdict::Done(event)) => End::Done(event),
-        Ok(Verdict::Rejected(reason)) => End::Rejected(reason),
+        Ok(Verdict::Done(event)) => TurnEnd::Done(event),
+        Ok(Verdict::Rejected(reason)) => TurnEnd::Rejected(reason),
         Err(fault) => end_without(&fault),
     }
 }
 
 /// How a turn ends whose proposal came back.
-fn end_without(fault: &CommitFault) -> End
+fn end_without(fault: &CommitFault) -> TurnEnd
     ensures { result ≡ end_by_fault fault.now }
 {
     match fault {
-        CommitFault::Sealed(back) => End::Sealed(*back),
-        CommitFault::NoMemory(_) => End::NoMemory,
+        CommitFault::Sealed(back) => TurnEnd::Sealed(*back),
+        CommitFault::NoMemory(_) => TurnEnd::NoMemory,
     }
 }
 

@@ -14,15 +14,15 @@ use Rattle.cap_world.specs.declared.step.Step.{Step}
 use Rattle.cap_world.specs.declared.step.Step.TheVariants as steps
 use Rattle.cap_world.specs.declared.step.Did.{Did}
 use Rattle.cap_world.specs.declared.step.Did.TheVariants as dids
-use Rattle.cap_session.specs.declared.session.Cause.{Cause}
-use Rattle.cap_session.specs.declared.session.Cause.TheVariants as causes
+use Rattle.cap_session.specs.declared.session.SessionCause.{SessionCause}
+use Rattle.cap_session.specs.declared.session.SessionCause.TheVariants as causes
 use Rattle.cap_session.specs.Answers.{Call}
 use Rattle.cap_session.specs.Session.{SessionState, AnswersBy, IsSession}
 use Rattle.cap_world.specs.Answers.{AnswersSome}
 use Rattle.cap_world.specs.Connection.{Connection, new_connection, is_open_standing, AnswersAs, HasAnswers}
 use Rattle.cap_world.specs.Serving.{Feeds, StandsAfter}
 use Rattle.cap_world.specs.World.{WorldState, connection_at, is_open, is_open_connection, output_of, output_from, Changes, HasAnswersAt}
-use Rattle.cap_world.specs.Steps.{Outcome, Starves}
+use Rattle.cap_world.specs.Steps.{StepOutcome, Starves}
 use Rattle.cap_world.specs.Hearing.{Hearing, unopened, live, over, opened, ended, HearsPiece, HearsStep, Hears, IsHeard, IsCutShort, IsHeardBefore}
 
 abbrev IsOver : Standing → Type 0
@@ -88,7 +88,7 @@ hears standings.Open s before piece more last fine stands session fed (inl is) =
     (live (before ++ piece), inl ((s.answered, stands.3.0, subst (λ (x : List ℕ). IsStream x s.answered (rest stands.3.0)) taken stands.3.1), refl), (refl, taken))
 hears standings.Faulted s before piece more last fine stands session fed (inl is) =
     let taken : s.fed ≡ before ++ piece = fed ∙ ap (λ (x : List ℕ). before ++ x) is in
-    let at : AnswersBy (Some causes.BadLength) s = subst (λ (c : Option Cause). AnswersBy c s) stands.0 session.answers in
+    let at : AnswersBy (Some causes.BadLength) s = subst (λ (c : Option SessionCause). AnswersBy c s) stands.0 session.answers in
     (over (before ++ piece), inr ((s.answered, at.0, subst (λ (x : List ℕ). IsStream x s.answered (fault at.0)) taken at.2), refl), (tt, taken))
 hears standings.Ended s before piece more last fine stands session fed taken = absurd stands
 hears standings.Starved s before piece more last fine stands session fed taken = absurd (fine refl)
@@ -132,7 +132,7 @@ same_match false P Q p q = q
 same_heard : (heard : Hearing) (c : ℕ) (old new : WorldState) → new.connections ≡ old.connections → Agrees heard (connection_at c old.connections) → Next (λ next. next ≡ heard) (connection_at c new.connections)
 same_heard heard c old new e a = (heard, refl, subst (λ (x : List (ℕ × Connection)). Agrees heard (connection_at c x)) (sym e) a)
 
-pub hears_done : (c : ℕ) (step : Step) (did : Did) (old new : WorldState) (before after : List (Event resources)) (heard : Hearing) → Outcome step (Ok did) old new before after → Agrees heard (connection_at c old.connections) → Next (HearsStep c step heard) (connection_at c new.connections)
+pub hears_done : (c : ℕ) (step : Step) (did : Did) (old new : WorldState) (before after : List (Event resources)) (heard : Hearing) → StepOutcome step (Ok did) old new before after → Agrees heard (connection_at c old.connections) → Next (HearsStep c step heard) (connection_at c new.connections)
 hears_done c (steps.Open d) dids.Done old new before after heard o a =
     chosen (d == c) (opened heard) heard (own_or_other c d new_connection old.connections new.connections heard (λ next. next ≡ opened heard) o.1 a
     (λ same. opens heard (connection_at c old.connections) (rw same o.0) a))
@@ -239,7 +239,7 @@ hears_more c (s ∷ made) step first second third e h = (e.0, e.1, hears_more c 
 abbrev pub HeardSoFar : List Step → WorldState → Type 0
 HeardSoFar made sight = (c : ℕ) → (heard : Hearing) × Hears c made unopened heard × Agrees heard (connection_at c sight.connections)
 
-pub heard_next : (all : List Step) (i : ℕ) (d : Step) (did : Did) (old new : WorldState) (before after : List (Event resources)) → i < length all → HeardSoFar (take i all) old → Outcome (get_or all i d) (Ok did) old new before after → HeardSoFar (take (i + 1) all) new
+pub heard_next : (all : List Step) (i : ℕ) (d : Step) (did : Did) (old new : WorldState) (before after : List (Event resources)) → i < length all → HeardSoFar (take i all) old → StepOutcome (get_or all i d) (Ok did) old new before after → HeardSoFar (take (i + 1) all) new
 heard_next all i d did old new before after below so_far o c =
     let was = so_far c in
     let next = hears_done c (get_or all i d) did old new before after was.0 o was.2 in

@@ -25,8 +25,8 @@ use Rattle.cap_world.specs.Connection.{Connection, new_connection, AnswersAs, Ha
 use Rattle.cap_world.specs.Serving.{Feeds}
 use Rattle.cap_world.specs.World.{WorldState, connection_at, Changes, HasAnswersAt, IsLawful}
 use Rattle.cap_world.specs.Working.{made_by}
-use Rattle.cap_world.specs.Steps.{Fed, Outcome}
-use Rattle.cap_world.proofs.Serving.{run_more, answered_more}
+use Rattle.cap_world.specs.Steps.{Fed, StepOutcome}
+use Rattle.cap_world.proofs.ServedRequests.{run_more, answered_more}
 
 -- Whatever run has led to old, with what a step adds leads to new.
 abbrev pub Goes : WorldState → WorldState → List (Event resources) → List (Event resources) → Type 0
@@ -129,7 +129,7 @@ fed_at_goes c piece standing old new before after x =
     let f = x.5 in
     (as_events c f.serves.calls, f.serves.events, fed_goes c piece old new before after x.0 x.1 x.2 x.3 x.4 f)
 
-pub outcome_goes : (step : Step) (result : Result Did NoMemory) (old new : WorldState) (before after : List (Event resources)) → Outcome step result old new before after → Goes old new before after
+pub outcome_goes : (step : Step) (result : Result Did NoMemory) (old new : WorldState) (before after : List (Event resources)) → StepOutcome step result old new before after → Goes old new before after
 outcome_goes (steps.Open c) (Ok dids.Done) old new before after o =
     quiet old new before after o.4 (keeps old new o.2 (keeps_one c old.connections new.connections new_connection o.1 (λ calls a. opens calls (rw o.0 at a))))
 outcome_goes (steps.End c) (Ok dids.Done) old new before after o =

@@ -1,4 +1,4 @@
-mod Serving
+mod ServedRequests
 mod Starving
 mod Tables
 mod Working

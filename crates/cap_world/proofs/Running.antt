@@ -10,7 +10,7 @@ use Rattle.cap_world.specs.declared.step.Did.{Did}
 use Rattle.cap_base.specs.declared.no_memory.NoMemory.{NoMemory}
 use Rattle.cap_world.specs.Answers.{calls_by}
 use Rattle.cap_world.specs.World.{Known, WorldState, IsWorld, IsLawful, connection_at, is_open, output_of, Adds, start}
-use Rattle.cap_world.specs.Steps.{Outcome}
+use Rattle.cap_world.specs.Steps.{StepOutcome}
 use Rattle.cap_world.specs.Making.{Makes, IsMade, MadeStepsHaveTheHeadline}
 use Rattle.cap_world.specs.Hearing.{Hearing, unopened, Hears, IsHeadline}
 use Rattle.cap_world.proofs.Heard.{Agrees, HeardSoFar, hears_done, is_heard, heard_starved}
@@ -41,8 +41,8 @@ pub went_on : (r : Result Did NoMemory) → false ≡ is_err r → (did : Did) �
 went_on (Ok did) e = (did, refl)
 went_on (Err error) e = absurd (cc e)
 
-pub as_made : (step : Step) (r : Result Did NoMemory) (did : Did) (old new : WorldState) (before after : List (Event resources)) → r ≡ Ok did → Outcome step r old new before after → Outcome step (Ok did) old new before after
-as_made step r did old new before after is outcome = subst (λ (x : Result Did NoMemory). Outcome step x old new before after) is outcome
+pub as_made : (step : Step) (r : Result Did NoMemory) (did : Did) (old new : WorldState) (before after : List (Event resources)) → r ≡ Ok did → StepOutcome step r old new before after → StepOutcome step (Ok did) old new before after
+as_made step r did old new before after is outcome = subst (λ (x : Result Did NoMemory). StepOutcome step x old new before after) is outcome
 
 pub was_refused : (r : Result Did NoMemory) → true ≡ is_err r → (error : NoMemory) × (r ≡ Err error)
 was_refused (Ok did) e = absurd (cc e)
@@ -50,11 +50,11 @@ was_refused (Err error) e = (error, refl)
 
 -- a step was refused memory
 pub headline_cut : (opening : Flat resources) (all : List Step) (i : ℕ) (d : Step) (r : Result Did NoMemory) (error : NoMemory) (mid new : Known) (before after : List (Event resources)) → i < length all → mid.opening ≡ opening → mid.events ≡ before → HeardSoFar (take i all) mid.sight → r ≡ Err error
-    → Outcome (get_or all i d) r mid.sight new.sight before after → Adds mid new before after → IsWorld new → HeadlineOf opening all i after new.sight
+    → StepOutcome (get_or all i d) r mid.sight new.sight before after → Adds mid new before after → IsWorld new → HeadlineOf opening all i after new.sight
 headline_cut opening all i d r error mid new before after below o e so_far is outcome adds lawful =
     let events : new.events ≡ after = adds.kept ∙ ap (λ (es : List (Event resources)). es ++ adds.more) e ∙ sym adds.lent in
     let law = lawful_from opening after new (adds.opening ∙ o) events lawful in
-    let starves = subst (λ (x : Result Did NoMemory). Outcome (get_or all i d) x mid.sight new.sight before after) is outcome in
+    let starves = subst (λ (x : Result Did NoMemory). StepOutcome (get_or all i d) x mid.sight new.sight before after) is outcome in
     record {
       run = law.run;
       each = λ c.
@@ -65,13 +65,13 @@ headline_cut opening all i d r error mid new before after below o e so_far is ou
 -- ---- the steps one after the other
 
 -- one more step after those that were made
-makes_more : (first : List Step) (step : Step) (did : Did) (old mid new : WorldState) (before between after : List (Event resources)) → Makes first old mid before between → Outcome step (Ok did) mid new between after → Makes (first ++ step ∷ []) old new before after
+makes_more : (first : List Step) (step : Step) (did : Did) (old mid new : WorldState) (before between after : List (Event resources)) → Makes first old mid before between → StepOutcome step (Ok did) mid new between after → Makes (first ++ step ∷ []) old new before after
 makes_more [] step did old mid new before between after made outcome =
-    (new, after, did, subst (λ (s : WorldState). Outcome step (Ok did) s new before after) made.0 (subst (λ (es : List (Event resources)). Outcome step (Ok did) mid new es after) made.1 outcome), (refl, refl))
+    (new, after, did, subst (λ (s : WorldState). StepOutcome step (Ok did) s new before after) made.0 (subst (λ (es : List (Event resources)). StepOutcome step (Ok did) mid new es after) made.1 outcome), (refl, refl))
 makes_more (s ∷ first) step did old mid new before between after made outcome =
     (made.0, made.1, made.2, made.3, makes_more first step did made.0 mid new made.1 between after made.4 outcome)
 
-pub makes_next : (all : List Step) (i : ℕ) (d : Step) (did : Did) (old mid new : WorldState) (before between after : List (Event resources)) → i < length all → Makes (take i all) old mid before between → Outcome (get_or all i d) (Ok did) mid new between after → Makes (take (i + 1) all) old new before after
+pub makes_next : (all : List Step) (i : ℕ) (d : Step) (did : Did) (old mid new : WorldState) (before between after : List (Event resources)) → i < length all → Makes (take i all) old mid before between → StepOutcome (get_or all i d) (Ok did) mid new between after → Makes (take (i + 1) all) old new before after
 makes_next all i d did old mid new before between after below made outcome =
     rw (take_more all i d below) (makes_more (take i all) (get_or all i d) did old mid new before between after made outcome)
 
@@ -84,12 +84,12 @@ made_all opening all i events sight end made = record {
 }
 
 pub made_cut : (opening : Flat resources) (all : List Step) (i : ℕ) (d : Step) (r : Result Did NoMemory) (error : NoMemory) (mid new : WorldState) (before after : List (Event resources)) → i < length all → Makes (take i all) (start opening).sight mid [] before → r ≡ Err error
-    → Outcome (get_or all i d) r mid new before after → IsMade opening all i after new
+    → StepOutcome (get_or all i d) r mid new before after → IsMade opening all i after new
 made_cut opening all i d r error mid new before after below made is outcome = record {
   mid = mid;
   before = before;
   made = made;
-  stops = rw (slice_get-get_or all i d below) (subst (λ (x : Result Did NoMemory). Outcome (get_or all i d) x mid new before after) is outcome);
+  stops = rw (slice_get-get_or all i d below) (subst (λ (x : Result Did NoMemory). StepOutcome (get_or all i d) x mid new before after) is outcome);
 }
 
 -- ---- steps that were made have the headline

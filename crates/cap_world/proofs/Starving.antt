@@ -10,7 +10,7 @@ use Rattle.cap_world.specs.Connection.{Connection}
 use Rattle.cap_world.specs.Worker.{WorkerState}
 use Rattle.cap_world.specs.World.{WorldState}
 use Rattle.cap_world.specs.Working.{WouldBeMade}
-use Rattle.cap_world.specs.Steps.{Outcome}
+use Rattle.cap_world.specs.Steps.{StepOutcome}
 
 -- the same cluster and the same workers
 pub same_workers : (new old : Flat resources) (connections : List (ℕ × Connection)) (is was : List (ℕ × WorkerState)) → new ≡ old → is ≡ was
@@ -18,5 +18,5 @@ pub same_workers : (new old : Flat resources) (connections : List (ℕ × Connec
 same_workers new old connections is was cluster workers = λ i. record { cluster = cluster i; connections = connections; workers = workers i }
 
 -- it was refused memory
-pub commit_starved : (w : ℕ) (r : Result Did NoMemory) (e : NoMemory) (old new : WorldState) (before after : List (Event resources)) → r ≡ Err e → WouldBeMade w old → new ≡ old → after ≡ before → Outcome (steps.Commit w) r old new before after
-commit_starved w r e old new before after is would same events = subst (λ (x : Result Did NoMemory). Outcome (steps.Commit w) x old new before after) (sym is) (would, same, events)
+pub commit_starved : (w : ℕ) (r : Result Did NoMemory) (e : NoMemory) (old new : WorldState) (before after : List (Event resources)) → r ≡ Err e → WouldBeMade w old → new ≡ old → after ≡ before → StepOutcome (steps.Commit w) r old new before after
+commit_starved w r e old new before after is would same events = subst (λ (x : Result Did NoMemory). StepOutcome (steps.Commit w) x old new before after) (sym is) (would, same, events)

@@ -25,16 +25,16 @@ use Rattle.cap_world.specs.declared.step.Did.TheVariants as dids
 use Rattle.cap_world.specs.Worker.{WorkerState, workers_max, with_copy, with_verdict}
 use Rattle.cap_world.specs.World.{WorldState, worker_at, choice_in, verdict_in, choice_of, verdict_of, Changes}
 use Rattle.cap_world.specs.Working.{Copied, made_by}
-use Rattle.cap_world.specs.Steps.{Outcome}
+use Rattle.cap_world.specs.Steps.{StepOutcome}
 use Rattle.cap_world.specs.Making.{Makes}
 use Rattle.cap_world.specs.WorkerLaws.{QuietStepsMakeNoEvent, IsExact, CommitsAreExact, IsNoCopy, ProposalsAreOfCopies, IsMadeOf, CopiedChoicesAreMade}
 use Rattle.cap_sights.proofs.Alike.{same_choice}
 
 -- ---- steps without events
 
-idle_events : (step : Step) (result : Result Did NoMemory) (old new : WorldState) (before after : List (Event resources)) → Outcome step result old new before after → result ≡ Ok dids.Idle → after ≡ before
+idle_events : (step : Step) (result : Result Did NoMemory) (old new : WorldState) (before after : List (Event resources)) → StepOutcome step result old new before after → result ≡ Ok dids.Idle → after ≡ before
 idle_events step result old new before after o e =
-    (subst (λ (r : Result Did NoMemory). Outcome step r old new before after) e o).2
+    (subst (λ (r : Result Did NoMemory). StepOutcome step r old new before after) e o).2
 
 pub quiet_steps : QuietStepsMakeNoEvent
 quiet_steps step result old new before after o (inr e) = idle_events step result old new before after o e
@@ -122,7 +122,7 @@ seen_kept w v seen old new was is h at change keeps =
       | inr f ↦ record { worker = h.worker; at = other_than w v is old.workers new.workers change f ∙ h.at; is = h.is }
     ]
 
-seen_after : (w : ℕ) (seen : Seen) (step : Step) (did : Did) (old new : WorldState) (before after : List (Event resources)) → IsNoCopy w step → Outcome step (Ok did) old new before after → HasSeen w seen old → HasSeen w seen new
+seen_after : (w : ℕ) (seen : Seen) (step : Step) (did : Did) (old new : WorldState) (before after : List (Event resources)) → IsNoCopy w step → StepOutcome step (Ok did) old new before after → HasSeen w seen old → HasSeen w seen new
 seen_after w seen step dids.Idle old new before after other o h = still_seen w seen old new h (ap (λ (x : WorldState). x.workers) o.1)
 seen_after w seen (steps.Open c) dids.Done old new before after other o h = still_seen w seen old new h o.3
 seen_after w seen (steps.End c) dids.Done old new before after other o h = still_seen w seen old new h o.2
@@ -140,7 +140,7 @@ copied_seen : (w : ℕ) (was : Option WorkerState) (seen : Seen) → (with_copy 
 copied_seen w None seen = refl
 copied_seen w (Some was) seen = refl
 
-copy_done : (w : ℕ) (did : Did) (old new : WorldState) (before after : List (Event resources)) → w < workers_max → Outcome (steps.Copy w) (Ok did) old new before after → Copied w old new × (after ≡ before)
+copy_done : (w : ℕ) (did : Did) (old new : WorldState) (before after : List (Event resources)) → w < workers_max → StepOutcome (steps.Copy w) (Ok did) old new before after → Copied w old new × (after ≡ before)
 copy_done w dids.Done old new before after below o = o
 copy_done w dids.Idle old new before after below o = too_far w below o.0
 
@@ -153,7 +153,7 @@ record IsProposed (w start : ℕ) (seen : Seen) (old new : WorldState) (before a
   cluster : new.cluster ≡ old.cluster
   events : after ≡ before
 
-propose_done : (w start : ℕ) (seen : Seen) (did : Did) (old new : WorldState) (before after : List (Event resources)) → w < workers_max → HasSeen w seen old → Outcome (steps.Propose w start) (Ok did) old new before after → IsProposed w start seen old new before after
+propose_done : (w start : ℕ) (seen : Seen) (did : Did) (old new : WorldState) (before after : List (Event resources)) → w < workers_max → HasSeen w seen old → StepOutcome (steps.Propose w start) (Ok did) old new before after → IsProposed w start seen old new before after
 propose_done w start seen dids.Done old new before after below h o =
     let both : Some o.0.was ≡ Some h.worker = sym o.0.at ∙ h.at in
     let own : o.0.was ≡ h.worker = cc both in
@@ -194,7 +194,7 @@ made_so p (verdicts.Done event) old new before after adm is events = (event, is.
 made_so p (verdicts.Rejected reason) old new before after adm is events = not_rejected p old.cluster reason is.0 adm
 
 commit_done : (w : ℕ) (choice : Option NodeProposal) (did : Did) (old new : WorldState) (before after : List (Event resources)) → w < workers_max → choice_of w old ≡ choice → ((p : NodeProposal) → choice ≡ Some p → IsAdmissible (sight_of old.cluster) p)
-    → Outcome (steps.Commit w) (Ok did) old new before after → IsMadeOf choice old new before after
+    → StepOutcome (steps.Commit w) (Ok did) old new before after → IsMadeOf choice old new before after
 commit_done w None dids.Idle old new before after below stands adm o = (ap (λ (x : WorldState). x.cluster) o.1, o.2)
 commit_done w None dids.Done old new before after below stands adm o =
     let has : choice_of w old ≡ Some o.proposal = ap choice_in o.at ∙ o.choice in absurd (cc (has, stands))

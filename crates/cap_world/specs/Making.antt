@@ -6,14 +6,14 @@ use Rattle.cap_model.specs.Flat.{Flat}
 use Rattle.cap_world.specs.declared.step.Step.{Step}
 use Rattle.cap_world.specs.declared.step.Did.{Did}
 use Rattle.cap_world.specs.World.{WorldState, is_open, output_of, start}
-use Rattle.cap_world.specs.Steps.{Outcome, Starves}
+use Rattle.cap_world.specs.Steps.{StepOutcome, Starves}
 use Rattle.cap_world.specs.Hearing.{IsHeadline}
 
 -- each step was made, or did not apply, where the one before left the world, and its events follow those of the one before
 abbrev pub Makes : List Step → WorldState → WorldState → List (Event resources) → List (Event resources) → Type 0
 Makes [] old new before after = (new ≡ old) × (after ≡ before)
 Makes (step ∷ steps) old new before after =
-    (mid : WorldState) × (between : List (Event resources)) × (did : Did) × Outcome step (Ok did) old mid before between × Makes steps mid new between after
+    (mid : WorldState) × (between : List (Event resources)) × (did : Did) × StepOutcome step (Ok did) old mid before between × Makes steps mid new between after
 
 -- what became of the step after these: there was none, or it was refused memory
 abbrev pub Stops : Option Step → WorldState → WorldState → List (Event resources) → List (Event resources) → Type 0

@@ -6,8 +6,8 @@ use Rattle.cap_model.specs.declared.event.Event.{Event}
 use Rattle.cap_model.specs.Flat.{Flat}
 use Rattle.cap_model.specs.Events.{Run}
 use Rattle.cap_frames.specs.Stream.{rest, fault, IsStream, IsBytes}
-use Rattle.cap_session.specs.declared.session.Cause.{Cause}
-use Rattle.cap_session.specs.declared.session.Cause.TheVariants as causes
+use Rattle.cap_session.specs.declared.session.SessionCause.{SessionCause}
+use Rattle.cap_session.specs.declared.session.SessionCause.TheVariants as causes
 use Rattle.cap_session.specs.Answers.{Call, tail_answer}
 use Rattle.cap_session.specs.Session.{SessionState, OpenRequest, Continues, IsSession}
 use Rattle.cap_world.specs.declared.connection.Standing.{Standing}
@@ -21,7 +21,7 @@ IsOpenFor request None = ⊥
 IsOpenFor request (Some o) = o.request ≡ request
 
 -- how a connection stands whose session has ended
-abbrev pub standing_of : Cause → Standing
+abbrev pub standing_of : SessionCause → Standing
 standing_of causes.BadLength = standings.Faulted
 standing_of causes.NoMemory = standings.Starved
 standing_of causes.WriteFault = standings.Starved

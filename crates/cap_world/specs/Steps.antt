@@ -58,7 +58,7 @@ Starves (steps.Propose w start) old new before after = ⊥
 Starves (steps.Commit w) old new before after = WouldBeMade w old × (new ≡ old) × (after ≡ before)
 
 -- what a step did, by its answer
-abbrev pub Outcome : Step → Result Did NoMemory → WorldState → WorldState → List (Event resources) → List (Event resources) → Type 0
-Outcome step (Ok dids.Done) old new before after = Does step old new before after
-Outcome step (Ok dids.Idle) old new before after = DoesNotApply step old × (new ≡ old) × (after ≡ before)
-Outcome step (Err e) old new before after = Starves step old new before after
+abbrev pub StepOutcome : Step → Result Did NoMemory → WorldState → WorldState → List (Event resources) → List (Event resources) → Type 0
+StepOutcome step (Ok dids.Done) old new before after = Does step old new before after
+StepOutcome step (Ok dids.Idle) old new before after = DoesNotApply step old × (new ≡ old) × (after ≡ before)
+StepOutcome step (Err e) old new before after = Starves step old new before after

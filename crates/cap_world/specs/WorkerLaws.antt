@@ -17,7 +17,7 @@ use Rattle.cap_world.specs.declared.step.Did.{Did}
 use Rattle.cap_world.specs.declared.step.Did.TheVariants as dids
 use Rattle.cap_world.specs.Worker.{workers_max}
 use Rattle.cap_world.specs.World.{WorldState, choice_of, verdict_of}
-use Rattle.cap_world.specs.Steps.{Outcome}
+use Rattle.cap_world.specs.Steps.{StepOutcome}
 use Rattle.cap_world.specs.Making.{Makes}
 
 -- the steps that make no event, whatever comes of them
@@ -32,7 +32,7 @@ IsQuiet (steps.Commit w) = ⊥
 -- These make no event, and neither does a step that does not apply.
 abbrev pub QuietStepsMakeNoEvent : Type 0
 QuietStepsMakeNoEvent =
-    (step : Step) (result : Result Did NoMemory) (old new : WorldState) (before after : List (Event resources)) → Outcome step result old new before after →
+    (step : Step) (result : Result Did NoMemory) (old new : WorldState) (before after : List (Event resources)) → StepOutcome step result old new before after →
     IsQuiet step ⊎ (result ≡ Ok dids.Idle) → after ≡ before
 
 -- What comes of a commit of a proposal: its own event, where it is admissible, or memory is refused; else the first reason against it, and
@@ -46,7 +46,7 @@ pub record IsExact (w : ℕ) (p : NodeProposal) (result : Result Did NoMemory) (
 abbrev pub CommitsAreExact : Type 0
 CommitsAreExact =
     (w : ℕ) (p : NodeProposal) (result : Result Did NoMemory) (old new : WorldState) (before after : List (Event resources)) → w < workers_max → choice_of w old ≡ Some p →
-    Outcome (steps.Commit w) result old new before after → IsExact w p result old new before after
+    StepOutcome (steps.Commit w) result old new before after → IsExact w p result old new before after
 
 -- a step that is no Copy of that worker
 abbrev pub IsNoCopy : ℕ → Step → Type 0

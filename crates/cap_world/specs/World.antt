@@ -8,7 +8,7 @@ use Rattle.cap_model.specs.declared.event.Event.{Event}
 use Rattle.cap_model.specs.declared.proposal.Verdict.{Verdict}
 use Rattle.cap_model.specs.Admission.{NodeProposal}
 use Rattle.cap_base.specs.Settings.{Settings}
-use Rattle.cap_commit.specs.Held.{Held}
+use Rattle.cap_commit.specs.ClusterState.{ClusterState}
 use Rattle.cap_model.specs.Flat.{Flat, opened_cluster}
 use Rattle.cap_model.specs.Events.{Run}
 use Rattle.cap_session.specs.Answers.{Call}
@@ -103,6 +103,6 @@ abbrev pub no_settings : Settings
 no_settings = record { queues = []; minimum_allocation = []; maximum_allocation = []; application_limit = 0 }
 
 -- the first entry is the opening
-abbrev pub opening_of : List (Held resources × ℕ) → Flat resources
+abbrev pub opening_of : List (ClusterState resources × ℕ) → Flat resources
 opening_of [] = opened_cluster no_settings
 opening_of (x ∷ xs) = x.0.flat

@@ -5,7 +5,7 @@ ghost use Rattle.cap_model.specs.declared.event.Event.{Event};
 ghost use Rattle.cap_model.specs.Flat.{Flat};
 ghost use Rattle.cap_world.specs.Worker.{WorkerState};
 ghost use Rattle.cap_world.specs.World.{connection_at, is_open_connection, output_from};
-ghost use Rattle.cap_world.specs.Steps.{Outcome};
+ghost use Rattle.cap_world.specs.Steps.{StepOutcome};
 
 use crate::connection::{Connection, Standing};
 use crate::step::{Did, Step};
@@ -56,7 +56,7 @@ pub(crate) fn open(
 ) -> Result<Did, NoMemory>
     ensures { (cluster : Flat resources) (workers : List (ℕ × WorkerState))
         (events : List (Event resources)) →
-        Outcome (Step.Open number) result
+        StepOutcome (Step.Open number) result
         (record { cluster = cluster; connections = connections.old.entries; workers = workers })
         (record { cluster = cluster; connections = connections.new.entries; workers = workers })
         events events }
@@ -75,7 +75,7 @@ pub(crate) fn open(
 pub(crate) fn end(connections: &mut Connections, number: u32) -> Did
     ensures { (cluster : Flat resources) (workers : List (ℕ × WorkerState))
         (events : List (Event resources)) →
-        Outcome (Step.End number) (Ok result)
+        StepOutcome (Step.End number) (Ok result)
         (record { cluster = cluster; connections = connections.old.entries; workers = workers })
         (record { cluster = cluster; connections = connections.new.entries; workers = workers })
         events events }
@@ -99,7 +99,7 @@ pub(crate) fn feed(
     cluster: &mut Cluster<RESOURCES>,
     events: &mut Vec<Event<RESOURCES>>,
 ) -> Result<Did, NoMemory>
-    ensures { (workers : List (ℕ × WorkerState)) → Outcome (Step.Bytes number piece.entry) result
+    ensures { (workers : List (ℕ × WorkerState)) → StepOutcome (Step.Bytes number piece.entry) result
         (record {
           cluster = cluster.old.flat;
           connections = connections.old.entries;

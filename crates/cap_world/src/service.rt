@@ -13,7 +13,7 @@ use cap_base::RESOURCES;
 use cap_commit::Cluster;
 use cap_messages::dispatch;
 use cap_model::{Event, OwnedReply, ReplyRoom, Request};
-use cap_session::{Cause, Next, Session};
+use cap_session::{Next, Session, SessionCause};
 use std::alloc::Global;
 
 /// Answers each request that is complete, and gives the state of the connection then.
@@ -47,12 +47,12 @@ pub(crate) fn answer_all(
 }
 
 /// The state of a connection whose session has ended.
-fn standing_after(cause: Cause) -> Standing
+fn standing_after(cause: SessionCause) -> Standing
     ensures { result ≡ standing_of cause }
 {
     match cause {
-        Cause::BadLength => Standing::Faulted,
-        Cause::NoMemory | Cause::WriteFault => Standing::Starved,
+        SessionCause::BadLength => Standing::Faulted,
+        SessionCause::NoMemory | SessionCause::WriteFault => Standing::Starved,
     }
 }
 

@@ -1,4 +1,4 @@
-//! One worker of a world: its snapshot, its proposal, and the verdict of its last commit (`Worker`).
+//! One worker of a world: its snapshot, its proposal, and the verdict of its last commit (`WorkerSlot`).
 ghost use Rattle.std.specs.Prelude.{◌≡◌, None, Some, option_map};
 ghost use Rattle.cap_base.specs.Limits.{resources};
 ghost use Rattle.cap_model.specs.Candidates.{choice_from};
@@ -13,15 +13,15 @@ use std::alloc::Global;
 use std::marker::Model;
 
 /// One worker: its snapshot, its proposal that is not committed yet, if any, and the verdict of its last commit, if any.
-pub(crate) struct Worker {
+pub(crate) struct WorkerSlot {
     snapshot: Snapshot<RESOURCES, Global>,
     choice: Option<Proposal<RESOURCES>>,
     verdict: Option<Verdict<RESOURCES>>,
 }
 
-impl Drop for Worker {
+impl Drop for WorkerSlot {
     fn drop(self) {
-        let Worker {
+        let WorkerSlot {
             snapshot: _,
             choice: _,
             verdict: _,
@@ -29,7 +29,7 @@ impl Drop for Worker {
     }
 }
 
-impl Model for Worker {
+impl Model for WorkerSlot {
     ghost use Rattle.std.specs.Coded.{codes};
     ghost use Rattle.cap_tree.specs.Queue.{users_code};
     ghost use Rattle.cap_world.specs.Worker.{WorkerState};
@@ -41,12 +41,12 @@ impl Model for Worker {
     ghost view = { λ w. record { seen = w.snapshot; choice = w.choice; verdict = w.verdict } };
 }
 
-impl Worker {
+impl WorkerSlot {
     /// A worker with this snapshot, and nothing else.
-    pub(crate) fn new(snapshot: Snapshot<RESOURCES, Global>) -> Worker
+    pub(crate) fn new(snapshot: Snapshot<RESOURCES, Global>) -> WorkerSlot
         ensures { result ≡ with_copy snapshot None }
     {
-        Worker {
+        WorkerSlot {
             snapshot,
             choice: None,
             verdict: None,

@@ -9,10 +9,10 @@ ghost use Rattle.cap_copy.specs.Snapshot.{sight_in};
 ghost use Rattle.cap_world.specs.Connection.{Connection};
 ghost use Rattle.cap_world.specs.World.{choice_in, verdict_in, worker_at};
 ghost use Rattle.cap_world.specs.Working.{IsOfProposal, IsTried, made_by};
-ghost use Rattle.cap_world.specs.Steps.{Outcome};
+ghost use Rattle.cap_world.specs.Steps.{StepOutcome};
 
 use crate::step::{Did, Step};
-use crate::worker::Worker;
+use crate::worker::WorkerSlot;
 use cap_base::RESOURCES;
 use cap_commit::Cluster;
 use cap_model::{Event, NoMemory, Proposal, Verdict};
@@ -20,7 +20,7 @@ use cap_sights::snapshot_of;
 use indexmap::IndexMap;
 use std::alloc::Global;
 
-pub(crate) type Workers = IndexMap<u32, Worker>;
+pub(crate) type Workers = IndexMap<u32, WorkerSlot>;
 
 /// The numbers of workers are below it.
 const WORKERS_MAX: u32 = 64;
@@ -55,7 +55,7 @@ pub(crate) fn copy(
     cluster: &Cluster<RESOURCES>,
 ) -> Result<Did, NoMemory>
     ensures { (connections : List (ℕ × Connection)) (events : List (Event resources)) →
-        Outcome (Step.Copy number) result
+        StepOutcome (Step.Copy number) result
         (record {
           cluster = cluster.now.flat;
           connections = connections;
@@ -75,7 +75,7 @@ pub(crate) fn copy(
         worker.renew(snapshot);
         return Ok(Did::Done);
     }
-    match workers.insert(number, Worker::new(snapshot)) {
+    match workers.insert(number, WorkerSlot::new(snapshot)) {
         Ok(_) => Ok(Did::Done),
         Err(_) => Err(NoMemory),
     }
@@ -86,7 +86,7 @@ pub(crate) fn copy(
 pub(crate) fn propose(workers: &mut Workers, number: u32, start: u32) -> Did
     ensures { (cluster : Flat resources) (connections : List (ℕ × Connection))
         (events : List (Event resources)) →
-        Outcome (Step.Propose number start) (Ok result)
+        StepOutcome (Step.Propose number start) (Ok result)
         (record { cluster = cluster; connections = connections; workers = workers.old.entries })
         (record { cluster = cluster; connections = connections; workers = workers.new.entries })
         events events }
@@ -109,7 +109,7 @@ pub(crate) fn commit(
     cluster: &mut Cluster<RESOURCES>,
     events: &mut Vec<Event<RESOURCES>>,
 ) -> Result<Did, NoMemory>
-    ensures { (connections : List (ℕ × Connection)) → Outcome (Step.Commit number) result
+    ensures { (connections : List (ℕ × Connection)) → StepOutcome (Step.Commit number) result
         (record {
           cluster = cluster.old.flat;
           connections = connections;

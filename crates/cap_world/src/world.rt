@@ -1,7 +1,7 @@
 //! Connections and workers over one cluster, and one step on them (`World`).
 ghost use Rattle.std.specs.Prelude.{◌≡◌, option_map};
 ghost use Rattle.cap_world.specs.World.{Adds, IsWorld, start, is_open, output_of, choice_of, verdict_of};
-ghost use Rattle.cap_world.specs.Steps.{Outcome};
+ghost use Rattle.cap_world.specs.Steps.{StepOutcome};
 
 use crate::connections::{self, Connections};
 use crate::step::{Did, Step};
@@ -119,7 +119,7 @@ impl World {
     /// requests before the refusal were answered and their events appended. A `Propose` takes no memory, nor does the `Commit` of
     /// a proposal that is rejected.
     pub fn step(&mut self, step: Step, events: &mut Vec<Event<RESOURCES>>) -> Result<Did, NoMemory>
-        ensures outcome { Outcome step.entry result self.old.sight self.new.sight events.old.items
+        ensures outcome { StepOutcome step.entry result self.old.sight self.new.sight events.old.items
             events.new.items }
         ensures adds { Adds self.old self.new events.old.items events.new.items }
         ensures headline { IsWorld self.new }
@@ -147,7 +147,7 @@ fn act(
     step: Step,
     events: &mut Vec<Event<RESOURCES>>,
 ) -> Result<Did, NoMemory>
-    ensures { Outcome step.entry result
+    ensures { StepOutcome step.entry result
         (record {
           cluster = cluster.old.flat;
           connections = connections.old.entries;

@@ -2,7 +2,7 @@
 ghost use Rattle.std.specs.Prelude.{◌≡◌, None};
 
 use cap_model::{Refusal, ReplyWith};
-use cap_session::{Cause, Counted, Fed, Got, Next, Sent, Session};
+use cap_session::{Counted, Fed, Got, Next, Sent, Session, SessionCause};
 use std::alloc::Global;
 use std::io::{self, ErrorKind, Read, Write};
 
@@ -26,7 +26,7 @@ const BAD_MESSAGE_ANSWERED: &[u8] = &[
 const BAD_LENGTH_ANSWERED: &[u8] = &[0, 0, 0, 7, 1, 0, 0, 0, 0, 0, 40];
 
 /// Refuses up to eight requests with status 1, and says why the session has ended, if it has.
-fn refuse_all(session: &mut Session) -> Option<Cause>
+fn refuse_all(session: &mut Session) -> Option<SessionCause>
     requires { session.old.open_request ≡ None }
     ensures { session.new.open_request ≡ None }
 {
@@ -41,7 +41,11 @@ fn refuse_all(session: &mut Session) -> Option<Cause>
 }
 
 /// Feeds two pieces, refuses the requests that each completes, and says whether it answers these bytes, and why the session has ended.
-fn answers(alloc: Global, pieces: [&[u8]; 2], output: &[u8]) -> Option<(bool, Option<Cause>)> {
+fn answers(
+    alloc: Global,
+    pieces: [&[u8]; 2],
+    output: &[u8],
+) -> Option<(bool, Option<SessionCause>)> {
     let mut session = Session::open(alloc).ok()?;
     let [first, second] = pieces;
     session.feed(first);
@@ -52,7 +56,7 @@ fn answers(alloc: Global, pieces: [&[u8]; 2], output: &[u8]) -> Option<(bool, Op
 }
 
 /// Whether two requests are answered where the stream is cut after so many bytes, and why the session has ended.
-fn answers_cut_at(alloc: Global, at: usize) -> Option<(bool, Option<Cause>)> {
+fn answers_cut_at(alloc: Global, at: usize) -> Option<(bool, Option<SessionCause>)> {
     let (first, second) = TWO.split_at_checked(at)?;
     answers(alloc, [first, second], TWO_REFUSED)
 }
@@ -74,8 +78,18 @@ fn bad_messages_are_answered_and_bad_lengths_end_it(rt: HostRuntime) {
     let none: &[u8] = &[];
     for &(first, second, output, ended) in &[
         (none, BAD_MESSAGE, BAD_MESSAGE_ANSWERED, None),
-        (zero, TWO, BAD_LENGTH_ANSWERED, Some(Cause::BadLength)),
-        (over, TWO, BAD_LENGTH_ANSWERED, Some(Cause::BadLength)),
+        (
+            zero,
+            TWO,
+            BAD_LENGTH_ANSWERED,
+            Some(SessionCause::BadLength),
+        ),
+        (
+            over,
+            TWO,
+            BAD_LENGTH_ANSWERED,
+            Some(SessionCause::BadLength),
+        ),
     ] {
         assert!(rt; answers(rt.alloc(), [first, second], output) == Some((true, ended)));
     }
@@ -83,7 +97,7 @@ fn bad_messages_are_answered_and_bad_lengths_end_it(rt: HostRuntime) {
 
 /// After a length that no frame has: what two more pieces are answered, what comes next twice, and whether the fault reply is all that is
 /// unsent.
-fn after_the_end(alloc: Global) -> Option<([Fed; 2], [Option<Cause>; 2], bool)> {
+fn after_the_end(alloc: Global) -> Option<([Fed; 2], [Option<SessionCause>; 2], bool)> {
     let mut session = Session::open(alloc).ok()?;
     session.feed(&[0, 0, 0, 0]);
     refuse_all(&mut session);
@@ -94,8 +108,8 @@ fn after_the_end(alloc: Global) -> Option<([Fed; 2], [Option<Cause>; 2], bool)> 
 
 #[test]
 fn nothing_is_taken_after_the_end(rt: HostRuntime) {
-    let fed = Fed::Ended(Cause::BadLength);
-    let next = Some(Cause::BadLength);
+    let fed = Fed::Ended(SessionCause::BadLength);
+    let next = Some(SessionCause::BadLength);
     assert!(rt; after_the_end(rt.alloc()) == Some(([fed, fed], [next, next], true)));
 }
 
@@ -112,7 +126,9 @@ fn keeps_answers(alloc: Global) -> Option<bool> {
     Some(match ended {
         None => unsent == TWO_REFUSED,
         Some(cause) => {
-            cause == Cause::NoMemory && unsent.len() >= answered && TWO_REFUSED.starts_with(unsent)
+            cause == SessionCause::NoMemory
+                && unsent.len() >= answered
+                && TWO_REFUSED.starts_with(unsent)
         }
     })
 }
@@ -149,7 +165,11 @@ impl Write for Narrow {
 
 /// What writing 22 bytes out gives, how many are unsent then, how often the writer failed, and why the session has ended; if what the
 /// writer holds are their first bytes.
-fn written(alloc: Global, step: usize, limit: usize) -> Option<(Sent, usize, u64, Option<Cause>)> {
+fn written(
+    alloc: Global,
+    step: usize,
+    limit: usize,
+) -> Option<(Sent, usize, u64, Option<SessionCause>)> {
     let mut session = Session::open(alloc).ok()?;
     session.feed(TWO);
     refuse_all(&mut session);
@@ -172,7 +192,7 @@ fn written(alloc: Global, step: usize, limit: usize) -> Option<(Sent, usize, u64
 
 #[test]
 fn narrow_and_failing_writers(rt: HostRuntime) {
-    let ended = Some(Cause::WriteFault);
+    let ended = Some(SessionCause::WriteFault);
     for &(step, limit, want) in &[
         (1, 100, (Sent::All(22), 0, 0, None)),
         (5, 22, (Sent::All(22), 0, 0, None)),

@@ -6,7 +6,7 @@ use cap_base::RESOURCES;
 use cap_model::{Event, OwnedReply, Proposal, ProposalKind, ReplyWith, Request, Verdict};
 use cap_shared::{CallFault, CommitFault, Naming, Receipt, Seat, Shared};
 use cap_testing::Call;
-use cap_workers::{Committer, End, OfferEnd, OpenGate, Putter, Worker, lanes};
+use cap_workers::{Committer, OfferEnd, OpenGate, Putter, TurnEnd, Worker, lanes};
 use memory_testing::Came;
 use std::alloc::Global;
 use std::sync::Wait;
@@ -147,10 +147,10 @@ fn commit<J: Naming, H: Wait>(rt: &H, shared: &Shared<J>, seat: &mut Seat<J>) ->
     }
 }
 
-fn end_of_turn(end: &End) -> ActEnd {
+fn end_of_turn(end: &TurnEnd) -> ActEnd {
     match end {
-        End::Done(_) => ActEnd::Made,
-        End::NoMemory => ActEnd::Refused,
+        TurnEnd::Done(_) => ActEnd::Made,
+        TurnEnd::NoMemory => ActEnd::Refused,
         _ => ActEnd::Other,
     }
 }

@@ -1,5 +1,5 @@
 //! Tests of calls and commits whose memory is refused: they say so, change nothing, and are made once it is there.
-use crate::refusals::fixture::{Answer, Row, Step, came};
+use crate::refusals::fixture::{Answered, Row, Step, came};
 use crate::refusals::table::{Before, GRANT, NODE, ONE, RESERVE, SUBMIT};
 use cap_testing::Call;
 use memory_testing::{Turns, refuse_in_turn};
@@ -20,20 +20,20 @@ fn unlike(alloc: Global, rows: &[Row]) -> Option<(usize, Turns)> {
 /// A Submit; an Allocate of one ask and a release of a container that is not live; one of eight more asks where two grants and an end are to be
 /// reported; a node that registers; a grant; and a reservation where six containers leave (2048, 2).
 static REFUSED: [Row; 6] = [
-    (Before::Nothing, SUBMIT, Answer::Numbers([1, 0, 0, 0])),
+    (Before::Nothing, SUBMIT, Answered::Numbers([1, 0, 0, 0])),
     (
         Before::Registered,
         Step::Call(Call::Allocate(1, 0, &[ONE], &[7])),
-        Answer::Numbers([1, 1, 0, 0]),
+        Answered::Numbers([1, 1, 0, 0]),
     ),
     (
         Before::OneLive,
         Step::AskForKeys(1, 1, 8),
-        Answer::Numbers([2, 0, 2, 1]),
+        Answered::Numbers([2, 0, 2, 1]),
     ),
-    (Before::Nothing, NODE, Answer::Numbers([1, 0, 0, 0])),
-    (Before::Asking, GRANT, Answer::Numbers([1, 1024, 1, 0])),
-    (Before::SixLive, RESERVE, Answer::Numbers([0, 9216, 7, 0])),
+    (Before::Nothing, NODE, Answered::Numbers([1, 0, 0, 0])),
+    (Before::Asking, GRANT, Answered::Numbers([1, 1024, 1, 0])),
+    (Before::SixLive, RESERVE, Answered::Numbers([0, 9216, 7, 0])),
 ];
 
 #[test]

@@ -28,7 +28,7 @@ pub enum Step {
 /// many containers ended; whether a queue runs, whether it is a leaf and what it uses; nodes, applications, containers and MiB used of a
 /// cluster; or the new container, 0 for a reservation, and what is used then.
 #[derive(Clone, Copy, PartialEq, Eq)]
-pub enum Answer {
+pub enum Answered {
     Status(u8),
     Rejected(Reason),
     Numbers([u64; 4]),
@@ -36,7 +36,7 @@ pub enum Answer {
 }
 
 /// A step that is made after others, and what it is answered.
-pub type Row = (Before, Step, Answer);
+pub type Row = (Before, Step, Answered);
 
 /// A step of which all is made that takes memory.
 #[derive(Drop)]
@@ -103,10 +103,10 @@ fn prepared(alloc: Global, step: Step) -> Option<Given> {
     }
 }
 
-fn answer_of(reply: &Reply<RESOURCES>) -> Answer {
-    Answer::Numbers(match reply {
-        ReplyWith::Refused(Refusal::NoMemory) => return Answer::NoMemory,
-        ReplyWith::Refused(refusal) => return Answer::Status(refusal.status()),
+fn answer_of(reply: &Reply<RESOURCES>) -> Answered {
+    Answered::Numbers(match reply {
+        ReplyWith::Refused(Refusal::NoMemory) => return Answered::NoMemory,
+        ReplyWith::Refused(refusal) => return Answered::Status(refusal.status()),
         ReplyWith::Submit { app } => [*app, 0, 0, 0],
         ReplyWith::RegisterMaster { minimum, maximum } => {
             let ([least, few], [most, many]) = (minimum.amounts(), maximum.amounts());
@@ -148,20 +148,20 @@ fn answer_of(reply: &Reply<RESOURCES>) -> Answer {
     })
 }
 
-fn tried(cluster: &mut Cluster<RESOURCES>, proposal: Proposal<RESOURCES>) -> Answer {
+fn tried(cluster: &mut Cluster<RESOURCES>, proposal: Proposal<RESOURCES>) -> Answered {
     let Ok(verdict) = cluster.try_commit(proposal) else {
-        return Answer::NoMemory;
+        return Answered::NoMemory;
     };
     let number = match &verdict {
-        Verdict::Rejected(reason) => return Answer::Rejected(*reason),
+        Verdict::Rejected(reason) => return Answered::Rejected(*reason),
         Verdict::Done(Event::Grant { container }) => container.number,
         Verdict::Done(_) => 0,
     };
     let [memory, vcores] = cluster.root_use().amounts();
-    Answer::Numbers([number, memory, vcores, 0])
+    Answered::Numbers([number, memory, vcores, 0])
 }
 
-fn made(alloc: Global, cluster: &mut Cluster<RESOURCES>, given: &Given) -> Answer {
+fn made(alloc: Global, cluster: &mut Cluster<RESOURCES>, given: &Given) -> Answered {
     match given {
         Given::Request(request) => answer_of(&dispatch(alloc, cluster, request)),
         Given::Proposal(proposal) => tried(cluster, *proposal),
@@ -221,7 +221,7 @@ fn make_step(alloc: Global, cluster: &mut Cluster<RESOURCES>, step: Step) -> Opt
     }
     let given = prepared(alloc, step)?;
     match made(alloc, cluster, &given) {
-        Answer::Numbers(_) => Some(()),
+        Answered::Numbers(_) => Some(()),
         _ => None,
     }
 }
@@ -259,7 +259,7 @@ fn judged(
     hoard: &mut Hoard,
     bytes: usize,
     given: &Given,
-    answer: Answer,
+    answer: Answered,
     cluster: &mut Cluster<RESOURCES>,
 ) -> (Came, bool) {
     let before = seen(cluster);
@@ -270,7 +270,7 @@ fn judged(
     if first == answer {
         return (Came::Done, has_left);
     }
-    let is_same = first == Answer::NoMemory && seen(cluster) == before;
+    let is_same = first == Answered::NoMemory && seen(cluster) == before;
     let is_made = is_same && made(alloc, cluster, given) == answer;
     (came_of(true, is_made), has_left)
 }

@@ -1,7 +1,7 @@
 //! Tests of calls and commits that take no memory: they are answered where no bytes are left, and take none of many.
 //! A call that is refused, repeated or rejected is among them. No test reaches the last number of an application, a node or a container,
 //! nor 65,536 live containers.
-use crate::refusals::fixture::{Answer, Row, Step, takes_none};
+use crate::refusals::fixture::{Answered, Row, Step, takes_none};
 use crate::refusals::table::{ALLOCATE, BEAT, Before, MASTER, NODE, ONE};
 use cap_model::Reason;
 use cap_testing::{Call, WantedContainers};
@@ -49,185 +49,185 @@ static ROWS: [Row; 47] = [
     (
         Before::Nothing,
         Step::Call(Call::Submit(b"root.c", b"u1")),
-        Answer::Status(1),
+        Answered::Status(1),
     ),
     (
         Before::Nothing,
         Step::Call(Call::QueueInfo(b"root.c")),
-        Answer::Status(1),
+        Answered::Status(1),
     ),
     (
         Before::Nothing,
         Step::Call(Call::SetQueueState(b"root.c", true)),
-        Answer::Status(1),
+        Answered::Status(1),
     ),
     (
         Before::Nothing,
         Step::Call(Call::Submit(b"root", b"u1")),
-        Answer::Status(2),
+        Answered::Status(2),
     ),
     (
         Before::Nested,
         Step::Call(Call::Submit(b"root.a.y", b"u1")),
-        Answer::Status(3),
+        Answered::Status(3),
     ),
     (
         Before::NestedAndFull,
         Step::Call(Call::Submit(b"root.b", b"u1")),
-        Answer::Status(4),
+        Answered::Status(4),
     ),
     (
         Before::Nothing,
         Step::Call(Call::RegisterMaster(9)),
-        Answer::Status(5),
+        Answered::Status(5),
     ),
-    (Before::Nothing, ALLOCATE_OF_9, Answer::Status(5)),
+    (Before::Nothing, ALLOCATE_OF_9, Answered::Status(5)),
     (
         Before::Nothing,
         Step::Call(Call::FinishMaster(9)),
-        Answer::Status(5),
+        Answered::Status(5),
     ),
-    (Before::Registered, MASTER, Answer::Status(6)),
-    (Before::Submitted, ALLOCATE, Answer::Status(7)),
+    (Before::Registered, MASTER, Answered::Status(6)),
+    (Before::Submitted, ALLOCATE, Answered::Status(7)),
     (
         Before::Submitted,
         Step::Call(Call::FinishMaster(1)),
-        Answer::Status(7),
+        Answered::Status(7),
     ),
-    (Before::Registered, ALLOCATE_AT_5, Answer::Status(8)),
+    (Before::Registered, ALLOCATE_AT_5, Answered::Status(8)),
     (
         Before::Node,
         Step::Call(Call::Heartbeat(1, 5, &[])),
-        Answer::Status(8),
+        Answered::Status(8),
     ),
-    (Before::Registered, ASK_TOO_LARGE, Answer::Status(9)),
-    (Before::AskedForMany, ALLOCATE_AT_1, Answer::Status(10)),
-    (Before::Nothing, BEAT, Answer::Status(11)),
+    (Before::Registered, ASK_TOO_LARGE, Answered::Status(9)),
+    (Before::AskedForMany, ALLOCATE_AT_1, Answered::Status(10)),
+    (Before::Nothing, BEAT, Answered::Status(11)),
     (
         Before::Nothing,
         Step::Call(Call::NodeGone(9)),
-        Answer::Status(11),
+        Answered::Status(11),
     ),
-    (Before::Node, NODE, Answer::Status(12)),
-    (Before::Node, NODE_TOO_LARGE, Answer::Status(13)),
-    (Before::ManyNodes, NODE, Answer::Status(14)),
-    (Before::Nothing, NODE_OF_NOTHING, Answer::Status(15)),
+    (Before::Node, NODE, Answered::Status(12)),
+    (Before::Node, NODE_TOO_LARGE, Answered::Status(13)),
+    (Before::ManyNodes, NODE, Answered::Status(14)),
+    (Before::Nothing, NODE_OF_NOTHING, Answered::Status(15)),
     // Calls that are made: each that has no answer for want of memory, two that are repeated, and an Allocate that asks for nothing, releases a
     // container or asks again where it asked before. Also the loss of a node with the other of two containers: a grant made the room for its
     // container's end. And the conversion of a reservation after one of six containers has ended, which takes the room of that one.
     (
         Before::Submitted,
         MASTER,
-        Answer::Numbers([1024, 1, 8192, 4]),
+        Answered::Numbers([1024, 1, 8192, 4]),
     ),
     (
         Before::TwoLive,
         Step::Call(Call::FinishMaster(1)),
-        Answer::Numbers([2, 0, 0, 0]),
+        Answered::Numbers([2, 0, 0, 0]),
     ),
-    (Before::TwoLive, BEAT, Answer::Numbers([1, 0, 1, 0])),
-    (Before::OneLive, BEAT, Answer::Numbers([1, 0, 1, 0])),
+    (Before::TwoLive, BEAT, Answered::Numbers([1, 0, 1, 0])),
+    (Before::OneLive, BEAT, Answered::Numbers([1, 0, 1, 0])),
     (
         Before::TwoLive,
         Step::Call(Call::NodeGone(1)),
-        Answer::Numbers([2, 0, 0, 0]),
+        Answered::Numbers([2, 0, 0, 0]),
     ),
     (
         Before::TwoLive,
         Step::Call(Call::QueueInfo(b"root.a")),
-        Answer::Numbers([1, 1, 2048, 2]),
+        Answered::Numbers([1, 1, 2048, 2]),
     ),
     (
         Before::TwoLive,
         Step::Call(Call::SetQueueState(b"root.a", false)),
-        Answer::Numbers([0, 0, 0, 0]),
+        Answered::Numbers([0, 0, 0, 0]),
     ),
     (
         Before::TwoLive,
         Step::Call(Call::ClusterInfo),
-        Answer::Numbers([1, 1, 2, 2048]),
+        Answered::Numbers([1, 1, 2, 2048]),
     ),
-    (Before::Asking, ALLOCATE, Answer::Numbers([1, 0, 0, 0])),
+    (Before::Asking, ALLOCATE, Answered::Numbers([1, 0, 0, 0])),
     (
         Before::OneLive,
         Step::Call(Call::Allocate(1, 1, &[], &[])),
-        Answer::Numbers([2, 0, 2, 1]),
+        Answered::Numbers([2, 0, 2, 1]),
     ),
     (
         Before::TwoLive,
         Step::Call(Call::Allocate(1, 1, &[], &[2])),
-        Answer::Numbers([2, 0, 2, 1]),
+        Answered::Numbers([2, 0, 2, 1]),
     ),
     (
         Before::Granted,
         ALLOCATE_AT_1,
-        Answer::Numbers([2, 0, 1, 0]),
+        Answered::Numbers([2, 0, 1, 0]),
     ),
     (
         Before::OneLive,
         Step::Call(Call::NodeGone(1)),
-        Answer::Numbers([1, 0, 0, 0]),
+        Answered::Numbers([1, 0, 0, 0]),
     ),
     (
         Before::Reserved,
         Step::Grant(1, (1, 1), 1, [3072, 1]),
-        Answer::Numbers([7, 8192, 6, 0]),
+        Answered::Numbers([7, 8192, 6, 0]),
     ),
     // A proposal, and why it is rejected.
     (
         Before::Asked,
         Step::Grant(9, (9, 0), 9, [1, 1]),
-        Answer::Rejected(Reason::NoApp),
+        Answered::Rejected(Reason::NoApp),
     ),
     (
         Before::Asked,
         Step::Grant(1, (9, 0), 9, [1, 1]),
-        Answer::Rejected(Reason::NoAsk),
+        Answered::Rejected(Reason::NoAsk),
     ),
     (
         Before::Asked,
         Step::Grant(1, (1, 0), 9, [2048, 1]),
-        Answer::Rejected(Reason::OtherAsk),
+        Answered::Rejected(Reason::OtherAsk),
     ),
     (
         Before::Asked,
         Step::Grant(1, (1, 0), 3, [1024, 1]),
-        Answer::Rejected(Reason::NoNode),
+        Answered::Rejected(Reason::NoNode),
     ),
     (
         Before::Asked,
         Step::Grant(1, (3, 0), 1, [1024, 1]),
-        Answer::Rejected(Reason::WrongPlace),
+        Answered::Rejected(Reason::WrongPlace),
     ),
     (
         Before::Kept,
         Step::Grant(2, (2, 0), 2, [2048, 1]),
-        Answer::Rejected(Reason::ReservedByOther),
+        Answered::Rejected(Reason::ReservedByOther),
     ),
     (
         Before::Asked,
         Step::Grant(2, (2, 0), 2, [2048, 1]),
-        Answer::Rejected(Reason::NoRoom),
+        Answered::Rejected(Reason::NoRoom),
     ),
     (
         Before::Asked,
         Step::Grant(1, (2, 0), 1, [3072, 1]),
-        Answer::Rejected(Reason::OverMaximum { level: 1 }),
+        Answered::Rejected(Reason::OverMaximum { level: 1 }),
     ),
     (
         Before::Asked,
         Step::Grant(2, (1, 0), 1, [3072, 1]),
-        Answer::Rejected(Reason::OverUser),
+        Answered::Rejected(Reason::OverUser),
     ),
     (
         Before::Asked,
         Step::Reserve(1, (1, 0), 1, [1024, 1]),
-        Answer::Rejected(Reason::FitsNow),
+        Answered::Rejected(Reason::FitsNow),
     ),
     (
         Before::Asked,
         Step::Reserve(2, (2, 0), 2, [2048, 1]),
-        Answer::Rejected(Reason::NeverFits),
+        Answered::Rejected(Reason::NeverFits),
     ),
 ];
 

@@ -8,7 +8,7 @@ use cap_base::RESOURCES;
 use cap_commit::Cluster;
 use cap_messages::dispatch;
 use cap_model::{Refusal, ReplyWith, Request};
-use cap_session::{Cause, Counted, Fed, Next, Sent, Session};
+use cap_session::{Counted, Fed, Next, Sent, Session, SessionCause};
 use memory_testing::{Came, Hoard, Turns, refuse_in_turn};
 use std::alloc::Global;
 
@@ -71,7 +71,7 @@ fn serve_next(
             Some(true)
         }
         Next::Need => Some(true),
-        Next::Ended(Cause::NoMemory) => Some(false),
+        Next::Ended(SessionCause::NoMemory) => Some(false),
         Next::Ended(_) => None,
     }
 }
@@ -85,7 +85,7 @@ fn has_ended(
 ) -> bool
     requires { session.old.open_request ≡ None }
 {
-    let ended = Fed::Ended(Cause::NoMemory);
+    let ended = Fed::Ended(SessionCause::NoMemory);
     feed(session, INFO) == ended
         && serve_next(alloc, cluster, session) == Some(false)
         && feed(session, INFO) == ended
@@ -112,7 +112,8 @@ fn fed(
         let is_answered = ANSWERED.get(..FIRST) == Some(session.unsent());
         return Some(came_of(false, is_served && is_answered));
     }
-    let is_told = second == Fed::Ended(Cause::NoMemory) && (first == Fed::Taken || first == second);
+    let is_told = second == Fed::Ended(SessionCause::NoMemory)
+        && (first == Fed::Taken || first == second);
     let is_so = is_told && has_ended(alloc, cluster, session, &[]);
     Some(came_of(true, is_so))
 }
@@ -138,7 +139,7 @@ fn found(
             answer(alloc, cluster, session, &request);
             Some(came_of(false, session.unsent() == ANSWERED))
         }
-        Next::Ended(Cause::NoMemory) => {
+        Next::Ended(SessionCause::NoMemory) => {
             let first = ANSWERED.get(..FIRST)?;
             Some(came_of(true, has_ended(alloc, cluster, session, first)))
         }

@@ -2,7 +2,7 @@
 use bumpalo::Bump;
 use cap_model::{Event, Reason};
 use cap_shared::{Naming, Seat, Shared};
-use cap_workers::{End, Gate, OpenGate, Point, Turn, Worker};
+use cap_workers::{Gate, OpenGate, Point, Turn, TurnEnd, Worker};
 use std::alloc::Global;
 use std::sync::atomic::{AtomicU64, Ordering};
 use std::sync::{Mutex, Wait};
@@ -29,20 +29,20 @@ fn came_of(turn: &Turn) -> Came {
         return Came::Spent;
     }
     match &turn.end {
-        End::Nothing => Came::Nothing,
-        End::Done(Event::Grant { container }) => Came::Granted {
+        TurnEnd::Nothing => Came::Nothing,
+        TurnEnd::Done(Event::Grant { container }) => Came::Granted {
             container: container.number,
             node: container.node,
         },
-        End::Done(Event::Reserve { reservation }) => Came::Reserved {
+        TurnEnd::Done(Event::Reserve { reservation }) => Came::Reserved {
             node: reservation.node,
         },
-        End::Done(Event::Call { .. }) => Came::Spent,
-        End::Rejected(reason) => Came::Rejected(*reason),
-        End::Sealed(proposal) => Came::Sealed {
+        TurnEnd::Done(Event::Call { .. }) => Came::Spent,
+        TurnEnd::Rejected(reason) => Came::Rejected(*reason),
+        TurnEnd::Sealed(proposal) => Came::Sealed {
             node: proposal.node(),
         },
-        End::NoMemory => Came::NoMemory,
+        TurnEnd::NoMemory => Came::NoMemory,
     }
 }
 

@@ -1,8 +1,8 @@
 use Rattle.cap_tree.proofs.Sizes.{path_fits, queue_fits}
 use Rattle.cap_commit.proofs.cap_tree++tree++QueueTree+Destruct.drop.Goals as goal
 
-pub drop-requires-room-T-Held : goal.drop-requires-room-T-Held
-drop-requires-room-T-Held g c κs within = search queue_fits
+pub drop-requires-room-T-TreeItem : goal.drop-requires-room-T-TreeItem
+drop-requires-room-T-TreeItem g c κs within = search queue_fits
 
 pub drop-requires-room-T-Destruct : goal.drop-requires-room-T-Destruct
 drop-requires-room-T-Destruct g c κs within = search queue_fits

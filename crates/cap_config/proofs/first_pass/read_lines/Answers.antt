@@ -4,7 +4,7 @@ use Rattle.std.proofs.lemmas.Result.{err_from_is_err_and}
 use Rattle.std.proofs.lemmas.Bool.Decides.{nat_tests}
 use Rattle.cap_base.specs.declared.properties.entry.Entry.{Entry}
 use Rattle.cap_base.specs.properties.Entries.{read_after, entry_of, is_passed_over, key_text, read_lines}
-use Rattle.cap_config.proofs.Steps.{after_passed, after_entry, after_fault, after_all, lines_none, fails_after}
+use Rattle.cap_config.proofs.NextLine.{after_passed, after_entry, after_fault, after_all, lines_none, fails_after}
 use Rattle.cap_config.proofs.first_pass.read_lines.Goals as goal
 
 pub returns-in_err-entry : goal.returns-in_err-entry

@@ -4,7 +4,7 @@ use Rattle.std.specs.Str.Lines.{lines}
 use Rattle.std.proofs.lemmas.Bool.Decides.{nat_tests}
 use Rattle.cap_config.specs.LineKeys.{first_with}
 use Rattle.cap_config.proofs.LineSteps.{first_ends, first_here, first_later, first_none}
-use Rattle.cap_config.proofs.Steps.{lines_none}
+use Rattle.cap_config.proofs.NextLine.{lines_none}
 use Rattle.cap_config.proofs.line_keys.first_with.Goals as goal
 
 pub returns-then-number-end : goal.returns-then-number-end

@@ -3,7 +3,7 @@ use Rattle.std.specs.Str.Lines.{lines}
 use Rattle.std.proofs.lemmas.Bool.Decides.{nat_tests}
 use Rattle.cap_config.specs.LineKeys.{nth_line}
 use Rattle.cap_config.proofs.LineSteps.{nth_here, nth_later, nth_none}
-use Rattle.cap_config.proofs.Steps.{lines_none}
+use Rattle.cap_config.proofs.NextLine.{lines_none}
 use Rattle.cap_config.proofs.line_keys.nth_line.Goals as goal
 
 pub returns-then-left-eq1 : goal.returns-then-left-eq1

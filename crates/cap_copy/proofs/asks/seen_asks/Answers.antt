@@ -4,9 +4,9 @@ use Rattle.std.proofs.Common.{◌≡◌, ◌++◌, ◌<◌, length, get_or, refl
 use Rattle.std.specs.Prelude.{Some, option_map}
 use Rattle.std.specs.List.{slice_get}
 use Rattle.std.proofs.lemmas.Option.{slice_get-get_or, slice_get-map, slice_get_read}
-use Rattle.cap_asks.specs.Held.{HeldApp}
+use Rattle.cap_asks.specs.Accounts.{HeldApp}
 use Rattle.cap_copy.specs.Entries.{asks_of, ask_entries}
-use Rattle.cap_copy.proofs.Steps.{asks_more}
+use Rattle.cap_copy.proofs.LoopSteps.{asks_more}
 use Rattle.cap_copy.proofs.asks.seen_asks.Goals as goal
 
 pub loop-index-preserved : goal.loop-index-preserved

@@ -5,7 +5,7 @@ use Rattle.std.proofs.Common.{◌≡◌, ◌++◌, ◌∷◌, [], ap, sym, ◌�
 use Rattle.std.specs.Prelude.{find, ◌==◌}
 use Rattle.cap_nodes.specs.Tables.{free_on}
 use Rattle.cap_copy.specs.Taking.{node_seen}
-use Rattle.cap_copy.proofs.Steps.{map_more}
+use Rattle.cap_copy.proofs.LoopSteps.{map_more}
 use Rattle.cap_copy.proofs.nodes.seen_nodes.Goals as goal
 
 pub loop-index-preserved : goal.loop-index-preserved

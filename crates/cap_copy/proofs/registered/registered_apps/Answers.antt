@@ -4,9 +4,9 @@ use Rattle.std.specs.List.{All}
 use Rattle.std.proofs.lemmas.List.{append-nil, map_push}
 use Rattle.std.proofs.lemmas.List.Elements.{All-push}
 use Rattle.cap_asks.specs.Apps.{account_of}
-use Rattle.cap_asks.specs.Held.{HeldApp}
+use Rattle.cap_asks.specs.Accounts.{HeldApp}
 use Rattle.cap_copy.specs.Entries.{registered_of}
-use Rattle.cap_copy.proofs.Steps.{registered_more}
+use Rattle.cap_copy.proofs.LoopSteps.{registered_more}
 use Rattle.cap_copy.proofs.registered.registered_apps.Goals as goal
 use Rattle.cap_copy.proofs.registered.registered_apps.Goals.{then-is_registered, else-is_registered}
 

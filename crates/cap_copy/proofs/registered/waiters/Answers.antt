@@ -3,10 +3,10 @@ use Rattle.std.specs.Prelude.{Some}
 use Rattle.std.specs.List.{slice_get}
 use Rattle.std.proofs.lemmas.List.{map_push}
 use Rattle.std.proofs.lemmas.Option.{slice_get_read}
-use Rattle.cap_asks.specs.Held.{HeldApp}
-use Rattle.cap_tree.specs.Serving.{AreNumbered, Waiter}
+use Rattle.cap_asks.specs.Accounts.{HeldApp}
+use Rattle.cap_tree.specs.ServedWaiters.{AreNumbered, Waiter}
 use Rattle.cap_tree.proofs.Served.{numbered_more}
-use Rattle.cap_copy.proofs.Steps.{map_more}
+use Rattle.cap_copy.proofs.LoopSteps.{map_more}
 use Rattle.cap_copy.proofs.registered.waiters.Goals as goal
 
 pub loop-index-preserved : goal.loop-index-preserved

@@ -1,6 +1,6 @@
 use Rattle.std.proofs.Common.{◌≡◌, map, take, vec_len, vec_capacity}
 use Rattle.std.specs.Prelude.{length}
-use Rattle.cap_tree.specs.Serving.{AreNumbered}
+use Rattle.cap_tree.specs.ServedWaiters.{AreNumbered}
 use Rattle.cap_copy.proofs.registered.waiters.Given as goal
 
 abbrev pub invariant-loop-index : goal.invariant-loop-index

@@ -5,7 +5,7 @@ use Rattle.crossbeam_channel.specs.Ends.{sends_on}
 use Rattle.cap_lanes.specs.declared.view.View.{View}
 use Rattle.cap_lanes.specs.Sides.{WorkerSide, LanesId, AllOf, Alike}
 use Rattle.cap_lanes.specs.Ends.{lanes_id}
-use Rattle.cap_lanes.specs.Rule.{taker}
+use Rattle.cap_lanes.specs.ChannelRule.{taker}
 use Rattle.cap_lanes.proofs.Tallies.{Alike-push, length_alike}
 use Rattle.cap_lanes.proofs.taking.gather_all.Goals as goal
 

@@ -3,7 +3,7 @@ use Rattle.std.specs.Array.Iter.{array_into_iter_items}
 use Rattle.crossbeam_channel.specs.Ends.{sends_on}
 use Rattle.crossbeam_channel.specs.Claims.{view, IsSeatAt}
 use Rattle.cap_lanes.specs.declared.view.Lane.{Lane}
-use Rattle.cap_lanes.specs.Rule.{taker}
+use Rattle.cap_lanes.specs.ChannelRule.{taker}
 use Rattle.cap_lanes.specs.Sides.{Alike}
 use Rattle.cap_lanes.proofs.taking.gather_all.Given as goal
 

@@ -3,7 +3,7 @@ use Rattle.cap_grammar.specs.declared.fault.MessageFault.{MessageFault}
 use Rattle.cap_grammar.specs.declared.fault.MessageFault.TheVariants.{Bad}
 use Rattle.cap_grammar.specs.Spelling.{IsNoRequest}
 use Rattle.cap_session.specs.Asked.{ReadResult, IsReadFrom}
-use Rattle.cap_session.proofs.Steps.{bad_none, bad_more, starved_after}
+use Rattle.cap_session.proofs.SessionSteps.{bad_none, bad_more, starved_after}
 use Rattle.cap_session.proofs.find.find.Goals as goal
 
 pub loop-next-init : goal.loop-next-init

@@ -1,7 +1,7 @@
 use Rattle.std.proofs.Common.{ap, map, ◌∙◌, ◌++◌}
 use Rattle.std.specs.List.{filter}
 use Rattle.std.proofs.lemmas.List.{take_all}
-use Rattle.cap_tree.specs.Serving.{waits_here}
+use Rattle.cap_tree.specs.ServedWaiters.{waits_here}
 use Rattle.cap_tree.proofs.serving.add_here.Goals as goal
 
 pub returns : goal.returns

@@ -1,5 +1,5 @@
 use Rattle.std.proofs.Common.{◌≡◌, ◌++◌, filter, map, take}
-use Rattle.cap_tree.specs.Serving.{waits_here}
+use Rattle.cap_tree.specs.ServedWaiters.{waits_here}
 use Rattle.cap_tree.proofs.serving.add_here.Given as goal
 
 abbrev pub invariant-loop-waiter : goal.invariant-loop-waiter

@@ -1,6 +1,6 @@
 use Rattle.std.proofs.Common.{◌≡◌, ◌-◌, ◌<◌, ◌++◌, ◌∷◌, [], ap, sym, subst, ◌∙◌, get_or, set, take, drop, arith, length}
 use Rattle.std.proofs.lemmas.List.{length-set, take_more, get_or_default, take_all, nil_from_length}
-use Rattle.cap_tree.specs.Serving.{AreParts}
+use Rattle.cap_tree.specs.ServedWaiters.{AreParts}
 use Rattle.cap_tree.proofs.Spots.{steps-is}
 use Rattle.cap_tree.proofs.Served.{one_dealt_more, begins_below, none_dealt, not_dealt}
 use Rattle.cap_tree.proofs.serving.parts_of.Goals as goal

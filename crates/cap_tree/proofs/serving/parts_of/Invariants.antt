@@ -1,5 +1,5 @@
 use Rattle.std.proofs.Common.{◌≡◌, length, take}
-use Rattle.cap_tree.specs.Serving.{AreParts}
+use Rattle.cap_tree.specs.ServedWaiters.{AreParts}
 use Rattle.cap_tree.proofs.serving.parts_of.Given as goal
 
 abbrev pub invariant-loop-waiter : goal.invariant-loop-waiter

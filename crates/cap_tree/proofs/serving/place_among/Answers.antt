@@ -5,7 +5,7 @@ use Rattle.std.specs.Ordering.{is_lt}
 use Rattle.std.specs.Cmp.Lexicographic.{options_total}
 use Rattle.std.proofs.lemmas.Cmp.{on_total}
 use Rattle.std.proofs.lemmas.List.{get_or_default}
-use Rattle.cap_tree.specs.Serving.{kid_at, kid_cmp}
+use Rattle.cap_tree.specs.ServedWaiters.{kid_at, kid_cmp}
 use Rattle.cap_tree.specs.Spot.{first}
 use Rattle.cap_tree.proofs.Ranking.{above_middle, below_middle, rising_of}
 use Rattle.cap_tree.proofs.Served.{has_top, tops_cmp}
@@ -21,7 +21,7 @@ loop-low-preserved-then-is_lt g c =
     let other = get_or c.args.kids.now middle 0 in
     let earlier : other < c.args.child = c.requires.earlier middle 0 inside in
     let there : other < length kids = (let l = c.requires.child in omega (arith, earlier, l)) in
-    let same = tops_cmp g.T.Served.order g.T.Held.name kids other c.args.child c.index-children-kids.result c.index-children-child.result c.top-other.result.now c.top-top.result.now there c.requires.child c.index-children-kids.is c.index-children-child.is c.top-other.ensures c.top-top.ensures in
+    let same = tops_cmp g.T.Served.order g.T.TreeItem.name kids other c.args.child c.index-children-kids.result c.index-children-child.result c.top-other.result.now c.top-top.result.now there c.requires.child c.index-children-kids.is c.index-children-child.is c.top-other.ensures c.top-top.ensures in
     let less : is_lt (cmp other c.args.child) ≡ true = ap is_lt (sym same ∙ sym c.cmp_served.ensures) ∙ sym c.is_lt.ensures ∙ c.if-is_lt.true in
     above_middle cmp (on_total (λ s. first (kid_at kids s)) (options_total g.met.T.Served.total)) c.args.child c.args.kids.now (rising_of cmp c.args.kids.now c.requires.ranked)
     c.loop-low.low c.loop-low.high middle other c.loop-low.invariant (omega arith) (omega arith) (get_or_default c.args.kids.now middle 0 other inside) less
@@ -36,10 +36,10 @@ loop-low-preserved g c =
     let other = get_or c.args.kids.now middle 0 in
     let earlier : other < c.args.child = c.requires.earlier middle 0 inside in
     let there : other < length kids = (let l = c.requires.child in omega (arith, earlier, l)) in
-    let same = tops_cmp g.T.Served.order g.T.Held.name kids other c.args.child c.index-children-kids.result c.index-children-child.result c.top-other.result.now c.top-top.result.now there c.requires.child c.index-children-kids.is c.index-children-child.is c.top-other.ensures c.top-top.ensures in
+    let same = tops_cmp g.T.Served.order g.T.TreeItem.name kids other c.args.child c.index-children-kids.result c.index-children-child.result c.top-other.result.now c.top-top.result.now there c.requires.child c.index-children-kids.is c.index-children-child.is c.top-other.ensures c.top-top.ensures in
     let not_less : is_lt (cmp other c.args.child) ≡ false = ap is_lt (sym same ∙ sym c.cmp_served.ensures) ∙ sym c.is_lt.ensures ∙ c.if-is_lt.false in
-    let own = has_top g.T.Served.order g.T.Held.name kids c.args.child c.index-children-child.result c.top-top.result.now c.requires.child c.index-children-child.is c.top-top.ensures in
-    let others = has_top g.T.Served.order g.T.Held.name kids other c.index-children-kids.result c.top-other.result.now there c.index-children-kids.is c.top-other.ensures in
+    let own = has_top g.T.Served.order g.T.TreeItem.name kids c.args.child c.index-children-child.result c.top-top.result.now c.requires.child c.index-children-child.is c.top-top.ensures in
+    let others = has_top g.T.Served.order g.T.TreeItem.name kids other c.index-children-kids.result c.top-other.result.now there c.index-children-kids.is c.top-other.ensures in
     below_middle cmp (on_total (λ s. first (kid_at kids s)) (options_total g.met.T.Served.total)) c.args.child c.args.kids.now (rising_of cmp c.args.kids.now c.requires.ranked)
     c.loop-low.low c.loop-low.high middle other c.loop-low.invariant (omega arith) (omega arith) (get_or_default c.args.kids.now middle 0 other inside)
     (λ t. let same_child = c.requires.apart other c.args.child there c.requires.child others own t in absurd (omega (arith, same_child, earlier))) not_less

@@ -1,5 +1,5 @@
 use Rattle.std.proofs.Common.{◌-◌}
-use Rattle.cap_tree.specs.Serving.{kid_cmp}
+use Rattle.cap_tree.specs.ServedWaiters.{kid_cmp}
 use Rattle.cap_tree.proofs.Ranking.{IsBetween}
 use Rattle.cap_tree.proofs.serving.place_among.Given as goal
 

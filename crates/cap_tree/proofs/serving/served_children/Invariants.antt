@@ -1,5 +1,5 @@
-use Rattle.cap_tree.specs.Serving.{AreKids}
+use Rattle.cap_tree.specs.ServedWaiters.{AreKids}
 use Rattle.cap_tree.proofs.serving.served_children.Given as goal
 
 abbrev pub invariant-loop-child : goal.invariant-loop-child
-invariant-loop-child g l = AreKids g.T.Served.order g.T.Held.name l.children l.parts l.child l.kids.items
+invariant-loop-child g l = AreKids g.T.Served.order g.T.TreeItem.name l.children l.parts l.child l.kids.items

@@ -56,8 +56,8 @@ pub returns-clause-queues : goal.returns-clause-queues
 returns-clause-queues g c =
     c.loop-row.invariant.queues ∙ ap (λ rows. queues_of c.args.root.now ++ rows) (take_all c.loop-row.row-index c.args.rows.now (omega arith))
 
-pub add-requires-room-T-Held : goal.add-requires-room-T-Held
-add-requires-room-T-Held g c κs within = search
+pub add-requires-room-T-TreeItem : goal.add-requires-room-T-TreeItem
+add-requires-room-T-TreeItem g c κs within = search
 
 pub add-requires-room-T-Destruct : goal.add-requires-room-T-Destruct
 add-requires-room-T-Destruct g c κs within = search

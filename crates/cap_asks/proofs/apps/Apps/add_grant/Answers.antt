@@ -1,6 +1,6 @@
 use Rattle.std.proofs.Common.{[], ◌∷◌, ◌++◌, ap, sym, ◌∙◌, arith}
 use Rattle.cap_model.specs.Flat.{App}
-use Rattle.cap_asks.specs.Held.{Account}
+use Rattle.cap_asks.specs.Accounts.{Account}
 use Rattle.cap_asks.proofs.Entries.{apps_of, none_changed, one_changed, still_numbered, one_uses, it_has, it_has_none, had_room}
 use Rattle.cap_asks.proofs.apps.Apps.add_grant.Goals as goal
 

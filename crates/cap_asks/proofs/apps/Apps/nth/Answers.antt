@@ -1,6 +1,6 @@
 use Rattle.std.proofs.Common.{ap, ◌∙◌}
 use Rattle.std.specs.Prelude.{option_map}
-use Rattle.cap_asks.specs.Held.{HeldApp}
+use Rattle.cap_asks.specs.Accounts.{HeldApp}
 use Rattle.cap_asks.proofs.Entries.{app_found, account_there, numbers_rise, nth_is}
 use Rattle.cap_asks.proofs.apps.Apps.nth.Goals as goal
 

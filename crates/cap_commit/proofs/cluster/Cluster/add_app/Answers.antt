@@ -1,4 +1,4 @@
-use Rattle.cap_commit.specs.Held.{Held, flat_of}
+use Rattle.cap_commit.specs.ClusterState.{ClusterState, flat_of}
 use Rattle.cap_laws.proofs.calls.Registering.{may_enter}
 use Rattle.cap_model.specs.Flat.{AppTable}
 use Rattle.cap_commit.proofs.Fitting.{apps_fit}
@@ -55,4 +55,4 @@ pub unreachable-requires : goal.unreachable-requires
 unreachable-requires g c = let ok = c.in_default.ensures.succeeds c.in-Ok.ensures.ok in cc
 
 pub returns-clause-number : goal.returns-clause-number
-returns-clause-number g c = c.in-Ok-submit.ensures.number ∙ ap (λ (t : AppTable). t.next) c.in-Ok.ensures.table ∙ ap (λ (y : Held g.row.K). y.flat.apps.next) c.self.view_is
+returns-clause-number g c = c.in-Ok-submit.ensures.number ∙ ap (λ (t : AppTable). t.next) c.in-Ok.ensures.table ∙ ap (λ (y : ClusterState g.row.K). y.flat.apps.next) c.self.view_is

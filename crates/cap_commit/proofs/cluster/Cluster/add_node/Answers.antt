@@ -4,7 +4,7 @@ use Rattle.std.specs.Prelude.{Result, Ok, Err, IfOk, OnErr}
 use Rattle.cap_base.specs.declared.no_memory.NoMemory.{NoMemory}
 use Rattle.cap_model.specs.Flat.{NodeTable}
 use Rattle.cap_laws.proofs.calls.Registering.{may_join}
-use Rattle.cap_commit.specs.Held.{flat_of}
+use Rattle.cap_commit.specs.ClusterState.{flat_of}
 use Rattle.cap_commit.proofs.Holding.{held_nodes}
 use Rattle.cap_laws.proofs.bounds.ReservedNodes.{reserved_joined}
 use Rattle.cap_commit.proofs.cluster.Cluster.add_node.Goals as goal

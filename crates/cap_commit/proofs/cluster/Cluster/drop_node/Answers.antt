@@ -3,7 +3,7 @@ use Rattle.std.proofs.Common.{ap, sym, subst, ◌∙◌}
 use Rattle.std.specs.Prelude.{IsSome, filter, ◌==◌, ◌≡◌, []}
 use Rattle.cap_model.specs.Flat.{Flat, NodeTable, Reservation, containers_on, node_at}
 use Rattle.cap_model.specs.NodeGone.{remove_node}
-use Rattle.cap_commit.specs.Held.{Held, Parts, flat_of}
+use Rattle.cap_commit.specs.ClusterState.{ClusterState, Parts, flat_of}
 use Rattle.cap_commit.proofs.Dropping.{none_stay}
 use Rattle.cap_commit.proofs.Holding.{held_nodes}
 use Rattle.cap_laws.proofs.bounds.ReservedNodes.{reserved_gone}
@@ -17,7 +17,7 @@ gone-requires g c =
 
 pub invariant_of-self : goal.invariant_of-self
 invariant_of-self g c =
-    let kept = ap (λ (h : Held g.row.K). h.flat.nodes.reserved) c.self.view_is ∙ ap (λ (f : Flat g.row.K). f.nodes.reserved) c.unreserve_node.ensures.flat in
+    let kept = ap (λ (h : ClusterState g.row.K). h.flat.nodes.reserved) c.self.view_is ∙ ap (λ (f : Flat g.row.K). f.nodes.reserved) c.unreserve_node.ensures.flat in
     let none = ap (filter (λ (r : Reservation). r.node == c.args.number)) kept ∙ none_stay (λ (r : Reservation). r.node == c.args.number) c.args.self.now.flat.nodes.reserved in
     held_nodes _ c.self.invariant c.gone.new.self (ap (λ (t : NodeTable). t.live) c.gone.ensures) (ap (λ (t : NodeTable). t.reserved) c.gone.ensures) (ap (λ (t : NodeTable). t.next_container) c.gone.ensures)
     (reserved_gone c.args.number c.self.inside.nodes c.gone.new.self none c.gone.ensures c.self.invariant.reservations)
@@ -25,12 +25,12 @@ invariant_of-self g c =
 pub returns-clause-flat : goal.returns-clause-flat
 returns-clause-flat g c =
     let start = c.args.self.now.flat in
-    let dropped = ap (λ (h : Held g.row.K). h.flat) c.self.view_is ∙ c.unreserve_node.ensures.flat in
+    let dropped = ap (λ (h : ClusterState g.row.K). h.flat) c.self.view_is ∙ c.unreserve_node.ensures.flat in
     let p : Parts g.row.K = record { rows = c.self.inside.tree.value; limits = c.self.inside.limits; apps = c.self.inside.apps; nodes = c.self.inside.nodes } in
     ap (λ (t : NodeTable). record (flat_of p) { nodes = t }) c.gone.ensures ∙ ap (λ (f : Flat g.row.K). record f { nodes = remove_node c.args.number f.nodes }) dropped
 
 pub returns-clause-accounts : goal.returns-clause-accounts
-returns-clause-accounts g c = ap (λ (h : Held g.row.K). h.accounts) c.self.view_is ∙ c.unreserve_node.ensures.accounts
+returns-clause-accounts g c = ap (λ (h : ClusterState g.row.K). h.accounts) c.self.view_is ∙ c.unreserve_node.ensures.accounts
 
 pub unreserve_node-requires : goal.unreserve_node-requires
 unreserve_node-requires g c = search

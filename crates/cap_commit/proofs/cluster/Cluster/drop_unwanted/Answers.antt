@@ -3,7 +3,7 @@ use Rattle.std.proofs.Common.{ap, ◌∙◌}
 use Rattle.std.specs.Option.{option_map_or}
 use Rattle.cap_model.specs.Asking.{keep_first, reservations_left}
 use Rattle.cap_model.specs.Flat.{app_in, is_for, with_reserved}
-use Rattle.cap_commit.specs.Held.{Held}
+use Rattle.cap_commit.specs.ClusterState.{ClusterState}
 use Rattle.cap_commit.proofs.cluster.Cluster.drop_unwanted.Goals as goal
 
 pub returns-clause-flat : goal.returns-clause-flat
@@ -11,7 +11,7 @@ returns-clause-flat g c =
     let start = c.args.self.now.flat in
     let n = c.args.number in
     let ask = c.args.ask.now in
-    let left = c.reservations_left-left.ensures ∙ ap (λ (h : Held g.row.K). option_map_or (λ app. reservations_left app ask) (app_in h.flat.apps n) 0) c.self.view_is in
+    let left = c.reservations_left-left.ensures ∙ ap (λ (h : ClusterState g.row.K). option_map_or (λ app. reservations_left app ask) (app_in h.flat.apps n) 0) c.self.view_is in
     c.keep_first.ensures.flat ∙ (λ i. with_reserved (keep_first (is_for n (c.key.ensures i)) (left i) start.nodes.reserved) start)
 
 pub keep_first-requires : goal.keep_first-requires

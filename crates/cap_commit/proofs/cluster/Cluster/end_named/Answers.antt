@@ -2,7 +2,7 @@ use Rattle.cap_commit.proofs.Fitting.{nodes_in_cluster, container_in_cluster}
 use Rattle.std.specs.Prelude.{◌==◌, find, IfSome, Some, ◌≡◌}
 use Rattle.std.proofs.Common.{ap, arith, get_or, subst, sym, ◌∙◌}
 use Rattle.cap_laws.specs.EngineLaws.{HasDistinctNumbers}
-use Rattle.cap_commit.specs.Held.{Held}
+use Rattle.cap_commit.specs.ClusterState.{ClusterState}
 use Rattle.cap_commit.specs.Owners.{owns}
 use Rattle.cap_laws.proofs.ending.EndsLeft.{none_yet, one_named, none_there, other_there, all_named}
 use Rattle.cap_commit.proofs.cluster.Cluster.end_named.Goals.{in-Some, in_default, in_default-via-in-Some+else-has, in_default-via-in_default}
@@ -21,8 +21,8 @@ loop-number-preserved g c =
     let before = c.loop-number.self.flat in
     let ignored = c.loop-number.ignored in
     let is = c.loop-number.invariant in
-    let rising = subst HasDistinctNumbers (ap (λ (h : Held g.row.K). h.flat) c.self.view_is) c.self.invariant.numbers in
-    let looked = sym (c.container.ensures.found ∙ ap (λ (h : Held g.row.K). find (λ d. d.number == get_or ns i 0) h.flat.nodes.live) c.self.view_is) in
+    let rising = subst HasDistinctNumbers (ap (λ (h : ClusterState g.row.K). h.flat) c.self.view_is) c.self.invariant.numbers in
+    let looked = sym (c.container.ensures.found ∙ ap (λ (h : ClusterState g.row.K). find (λ d. d.number == get_or ns i 0) h.flat.nodes.live) c.self.view_is) in
     elim c.match-container.branch [
       | in-Some w ↦
           rw (w.self-is, w.ignored-is)
@@ -38,7 +38,7 @@ pub end-requires : goal.end-requires
 end-requires g c =
     let k = c.self.invariant.resources in
     let one = c.in-Some.container in
-    let here = ap (λ (h : Held g.row.K). h.flat.nodes.live) c.self.view_is in
+    let here = ap (λ (h : ClusterState g.row.K). h.flat.nodes.live) c.self.view_is in
     let own = subst (λ o. IfSome o (λ d. find (λ x. x.number == d.number) c.self.inside.nodes.live ≡ Some d)) c.in-Some.is c.container.ensures.own in
     ((search), (omega (arith, k), sym (ap (find (λ d. d.number == one.number)) here) ∙ own))
 

@@ -5,7 +5,7 @@ use Rattle.cap_model.specs.Flat.{Flat, Reservation, app_at, containers_of}
 use Rattle.cap_model.specs.FinishMaster.{remove_app}
 use Rattle.cap_tree.specs.Rows.{queues_of, left_row}
 use Rattle.cap_tree.specs.Spot.{path_at}
-use Rattle.cap_commit.specs.Held.{Held, Parts}
+use Rattle.cap_commit.specs.ClusterState.{ClusterState, Parts}
 use Rattle.cap_commit.proofs.Holding.{finished_is, held_left, may_go, placed_at, position_is, with_table}
 use Rattle.cap_commit.proofs.Dropping.{none_stay}
 use Rattle.cap_commit.proofs.Moving.{moved_settings}
@@ -60,7 +60,7 @@ returns-clause-finished g c =
     let rows = rw c.deref_mut-tree.ensures.value at c.leave.ensures in
     let settings = ap queues_of rows ∙ moved_settings g.row.K _ c.user.result.now (one_app g.row.K) (zero_count g.row.K) x.tree.value in
     let ended = c.end_all-ended.new.self.flat in
-    let dropped = ap (λ (h : Held g.row.K). h.flat) c.self.view_is ∙ c.unreserve_app.ensures.flat in
+    let dropped = ap (λ (h : ClusterState g.row.K). h.flat) c.self.view_is ∙ c.unreserve_app.ensures.flat in
     finished_is Released c.args.self.now.flat ended _ c.args.number c.end_all-ended.ensures.ended
     (with_table p c.leave.new.self c.finish.new.self _ settings c.finish.ensures.table ∙ ap (λ (f : Flat g.row.K). record f { apps = remove_app c.args.number f.apps }) dropped)
 

@@ -2,7 +2,7 @@ use Rattle.cap_commit.proofs.Fitting.{nodes_in_cluster}
 use Rattle.std.proofs.Common.{ap, arith, sym, ◌∙◌}
 use Rattle.std.specs.Prelude.{◌==◌, find}
 use Rattle.cap_model.specs.Flat.{Container}
-use Rattle.cap_commit.specs.Held.{Held}
+use Rattle.cap_commit.specs.ClusterState.{ClusterState}
 use Rattle.cap_commit.specs.Owners.{owns}
 use Rattle.cap_laws.proofs.ending.EndsLeft.{first_above}
 use Rattle.cap_commit.proofs.cluster.Cluster.first_of.Goals as goal
@@ -13,7 +13,7 @@ returns-in-Application-clause-first g c =
     c.next_of_app.ensures
     ∙ first_above (λ (d : Container). d.app == c.in-Application.app) 1 here.live here.next_container (omega arith) c.self.invariant.numbers
     ∙ ap (λ o. find (owns o) here.live) (sym c.in-Application.is)
-    ∙ ap (λ (h : Held g.row.K). find (owns c.args.owner) h.flat.nodes.live) c.self.view_is
+    ∙ ap (λ (h : ClusterState g.row.K). find (owns c.args.owner) h.flat.nodes.live) c.self.view_is
 
 pub returns-in-Node-clause-first : goal.returns-in-Node-clause-first
 returns-in-Node-clause-first g c =
@@ -21,7 +21,7 @@ returns-in-Node-clause-first g c =
     c.next_on_node.ensures
     ∙ first_above (λ (d : Container). d.node == c.in-Node.node) 1 here.live here.next_container (omega arith) c.self.invariant.numbers
     ∙ ap (λ o. find (owns o) here.live) (sym c.in-Node.is)
-    ∙ ap (λ (h : Held g.row.K). find (owns c.args.owner) h.flat.nodes.live) c.self.view_is
+    ∙ ap (λ (h : ClusterState g.row.K). find (owns c.args.owner) h.flat.nodes.live) c.self.view_is
 
 pub next_of_app-requires : goal.next_of_app-requires
 next_of_app-requires g c = search nodes_in_cluster

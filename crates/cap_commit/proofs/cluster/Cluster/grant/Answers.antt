@@ -11,7 +11,7 @@ use Rattle.cap_tree.specs.Count.{use_alone}
 use Rattle.cap_tree.specs.Rows.{applied_row, queues_of}
 use Rattle.cap_tree.specs.Spot.{path_at}
 use Rattle.cap_asks.specs.Apps.{UsesRoom}
-use Rattle.cap_commit.specs.Held.{Held, flat_of}
+use Rattle.cap_commit.specs.ClusterState.{ClusterState, flat_of}
 use Rattle.cap_commit.specs.Admission.{taken_back}
 use Rattle.cap_commit.proofs.Granting.{its_app, its_node, its_room, few_live_yet, numbers_are_left}
 use Rattle.cap_nodes.specs.Tables.{IsSound}
@@ -31,7 +31,7 @@ pub place-requires : goal.place-requires
 place-requires g c =
     let q = c.args.proposal.now in
     let x = c.self.inside in
-    let same = ap (λ (y : Held g.row.K). y.flat) c.self.view_is ∙ c.room_for_grant.ensures.flat in
+    let same = ap (λ (y : ClusterState g.row.K). y.flat) c.self.view_is ∙ c.room_for_grant.ensures.flat in
     let passes = subst (λ (f : Flat g.row.K). reason_of (sight_of f) q ≡ None) (sym same) c.requires.passes in
     let kinds = c.self.invariant.resources in (
       search nodes_in_cluster,
@@ -51,16 +51,16 @@ pub unreachable-requires : goal.unreachable-requires
 unreachable-requires g c =
     let q = c.args.proposal.now in
     let x = c.self.inside in
-    let same = ap (λ (y : Held g.row.K). y.flat) c.self.view_is ∙ c.room_for_grant.ensures.flat in
+    let same = ap (λ (y : ClusterState g.row.K). y.flat) c.self.view_is ∙ c.room_for_grant.ensures.flat in
     let passes = subst (λ (f : Flat g.row.K). reason_of (sight_of f) q ≡ None) (sym same) c.requires.passes in
-    let present = ap (λ (t : NodeTable). t.present) c.unreserve_on.ensures ∙ ap (λ (t : NodeTable). t.present) c.in-Ok-place.ensures.ok.1 in
-    found_again c.unreserve_on.new.self.present x.nodes.present c.node-node.result q.node present c.node-node.ensures c.in_default.ensures.found (its_node _ c.self.invariant q passes c.requires.kind)
+    let present = ap (λ (t : NodeTable). t.present) c.unreserve.ensures ∙ ap (λ (t : NodeTable). t.present) c.in-Ok-place.ensures.ok.1 in
+    found_again c.unreserve.new.self.present x.nodes.present c.node-node.result q.node present c.node-node.ensures c.in_default.ensures.found (its_node _ c.self.invariant q passes c.requires.kind)
 
 pub apply-requires : goal.apply-requires
 apply-requires g c =
     let q = c.args.proposal.now in
     let x = c.self.inside in
-    let same = ap (λ (y : Held g.row.K). y.flat) c.self.view_is ∙ c.room_for_grant.ensures.flat in
+    let same = ap (λ (y : ClusterState g.row.K). y.flat) c.self.view_is ∙ c.room_for_grant.ensures.flat in
     let passes = subst (λ (f : Flat g.row.K). reason_of (sight_of f) q ≡ None) (sym same) c.requires.passes in
     let back = c.taken_back-old.ensures.value ∙ ap (λ (f : Flat g.row.K). taken_back (sight_of f) q) (sym same) in
     let few = c.taken_back-old.ensures.vector.count in
@@ -70,9 +70,9 @@ apply-requires g c =
     let a = c.in-Some-app.owner.now.app in
     let owner = ap (λ n. find (λ (y : App). y.number == n) x.apps.table.active) (sym c.app-app.ensures) ∙ sym found in
     let position = c.position.ensures ∙ position_is _ c.self.invariant c.app-app.result c.in-Some-app.owner.now found c.in-Some-app.ensures.account in
-    let nodes = c.unreserve_on.ensures ∙ ap (λ (t : NodeTable). record t { reserved = filter (λ (r : Reservation). not (r.node == c.node-node.result)) t.reserved }) c.in-Ok-place.ensures.ok.1
+    let nodes = c.unreserve.ensures ∙ ap (λ (t : NodeTable). record t { reserved = filter (λ (r : Reservation). not (r.node == c.node-node.result)) t.reserved }) c.in-Ok-place.ensures.ok.1
     ∙ (λ i. nodes_with x.nodes (c.app-app.ensures i) (c.key-key.ensures i) (c.node-node.ensures i) (c.resource-resource.ensures.value i)) in
-    let sound : IsSound g.row.K c.unreserve_on.new.self = record { rising = c.in-Some.ensures.rising; held = c.in-Some.ensures.held; homes = c.in-Some.ensures.homes; totals = c.in-Some.ensures.totals } in
+    let sound : IsSound g.row.K c.unreserve.new.self = record { rising = c.in-Some.ensures.rising; held = c.in-Some.ensures.held; homes = c.in-Some.ensures.homes; totals = c.in-Some.ensures.totals } in
     let kinds = c.self.invariant.resources in (
       tree_fits _ c.self.invariant.resources,
       (
@@ -91,7 +91,7 @@ pub add_grant-requires : goal.add_grant-requires
 add_grant-requires g c =
     let q = c.args.proposal.now in
     let x = c.self.inside in
-    let same = ap (λ (y : Held g.row.K). y.flat) c.self.view_is ∙ c.room_for_grant.ensures.flat in
+    let same = ap (λ (y : ClusterState g.row.K). y.flat) c.self.view_is ∙ c.room_for_grant.ensures.flat in
     let passes = subst (λ (f : Flat g.row.K). reason_of (sight_of f) q ≡ None) (sym same) c.requires.passes in
     let kinds = c.self.invariant.resources in
     let room = rw (← c.self.view_is) at c.in-Ok.ensures.ok in
@@ -106,7 +106,7 @@ pub invariant_of-self-2 : goal.invariant_of-self-2
 invariant_of-self-2 g c =
     let q = c.args.proposal.now in
     let x = c.self.inside in
-    let same = ap (λ (y : Held g.row.K). y.flat) c.self.view_is ∙ c.room_for_grant.ensures.flat in
+    let same = ap (λ (y : ClusterState g.row.K). y.flat) c.self.view_is ∙ c.room_for_grant.ensures.flat in
     let passes = subst (λ (f : Flat g.row.K). reason_of (sight_of f) q ≡ None) (sym same) c.requires.passes in
     let back = c.taken_back-old.ensures.value ∙ ap (λ (f : Flat g.row.K). taken_back (sight_of f) q) (sym same) in
     let few = c.taken_back-old.ensures.vector.count in
@@ -116,7 +116,7 @@ invariant_of-self-2 g c =
     let a = c.in-Some-app.owner.now.app in
     let owner = ap (λ n. find (λ (y : App). y.number == n) x.apps.table.active) (sym c.app-app.ensures) ∙ sym found in
     let position = c.position.ensures ∙ position_is _ c.self.invariant c.app-app.result c.in-Some-app.owner.now found c.in-Some-app.ensures.account in
-    let nodes = c.unreserve_on.ensures ∙ ap (λ (t : NodeTable). record t { reserved = filter (λ (r : Reservation). not (r.node == c.node-node.result)) t.reserved }) c.in-Ok-place.ensures.ok.1
+    let nodes = c.unreserve.ensures ∙ ap (λ (t : NodeTable). record t { reserved = filter (λ (r : Reservation). not (r.node == c.node-node.result)) t.reserved }) c.in-Ok-place.ensures.ok.1
     ∙ (λ i. nodes_with x.nodes (c.app-app.ensures i) (c.key-key.ensures i) (c.node-node.ensures i) (c.resource-resource.ensures.value i)) in
     let path = ap (λ n. path_at n x.tree.value) position ∙ (placed_at _ c.self.invariant q.app a owner).position.path_is in
     let rows = (rw c.deref_mut-tree.ensures.value at c.apply.ensures) ∙ (λ i. map (applied_row g.row.K (path i) (c.user.ensures i) (back i) (c.resource-resource.ensures.value i)) x.tree.value) in
@@ -130,7 +130,7 @@ pub returns-clause-ok : goal.returns-clause-ok
 returns-clause-ok g c =
     let q = c.args.proposal.now in
     let x = c.self.inside in
-    let same = ap (λ (y : Held g.row.K). y.flat) c.self.view_is ∙ c.room_for_grant.ensures.flat in
+    let same = ap (λ (y : ClusterState g.row.K). y.flat) c.self.view_is ∙ c.room_for_grant.ensures.flat in
     let passes = subst (λ (f : Flat g.row.K). reason_of (sight_of f) q ≡ None) (sym same) c.requires.passes in
     let back = c.taken_back-old.ensures.value ∙ ap (λ (f : Flat g.row.K). taken_back (sight_of f) q) (sym same) in
     let few = c.taken_back-old.ensures.vector.count in
@@ -140,7 +140,7 @@ returns-clause-ok g c =
     let a = c.in-Some-app.owner.now.app in
     let owner = ap (λ n. find (λ (y : App). y.number == n) x.apps.table.active) (sym c.app-app.ensures) ∙ sym found in
     let position = c.position.ensures ∙ position_is _ c.self.invariant c.app-app.result c.in-Some-app.owner.now found c.in-Some-app.ensures.account in
-    let nodes = c.unreserve_on.ensures ∙ ap (λ (t : NodeTable). record t { reserved = filter (λ (r : Reservation). not (r.node == c.node-node.result)) t.reserved }) c.in-Ok-place.ensures.ok.1
+    let nodes = c.unreserve.ensures ∙ ap (λ (t : NodeTable). record t { reserved = filter (λ (r : Reservation). not (r.node == c.node-node.result)) t.reserved }) c.in-Ok-place.ensures.ok.1
     ∙ (λ i. nodes_with x.nodes (c.app-app.ensures i) (c.key-key.ensures i) (c.node-node.ensures i) (c.resource-resource.ensures.value i)) in
     let take = c.take_one.ensures.table ∙ (λ i. change_app (c.app-app.ensures i) (λ (app : App). record app { asks = take_one (c.key-key.ensures i) app.asks }) x.apps.table) in
     let add = c.add_grant.ensures.table ∙ ap (λ n. change_app n (λ (app : App). record app { grants = app.grants ++ c.new-grant.result ∷ [] }) c.take_one.new.self.table) c.app-app.ensures in
@@ -148,7 +148,7 @@ returns-clause-ok g c =
     let room = subst (λ n. UsesRoom n 0 1 0 c.take_one.new.self.accounts c.add_grant.new.self.accounts) c.app-app.ensures c.add_grant.ensures.accounts in
     let rows = rw c.deref_mut-tree.ensures.value at c.apply.ensures in
     let settings = ap queues_of rows ∙ moved_settings g.row.K _ c.user.result.now (use_alone c.taken_back-old.result) (use_alone c.resource-resource.result) x.tree.value in
-    let present = ap (λ (t : NodeTable). t.present) c.unreserve_on.ensures ∙ ap (λ (t : NodeTable). t.present) c.in-Ok-place.ensures.ok.1 in
+    let present = ap (λ (t : NodeTable). t.present) c.unreserve.ensures ∙ ap (λ (t : NodeTable). t.present) c.in-Ok-place.ensures.ok.1 in
     let home = c.in-Some.ensures.found ∙ (λ i. find (λ (n : ClusterNode). n.number == c.node-node.ensures i) (present i)) in
     let host = c.host.ensures ∙ ap (λ o. unwrap_or (option_map (λ (n : ClusterNode). n.host) o) []) home in
     let told = c.new-grant.ensures ∙ (λ i. record { container = c.in-Ok-place.ensures.ok.0 i; key = c.key-key.ensures i; node = c.node-node.ensures i; host = host i; resource = c.resource-resource.ensures.value i }) in
@@ -178,7 +178,7 @@ node-requires g c = search (nodes_in_cluster, node_in_cluster)
 
 pub returns-clause-number : goal.returns-clause-number
 returns-clause-number g c =
-    c.in-Ok-place.ensures.ok.0 ∙ ap (λ (y : Held g.row.K). y.flat.nodes.next_container) c.self.view_is ∙ ap (λ (f : Flat g.row.K). f.nodes.next_container) c.room_for_grant.ensures.flat
+    c.in-Ok-place.ensures.ok.0 ∙ ap (λ (y : ClusterState g.row.K). y.flat.nodes.next_container) c.self.view_is ∙ ap (λ (f : Flat g.row.K). f.nodes.next_container) c.room_for_grant.ensures.flat
 
 pub new-grant-requires : goal.new-grant-requires
 new-grant-requires g c = search (amounts_in_cluster, grant_in_cluster)
@@ -187,13 +187,13 @@ pub unreachable-requires-in_default-app : goal.unreachable-requires-in_default-a
 unreachable-requires-in_default-app g c =
     let q = c.args.proposal.now in
     let x = c.self.inside in
-    let same = ap (λ (y : Held g.row.K). y.flat) c.self.view_is ∙ c.room_for_grant.ensures.flat in
+    let same = ap (λ (y : ClusterState g.row.K). y.flat) c.self.view_is ∙ c.room_for_grant.ensures.flat in
     let passes = subst (λ (f : Flat g.row.K). reason_of (sight_of f) q ≡ None) (sym same) c.requires.passes in
     let there = its_app (flat_of (record { rows = x.tree.value; limits = x.limits; apps = x.apps; nodes = x.nodes })) q passes in
     app_again x.apps.table.active c.app-app.result q.app c.app-app.ensures c.in_default-app.ensures.found there
 
-pub unreserve_on-requires : goal.unreserve_on-requires
-unreserve_on-requires g c = (search nodes_in_cluster, subst AreApart (sym (ap (λ (t : NodeTable). t.reserved) c.in-Ok-place.ensures.ok.1)) c.self.invariant.reservations.apart)
+pub unreserve-requires : goal.unreserve-requires
+unreserve-requires g c = (search nodes_in_cluster, subst AreApart (sym (ap (λ (t : NodeTable). t.reserved) c.in-Ok-place.ensures.ok.1)) c.self.invariant.reservations.apart)
 
 pub returns-in-Err-clause-err : goal.returns-in-Err-clause-err
 returns-in-Err-clause-err g c = c.room_for_grant.ensures.flat

@@ -1,7 +1,7 @@
 use Rattle.cap_commit.proofs.Fitting.{amounts_in_cluster}
 use Rattle.std.proofs.Common.{sym, ◌∙◌, subst, None, Some, arith}
 use Rattle.cap_tree.specs.Rows.{IsAt}
-use Rattle.cap_tree.specs.declared.limits.OverLimit.TheVariants.{Maximum, User}
+use Rattle.cap_tree.specs.declared.over_limit.OverLimit.TheVariants.{Maximum, User}
 use Rattle.cap_commit.proofs.Limiting.{limit_is}
 use Rattle.cap_commit.proofs.Holding.{placed_at, position_is}
 use Rattle.cap_commit.proofs.Sizes.{tree_fits}

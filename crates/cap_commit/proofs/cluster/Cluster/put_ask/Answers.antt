@@ -4,7 +4,7 @@ use Rattle.std.proofs.Common.{◌≡◌, ap, refl, subst, ◌∙◌, List, ℕ, 
 use Rattle.cap_vector.specs.Rounding.{round_up}
 use Rattle.cap_model.specs.Asks.{Ask}
 use Rattle.cap_model.specs.Asking.{rounded_ask}
-use Rattle.cap_commit.specs.Held.{Held, Parts, flat_of}
+use Rattle.cap_commit.specs.ClusterState.{ClusterState, Parts, flat_of}
 use Rattle.cap_laws.proofs.bounds.KeptReservations.{ask_put}
 use Rattle.cap_commit.proofs.Holding.{held_app}
 use Rattle.cap_commit.proofs.cluster.Cluster.put_ask.Goals as goal
@@ -19,8 +19,8 @@ returns-clause-flat g c =
     let p : Parts g.row.K = record { rows = y.tree.value; limits = y.limits; apps = y.apps; nodes = y.nodes } in
     let ask : Ask = c.args.ask.now in
     let kept = c.with_resource-ask.ensures ∙ ap (λ (v : List ℕ). record ask { resource = v }) (c.round_up-resource.ensures ∙ ap (λ (v : List ℕ). round_up g.row.K v x.limits.minimum_allocation x.limits.maximum_allocation) c.resource.ensures) in
-    let rounding = subst (λ (h : Held g.row.K). c.with_resource-ask.result ≡ rounded_ask g.row.K h.flat.settings ask) c.self.view_is kept in
-    ask_put c.args.self.now.flat (flat_of p) c.put_ask.new.self.table c.args.number ask c.with_resource-ask.result rounding (ap (λ (h : Held g.row.K). h.flat) c.self-2.view_is ∙ c.drop_unwanted.ensures.flat) c.put_ask.ensures.table
+    let rounding = subst (λ (h : ClusterState g.row.K). c.with_resource-ask.result ≡ rounded_ask g.row.K h.flat.settings ask) c.self.view_is kept in
+    ask_put c.args.self.now.flat (flat_of p) c.put_ask.new.self.table c.args.number ask c.with_resource-ask.result rounding (ap (λ (h : ClusterState g.row.K). h.flat) c.self-2.view_is ∙ c.drop_unwanted.ensures.flat) c.put_ask.ensures.table
 
 pub drop_unwanted-requires : goal.drop_unwanted-requires
 drop_unwanted-requires g c = search
@@ -36,5 +36,5 @@ round_up-resource-requires g c = search amounts_in_cluster
 
 pub put_ask-requires : goal.put_ask-requires
 put_ask-requires g c =
-    let accounts = ap (λ (y : Held g.row.K). y.accounts) c.self-2.view_is ∙ c.drop_unwanted.ensures.accounts in
+    let accounts = ap (λ (y : ClusterState g.row.K). y.accounts) c.self-2.view_is ∙ c.drop_unwanted.ensures.accounts in
     (search apps_fit, (search ask_in_cluster, subst (λ kept. 1 ≤ ask_room c.args.number kept) (sym accounts) c.requires))

@@ -6,7 +6,7 @@ use Rattle.cap_model.specs.Events.{add_reservation}
 use Rattle.cap_tree.specs.Count.{use_alone}
 use Rattle.cap_tree.specs.Rows.{applied_row, queues_of}
 use Rattle.cap_tree.specs.Spot.{path_at}
-use Rattle.cap_commit.specs.Held.{flat_of}
+use Rattle.cap_commit.specs.ClusterState.{flat_of}
 use Rattle.cap_nodes.specs.Tables.{IsSound}
 use Rattle.cap_commit.proofs.Granted.{app_again}
 use Rattle.cap_commit.proofs.Granting.{its_app}

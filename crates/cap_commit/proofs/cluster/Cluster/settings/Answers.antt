@@ -1,6 +1,6 @@
-use Rattle.cap_commit.specs.Held.{Held}
+use Rattle.cap_commit.specs.ClusterState.{ClusterState}
 use Rattle.std.proofs.Common.{ap}
 use Rattle.cap_commit.proofs.cluster.Cluster.settings.Goals as goal
 
 pub returns-clause-apps : goal.returns-clause-apps
-returns-clause-apps g c = ap (λ (y : Held g.row.K). y.flat.settings.application_limit) c.self.view_is
+returns-clause-apps g c = ap (λ (y : ClusterState g.row.K). y.flat.settings.application_limit) c.self.view_is

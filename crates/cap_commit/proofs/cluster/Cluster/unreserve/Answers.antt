@@ -5,7 +5,7 @@ use Rattle.cap_model.specs.Flat.{with_reserved}
 use Rattle.cap_tree.specs.Rows.{queues_of, lowered_row}
 use Rattle.cap_tree.specs.Spot.{path_at}
 use Rattle.cap_nodes.proofs.Reserved.{is_elsewhere}
-use Rattle.cap_commit.specs.Held.{flat_of}
+use Rattle.cap_commit.specs.ClusterState.{flat_of}
 use Rattle.cap_commit.proofs.Unreserving.{place_of, has_holder, may_give_reserved, held_dropped, dropped_is}
 use Rattle.cap_commit.proofs.Holding.{placed_at, position_is}
 use Rattle.cap_commit.proofs.Moving.{moved_settings}
@@ -51,7 +51,7 @@ invariant_of-self g c =
     let owner = sym (rw c.app.ensures at c.in-Some.ensures.found) in
     let left = (λ i. filter (is_elsewhere (c.node.ensures i)) x.nodes.reserved) ∙ sym place.gone in
     rw rows
-    (held_dropped _ c.self.invariant place.index one place.below place.at app owner (omega (arith, count)) c.unreserve_on.new.self (c.unreserve_on.ensures ∙ ap (λ rs. record x.nodes { reserved = rs }) left))
+    (held_dropped _ c.self.invariant place.index one place.below place.at app owner (omega (arith, count)) c.unreserve.new.self (c.unreserve.ensures ∙ ap (λ rs. record x.nodes { reserved = rs }) left))
 
 pub returns-clause-flat : goal.returns-clause-flat
 returns-clause-flat g c =
@@ -61,7 +61,7 @@ returns-clause-flat g c =
     let rows = rw c.deref_mut-tree.ensures.value at c.give_back.ensures in
     let settings = ap queues_of rows ∙ moved_settings g.row.K _ c.user.result.now (use_alone c.resource.result) (zero_count g.row.K) x.tree.value in
     let left = (λ i. filter (is_elsewhere (c.node.ensures i)) x.nodes.reserved) ∙ sym place.gone in
-    let dropped = dropped_is _ c.self.invariant place.index one place.below place.at c.give_back.new.self c.unreserve_on.new.self settings (c.unreserve_on.ensures ∙ ap (λ rs. record x.nodes { reserved = rs }) left) in
+    let dropped = dropped_is _ c.self.invariant place.index one place.below place.at c.give_back.new.self c.unreserve.new.self settings (c.unreserve.ensures ∙ ap (λ rs. record x.nodes { reserved = rs }) left) in
     rw (← c.self.view_is) (dropped ∙ ap (λ rs. with_reserved rs (flat_of (record { rows = x.tree.value; limits = x.limits; apps = x.apps; nodes = x.nodes }))) place.gone)
 
 pub resource-requires : goal.resource-requires
@@ -73,5 +73,5 @@ node-requires g c = search
 pub app-requires : goal.app-requires
 app-requires g c = search
 
-pub unreserve_on-requires : goal.unreserve_on-requires
-unreserve_on-requires g c = (search nodes_in_cluster, c.self.invariant.reservations.apart)
+pub unreserve-requires : goal.unreserve-requires
+unreserve-requires g c = (search nodes_in_cluster, c.self.invariant.reservations.apart)

@@ -3,7 +3,7 @@ use Rattle.std.proofs.Common.{ap, sym, ◌∙◌, arith}
 use Rattle.std.specs.Prelude.{filter}
 use Rattle.cap_model.specs.Flat.{with_reserved}
 use Rattle.cap_nodes.proofs.Reserved.{is_elsewhere, all_elsewhere}
-use Rattle.cap_commit.specs.Held.{Parts, flat_of}
+use Rattle.cap_commit.specs.ClusterState.{Parts, flat_of}
 use Rattle.cap_commit.proofs.Dropping.{same_node, found_again}
 use Rattle.cap_commit.proofs.cluster.Cluster.unreserve_node.Goals as goal
 

@@ -3,9 +3,9 @@ use Rattle.std.proofs.Common.{rules, ◌<◌, ◌≤◌, ◌++◌, ◌∷◌, []
 use Rattle.std.specs.List.{All}
 use Rattle.cap_base.specs.Limits.{applications_max}
 use Rattle.cap_tree.specs.ServiceOrder.{IsServiceOrder}
-use Rattle.cap_tree.specs.Serving.{AreNumbered, Waiter}
+use Rattle.cap_tree.specs.ServedWaiters.{AreNumbered, Waiter}
 use Rattle.cap_tree.specs.Spot.{IsPosition}
-use Rattle.cap_asks.specs.Held.{AreKept, HeldApp}
+use Rattle.cap_asks.specs.Accounts.{AreKept, HeldApp}
 use Rattle.cap_copy.specs.Entries.{ask_entries}
 use Rattle.cap_copy.specs.Limits.{IsEachOnce, limit_of}
 use Rattle.cap_copy.specs.Snapshot.{IsSnapshot, queue_seen}

@@ -2,7 +2,7 @@ use Rattle.std.proofs.Common.{refl, ◌∙◌, ap, sym, subst, ◌≡◌, ◌++�
 use Rattle.cap_session.specs.Session.{SessionState, OpenRequest, after_answer, SpellsAnswer}
 use Rattle.cap_session.specs.Kept.{IsKept, SpellsRequest, state_inside}
 use Rattle.cap_session.specs.declared.session.Session.TheInside.{Inside}
-use Rattle.cap_session.proofs.Steps.{opens, answers_it}
+use Rattle.cap_session.proofs.SessionSteps.{opens, answers_it}
 use Rattle.cap_session.proofs.session.Session.answer.Goals as goal
 
 -- the session that has answered

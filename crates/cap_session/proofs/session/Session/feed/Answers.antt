@@ -2,9 +2,9 @@ use Rattle.std.proofs.Common.{subst, ap, refl, inr, Some}
 use Rattle.cap_frames.specs.History.{History}
 use Rattle.cap_session.specs.Session.{SessionState, FeedGives, IsSession}
 use Rattle.cap_session.specs.Kept.{state_inside}
-use Rattle.cap_session.specs.declared.session.Cause.TheVariants as causes
+use Rattle.cap_session.specs.declared.session.SessionCause.TheVariants as causes
 use Rattle.cap_session.specs.declared.session.Fed.TheVariants as feds
-use Rattle.cap_session.proofs.Steps.{promises, feeds, feeds_none}
+use Rattle.cap_session.proofs.SessionSteps.{promises, feeds, feeds_none}
 use Rattle.cap_session.proofs.session.Session.feed.Goals as goal
 
 pub returns-in-Some-clause-session : goal.returns-in-Some-clause-session

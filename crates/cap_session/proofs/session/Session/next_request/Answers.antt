@@ -2,9 +2,9 @@ use Rattle.std.proofs.Common.{refl, ◌∙◌, ap, subst, inr, Some}
 use Rattle.cap_session.specs.Session.{SessionState, NextGives, IsSession}
 use Rattle.cap_session.specs.Kept.{IsKept, state_inside}
 use Rattle.cap_session.specs.declared.session.Session.TheInside.{Inside}
-use Rattle.cap_session.specs.declared.session.Cause.TheVariants as causes
+use Rattle.cap_session.specs.declared.session.SessionCause.TheVariants as causes
 use Rattle.cap_session.specs.declared.session.Next.TheVariants as nexts
-use Rattle.cap_session.proofs.Steps.{promises, asks, rests, starves, faults}
+use Rattle.cap_session.proofs.SessionSteps.{promises, asks, rests, starves, faults}
 use Rattle.cap_session.proofs.Unanswered.{next_fewer}
 use Rattle.cap_session.proofs.session.Session.next_request.Goals as goal
 

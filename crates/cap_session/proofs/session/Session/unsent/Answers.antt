@@ -1,6 +1,6 @@
 use Rattle.std.proofs.Common.{subst}
 use Rattle.cap_session.specs.Session.{IsSession}
-use Rattle.cap_session.proofs.Steps.{promises}
+use Rattle.cap_session.proofs.SessionSteps.{promises}
 use Rattle.cap_session.proofs.session.Session.unsent.Goals as goal
 
 pub returns-clause-session : goal.returns-clause-session

@@ -1,8 +1,8 @@
 use Rattle.std.proofs.Common.{◌++◌, ◌∙◌, ℕ, Some, ap, take, drop}
 use Rattle.cap_session.specs.Kept.{sent_in}
-use Rattle.cap_session.specs.declared.session.Cause.TheVariants as causes
+use Rattle.cap_session.specs.declared.session.SessionCause.TheVariants as causes
 use Rattle.cap_session.proofs.Logs.{sent_more}
-use Rattle.cap_session.proofs.Steps.{sends, as_ended, still_ended, ends_by_fault}
+use Rattle.cap_session.proofs.SessionSteps.{sends, as_ended, still_ended, ends_by_fault}
 use Rattle.cap_session.proofs.session.Session.write_out.Goals as goal
 
 pub invariant_of-self-else-is_none : goal.invariant_of-self-else-is_none

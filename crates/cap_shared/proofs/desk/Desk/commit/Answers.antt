@@ -1,7 +1,7 @@
 use Rattle.std.proofs.Common.{◌≡◌, None, refl, sym, subst, arith}
 use Rattle.cap_model.specs.Sight.{sight_of}
 use Rattle.cap_model.specs.Admission.{reason_of}
-use Rattle.cap_shared.specs.declared.history.Answer.TheVariants as answer
+use Rattle.cap_shared.specs.declared.history.NotedAnswer.TheVariants as answer
 use Rattle.cap_shared.specs.Parts.{Content}
 use Rattle.cap_shared.proofs.Pasts.{noted_seat}
 use Rattle.cap_shared.proofs.desk.Desk.commit.Goals as goal

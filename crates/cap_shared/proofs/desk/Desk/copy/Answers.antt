@@ -1,5 +1,5 @@
 use Rattle.std.proofs.Common.{refl}
-use Rattle.cap_shared.specs.declared.history.Answer.TheVariants as answer
+use Rattle.cap_shared.specs.declared.history.NotedAnswer.TheVariants as answer
 use Rattle.cap_shared.proofs.Pasts.{noted_seat}
 use Rattle.cap_shared.proofs.desk.Desk.copy.Goals as goal
 

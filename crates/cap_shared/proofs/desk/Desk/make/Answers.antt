@@ -6,7 +6,7 @@ use Rattle.cap_model.specs.Events.{Step}
 use Rattle.cap_model.specs.Verdicts.{IsOf}
 use Rattle.cap_model.specs.declared.event.Event.{Event}
 use Rattle.cap_shared.specs.declared.entry.Receipt.TheVariants as receipt
-use Rattle.cap_shared.specs.declared.history.Answer.TheVariants as answer
+use Rattle.cap_shared.specs.declared.history.NotedAnswer.TheVariants as answer
 use Rattle.cap_shared.specs.declared.history.Moment.TheVariants.{Entered}
 use Rattle.cap_shared.specs.Parts.{Content}
 use Rattle.cap_shared.proofs.Entering.{event_by, event_receipt, one_more}

@@ -6,7 +6,7 @@ use Rattle.cap_shared.specs.declared.history.Mark.{Mark}
 use Rattle.cap_shared.specs.declared.history.Sitting.{Sitting}
 use Rattle.std.specs.Prelude.{ℕ}
 use Rattle.cap_shared.specs.declared.entry.Receipt.{Receipt}
-use Rattle.cap_shared.specs.Rule.{view_of, sitter, sitting_of, with_guest, AllFit, times}
+use Rattle.cap_shared.specs.WordRule.{view_of, sitter, sitting_of, with_guest, AllFit, times}
 use Rattle.cap_shared.specs.Parts.{report_of}
 use Rattle.cap_shared.specs.Journal.{Rises, NotesHold, AllHonest}
 use Rattle.cap_shared.proofs.Pasts.{honest-push}

@@ -1,5 +1,5 @@
 use Rattle.std.proofs.Common.{◌≡◌, ◌≤◌, [], ◌++◌, map, true, vec_capacity}
-use Rattle.cap_shared.specs.Rule.{view_of}
+use Rattle.cap_shared.specs.WordRule.{view_of}
 use Rattle.cap_shared.specs.Journal.{AllHonest}
 use Rattle.cap_shared.specs.Parts.{report_of}
 use Rattle.cap_shared.proofs.shared.Shared.close.Given as goal

@@ -19,7 +19,7 @@ invariant_of-self g t c =
     record {
       sums = λ m.
           let s = c.self.invariant.sums m in
-          let e = sum-set_child (first_of (λ x. g.T.Held.stored x m)) kids n c.in-Some.last.now c.add.new.self (omega arith) c.in-Some.ensures.value in
+          let e = sum-set_child (first_of (λ x. g.T.TreeItem.stored x m)) kids n c.in-Some.last.now c.add.new.self (omega arith) c.in-Some.ensures.value in
           let k = c.add.ensures.kept m in
           omega arith;
       filled = All-set (λ kid. 1 ≤ length kid) kids n c.add.new.self c.add.ensures.filled c.self.invariant.filled;
@@ -31,7 +31,7 @@ returns-in-Some-clause-ok g t c =
     let some = c.in-Some.ensures.variant.0 refl in
     let l : vec_len c.self.inside.children ≡ length c.self.inside.children.items = omega arith in
     on_ok_weaker c.add.result
-    (added_below c.args.levels (vec_len c.self.inside.children - 1) (g.T.Held.name c.args.item) g.T.Held.name c.self.inside.item c.args.item c.self.inside.children.items c.args.self.now c.in-Some.last.now c.add.new.self c.self.view_is c.self.invariant.filled
+    (added_below c.args.levels (vec_len c.self.inside.children - 1) (g.T.TreeItem.name c.args.item) g.T.TreeItem.name c.self.inside.item c.args.item c.self.inside.children.items c.args.self.now c.in-Some.last.now c.add.new.self c.self.view_is c.self.invariant.filled
     (omega arith) (omega arith) c.in-Some.ensures.value (omega arith))
     c.add.ensures.ok
 
@@ -61,14 +61,14 @@ returns-in-Some-clause-err g t c =
     let kids = c.self.inside.children.items in
     let n = vec_len c.self.inside.children - 1 in
     on_err_weaker c.add.result
-    (λ same. ap (λ k. spots g.T.Held.name c.self.inside.item k) (ap (set kids n) (same ∙ c.in-Some.ensures.value) ∙ set-get_or kids n c.in-Some.last.now) ∙ c.self.view_is)
+    (λ same. ap (λ k. spots g.T.TreeItem.name c.self.inside.item k) (ap (set kids n) (same ∙ c.in-Some.ensures.value) ∙ set-get_or kids n c.in-Some.last.now) ∙ c.self.view_is)
     c.add.ensures.err
 
 pub returns-in-Some-clause-kept : goal.returns-in-Some-clause-kept
-returns-in-Some-clause-kept g t c = λ m. ap (λ ss. root_count g.T.Held.stored ss m) c.self.view_is
+returns-in-Some-clause-kept g t c = λ m. ap (λ ss. root_count g.T.TreeItem.stored ss m) c.self.view_is
 
 pub returns-in-None-clause-kept : goal.returns-in-None-clause-kept
-returns-in-None-clause-kept g t c = λ m. c.add_child-in-None.ensures.kept m ∙ ap (λ ss. root_count g.T.Held.stored ss m) c.self.view_is
+returns-in-None-clause-kept g t c = λ m. c.add_child-in-None.ensures.kept m ∙ ap (λ ss. root_count g.T.TreeItem.stored ss m) c.self.view_is
 
 pub invariant_of-self-in-None : goal.invariant_of-self-in-None
 invariant_of-self-in-None g t c = c.self.invariant
@@ -82,6 +82,6 @@ returns-in-None-clause-ok g t c =
     let long = none_below (vec_len c.self.inside.children) c.in-None.ensures.variant.1 in
     let none : kids ≡ [] = nil_from_length kids (omega (arith, long)) in
     on_ok_weaker c.add_child-in-None.result
-    (λ a. added_at_leaf c.args.levels (g.T.Held.name c.args.item) g.T.Held.name c.self.inside.item c.args.item kids c.args.self.now c.add_child-in-None.new.self c.self.view_is none
-    (subst (λ v. IsAdded 0 (g.T.Held.name c.args.item) c.args.item v c.add_child-in-None.new.self) c.self.view_is a))
+    (λ a. added_at_leaf c.args.levels (g.T.TreeItem.name c.args.item) g.T.TreeItem.name c.self.inside.item c.args.item kids c.args.self.now c.add_child-in-None.new.self c.self.view_is none
+    (subst (λ v. IsAdded 0 (g.T.TreeItem.name c.args.item) c.args.item v c.add_child-in-None.new.self) c.self.view_is a))
     c.add_child-in-None.ensures.ok

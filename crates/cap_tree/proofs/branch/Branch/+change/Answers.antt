@@ -12,13 +12,13 @@ use Rattle.cap_tree.proofs.branch.Branch.+change.Goals as goal
 
 pub index_mut-child-requires : goal.index_mut-child-requires
 index_mut-child-requires g t c =
-    let into = in_child (g.C.Change.can c.args.change.now) g.T.Held.name c.self.inside.item c.self.inside.children.items c.args.self.now c.args.steps.now c.self.view_is c.in-len1-up.len_at_least c.requires.can in
+    let into = in_child (g.C.Change.can c.args.change.now) g.T.TreeItem.name c.self.inside.item c.self.inside.children.items c.args.self.now c.args.steps.now c.self.view_is c.in-len1-up.len_at_least c.requires.can in
     let w = into.within in
     omega arith
 
 pub change-requires : goal.change-requires
 change-requires g t c =
-    let into = in_child (g.C.Change.can c.args.change.now) g.T.Held.name c.self.inside.item c.self.inside.children.items c.args.self.now c.args.steps.now c.self.view_is c.in-len1-up.len_at_least c.requires.can in
+    let into = in_child (g.C.Change.can c.args.change.now) g.T.TreeItem.name c.self.inside.item c.self.inside.children.items c.args.self.now c.args.steps.now c.self.view_is c.in-len1-up.len_at_least c.requires.can in
     λ κs l. (
       search rules,
       (
@@ -32,7 +32,7 @@ change-requires g t c =
               λ m.
                   let w = rw (← c.self.view_is) at (c.requires.within m) in
                   let s = c.self.invariant.sums m in
-                  let b = child-le-sum (first_of (λ x. g.T.Held.stored x m)) c.self.inside.children.items (get_or c.args.steps.now 0 0) c.index_mut-child.result.now into.within c.index_mut-child.ensures.value in
+                  let b = child-le-sum (first_of (λ x. g.T.TreeItem.stored x m)) c.self.inside.children.items (get_or c.args.steps.now 0 0) c.index_mut-child.result.now into.within c.index_mut-child.ensures.value in
                   room_in_child _ _ _ _ _ (omega arith) w,
             ),
           ),
@@ -45,38 +45,38 @@ change_at-requires-clause-sums g t c m = let s = c.self.invariant.sums m in omeg
 
 pub change_above-requires-clause-fits : goal.change_above-requires-clause-fits
 change_above-requires-clause-fits g t c m =
-    let into = in_child (g.C.Change.can c.args.change.now) g.T.Held.name c.self.inside.item c.self.inside.children.items c.args.self.now c.args.steps.now c.self.view_is c.in-len1-up.len_at_least c.requires.can in
+    let into = in_child (g.C.Change.can c.args.change.now) g.T.TreeItem.name c.self.inside.item c.self.inside.children.items c.args.self.now c.args.steps.now c.self.view_is c.in-len1-up.len_at_least c.requires.can in
     let s = c.self.invariant.sums m in
-    let b = child-le-sum (first_of (λ x. g.T.Held.stored x m)) c.self.inside.children.items (get_or c.args.steps.now 0 0) c.index_mut-child.result.now into.within c.index_mut-child.ensures.value in
+    let b = child-le-sum (first_of (λ x. g.T.TreeItem.stored x m)) c.self.inside.children.items (get_or c.args.steps.now 0 0) c.index_mut-child.result.now into.within c.index_mut-child.ensures.value in
     let f = c.change.ensures.fitted m in
     omega arith
 
 pub returns-in-Ok-clause-changed : goal.returns-in-Ok-clause-changed
 returns-in-Ok-clause-changed g t c =
-    let into = in_child (g.C.Change.can c.args.change.now) g.T.Held.name c.self.inside.item c.self.inside.children.items c.args.self.now c.args.steps.now c.self.view_is c.in-len1-up.len_at_least c.requires.can in
-    changed_in_child (g.C.Change.above c.args.change.now) (g.C.Change.at c.args.change.now) g.T.Held.name c.self.inside.item c.change_above.new.item c.self.inside.children.items c.args.self.now c.args.steps.now
+    let into = in_child (g.C.Change.can c.args.change.now) g.T.TreeItem.name c.self.inside.item c.self.inside.children.items c.args.self.now c.args.steps.now c.self.view_is c.in-len1-up.len_at_least c.requires.can in
+    changed_in_child (g.C.Change.above c.args.change.now) (g.C.Change.at c.args.change.now) g.T.TreeItem.name c.self.inside.item c.change_above.new.item c.self.inside.children.items c.args.self.now c.args.steps.now
     c.index_mut-child.result.now c.change.new.self c.self.view_is c.in-len1-up.len_at_least (g.met.C.Change.name_above c.args.change.now c.self.inside.item) c.change_above.ensures
     into.within c.index_mut-child.ensures.value c.in-Ok.ensures.changed
 
 pub returns-in-Ok-clause-fitted : goal.returns-in-Ok-clause-fitted
 returns-in-Ok-clause-fitted g t c m =
-    let into = in_child (g.C.Change.can c.args.change.now) g.T.Held.name c.self.inside.item c.self.inside.children.items c.args.self.now c.args.steps.now c.self.view_is c.in-len1-up.len_at_least c.requires.can in
+    let into = in_child (g.C.Change.can c.args.change.now) g.T.TreeItem.name c.self.inside.item c.self.inside.children.items c.args.self.now c.args.steps.now c.self.view_is c.in-len1-up.len_at_least c.requires.can in
     let s = c.self.invariant.sums m in
-    let b = child-le-sum (first_of (λ x. g.T.Held.stored x m)) c.self.inside.children.items (get_or c.args.steps.now 0 0) c.index_mut-child.result.now into.within c.index_mut-child.ensures.value in
+    let b = child-le-sum (first_of (λ x. g.T.TreeItem.stored x m)) c.self.inside.children.items (get_or c.args.steps.now 0 0) c.index_mut-child.result.now into.within c.index_mut-child.ensures.value in
     let f = c.change.ensures.fitted m in
     rw (← c.self.view_is) (omega arith)
 
 pub returns-in-Err-clause-fitted : goal.returns-in-Err-clause-fitted
 returns-in-Err-clause-fitted g t c m =
-    let into = in_child (g.C.Change.can c.args.change.now) g.T.Held.name c.self.inside.item c.self.inside.children.items c.args.self.now c.args.steps.now c.self.view_is c.in-len1-up.len_at_least c.requires.can in
+    let into = in_child (g.C.Change.can c.args.change.now) g.T.TreeItem.name c.self.inside.item c.self.inside.children.items c.args.self.now c.args.steps.now c.self.view_is c.in-len1-up.len_at_least c.requires.can in
     let s = c.self.invariant.sums m in
-    let b = child-le-sum (first_of (λ x. g.T.Held.stored x m)) c.self.inside.children.items (get_or c.args.steps.now 0 0) c.index_mut-child.result.now into.within c.index_mut-child.ensures.value in
+    let b = child-le-sum (first_of (λ x. g.T.TreeItem.stored x m)) c.self.inside.children.items (get_or c.args.steps.now 0 0) c.index_mut-child.result.now into.within c.index_mut-child.ensures.value in
     let f = c.change.ensures.fitted m in
     rw (← c.self.view_is) (omega arith)
 
 pub invariant_of-self-in-Ok : goal.invariant_of-self-in-Ok
 invariant_of-self-in-Ok g t c =
-    let into = in_child (g.C.Change.can c.args.change.now) g.T.Held.name c.self.inside.item c.self.inside.children.items c.args.self.now c.args.steps.now c.self.view_is c.in-len1-up.len_at_least c.requires.can in
+    let into = in_child (g.C.Change.can c.args.change.now) g.T.TreeItem.name c.self.inside.item c.self.inside.children.items c.args.self.now c.args.steps.now c.self.view_is c.in-len1-up.len_at_least c.requires.can in
     let i = get_or c.args.steps.now 0 0 in
     let filled = All-get_or (λ kid. 1 ≤ length kid) c.self.inside.children.items i c.index_mut-child.result.now into.within c.self.invariant.filled in
     let same = c.index_mut-child.ensures.value in
@@ -84,8 +84,8 @@ invariant_of-self-in-Ok g t c =
     record {
       sums = λ m.
           let s = c.self.invariant.sums m in
-          let b = child-le-sum (first_of (λ x. g.T.Held.stored x m)) c.self.inside.children.items i c.index_mut-child.result.now into.within same in
-          let e = sum-set_child (first_of (λ x. g.T.Held.stored x m)) c.self.inside.children.items i c.index_mut-child.result.now c.change.new.self into.within same in
+          let b = child-le-sum (first_of (λ x. g.T.TreeItem.stored x m)) c.self.inside.children.items i c.index_mut-child.result.now into.within same in
+          let e = sum-set_child (first_of (λ x. g.T.TreeItem.stored x m)) c.self.inside.children.items i c.index_mut-child.result.now c.change.new.self into.within same in
           let f = c.change.ensures.fitted m in
           let k = c.in-Ok.ensures.moved m in
           let u = g.met.C.Change.stored_above c.args.change.now c.self.inside.item m in
@@ -98,13 +98,13 @@ invariant_of-self-in-Ok g t c =
 pub returns-in-empty-clause-changed : goal.returns-in-empty-clause-changed
 returns-in-empty-clause-changed g t c =
     on_ok_weaker c.change_at.result
-    (changed_at_root (g.C.Change.above c.args.change.now) (g.C.Change.at c.args.change.now) g.T.Held.name c.self.inside.item c.change_at.new.item c.self.inside.children.items c.args.self.now c.args.steps.now c.self.view_is c.in-empty.len_below (g.met.C.Change.name_at c.args.change.now c.self.inside.item))
+    (changed_at_root (g.C.Change.above c.args.change.now) (g.C.Change.at c.args.change.now) g.T.TreeItem.name c.self.inside.item c.change_at.new.item c.self.inside.children.items c.args.self.now c.args.steps.now c.self.view_is c.in-empty.len_below (g.met.C.Change.name_at c.args.change.now c.self.inside.item))
     c.change_at.ensures.ok
 
 pub returns-in-Err-clause-grows : goal.returns-in-Err-clause-grows
 returns-in-Err-clause-grows g t c =
-    let into = in_child (g.C.Change.can c.args.change.now) g.T.Held.name c.self.inside.item c.self.inside.children.items c.args.self.now c.args.steps.now c.self.view_is c.in-len1-up.len_at_least c.requires.can in
-    let same = as_in_child g.T.Held.name c.self.inside.item c.self.inside.children.items c.args.self.now c.args.steps.now c.index_mut-child.result.now c.self.view_is c.in-len1-up.len_at_least into.within c.index_mut-child.ensures.value in
+    let into = in_child (g.C.Change.can c.args.change.now) g.T.TreeItem.name c.self.inside.item c.self.inside.children.items c.args.self.now c.args.steps.now c.self.view_is c.in-len1-up.len_at_least c.requires.can in
+    let same = as_in_child g.T.TreeItem.name c.self.inside.item c.self.inside.children.items c.args.self.now c.args.steps.now c.index_mut-child.result.now c.self.view_is c.in-len1-up.len_at_least into.within c.index_mut-child.ensures.value in
     subst (HoldsOfItem (g.C.Change.grows c.args.change.now)) (sym same) c.in-Err.ensures.grows
 
 pub returns-in-Err-clause-changed : goal.returns-in-Err-clause-changed
@@ -130,10 +130,10 @@ same_kids g t c =
     ap (set kids i) (c.in-Err.ensures.unchanged ∙ c.index_mut-child.ensures.value) ∙ set-get_or kids i c.index_mut-child.result.now
 
 pub invariant_of-self-in-Err : goal.invariant_of-self-in-Err
-invariant_of-self-in-Err g t c = subst (IsBranch g.T.Held.stored g.T.Held.own c.self.inside.item) (sym (same_kids g t c)) c.self.invariant
+invariant_of-self-in-Err g t c = subst (IsBranch g.T.TreeItem.stored g.T.TreeItem.own c.self.inside.item) (sym (same_kids g t c)) c.self.invariant
 
 pub returns-in-Err-clause-unchanged : goal.returns-in-Err-clause-unchanged
-returns-in-Err-clause-unchanged g t c = ap (spots g.T.Held.name c.self.inside.item) (same_kids g t c) ∙ c.self.view_is
+returns-in-Err-clause-unchanged g t c = ap (spots g.T.TreeItem.name c.self.inside.item) (same_kids g t c) ∙ c.self.view_is
 
 pub change_at-requires-clause-within : goal.change_at-requires-clause-within
 change_at-requires-clause-within g t c = rw (← c.self.view_is) at c.requires.within
@@ -147,18 +147,18 @@ of_item P name item kids value steps e h p = rw (steps-empty steps h, ← e) at 
 
 pub change_at-requires-clause-can : goal.change_at-requires-clause-can
 change_at-requires-clause-can g t c =
-    of_item (g.C.Change.can c.args.change.now) g.T.Held.name c.self.inside.item c.self.inside.children.items c.args.self.now c.args.steps.now c.self.view_is c.in-empty.len_below c.requires.can
+    of_item (g.C.Change.can c.args.change.now) g.T.TreeItem.name c.self.inside.item c.self.inside.children.items c.args.self.now c.args.steps.now c.self.view_is c.in-empty.len_below c.requires.can
 
 pub returns-in-empty-clause-fitted : goal.returns-in-empty-clause-fitted
 returns-in-empty-clause-fitted g t c m =
-    let can = of_item (g.C.Change.can c.args.change.now) g.T.Held.name c.self.inside.item c.self.inside.children.items c.args.self.now c.args.steps.now c.self.view_is c.in-empty.len_below c.requires.can in
+    let can = of_item (g.C.Change.can c.args.change.now) g.T.TreeItem.name c.self.inside.item c.self.inside.children.items c.args.self.now c.args.steps.now c.self.view_is c.in-empty.len_below c.requires.can in
     let s = c.self.invariant.sums m in
     let f = g.met.C.Change.old_fits c.args.change.now c.self.inside.item m can in
     rw (← c.self.view_is) (omega (arith, s, f))
 
 pub returns-in-empty-clause-moved : goal.returns-in-empty-clause-moved
 returns-in-empty-clause-moved g t c =
-    on_ok_weaker c.change_at.result (λ e m. rw (← c.self.view_is) (ap (λ x. g.T.Held.stored x m) e ∙ g.met.C.Change.stored_at c.args.change.now c.self.inside.item m)) c.change_at.ensures.ok
+    on_ok_weaker c.change_at.result (λ e m. rw (← c.self.view_is) (ap (λ x. g.T.TreeItem.stored x m) e ∙ g.met.C.Change.stored_at c.args.change.now c.self.inside.item m)) c.change_at.ensures.ok
 
 -- an item that was changed, or not, counts what it counted with what is below
 sums_either : {X E T : Type 0} (r : Result X E) (f own : T → ℕ) (x y z : T) (below : ℕ) → OnOk r (z ≡ y) → OnErr r (z ≡ x) → f x ≡ own x + below → f y ≡ own y + below → f z ≡ own z + below
@@ -167,14 +167,14 @@ sums_either (Err v) f own x y z below ok err a b = rw err a
 
 pub invariant_of-self : goal.invariant_of-self
 invariant_of-self g t c =
-    let can = of_item (g.C.Change.can c.args.change.now) g.T.Held.name c.self.inside.item c.self.inside.children.items c.args.self.now c.args.steps.now c.self.view_is c.in-empty.len_below c.requires.can in
+    let can = of_item (g.C.Change.can c.args.change.now) g.T.TreeItem.name c.self.inside.item c.self.inside.children.items c.args.self.now c.args.steps.now c.self.view_is c.in-empty.len_below c.requires.can in
     record {
       sums = λ m.
           let s = c.self.invariant.sums m in
           let f = g.met.C.Change.old_fits c.args.change.now c.self.inside.item m can in
           let u = g.met.C.Change.stored_at c.args.change.now c.self.inside.item m in
           let v = g.met.C.Change.own_at c.args.change.now c.self.inside.item m can in
-          sums_either c.change_at.result (λ x. g.T.Held.stored x m) (λ x. g.T.Held.own x m) c.self.inside.item (g.C.Change.at c.args.change.now c.self.inside.item) c.change_at.new.item _ c.change_at.ensures.ok c.change_at.ensures.err s (omega (arith, s, f, u, v));
+          sums_either c.change_at.result (λ x. g.T.TreeItem.stored x m) (λ x. g.T.TreeItem.own x m) c.self.inside.item (g.C.Change.at c.args.change.now c.self.inside.item) c.change_at.new.item _ c.change_at.ensures.ok c.change_at.ensures.err s (omega (arith, s, f, u, v));
       filled = c.self.invariant.filled;
       few = c.self.invariant.few;
     }

@@ -17,7 +17,7 @@ pub copy_in-requires-in-loop-child : goal.copy_in-requires-in-loop-child
 copy_in-requires-in-loop-child g t c =
     let is : c.child-item.result ≡ get_or c.self.inside.children.items c.loop-child.child-index c.child-item.result = c.child-item.is ∙ ap (λ xs. get_or xs c.loop-child.child-index c.child-item.result) c.deref-child-items.ensures.value in
     let within : c.loop-child.child-index < length c.self.inside.children.items = subst (λ xs. c.loop-child.child-index < length xs) c.deref-child-items.ensures.value c.loop-child-test.true in
-    let w = child-lt g.T.Held.name c.self.inside.item c.self.inside.children.items c.args.self.now c.loop-child.child-index c.child-item.result c.self.view_is within is in
+    let w = child-lt g.T.TreeItem.name c.self.inside.item c.self.inside.children.items c.args.self.now c.loop-child.child-index c.child-item.result c.self.view_is within is in
     λ κs l. (search (rules, w), (search rules, search rules))
 
 pub push_reserved-requires : goal.push_reserved-requires
@@ -39,10 +39,10 @@ pub invariant_of-result : goal.invariant_of-result
 invariant_of-result g t c =
     let all = copied_all g.T.CopyIn.copied c.deref-child-items.result.now c.loop-child.child-index c.self.inside.children.items c.loop-child.children.items c.deref-child-items.ensures.value (omega (arith, c.loop-child-test.false)) c.loop-child.invariant.items in
     rw (all, c.in-Ok.ensures)
-    (branch_made g.T.CopyIn.copied g.T.Held.stored g.T.Held.own g.U.Held.stored g.U.Held.own g.met.T.CopyIn.stored_copied g.met.T.CopyIn.own_copied c.self.inside.item c.self.inside.children.items c.self.invariant)
+    (branch_made g.T.CopyIn.copied g.T.TreeItem.stored g.T.TreeItem.own g.U.TreeItem.stored g.U.TreeItem.own g.met.T.CopyIn.stored_copied g.met.T.CopyIn.own_copied c.self.inside.item c.self.inside.children.items c.self.invariant)
 
 pub returns : goal.returns
 returns g t c =
     let all = copied_all g.T.CopyIn.copied c.deref-child-items.result.now c.loop-child.child-index c.self.inside.children.items c.loop-child.children.items c.deref-child-items.ensures.value (omega (arith, c.loop-child-test.false)) c.loop-child.invariant.items in
     rw (← c.self.view_is)
-    (rw (all, c.in-Ok.ensures) (made-spots g.T.CopyIn.copied g.T.Held.name g.U.Held.name c.self.inside.item c.self.inside.children.items (g.met.T.CopyIn.name_copied c.self.inside.item)))
+    (rw (all, c.in-Ok.ensures) (made-spots g.T.CopyIn.copied g.T.TreeItem.name g.U.TreeItem.name c.self.inside.item c.self.inside.children.items (g.met.T.CopyIn.name_copied c.self.inside.item)))

@@ -1,7 +1,7 @@
 use Rattle.std.proofs.Common.{rules, arith, ◌≡◌, ◌<◌, ◌≤◌, [], refl, ap, sym, subst, ◌∙◌, get_or, length}
 use Rattle.std.specs.List.{All}
 use Rattle.std.proofs.lemmas.List.{get_or_default}
-use Rattle.cap_tree.specs.Serving.{AreKids, AreParts, AreRanked, AreServed, index_cmp}
+use Rattle.cap_tree.specs.ServedWaiters.{AreKids, AreParts, AreRanked, AreServed, index_cmp}
 use Rattle.cap_tree.specs.Spot.{IsPosition, spots}
 use Rattle.cap_tree.proofs.Finds.{child-lt}
 use Rattle.cap_tree.proofs.Service.{once_in_child}
@@ -10,7 +10,7 @@ use Rattle.cap_tree.proofs.branch.Branch.+serve.Goals as goal
 
 pub parts_of-requires : goal.parts_of-requires
 parts_of-requires g t c =
-    let name = g.T.Held.name in
+    let name = g.T.TreeItem.name in
     let item = c.self.inside.item in
     let children = c.as_slice-children.result.now in
     let value : spots name item children ≡ c.args.self.now = ap (spots name item) c.as_slice-children.ensures.value ∙ c.self.view_is in
@@ -18,7 +18,7 @@ parts_of-requires g t c =
 
 pub served_children-requires-clause-apart : goal.served_children-requires-clause-apart
 served_children-requires-clause-apart g t c =
-    let name = g.T.Held.name in
+    let name = g.T.TreeItem.name in
     let item = c.self.inside.item in
     let children = c.as_slice-children.result.now in
     let value : spots name item children ≡ c.args.self.now = ap (spots name item) c.as_slice-children.ensures.value ∙ c.self.view_is in
@@ -26,7 +26,7 @@ served_children-requires-clause-apart g t c =
 
 pub loop-kid-init : goal.loop-kid-init
 loop-kid-init g t c =
-    let name = g.T.Held.name in
+    let name = g.T.TreeItem.name in
     let item = c.self.inside.item in
     let children = c.as_slice-children.result.now in
     let value : spots name item children ≡ c.args.self.now = ap (spots name item) c.as_slice-children.ensures.value ∙ c.self.view_is in
@@ -38,25 +38,25 @@ loop-kid-init g t c =
 
 pub offset_bounds-children-kid : goal.offset_bounds-children-kid
 offset_bounds-children-kid g t c =
-    let sorted = subst (AreKids g.T.Served.order g.T.Held.name c.as_slice-children.result.now c.deref.result.now (length c.as_slice-children.result.now)) (sym c.deref-kid-items.ensures.value) c.in-Ok-served_children.ensures in
+    let sorted = subst (AreKids g.T.Served.order g.T.TreeItem.name c.as_slice-children.result.now c.deref.result.now (length c.as_slice-children.result.now)) (sym c.deref-kid-items.ensures.value) c.in-Ok-served_children.ensures in
     let w = sorted.within c.loop-kid.kid-index 0 c.loop-kid-test.true in
     omega (arith, w)
 
 pub bounds-children-kid : goal.bounds-children-kid
 bounds-children-kid g t c =
-    let sorted = subst (AreKids g.T.Served.order g.T.Held.name c.as_slice-children.result.now c.deref.result.now (length c.as_slice-children.result.now)) (sym c.deref-kid-items.ensures.value) c.in-Ok-served_children.ensures in
+    let sorted = subst (AreKids g.T.Served.order g.T.TreeItem.name c.as_slice-children.result.now c.deref.result.now (length c.as_slice-children.result.now)) (sym c.deref-kid-items.ensures.value) c.in-Ok-served_children.ensures in
     sorted.within c.loop-kid.kid-index 0 c.loop-kid-test.true
 
 pub index-requires : goal.index-requires
 index-requires g t c =
-    let sorted = subst (AreKids g.T.Served.order g.T.Held.name c.as_slice-children.result.now c.deref.result.now (length c.as_slice-children.result.now)) (sym c.deref-kid-items.ensures.value) c.in-Ok-served_children.ensures in
+    let sorted = subst (AreKids g.T.Served.order g.T.TreeItem.name c.as_slice-children.result.now c.deref.result.now (length c.as_slice-children.result.now)) (sym c.deref-kid-items.ensures.value) c.in-Ok-served_children.ensures in
     let w = sorted.within c.loop-kid.kid-index 0 c.loop-kid-test.true in
     let m = c.in-Ok-parts_of.ensures.as_many in
     omega (arith, w, m)
 
 pub serve-requires : goal.serve-requires
 serve-requires g t c =
-    let name = g.T.Held.name in
+    let name = g.T.TreeItem.name in
     let item = c.self.inside.item in
     let children = c.as_slice-children.result.now in
     let value : spots name item children ≡ c.args.self.now = ap (spots name item) c.as_slice-children.ensures.value ∙ c.self.view_is in
@@ -77,7 +77,7 @@ serve-requires g t c =
 pub loop-kid-preserved : goal.loop-kid-preserved
 loop-kid-preserved g t c =
     let order = g.T.Served.order in
-    let name = g.T.Held.name in
+    let name = g.T.TreeItem.name in
     let item = c.self.inside.item in
     let children = c.as_slice-children.result.now in
     let value : spots name item children ≡ c.args.self.now = ap (spots name item) c.as_slice-children.ensures.value ∙ c.self.view_is in
@@ -97,7 +97,7 @@ loop-kid-preserved g t c =
 pub returns : goal.returns
 returns g t c =
     let order = g.T.Served.order in
-    let name = g.T.Held.name in
+    let name = g.T.TreeItem.name in
     let item = c.self.inside.item in
     let children = c.as_slice-children.result.now in
     let value : spots name item children ≡ c.args.self.now = ap (spots name item) c.as_slice-children.ensures.value ∙ c.self.view_is in

@@ -1,5 +1,5 @@
 use Rattle.std.proofs.Common.{length}
-use Rattle.cap_tree.specs.Serving.{AreServedTo}
+use Rattle.cap_tree.specs.ServedWaiters.{AreServedTo}
 use Rattle.cap_tree.proofs.branch.Branch.+serve.Given as goal
 
 abbrev pub decreases-serve : goal.decreases-serve

@@ -10,9 +10,9 @@ use Rattle.cap_tree.proofs.branch.Branch.add_child.Goals as goal
 pub returns-clause-ok : goal.returns-clause-ok
 returns-clause-ok g c =
     let kids = c.self.inside.children.items in
-    let e : c.push.new.self.items ≡ kids ++ spots g.T.Held.name c.args.item [] ∷ [] = c.in-Ok.ensures.items ∙ ap (λ x. kids ++ x ∷ []) c.leaf.ensures in
-    subst (λ k. IsAdded 0 (g.T.Held.name c.args.item) c.args.item c.args.self.now (spots g.T.Held.name c.self.inside.item k)) (sym e)
-    (added_here 0 g.T.Held.name c.self.inside.item c.args.item kids c.args.self.now c.self.view_is refl)
+    let e : c.push.new.self.items ≡ kids ++ spots g.T.TreeItem.name c.args.item [] ∷ [] = c.in-Ok.ensures.items ∙ ap (λ x. kids ++ x ∷ []) c.leaf.ensures in
+    subst (λ k. IsAdded 0 (g.T.TreeItem.name c.args.item) c.args.item c.args.self.now (spots g.T.TreeItem.name c.self.inside.item k)) (sym e)
+    (added_here 0 g.T.TreeItem.name c.self.inside.item c.args.item kids c.args.self.now c.self.view_is refl)
 
 pub returns-in-Err-clause-ok : goal.returns-in-Err-clause-ok
 returns-in-Err-clause-ok g c = search rules
@@ -23,16 +23,16 @@ returns-clause-err g c = search rules
 pub invariant_of-self-2 : goal.invariant_of-self-2
 invariant_of-self-2 g c =
     let kids = c.self.inside.children.items in
-    let more = spots g.T.Held.name c.args.item [] in
+    let more = spots g.T.TreeItem.name c.args.item [] in
     let e : c.push.new.self.items ≡ kids ++ more ∷ [] = c.in-Ok.ensures.items ∙ ap (λ x. kids ++ x ∷ []) c.leaf.ensures in
-    let fewer = kids-lt g.T.Held.name c.self.inside.item kids c.args.self.now c.self.view_is c.self.invariant.filled in
+    let fewer = kids-lt g.T.TreeItem.name c.self.inside.item kids c.args.self.now c.self.view_is c.self.invariant.filled in
     let n = length-append kids (more ∷ []) in
     let l = ap length e in
     record {
       sums = λ m.
           let s = c.self.invariant.sums m in
-          let a = sum_by-append (first_of (λ x. g.T.Held.stored x m)) kids (more ∷ []) in
-          let b = ap (sum_by (first_of (λ x. g.T.Held.stored x m))) e in
+          let a = sum_by-append (first_of (λ x. g.T.TreeItem.stored x m)) kids (more ∷ []) in
+          let b = ap (sum_by (first_of (λ x. g.T.TreeItem.stored x m))) e in
           let z = c.requires.stored m in
           omega (arith, s, a, b, z);
       filled = subst (All (λ kid. 1 ≤ length kid)) (sym e) (All-append (λ kid. 1 ≤ length kid) kids (more ∷ []) c.self.invariant.filled (All-cons (λ kid. 1 ≤ length kid) more [] (omega arith) (All-nil (λ kid. 1 ≤ length kid))));
@@ -40,10 +40,10 @@ invariant_of-self-2 g c =
     }
 
 pub returns-clause-kept : goal.returns-clause-kept
-returns-clause-kept g c = λ m. ap (λ ss. root_count g.T.Held.stored ss m) c.self.view_is
+returns-clause-kept g c = λ m. ap (λ ss. root_count g.T.TreeItem.stored ss m) c.self.view_is
 
 pub returns-in-Err-clause-kept : goal.returns-in-Err-clause-kept
-returns-in-Err-clause-kept g c = λ m. ap (λ ss. root_count g.T.Held.stored ss m) c.self.view_is
+returns-in-Err-clause-kept g c = λ m. ap (λ ss. root_count g.T.TreeItem.stored ss m) c.self.view_is
 
 pub invariant_of-self : goal.invariant_of-self
-invariant_of-self g c = subst (IsBranch g.T.Held.stored g.T.Held.own c.self.inside.item) (sym c.in-Err.ensures.items) c.self.invariant
+invariant_of-self g c = subst (IsBranch g.T.TreeItem.stored g.T.TreeItem.own c.self.inside.item) (sym c.in-Err.ensures.items) c.self.invariant

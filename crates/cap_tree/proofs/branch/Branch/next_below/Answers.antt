@@ -16,7 +16,7 @@ loop-i-preserved g c =
     let k = c.loop-i.i in
     let x = c.top-child.result.now in
     let within : k < length kids = omega arith in
-    let is : child k ≡ Some x = top_of_child g.T.Held.name c.self.inside.item kids value c.self.view_is k c.index.result.now within c.index.ensures x c.top-child.ensures in
+    let is : child k ≡ Some x = top_of_child g.T.TreeItem.name c.self.inside.item kids value c.self.view_is k c.index.result.now within c.index.ensures x c.top-child.ensures in
     let later : c.is_after.result ≡ is_after order x (named child c.args.after) = c.is_after.ensures ∙ ap (is_after order x) (c.child-last.ensures ∙ child_named value c.args.after) in
     elim c.if-is_after.branch [
       | then-is_after+then-is_before w ↦
@@ -33,5 +33,5 @@ loop-i-preserved g c =
 pub returns : goal.returns
 returns g c =
     of_all g.T.Served.order g.met.T.Served.total (children_at [] c.args.self.now) c.args.after c.loop-i.i c.loop-i.next
-    (λ j t. let w = holds-within (λ _. Unit {0}) g.T.Held.name c.self.inside.item j [] c.self.inside.children.items (subst (λ v. IsPosition v (j ∷ [])) (sym c.self.view_is) t) in omega (arith, w, c.loop-i-test.false))
+    (λ j t. let w = holds-within (λ _. Unit {0}) g.T.TreeItem.name c.self.inside.item j [] c.self.inside.children.items (subst (λ v. IsPosition v (j ∷ [])) (sym c.self.view_is) t) in omega (arith, w, c.loop-i-test.false))
     c.loop-i.invariant

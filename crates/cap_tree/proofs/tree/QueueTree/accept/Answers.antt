@@ -38,8 +38,8 @@ returns-then-not-stays_in_user_limit-clause-ok g c = search rules
 pub returns-clause-err : goal.returns-clause-err
 returns-clause-err g c = search rules
 
-pub first_failing-requires-room-T-Held : goal.first_failing-requires-room-T-Held
-first_failing-requires-room-T-Held g c κs within = search queue_fits
+pub first_failing-requires-room-T-TreeItem : goal.first_failing-requires-room-T-TreeItem
+first_failing-requires-room-T-TreeItem g c κs within = search queue_fits
 
 pub first_failing-requires-room-T-Destruct : goal.first_failing-requires-room-T-Destruct
 first_failing-requires-room-T-Destruct g c κs within = search queue_fits

@@ -10,8 +10,8 @@ returns g c = rw (← c.self.view_is) (c.active.ensures ∙ sym (ap (λ o. optio
 pub active-requires : goal.active-requires
 active-requires g c = search queue_fits
 
-pub item-requires-room-T-Held : goal.item-requires-room-T-Held
-item-requires-room-T-Held g c κs within = search queue_fits
+pub item-requires-room-T-TreeItem : goal.item-requires-room-T-TreeItem
+item-requires-room-T-TreeItem g c κs within = search queue_fits
 
 pub item-requires-room-T-Destruct : goal.item-requires-room-T-Destruct
 item-requires-room-T-Destruct g c κs within = search queue_fits

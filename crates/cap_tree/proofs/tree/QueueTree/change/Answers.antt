@@ -54,8 +54,8 @@ returns-clause-err g c = search rules
 pub returns-clause-absent : goal.returns-clause-absent
 returns-clause-absent g c = search rules
 
-pub change-requires-room-T-Held : goal.change-requires-room-T-Held
-change-requires-room-T-Held g c κs within = search queue_fits
+pub change-requires-room-T-TreeItem : goal.change-requires-room-T-TreeItem
+change-requires-room-T-TreeItem g c κs within = search queue_fits
 
 pub change-requires-room-T-Destruct : goal.change-requires-room-T-Destruct
 change-requires-room-T-Destruct g c κs within = search queue_fits

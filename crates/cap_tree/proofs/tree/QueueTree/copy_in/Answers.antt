@@ -13,8 +13,8 @@ invariant_of-result g c = record {
 pub returns-in-Ok : goal.returns-in-Ok
 returns-in-Ok g c = c.in-Ok.ensures ∙ made-itself c.self.inside.root ∙ c.self.view_is
 
-pub copy_in-requires-room-T-Held : goal.copy_in-requires-room-T-Held
-copy_in-requires-room-T-Held g c κs within = search queue_fits
+pub copy_in-requires-room-T-TreeItem : goal.copy_in-requires-room-T-TreeItem
+copy_in-requires-room-T-TreeItem g c κs within = search queue_fits
 
 pub copy_in-requires-room-T-Destruct : goal.copy_in-requires-room-T-Destruct
 copy_in-requires-room-T-Destruct g c κs within = search queue_fits
@@ -25,8 +25,8 @@ copy_in-requires-room-T-CopyIn g c κs within = search queue_fits
 pub copy_in-requires-room-U-Destruct : goal.copy_in-requires-room-U-Destruct
 copy_in-requires-room-U-Destruct g c κs within = search queue_fits
 
-pub copy_in-requires-room-U-Held : goal.copy_in-requires-room-U-Held
-copy_in-requires-room-U-Held g c κs within = search queue_fits
+pub copy_in-requires-room-U-TreeItem : goal.copy_in-requires-room-U-TreeItem
+copy_in-requires-room-U-TreeItem g c κs within = search queue_fits
 
 pub copy_in-requires-room-T-CopyIn-2 : goal.copy_in-requires-room-T-CopyIn-2
 copy_in-requires-room-T-CopyIn-2 g c κs within = search queue_fits

@@ -17,8 +17,8 @@ returns-clause-value g c =
 pub count_on_way-requires-room-T-Destruct : goal.count_on_way-requires-room-T-Destruct
 count_on_way-requires-room-T-Destruct g c κs within = search queue_fits
 
-pub count_on_way-requires-room-T-Held : goal.count_on_way-requires-room-T-Held
-count_on_way-requires-room-T-Held g c κs within = search queue_fits
+pub count_on_way-requires-room-T-TreeItem : goal.count_on_way-requires-room-T-TreeItem
+count_on_way-requires-room-T-TreeItem g c κs within = search queue_fits
 
 pub count_on_way-requires : goal.count_on_way-requires
 count_on_way-requires g c = rw (← c.self.view_is, ← c.as_slice.ensures) at c.requires

@@ -37,8 +37,8 @@ returns-in-Some-Leaf-clause-rows g c = rw (← c.self.view_is) c.self.invariant.
 pub returns-in-Some-Parent-clause-rows : goal.returns-in-Some-Parent-clause-rows
 returns-in-Some-Parent-clause-rows g c = rw (← c.self.view_is) c.self.invariant.rows_are
 
-pub find-requires-room-T-Held : goal.find-requires-room-T-Held
-find-requires-room-T-Held g c κs within = search queue_fits
+pub find-requires-room-T-TreeItem : goal.find-requires-room-T-TreeItem
+find-requires-room-T-TreeItem g c κs within = search queue_fits
 
 pub find-requires-room-T-Destruct : goal.find-requires-room-T-Destruct
 find-requires-room-T-Destruct g c κs within = search queue_fits

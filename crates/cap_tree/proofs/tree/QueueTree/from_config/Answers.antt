@@ -65,8 +65,8 @@ returns-in-Err-add_all-clause-queues g c = search rules
 pub returns-in-Err-add_all-clause-unused : goal.returns-in-Err-add_all-clause-unused
 returns-in-Err-add_all-clause-unused g c = search rules
 
-pub leaf-root-requires-room-T-Held : goal.leaf-root-requires-room-T-Held
-leaf-root-requires-room-T-Held g c κs within = search
+pub leaf-root-requires-room-T-TreeItem : goal.leaf-root-requires-room-T-TreeItem
+leaf-root-requires-room-T-TreeItem g c κs within = search
 
 pub drop-root-inside-requires-in-Err-add_all-5-room-T-Destruct-2 : goal.drop-root-inside-requires-in-Err-add_all-5-room-T-Destruct-2
 drop-root-inside-requires-in-Err-add_all-5-room-T-Destruct-2 g c κs within = search

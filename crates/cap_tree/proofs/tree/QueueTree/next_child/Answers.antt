@@ -13,8 +13,8 @@ next_child-requires-clause-after g c = rw (← c.self.view_is, ← c.as_slice.en
 pub next_child-requires-room-T-Destruct : goal.next_child-requires-room-T-Destruct
 next_child-requires-room-T-Destruct g c κs within = search queue_fits
 
-pub next_child-requires-room-T-Held : goal.next_child-requires-room-T-Held
-next_child-requires-room-T-Held g c κs within = search queue_fits
+pub next_child-requires-room-T-TreeItem : goal.next_child-requires-room-T-TreeItem
+next_child-requires-room-T-TreeItem g c κs within = search queue_fits
 
 pub next_child-requires-room-T-Served : goal.next_child-requires-room-T-Served
 next_child-requires-room-T-Served g c κs within = search queue_fits

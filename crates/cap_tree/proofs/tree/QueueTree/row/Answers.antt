@@ -11,8 +11,8 @@ get-requires g c = rw (← c.self.view_is, ← c.as_slice.ensures) at c.requires
 pub returns : goal.returns
 returns g c = rw (← c.self.view_is, ← c.as_slice.ensures) c.get.ensures
 
-pub get-requires-room-T-Held : goal.get-requires-room-T-Held
-get-requires-room-T-Held g c κs within = search queue_fits
+pub get-requires-room-T-TreeItem : goal.get-requires-room-T-TreeItem
+get-requires-room-T-TreeItem g c κs within = search queue_fits
 
 pub get-requires-room-T-Destruct : goal.get-requires-room-T-Destruct
 get-requires-room-T-Destruct g c κs within = search queue_fits

@@ -17,8 +17,8 @@ returns g c =
     ∙ ap (λ p. slice_get (items_along p root) c.args.level) (sym c.as_slice.ensures)
     ∙ c.get_on_way.ensures)
 
-pub get_on_way-requires-room-T-Held : goal.get_on_way-requires-room-T-Held
-get_on_way-requires-room-T-Held g c κs within = search queue_fits
+pub get_on_way-requires-room-T-TreeItem : goal.get_on_way-requires-room-T-TreeItem
+get_on_way-requires-room-T-TreeItem g c κs within = search queue_fits
 
 pub get_on_way-requires-room-T-Destruct : goal.get_on_way-requires-room-T-Destruct
 get_on_way-requires-room-T-Destruct g c κs within = search queue_fits

@@ -20,8 +20,8 @@ as_slice-requires g c = search rules
 pub first_failing-requires : goal.first_failing-requires
 first_failing-requires g c = rw (← c.self.view_is, ← c.as_slice.ensures) at c.requires
 
-pub first_failing-requires-room-T-Held : goal.first_failing-requires-room-T-Held
-first_failing-requires-room-T-Held g c κs within = search queue_fits
+pub first_failing-requires-room-T-TreeItem : goal.first_failing-requires-room-T-TreeItem
+first_failing-requires-room-T-TreeItem g c κs within = search queue_fits
 
 pub first_failing-requires-room-T-Destruct : goal.first_failing-requires-room-T-Destruct
 first_failing-requires-room-T-Destruct g c κs within = search queue_fits

@@ -1,7 +1,7 @@
 use Rattle.std.proofs.Common.{sym, subst, map}
 use Rattle.std.specs.List.{All}
 use Rattle.cap_base.proofs.lists.Members.{each_of}
-use Rattle.cap_tree.specs.Serving.{AreServed}
+use Rattle.cap_tree.specs.ServedWaiters.{AreServed}
 use Rattle.cap_tree.specs.Service.{queue_cmp}
 use Rattle.cap_tree.specs.ServiceOrder.{IsServiceOrder}
 use Rattle.cap_tree.specs.Spot.{IsPosition}
@@ -33,8 +33,8 @@ returns-in-Ok-serve-clause-rows g c = rw (← c.self.view_is) c.self.invariant.r
 pub serve-requires-room-T-Served : goal.serve-requires-room-T-Served
 serve-requires-room-T-Served g c κs within = search queue_fits
 
-pub serve-requires-room-T-Held : goal.serve-requires-room-T-Held
-serve-requires-room-T-Held g c κs within = search queue_fits
+pub serve-requires-room-T-TreeItem : goal.serve-requires-room-T-TreeItem
+serve-requires-room-T-TreeItem g c κs within = search queue_fits
 
 pub serve-requires-room-T-Destruct : goal.serve-requires-room-T-Destruct
 serve-requires-room-T-Destruct g c κs within = search queue_fits

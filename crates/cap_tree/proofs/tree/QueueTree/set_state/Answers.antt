@@ -37,8 +37,8 @@ change-requires-clause-can g c = rw (← c.self.view_is, ← c.as_slice.ensures)
 pub change-requires-clause-within : goal.change-requires-clause-within
 change-requires-clause-within g c m = inl (omega arith)
 
-pub change-requires-room-T-Held : goal.change-requires-room-T-Held
-change-requires-room-T-Held g c κs within = search queue_fits
+pub change-requires-room-T-TreeItem : goal.change-requires-room-T-TreeItem
+change-requires-room-T-TreeItem g c κs within = search queue_fits
 
 pub change-requires-room-T-Destruct : goal.change-requires-room-T-Destruct
 change-requires-room-T-Destruct g c κs within = search queue_fits

@@ -19,8 +19,8 @@ returns g c =
     let found : item_at c.args.path.now.items c.args.self.now ≡ Some c.get-leaf.result.now = rw (← c.self.view_is, ← c.as_slice.ensures) c.get-leaf.ensures in
     c.stays_in_user_limit.ensures ∙ sym (ap (holds_of (stays_in_user_limit g.row.K c.args.user.now c.args.old.now c.args.new.now)) found)
 
-pub get-leaf-requires-room-T-Held : goal.get-leaf-requires-room-T-Held
-get-leaf-requires-room-T-Held g c κs within = search queue_fits
+pub get-leaf-requires-room-T-TreeItem : goal.get-leaf-requires-room-T-TreeItem
+get-leaf-requires-room-T-TreeItem g c κs within = search queue_fits
 
 pub get-leaf-requires-room-T-Destruct : goal.get-leaf-requires-room-T-Destruct
 get-leaf-requires-room-T-Destruct g c κs within = search queue_fits

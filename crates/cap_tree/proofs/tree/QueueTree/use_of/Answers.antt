@@ -16,8 +16,8 @@ used-requires g c = search queue_fits
 pub returns : goal.returns
 returns g c = rw (← c.self.view_is, ← c.as_slice.ensures) (c.used.ensures ∙ sym (ap (λ o. option_map_or (λ (q : Queue). q.used) o []) c.get.ensures))
 
-pub get-requires-room-T-Held : goal.get-requires-room-T-Held
-get-requires-room-T-Held g c κs within = search queue_fits
+pub get-requires-room-T-TreeItem : goal.get-requires-room-T-TreeItem
+get-requires-room-T-TreeItem g c κs within = search queue_fits
 
 pub get-requires-room-T-Destruct : goal.get-requires-room-T-Destruct
 get-requires-room-T-Destruct g c κs within = search queue_fits

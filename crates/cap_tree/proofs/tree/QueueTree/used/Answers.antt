@@ -13,8 +13,8 @@ returns-clause-all g c = rw (← c.self.view_is) (c.used.ensures ∙ sym (ap (λ
 pub used-requires : goal.used-requires
 used-requires g c = search queue_fits
 
-pub item-requires-room-T-Held : goal.item-requires-room-T-Held
-item-requires-room-T-Held g c κs within = search queue_fits
+pub item-requires-room-T-TreeItem : goal.item-requires-room-T-TreeItem
+item-requires-room-T-TreeItem g c κs within = search queue_fits
 
 pub item-requires-room-T-Destruct : goal.item-requires-room-T-Destruct
 item-requires-room-T-Destruct g c κs within = search queue_fits

@@ -19,8 +19,8 @@ returns g c =
     let found : item_at c.args.path.now.items c.args.self.now ≡ Some c.get.result.now = rw (← c.self.view_is, ← c.as_slice.ensures) c.get.ensures in
     c.user_use.ensures ∙ sym (ap (λ o. use_of g.row.K (option_map_or (λ (q : Queue). user_row c.args.user.now q.users) o None)) found)
 
-pub get-requires-room-T-Held : goal.get-requires-room-T-Held
-get-requires-room-T-Held g c κs within = search queue_fits
+pub get-requires-room-T-TreeItem : goal.get-requires-room-T-TreeItem
+get-requires-room-T-TreeItem g c κs within = search queue_fits
 
 pub get-requires-room-T-Destruct : goal.get-requires-room-T-Destruct
 get-requires-room-T-Destruct g c κs within = search queue_fits

@@ -1,5 +1,0 @@
-use Rattle.cap_tree.proofs.Sizes.{amounts_in_queue}
-use Rattle.cap_tree.proofs.limits.InMaximumTestQueue.passes.Goals as goal
-
-pub stays_in_maximum-requires : goal.stays_in_maximum-requires
-stays_in_maximum-requires g c = search amounts_in_queue
