@@ -14,7 +14,8 @@ pub(crate) fn seen_nodes<const K: usize, B: Allocator + Copy>(
     alloc: B,
     nodes: &Nodes<K>,
 ) -> Result<Vec<SeenNode<K>, B>, NoMemory>
-    ensures entries { IfOk result (λ seen. seen.items ≡ map (node_seen K nodes.now) nodes.now.present) }
+    ensures entries { IfOk result
+        (λ seen. seen.items ≡ map (node_seen K nodes.now) nodes.now.present) }
     ensures rising { IsRising 1 (map (λ node. node.number) nodes.now.present) nodes.now.next_node }
 {
     let Ok(mut seen) = Vec::with_capacity(alloc, nodes.count()) else {

@@ -46,7 +46,8 @@ pub(crate) fn registered_apps<'a, const K: usize, B: Allocator + Copy>(
         map (λ r. r.app) seen.items ≡ registered_of apps.now.table.active) }
     ensures accounts { IfOk result (λ seen. All
         (λ r. account_of r.app.number apps.now.accounts ≡ Some r.account) seen.items) }
-    ensures rising { IsRising 1 (map (λ app. app.number) apps.now.table.active) apps.now.table.next }
+    ensures rising { IsRising 1 (map (λ app. app.number) apps.now.table.active)
+        apps.now.table.next }
 {
     let Ok(mut seen) = Vec::with_capacity(alloc, apps.count()) else {
         return Err(NoMemory);

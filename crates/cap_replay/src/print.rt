@@ -221,7 +221,8 @@ pub(crate) fn print_frames(
 
 /// Prints the line of a frame.
 fn print_frame(printed: &mut Vec<u8>, number: u32, frame: &[u8]) -> Result<(), AllocError>
-    ensures ok { OnOk result (printed.new.items ≡ printed.old.items ++ frame_line number frame.now) }
+    ensures ok { OnOk result
+        (printed.new.items ≡ printed.old.items ++ frame_line number frame.now) }
     ensures err { OnErr result (printed.new.items ≡ printed.old.items) }
 {
     let mut line = Vec::new(*printed.allocator());

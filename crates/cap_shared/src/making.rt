@@ -57,7 +57,8 @@ pub(crate) fn make_proposed(
 ) -> Result<Made, NoMemory>
     requires { reason_of (sight_of cluster.old.flat) proposal.now ≡ None }
     ensures of { IfOk result (λ made. IsOf proposal.now (event_of_made made)) }
-    ensures step { IfOk result (λ made. Step cluster.old.flat (event_of_made made) cluster.new.flat) }
+    ensures step { IfOk result
+        (λ made. Step cluster.old.flat (event_of_made made) cluster.new.flat) }
     ensures room { OnOk result (vec_len receipts.new < vec_capacity receipts.new) }
     ensures receipts { receipts.new.items ≡ receipts.old.items }
     ensures err { OnErr result (cluster.new.flat ≡ cluster.old.flat) }

@@ -27,7 +27,8 @@ pub(crate) fn enter(
     requires receipt { receipt ≡ receipt_for (length journal.old.items) entry.event }
     requires room { vec_len journal.old < vec_capacity journal.old }
     requires receipts { vec_len receipts.old < vec_capacity receipts.old }
-    ensures entered { IsEntered journal.old.items entry receipt desk.old desk.new seat.old seat.new }
+    ensures entered { IsEntered journal.old.items entry receipt desk.old desk.new seat.old
+        seat.new }
     ensures journal { journal.new.items ≡ journal.old.items ++ entry ∷ [] }
     ensures capacity { vec_capacity journal.new ≡ vec_capacity journal.old }
     ensures receipts { receipts.new.items ≡ receipts.old.items ++ receipt ∷ [] }

@@ -99,7 +99,8 @@ pub(crate) fn feed(
     cluster: &mut Cluster<RESOURCES>,
     events: &mut Vec<Event<RESOURCES>>,
 ) -> Result<Did, NoMemory>
-    ensures { (workers : List (ℕ × WorkerState)) → StepOutcome (Step.Bytes number piece.entry) result
+    ensures { (workers : List (ℕ × WorkerState)) → StepOutcome (Step.Bytes number piece.entry)
+        result
         (record {
           cluster = cluster.old.flat;
           connections = connections.old.entries;

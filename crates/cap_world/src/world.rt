@@ -119,8 +119,8 @@ impl World {
     /// requests before the refusal were answered and their events appended. A `Propose` takes no memory, nor does the `Commit` of
     /// a proposal that is rejected.
     pub fn step(&mut self, step: Step, events: &mut Vec<Event<RESOURCES>>) -> Result<Did, NoMemory>
-        ensures outcome { StepOutcome step.entry result self.old.sight self.new.sight events.old.items
-            events.new.items }
+        ensures outcome { StepOutcome step.entry result self.old.sight self.new.sight
+            events.old.items events.new.items }
         ensures adds { Adds self.old self.new events.old.items events.new.items }
         ensures headline { IsWorld self.new }
     {
