@@ -1,12 +1,12 @@
 //! The commands that read standard input, print, and need no thread: `replay`, `check` and `explain`. Words in, exit status out (`run`).
 #![tactic(auto)]
 
-mod command_line;
+mod commands;
 mod input;
 mod streams;
 mod texts;
 
 pub use cap_replay::replay;
 pub use cap_session::Counted;
-pub use command_line::{command_line, explain_failure, perform, report, run};
+pub use commands::{command_line, explain_failure, perform, report, run};
 pub use texts::{complain, print};

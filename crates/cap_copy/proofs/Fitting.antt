@@ -7,8 +7,8 @@ use Rattle.cap_model.specs.contracts.ask.Ask as ask
 use Rattle.cap_model.specs.contracts.container.Reservation as reservation
 use Rattle.cap_nodes.specs.contracts.nodes.Nodes as nodes
 use Rattle.cap_nodes.proofs.Sizes.{container_fits}
-use Rattle.cap_copy.specs.contracts.limits.SeenQueue as seen_queue
-use Rattle.cap_copy.specs.contracts.limits.SeenUser as seen_user
+use Rattle.cap_copy.specs.contracts.seen_limits.SeenQueue as seen_queue
+use Rattle.cap_copy.specs.contracts.seen_limits.SeenUser as seen_user
 use Rattle.cap_copy.specs.contracts.seen.SeenAsk as seen_ask
 use Rattle.cap_copy.specs.contracts.seen.SeenNode as seen_node
 

@@ -3,7 +3,7 @@ use Rattle.std.specs.Borrow.{RattleType}
 use Rattle.std.specs.Mem.{FitsInMemory}
 use Rattle.std.specs.declared.alloc.Allocator.{Ghosts}
 use Rattle.cap_copy.specs.contracts.snapshot.Snapshot as snapshot
-use Rattle.cap_copy.specs.contracts.limits.Limits as limits
+use Rattle.cap_copy.specs.contracts.seen_limits.SeenLimits as limits
 
 -- the types of a snapshot and of its limits are no larger than memory, as is so wherever a value of them exists
 pub record CopyFitsInMemory (K A : RattleType) (alloc : Ghosts A.Denot) : Type 0 where

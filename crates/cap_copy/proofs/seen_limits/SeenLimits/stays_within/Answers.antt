@@ -7,7 +7,7 @@ use Rattle.cap_tree.proofs.Within.{fits_once, fits_times}
 use Rattle.cap_copy.specs.Limits.{fits_in_queue, limit_at, no_user}
 use Rattle.cap_copy.specs.Snapshot.{Limit}
 use Rattle.cap_copy.proofs.Limiting.{fails_one, passes_more, way_fails, way_passes, way_of}
-use Rattle.cap_copy.proofs.seen_limits.Limits.stays_within.Goals as goal
+use Rattle.cap_copy.proofs.seen_limits.SeenLimits.stays_within.Goals as goal
 
 pub returns-then-not-fits_exchanged : goal.returns-then-not-fits_exchanged
 returns-then-not-fits_exchanged g c =
