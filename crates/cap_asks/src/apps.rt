@@ -82,8 +82,6 @@ impl<const K: usize> Apps<K> {
     ) -> Result<u64, NoMemory>
         requires { self.old.table.next < number_end }
         ensures number { IfOk result (λ number. number ≡ self.old.table.next) }
-        ensures rising { IsRising 1 (map (λ app. app.number) self.old.table.active)
-            self.old.table.next }
         ensures table { OnOk result (self.new.table ≡ add_app leaf.now user.now self.old.table) }
         ensures accounts { OnOk result (Enters position.items self.old self.new) }
         ensures succeeds { 1 ≤ self.old.vacant → IsOk result }
@@ -100,24 +98,27 @@ impl<const K: usize> Apps<K> {
         Ok(number)
     }
 
-    /// How many are active. All have numbers from 1 that rise and are below the next.
+    /// The numbers rise from 1, and are below the next. This does nothing: it is there for what its clause says.
+    pub fn numbers_rise(&self)
+        ensures { IsRising 1 (map (λ app. app.number) self.now.table.active) self.now.table.next }
+    {
+        let _ = &self.active;
+    }
+
+    /// How many are active.
     pub fn count(&self) -> usize
-        ensures value { result ≡ length self.now.table.active }
-        ensures rising { IsRising 1 (map (λ app. app.number) self.now.table.active)
-            self.now.table.next }
+        ensures { result ≡ length self.now.table.active }
     {
         self.active.len()
     }
 
-    /// The active application at an index, in order of number. All have numbers from 1 that rise and are below the next.
+    /// The active application at an index, in order of number.
     pub fn nth(&self, index: usize) -> &App<K>
         requires { index < length self.now.table.active }
         ensures app { slice_get self.now.table.active index ≡ Some result.now.app }
         ensures found { app_in self.now.table result.now.app.number ≡ Some result.now.app }
         ensures account { account_of result.now.app.number self.now.accounts
             ≡ Some result.now.account }
-        ensures rising { IsRising 1 (map (λ app. app.number) self.now.table.active)
-            self.now.table.next }
     {
         &self.active[index]
     }
@@ -129,14 +130,11 @@ impl<const K: usize> Apps<K> {
         self.next
     }
 
-    /// The active application of this number, none where there is none. All that are active have numbers from 1 that rise and are
-    /// below the next.
+    /// The active application of this number, none where there is none.
     pub fn app(&self, n: u64) -> Option<&App<K>>
         ensures found { option_map (λ app. app.now.app) result ≡ app_in self.now.table n }
         ensures account { option_map (λ app. app.now.account) result
             ≡ account_of n self.now.accounts }
-        ensures rising { IsRising 1 (map (λ app. app.number) self.now.table.active)
-            self.now.table.next }
     {
         self.active.get(&n)
     }
@@ -236,8 +234,6 @@ impl<const K: usize> Apps<K> {
     /// the reply, whose numbers are the result, is kept. `ignored` is how many releases of the request named nothing. Where none of
     /// this number is active, nothing changes, and the numbers are 0.
     pub fn tell(&mut self, n: u64, ignored: u16) -> Reported
-        ensures rising { IsRising 1 (map (λ app. app.number) self.old.table.active)
-            self.old.table.next }
         ensures table { self.new.table ≡ change_app n (after_next_reply ignored) self.old.table }
         ensures accounts { UsesRoom n 0 0 0 self.old.accounts self.new.accounts }
         ensures told { IsSome (app_in self.old.table n) → KeepsNumbers n self.new.table result }

@@ -46,6 +46,7 @@ impl<const K: usize> Cluster<K> {
         ensures account { IfSome result
             (λ app. account_of number self.now.accounts ≡ Some app.now.account) }
     {
+        self.apps.numbers_rise();
         let Some(app) = self.apps.app(number) else {
             return None;
         };
@@ -146,6 +147,7 @@ impl<const K: usize> Cluster<K> {
         requires { proposed_ask (sight_of self.now.flat) proposal.now ≡ Some ask.now }
         ensures { result ≡ is_wanted (sight_of self.now.flat) proposal.now }
     {
+        self.nodes.numbers_rise();
         ask.count() as usize > self.nodes.reserved_for(proposal.app(), &ask.key())
     }
 

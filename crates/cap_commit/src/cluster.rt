@@ -204,6 +204,7 @@ impl<const K: usize> Cluster<K> {
         ensures ok { OnOk result (self.new.flat ≡ after_submit self.old.flat path.now user.now) }
         ensures err { OnErr result (self.new ≡ self.old) }
     {
+        self.apps.numbers_rise();
         match self.apps.reserve() {
             Ok(()) => {}
             Err(NoMemory) => return Err(NoMemory),
@@ -291,6 +292,7 @@ impl<const K: usize> Cluster<K> {
         ensures reply { IsSome (app_at self.old.flat number)
             → KeepsNumbers number self.new.flat.apps result }
     {
+        self.apps.numbers_rise();
         self.apps.tell(number, ignored)
     }
 
@@ -303,6 +305,7 @@ impl<const K: usize> Cluster<K> {
     {
         let ended = self.end_all(Owner::Application(number), Cause::Released);
         self.unreserve_app(number);
+        self.apps.numbers_rise();
         let Some(app) = self.apps.app(number) else {
             unreachable!()
         };

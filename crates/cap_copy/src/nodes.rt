@@ -1,6 +1,5 @@
 //! The nodes of a snapshot, in order of number and in one piece of memory (`seen_nodes`).
 ghost use Rattle.std.specs.Prelude.{◌≡◌, IfOk, map};
-ghost use Rattle.cap_base.specs.Members.{IsRising};
 ghost use Rattle.cap_copy.specs.Taking.{node_seen};
 
 use crate::seen::SeenNode;
@@ -8,15 +7,12 @@ use cap_model::NoMemory;
 use cap_nodes::Nodes;
 use std::alloc::Allocator;
 
-/// The nodes that are present, in order of number, in one piece of memory. An error means that an allocation failed. All have
-/// numbers from 1 that rise and are below the next.
+/// The nodes that are present, in order of number, in one piece of memory. An error means that an allocation failed.
 pub(crate) fn seen_nodes<const K: usize, B: Allocator + Copy>(
     alloc: B,
     nodes: &Nodes<K>,
 ) -> Result<Vec<SeenNode<K>, B>, NoMemory>
-    ensures entries { IfOk result
-        (λ seen. seen.items ≡ map (node_seen K nodes.now) nodes.now.present) }
-    ensures rising { IsRising 1 (map (λ node. node.number) nodes.now.present) nodes.now.next_node }
+    ensures { IfOk result (λ seen. seen.items ≡ map (node_seen K nodes.now) nodes.now.present) }
 {
     let Ok(mut seen) = Vec::with_capacity(alloc, nodes.count()) else {
         return Err(NoMemory);

@@ -1,7 +1,6 @@
 //! The registered applications of a cluster, by reference, and where they wait (`Registered`, `waiters`).
 ghost use Rattle.std.specs.Prelude.{◌≡◌, ◌≤◌, Some, IfOk, length, map};
 ghost use Rattle.std.specs.List.{All};
-ghost use Rattle.cap_base.specs.Members.{IsRising};
 ghost use Rattle.cap_base.specs.Limits.{applications_max};
 ghost use Rattle.cap_asks.specs.Apps.{account_of};
 ghost use Rattle.cap_copy.specs.Entries.{registered_of};
@@ -36,8 +35,7 @@ impl<'a, const K: usize> Registered<'a, K> {
     }
 }
 
-/// The registered applications, in order of number, in one piece of memory. An error means that an allocation failed. All that
-/// are active have numbers from 1 that rise and are below the next.
+/// The registered applications, in order of number, in one piece of memory. An error means that an allocation failed.
 pub(crate) fn registered_apps<'a, const K: usize, B: Allocator + Copy>(
     alloc: B,
     apps: &'a Apps<K>,
@@ -46,8 +44,6 @@ pub(crate) fn registered_apps<'a, const K: usize, B: Allocator + Copy>(
         map (λ r. r.app) seen.items ≡ registered_of apps.now.table.active) }
     ensures accounts { IfOk result (λ seen. All
         (λ r. account_of r.app.number apps.now.accounts ≡ Some r.account) seen.items) }
-    ensures rising { IsRising 1 (map (λ app. app.number) apps.now.table.active)
-        apps.now.table.next }
 {
     let Ok(mut seen) = Vec::with_capacity(alloc, apps.count()) else {
         return Err(NoMemory);

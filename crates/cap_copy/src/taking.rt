@@ -41,6 +41,8 @@ impl<const K: usize, B: Allocator + Copy> Snapshot<K, B> {
         ensures { IfOk result (λ snapshot.
             IsSnapshotOf K tree.now apps.now.table nodes.now snapshot) }
     {
+        apps.numbers_rise();
+        nodes.numbers_rise();
         let registered = match registered_apps(alloc, apps) {
             Ok(registered) => registered,
             Err(NoMemory) => return Err(NoMemory),

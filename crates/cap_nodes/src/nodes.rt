@@ -74,13 +74,10 @@ impl<const K: usize> Nodes<K> {
         }
     }
 
-    /// The node of this number, none where none is present. All have numbers from 1 that rise and are below the next, what the
-    /// live containers on each hold fits its total, each live container is on one of them, and they have at most 2^40 together in
-    /// each resource.
+    /// The node of this number, none where none is present. What the live containers on each hold fits its total, each live
+    /// container is on one of them, and they have at most 2^40 together in each resource.
     pub fn node(&self, number: u64) -> Option<&Node<K>>
         ensures found { option_copied result ≡ node_in self.now number }
-        ensures rising { IsRising 1 (map (λ node. node.number) self.now.present)
-            self.now.next_node }
         ensures held { All (λ node. fits (held_on K self.now node.number) node.total ≡ true)
             self.now.present }
         ensures homes { All (λ c. IsSome (node_in self.now c.node)) self.now.live }
@@ -92,23 +89,29 @@ impl<const K: usize> Nodes<K> {
         }
     }
 
-    /// The node at an index, in order of number. All have numbers from 1 that rise and are below the next.
+    /// The node at an index, in order of number.
     pub fn nth(&self, index: usize) -> &Node<K>
         requires { index < length self.now.present }
         ensures at { slice_get self.now.present index ≡ Some result.now }
         ensures found { node_in self.now result.now.number ≡ Some result.now }
-        ensures rising { IsRising 1 (map (λ node. node.number) self.now.present)
-            self.now.next_node }
     {
         self.present.nth(index).node()
     }
 
-    /// How many nodes are present. All have numbers from 1 that rise and are below the next.
+    /// The numbers of the nodes rise from 1 and are below the next, and so are those of the live containers. This does nothing: it
+    /// is there for what its clauses say.
+    pub fn numbers_rise(&self)
+        ensures nodes { IsRising 1 (map (λ node. node.number) self.now.present) self.now.next_node }
+        ensures containers { IsRising 1 (map (λ c. c.number) self.now.live)
+            self.now.next_container }
+    {
+        self.live.numbers_rise();
+    }
+
+    /// How many nodes are present.
     pub fn count(&self) -> usize
         ensures value { result ≡ length self.now.present }
         ensures few { result ≤ nodes_max }
-        ensures rising { IsRising 1 (map (λ node. node.number) self.now.present)
-            self.now.next_node }
     {
         self.present.count()
     }
@@ -142,12 +145,10 @@ impl<const K: usize> Nodes<K> {
         self.present.is_host_taken(host)
     }
 
-    /// The live container of this number, none where none is live. Each is on a present node, and all have numbers from 1 that rise
-    /// and are below the next.
+    /// The live container of this number, none where none is live. Each is on a present node.
     pub fn container(&self, number: u64) -> Option<Container<K>>
         ensures found { result ≡ container_in self.now number }
         ensures own { IfSome result (λ c. container_in self.now c.number ≡ Some c) }
-        ensures rising { IsRising 1 (map (λ c. c.number) self.now.live) self.now.next_container }
         ensures homes { All (λ c. IsSome (node_in self.now c.node)) self.now.live }
     {
         self.live.get(number)
@@ -164,6 +165,7 @@ impl<const K: usize> Nodes<K> {
     pub fn reservation_on(&self, node: u64) -> Option<Reservation<K>>
         ensures { result ≡ find (λ r. r.node == node) self.now.reserved }
     {
+        self.reserved.numbers_rise();
         let Some(container) = self.reserved.next_on_node(node, 0) else {
             return None;
         };
@@ -174,6 +176,7 @@ impl<const K: usize> Nodes<K> {
     pub fn reservation_of_app(&self, app: u64) -> Option<Reservation<K>>
         ensures { result ≡ find (λ r. r.app == app) self.now.reserved }
     {
+        self.reserved.numbers_rise();
         let Some(container) = self.reserved.next_of_app(app, 0) else {
             return None;
         };
@@ -191,12 +194,9 @@ impl<const K: usize> Nodes<K> {
         Some(reservation_of(&container))
     }
 
-    /// How many reservations there are for a key of an application. It looks at the reservations for the application alone. All
-    /// nodes have numbers from 1 that rise and are below the next.
+    /// How many reservations there are for a key of an application. It looks at the reservations for the application alone.
     pub fn reserved_for(&self, app: u64, key: &Key) -> usize
-        ensures count { result ≡ length (filter (is_for app key.now) self.now.reserved) }
-        ensures rising { IsRising 1 (map (λ node. node.number) self.now.present)
-            self.now.next_node }
+        ensures { result ≡ length (filter (is_for app key.now) self.now.reserved) }
     {
         self.reserved.count_for(app, key)
     }
@@ -295,6 +295,7 @@ impl<const K: usize> Nodes<K> {
         requires { container_in self.old container.now.number ≡ Some container.now }
         ensures { self.new ≡ complete (container.now ∷ []) self.old }
     {
+        self.live.numbers_rise();
         self.live.remove(container.number());
         self.present.lift(container.node(), &container.resource());
     }
@@ -329,6 +330,7 @@ impl<const K: usize> Nodes<K> {
         ensures { self.new ≡ record self.old
             { reserved = filter (λ r. not (r.node == node)) self.old.reserved } }
     {
+        self.reserved.numbers_rise();
         if let Some(container) = self.reserved.next_on_node(node, 0) {
             self.reserved.remove(container.number());
         }

@@ -1,9 +1,8 @@
 //! The nodes that are present, found by number and by index (`Present`).
-ghost use Rattle.std.specs.Prelude.{◌≡◌, ◌+◌, ◌<◌, ◌≤◌, [], Some, None, option_and_then, ◌==◌, IsSome, IfSome, IfOk, OnErr, bytes_eq, length, map, filter, not};
+ghost use Rattle.std.specs.Prelude.{◌≡◌, ◌+◌, ◌<◌, ◌≤◌, [], Some, None, option_and_then, ◌==◌, IsSome, IfSome, IfOk, OnErr, bytes_eq, length, filter, not};
 ghost use Rattle.std.specs.List.{list_any, slice_get};
 ghost use Rattle.std.specs.Option.{option_copied};
 ghost use Rattle.cap_vector.specs.Vector.{plus};
-ghost use Rattle.cap_base.specs.Members.{IsRising};
 ghost use Rattle.cap_base.specs.Limits.{nodes_max, number_end};
 ghost use Rattle.cap_nodes.specs.Loads.{CanHold, HasOne, load_at, held_more, held_less, beaten_load, add_load, with_load};
 
@@ -54,8 +53,7 @@ impl<const K: usize> Present<K> {
 
     /// The node of this number, none where none is present.
     pub(crate) fn get(&self, number: u64) -> Option<&Load<K>>
-        ensures found { option_copied result ≡ load_at self.now.loads number }
-        ensures rising { IsRising 1 (map (λ p. p.node.number) self.now.loads) self.now.next }
+        ensures { option_copied result ≡ load_at self.now.loads number }
     {
         self.loads.get(&number)
     }
@@ -79,8 +77,7 @@ impl<const K: usize> Present<K> {
 
     /// The number of the next.
     pub(crate) fn next(&self) -> u64
-        ensures value { result ≡ self.now.next }
-        ensures rising { IsRising 1 (map (λ p. p.node.number) self.now.loads) self.now.next }
+        ensures { result ≡ self.now.next }
     {
         self.next
     }
@@ -109,7 +106,6 @@ impl<const K: usize> Present<K> {
         ensures ok { IfOk result (λ number. (number ≡ self.old.next)
             × (self.new ≡ add_load K host.now rack.now total.now self.old)) }
         ensures err { OnErr result (self.new ≡ self.old) }
-        ensures rising { IsRising 1 (map (λ p. p.node.number) self.old.loads) self.old.next }
     {
         let number = self.next;
         let load = Load {
@@ -132,7 +128,6 @@ impl<const K: usize> Present<K> {
         ensures more { self.new ≡ with_load number (held_more resource.now) self.old }
         ensures count { IfSome (load_at self.old.loads number)
             (λ p. length (plus p.held resource.now) ≡ K) }
-        ensures rising { IsRising 1 (map (λ p. p.node.number) self.old.loads) self.old.next }
     {
         match self.loads.get_mut(&number) {
             Some(load) => load.hold(resource),
@@ -144,8 +139,7 @@ impl<const K: usize> Present<K> {
     pub(crate) fn lift(&mut self, number: u64, resource: &Resource<K>)
         requires present { IsSome (load_at self.old.loads number) }
         requires one { IfSome (load_at self.old.loads number) (HasOne resource.now) }
-        ensures less { self.new ≡ with_load number (held_less resource.now) self.old }
-        ensures rising { IsRising 1 (map (λ p. p.node.number) self.old.loads) self.old.next }
+        ensures { self.new ≡ with_load number (held_less resource.now) self.old }
     {
         match self.loads.get_mut(&number) {
             Some(load) => load.lift(resource),

@@ -68,7 +68,9 @@ pub fn heartbeat<const K: usize>(
         result cluster.new.flat }
     ensures numbers { HasNumbers cluster.new.flat result }
 {
-    let Some(found) = cluster.nodes().node(node) else {
+    let nodes = cluster.nodes();
+    nodes.numbers_rise();
+    let Some(found) = nodes.node(node) else {
         return Reply::Refused(Refusal::UnknownNode);
     };
     if found.is_bad_id(response) {

@@ -53,8 +53,8 @@ free_at-requires g c = let t = c.loop-index-test.true in let n = c.count-index-e
 pub reservation_on-requires : goal.reservation_on-requires
 reservation_on-requires g c = search reservation_by_nodes
 
-pub returns-clause-entries : goal.returns-clause-entries
-returns-clause-entries g c =
+pub returns : goal.returns
+returns g c =
     let f = c.loop-index-test.false in
     let n = c.count-index-end.ensures.value in
     c.loop-index.invariant.entries ∙ ap (map (node_seen g.row.K c.args.nodes.now)) (take_all c.loop-index.index c.args.nodes.now.present (omega (arith, f, n)))

@@ -22,7 +22,7 @@ pub returns-then-settings-count-clause-err : goal.returns-then-settings-count-cl
 returns-then-settings-count-clause-err g c =
     let rows = c.tree-tree.result.now in
     let queues = ap queues_of c.tree-tree.ensures.rows ∙ c.tree-tree.ensures.queues in
-    let count = c.count.ensures.value ∙ ap (λ (t : AppTable). length t.active) c.apps.ensures.table in
+    let count = c.count.ensures ∙ ap (λ (t : AppTable). length t.active) c.apps.ensures.table in
     let limit = c.settings.ensures.apps in
     let full = c.if-settings-count.true in
     rw c.as_bytes.ensures.value at (is_full c.args.cluster.now.flat rows c.as_bytes.result.now c.in-Leaf.position.items queues c.in-Leaf.ensures.found.0 c.in-Leaf.ensures.found.1 (sym c.running.ensures ∙ c.if-not-running.false) (omega (arith, count, limit, full)))
@@ -31,7 +31,7 @@ pub returns-then-next-ge-NUMBER_END-clause-err : goal.returns-then-next-ge-NUMBE
 returns-then-next-ge-NUMBER_END-clause-err g c =
     let rows = c.tree-tree.result.now in
     let queues = ap queues_of c.tree-tree.ensures.rows ∙ c.tree-tree.ensures.queues in
-    let count = c.count.ensures.value ∙ ap (λ (t : AppTable). length t.active) c.apps.ensures.table in
+    let count = c.count.ensures ∙ ap (λ (t : AppTable). length t.active) c.apps.ensures.table in
     let limit = c.settings.ensures.apps in
     let room = c.if-settings-count.false in
     let next = c.next.ensures ∙ ap (λ (t : AppTable). t.next) c.apps-2.ensures.table in
@@ -42,7 +42,7 @@ pub returns-clause-ok : goal.returns-clause-ok
 returns-clause-ok g c =
     let rows = c.tree-tree.result.now in
     let queues = ap queues_of c.tree-tree.ensures.rows ∙ c.tree-tree.ensures.queues in
-    let count = c.count.ensures.value ∙ ap (λ (t : AppTable). length t.active) c.apps.ensures.table in
+    let count = c.count.ensures ∙ ap (λ (t : AppTable). length t.active) c.apps.ensures.table in
     let limit = c.settings.ensures.apps in
     let room = c.if-settings-count.false in
     let next = c.next.ensures ∙ ap (λ (t : AppTable). t.next) c.apps-2.ensures.table in

@@ -8,22 +8,22 @@ use Rattle.cap_trackers.proofs.Beating.{node_shown, node_missing, unrefused, is_
 use Rattle.cap_trackers.proofs.node_calls.heartbeat.Goals as goal
 
 pub returns-in_default-clause-replies : goal.returns-in_default-clause-replies
-returns-in_default-clause-replies g c = unknown_refused c.args.cluster.now.flat c.args.node c.args.response c.args.ended.now (node_missing c.args.cluster.now.flat c.nodes.result.now c.args.node c.nodes.ensures.value c.in_default.ensures.found)
+returns-in_default-clause-replies g c = unknown_refused c.args.cluster.now.flat c.args.node c.args.response c.args.ended.now (node_missing c.args.cluster.now.flat c.nodes-nodes.result.now c.args.node c.nodes-nodes.ensures.value c.in_default.ensures.found)
 
 pub returns-then-is_bad_id-clause-replies : goal.returns-then-is_bad_id-clause-replies
 returns-then-is_bad_id-clause-replies g c =
-    let there = node_shown c.args.cluster.now.flat c.nodes.result.now c.args.node c.in-Some.found.now c.nodes.ensures.value c.in-Some.ensures.found in
+    let there = node_shown c.args.cluster.now.flat c.nodes-nodes.result.now c.args.node c.in-Some.found.now c.nodes-nodes.ensures.value c.in-Some.ensures.found in
     bad_refused c.args.cluster.now.flat c.args.node c.args.response c.args.ended.now c.in-Some.found.now there (sym c.is_bad_id.ensures ∙ c.if-is_bad_id.true)
 
 pub beat-reply-requires : goal.beat-reply-requires
 beat-reply-requires g c =
-    let there = node_shown c.args.cluster.now.flat c.nodes.result.now c.args.node c.in-Some.found.now c.nodes.ensures.value c.in-Some.ensures.found in
+    let there = node_shown c.args.cluster.now.flat c.nodes-nodes.result.now c.args.node c.in-Some.found.now c.nodes-nodes.ensures.value c.in-Some.ensures.found in
     ((search), rw (c.end_named-ignored.ensures.ended, there) refl)
 
 pub returns-in-Some-repeated-clause-replies : goal.returns-in-Some-repeated-clause-replies
 returns-in-Some-repeated-clause-replies g c =
     let old = c.args.cluster.now.flat in
-    let there = node_shown old c.nodes.result.now c.args.node c.in-Some.found.now c.nodes.ensures.value c.in-Some.ensures.found in
+    let there = node_shown old c.nodes-nodes.result.now c.args.node c.in-Some.found.now c.nodes-nodes.ensures.value c.in-Some.ensures.found in
     let none = unrefused old c.args.node c.args.response c.in-Some.found.now there (sym c.is_bad_id.ensures ∙ c.if-is_bad_id.false) in
     let repeats = repeats_it old c.args.node c.args.response c.in-Some.found.now c.in-Some-repeated.reply c.in-Some-repeated.ensures in
     let again = is_again old c.args.node c.args.response c.in-Some.found.now true there repeats.0 in
@@ -34,19 +34,22 @@ pub returns-clause-replies : goal.returns-clause-replies
 returns-clause-replies g c =
     let old = c.args.cluster.now.flat in
     let x = c.in-Some.found.now in
-    let there = node_shown old c.nodes.result.now c.args.node x c.nodes.ensures.value c.in-Some.ensures.found in
+    let there = node_shown old c.nodes-nodes.result.now c.args.node x c.nodes-nodes.ensures.value c.in-Some.ensures.found in
     let none = unrefused old c.args.node c.args.response x there (sym c.is_bad_id.ensures ∙ c.if-is_bad_id.false) in
-    let rising = subst (λ (t : NodeTable). IsRising 1 (map (λ node. node.number) t.present) t.next_node) c.nodes.ensures.value c.in-Some.ensures.rising in
+    let rising = subst (λ (t : NodeTable). IsRising 1 (map (λ node. node.number) t.present) t.next_node) c.nodes-nodes.ensures.value c.numbers_rise.ensures.nodes in
     let fresh = is_again old c.args.node c.args.response x false there (repeats_none old c.args.node c.args.response x c.in_default-repeated.ensures) in
     told_is old c.args.node c.args.response c.args.ended.now c.beat-reply.new.self.flat c.beat-reply.result none c.beat-reply.ensures.reply
-    (processed old c.args.node c.args.response c.args.ended.now rising c.nodes.ensures.numbers none fresh c.end_named-ignored.new.self.flat c.beat-reply.new.self.flat c.end_named-ignored.result
+    (processed old c.args.node c.args.response c.args.ended.now rising c.nodes-nodes.ensures.numbers none fresh c.end_named-ignored.new.self.flat c.beat-reply.new.self.flat c.end_named-ignored.result
     (rw c.as_slice.ensures.value at c.end_named-ignored.ensures.ended)
     (rw c.as_slice.ensures.value at c.end_named-ignored.ensures.ignored)
     c.beat-reply.ensures.flat
     ∙ ap (λ b. if b then old else after_processed_heartbeat old c.args.node c.args.response c.args.ended.now) (sym fresh))
 
-pub nodes-requires : goal.nodes-requires
-nodes-requires g c = search nodes_in_cluster
+pub nodes-nodes-requires : goal.nodes-nodes-requires
+nodes-nodes-requires g c = search nodes_in_cluster
+
+pub numbers_rise-requires : goal.numbers_rise-requires
+numbers_rise-requires g c = search nodes_in_cluster
 
 pub node-requires : goal.node-requires
 node-requires g c = search (nodes_in_cluster, node_in_cluster)

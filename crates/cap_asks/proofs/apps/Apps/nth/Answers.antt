@@ -1,7 +1,7 @@
 use Rattle.std.proofs.Common.{ap, ◌∙◌}
 use Rattle.std.specs.Prelude.{option_map}
 use Rattle.cap_asks.specs.Accounts.{HeldApp}
-use Rattle.cap_asks.proofs.Entries.{app_found, account_there, numbers_rise, nth_is}
+use Rattle.cap_asks.proofs.Entries.{app_found, account_there, nth_is}
 use Rattle.cap_asks.proofs.apps.Apps.nth.Goals as goal
 
 pub returns-clause-app : goal.returns-clause-app
@@ -16,6 +16,3 @@ pub returns-clause-account : goal.returns-clause-account
 returns-clause-account g c =
     let is = nth_is c.args.index 1 c.self.inside.next c.self.inside.active.entries c.index.result.now c.self.invariant c.index.ensures in
     rw (← c.self.view_is) (account_there c.index.result.now.app.number c.self.inside.active.entries c.index.result.now is.own)
-
-pub returns-clause-rising : goal.returns-clause-rising
-returns-clause-rising g c = rw (← c.self.view_is) (numbers_rise 1 c.self.inside.next c.self.inside.active.entries c.self.invariant)

@@ -2,7 +2,7 @@ use Rattle.std.proofs.Common.{◌+◌, ◌∷◌, [], ◌++◌, ap, ◌∙◌}
 use Rattle.std.specs.Prelude.{nat_eq}
 use Rattle.cap_model.specs.Flat.{App}
 use Rattle.indexmap.proofs.CallerLemmas.{insert_entry-new}
-use Rattle.cap_asks.proofs.Entries.{apps_of, numbers_rise, next_absent, numbered_push, apps_push, account_entered}
+use Rattle.cap_asks.proofs.Entries.{apps_of, next_absent, numbered_push, apps_push, account_entered}
 use Rattle.cap_asks.proofs.apps.Apps.submit.Goals as goal
 
 pub invariant_of-self-2 : goal.invariant_of-self-2
@@ -23,9 +23,3 @@ returns-clause-accounts g c =
     let absent = next_absent 1 c.self.inside.next c.self.inside.active.entries c.self.invariant in
     let entries = c.in-Ok.ensures.entries ∙ insert_entry-new nat_eq c.self.inside.active c.self.inside.next c.new-app.result absent in
     rw (← c.self.view_is) (account_entered c.self.inside.next c.args.position.items c.self.inside.active.entries _ c.new-app.result absent entries c.new-app.ensures.account)
-
-pub returns-in-Err-clause-rising : goal.returns-in-Err-clause-rising
-returns-in-Err-clause-rising g c = rw (← c.self.view_is) (numbers_rise 1 c.self.inside.next c.self.inside.active.entries c.self.invariant)
-
-pub returns-clause-rising : goal.returns-clause-rising
-returns-clause-rising g c = rw (← c.self.view_is) (numbers_rise 1 c.self.inside.next c.self.inside.active.entries c.self.invariant)

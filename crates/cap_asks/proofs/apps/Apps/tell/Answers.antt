@@ -3,7 +3,7 @@ use Rattle.std.specs.Prelude.{nat_eq}
 use Rattle.std.specs.Map.{set_value}
 use Rattle.cap_model.specs.Flat.{App}
 use Rattle.cap_model.specs.Allocate.{after_telling}
-use Rattle.cap_asks.proofs.Entries.{apps_of, numbers_rise, none_changed, one_changed, still_numbered, one_uses, found_after, kept_now, missing_app}
+use Rattle.cap_asks.proofs.Entries.{apps_of, none_changed, one_changed, still_numbered, one_uses, found_after, kept_now, missing_app}
 use Rattle.cap_asks.proofs.apps.Apps.tell.Goals as goal
 
 pub returns-in_default-clause-table : goal.returns-in_default-clause-table
@@ -29,12 +29,6 @@ returns-clause-accounts g c =
     let found = sym c.in-Some.ensures.value in
     let entries = (c.get_mut.follows.holds c.tell.new.self).0 in
     rw (← c.self.view_is, entries) (one_uses c.args.n 0 0 0 c.self.inside.active.entries c.in-Some.app.now c.tell.new.self found c.tell.ensures.account)
-
-pub returns-in_default-clause-rising : goal.returns-in_default-clause-rising
-returns-in_default-clause-rising g c = rw (← c.self.view_is) (numbers_rise 1 c.self.inside.next c.self.inside.active.entries c.self.invariant)
-
-pub returns-clause-rising : goal.returns-clause-rising
-returns-clause-rising g c = rw (← c.self.view_is) (numbers_rise 1 c.self.inside.next c.self.inside.active.entries c.self.invariant)
 
 pub returns-in_default-clause-told : goal.returns-in_default-clause-told
 returns-in_default-clause-told g c = λ there. missing_app 1 c.args.n c.self.inside.next c.self.inside.active.entries c.self.invariant (sym c.in_default.ensures.value) (rw (← c.self.view_is) at there)

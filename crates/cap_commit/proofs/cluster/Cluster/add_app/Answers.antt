@@ -31,8 +31,7 @@ invariant_of-self-2 g c =
     let rows = (rw c.deref_mut-tree.ensures.value at c.in-Ok-enter.ensures.ok) ∙ ap (λ p. map (entered_row g.row.K p c.args.user.now) x.tree.value) at.path_is in
     let table = c.in-Ok-submit.ensures.table ∙ ap (add_app c.args.path.now c.args.user.now) c.in-Ok.ensures.table in
     let accounts = rw (c.in-Ok.ensures.table, c.in-Ok.ensures.accounts) at c.in-Ok-submit.ensures.accounts in
-    let rising = rw c.in-Ok.ensures.table at c.in-Ok-submit.ensures.rising in
-    rw rows (held_entered _ c.self.invariant c.args.path.now c.args.user.now c.args.position.items c.submit.new.self rising (rw (← c.self.view_is) at c.requires.free) at table accounts)
+    rw rows (held_entered _ c.self.invariant c.args.path.now c.args.user.now c.args.position.items c.submit.new.self c.numbers_rise.ensures (rw (← c.self.view_is) at c.requires.free) at table accounts)
 
 pub returns-clause-ok : goal.returns-clause-ok
 returns-clause-ok g c =

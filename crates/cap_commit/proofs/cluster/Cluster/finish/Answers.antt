@@ -35,7 +35,7 @@ leave-requires g c =
       (
         omega arith,
         rw (c.deref_mut-tree.ensures.value, c.user.ensures, position)
-            (may_go _ c.self.invariant c.args.number c.in-Some.app.now.app c.in-Some.ensures.rising (sym c.in-Some.ensures.found) none bare),
+            (may_go _ c.self.invariant c.args.number c.in-Some.app.now.app c.numbers_rise.ensures (sym c.in-Some.ensures.found) none bare),
       ),
     )
 
@@ -51,7 +51,7 @@ invariant_of-self g c =
     let position = c.position.ensures ∙ position_is _ c.self.invariant c.args.number c.in-Some.app.now c.in-Some.ensures.found c.in-Some.ensures.account in
     let path = ap (λ q. path_at q x.tree.value) position ∙ (placed_at _ c.self.invariant c.args.number app (sym c.in-Some.ensures.found)).position.path_is in
     let rows = (rw c.deref_mut-tree.ensures.value at c.leave.ensures) ∙ (λ i. map (left_row g.row.K (path i) (c.user.ensures i)) x.tree.value) in
-    rw rows (held_left _ c.self.invariant c.args.number app c.in-Some.ensures.rising (sym c.in-Some.ensures.found) none bare c.finish.new.self c.finish.ensures.table c.finish.ensures.accounts)
+    rw rows (held_left _ c.self.invariant c.args.number app c.numbers_rise.ensures (sym c.in-Some.ensures.found) none bare c.finish.new.self c.finish.ensures.table c.finish.ensures.accounts)
 
 pub returns-clause-finished : goal.returns-clause-finished
 returns-clause-finished g c =

@@ -10,7 +10,7 @@ invariant_of-self g c =
     held_app _ c.self.invariant c.args.number 0 c.tell.new.self (λ (app : App). after_telling app.response c.args.ignored app) (record { number = λ a. refl; leaf = λ a. refl; user = λ a. refl }) c.tell.ensures.table c.tell.ensures.accounts
 
 pub returns-clause-told : goal.returns-clause-told
-returns-clause-told g c = rw (← c.self.view_is) (told_is _ _ c.args.number c.args.ignored c.tell.ensures.rising c.tell.ensures.table)
+returns-clause-told g c = rw (← c.self.view_is) (told_is _ _ c.args.number c.args.ignored c.numbers_rise.ensures c.tell.ensures.table)
 
 pub returns-clause-unknown : goal.returns-clause-unknown
 returns-clause-unknown g c = rw (← c.self.view_is) (λ none. unknown_is _ _ c.args.number c.args.ignored c.tell.ensures.table none)

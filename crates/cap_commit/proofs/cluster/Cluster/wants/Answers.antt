@@ -5,8 +5,11 @@ use Rattle.cap_commit.proofs.cluster.Cluster.wants.Goals as goal
 
 pub returns : goal.returns
 returns g c =
-    rw (← c.self.view_is, c.count.ensures, c.reserved_for.ensures.count, c.app.ensures, c.key.ensures)
-    (sym (wants_seen _ c.self.invariant c.reserved_for.ensures.rising c.args.proposal.now c.args.ask.now (rw (← c.self.view_is) at c.requires)))
+    rw (← c.self.view_is, c.count.ensures, c.reserved_for.ensures, c.app.ensures, c.key.ensures)
+    (sym (wants_seen _ c.self.invariant c.numbers_rise.ensures.nodes c.args.proposal.now c.args.ask.now (rw (← c.self.view_is) at c.requires)))
+
+pub numbers_rise-requires : goal.numbers_rise-requires
+numbers_rise-requires g c = search nodes_in_cluster
 
 pub reserved_for-requires : goal.reserved_for-requires
 reserved_for-requires g c = search nodes_in_cluster

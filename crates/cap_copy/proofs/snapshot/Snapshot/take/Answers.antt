@@ -99,16 +99,16 @@ invariant_of-result g c =
       apps = apps_in (sources k);
       limits = limits k;
       asks = asks k;
-      nodes = c.in-Ok-seen_nodes.ensures.entries k;
+      nodes = c.in-Ok-seen_nodes.ensures k;
       live = c.live_count.ensures.value k;
       next_container = c.next_container.ensures k;
     }))
     (is_whole K rows apps.table apps.accounts nodes registered order (record {
       rows_are = c.in-Ok-service_order.ensures.rows;
-      rising = c.in-Ok.ensures.rising;
+      rising = c.numbers_rise.ensures;
       kept = subst (λ (rs : List HeldApp). All (λ r. AreKept r.app.asks) rs) c.deref-6.ensures.value c.in-Ok-seen_asks.ensures.kept;
       placed = c.requires.placed;
-      numbers = c.in-Ok-seen_nodes.ensures.rising;
+      numbers = c.numbers_rise-2.ensures.nodes;
       apart = c.requires.apart;
       there = c.requires.present;
       apps_are = c.in-Ok.ensures.apps;
@@ -122,6 +122,9 @@ live_count-requires g c = nodes_of_few _ c.requires.resources
 pub next_container-requires : goal.next_container-requires
 next_container-requires g c = nodes_of_few _ c.requires.resources
 
+pub numbers_rise-requires-2 : goal.numbers_rise-requires-2
+numbers_rise-requires-2 g c = nodes_of_few _ c.requires.resources
+
 pub seen_nodes-requires : goal.seen_nodes-requires
 seen_nodes-requires g c = (nodes_of_few _ c.requires.resources, seen_node_of_few _ c.requires.resources)
 
@@ -133,9 +136,9 @@ returns g c =
       sight = λ k. record {
         queues = map (queue_seen g.row.K) (rows_in (sources k));
         apps = apps_in (sources k);
-        nodes = c.in-Ok-seen_nodes.ensures.entries k;
+        nodes = c.in-Ok-seen_nodes.ensures k;
         live = c.live_count.ensures.value k;
         next_container = c.next_container.ensures k;
       };
-      numbers = c.in-Ok-seen_nodes.ensures.rising;
+      numbers = c.numbers_rise-2.ensures.nodes;
     }

@@ -2,5 +2,5 @@ use Rattle.std.proofs.Common.{◌∙◌}
 use Rattle.cap_nodes.proofs.ByNumber.{found}
 use Rattle.cap_nodes.proofs.containers.Containers.get.Goals as goal
 
-pub returns-clause-found : goal.returns-clause-found
-returns-clause-found g c = rw (← c.self.view_is) (c.copied.ensures ∙ c.get.ensures.value ∙ found c.self.inside.containers.entries c.self.inside.next c.args.number c.self.invariant.0)
+pub returns : goal.returns
+returns g c = rw (← c.self.view_is) (c.copied.ensures ∙ c.get.ensures.value ∙ found c.self.inside.containers.entries c.self.inside.next c.args.number c.self.invariant.0)

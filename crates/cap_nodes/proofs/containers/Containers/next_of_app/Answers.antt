@@ -5,13 +5,13 @@ use Rattle.cap_nodes.proofs.ByNumber.{found}
 use Rattle.cap_nodes.proofs.Owned.{first_of, none_of}
 use Rattle.cap_nodes.proofs.containers.Containers.next_of_app.Goals as goal
 
-pub returns-in_default-clause-found : goal.returns-in_default-clause-found
-returns-in_default-clause-found g c =
+pub returns-in_default : goal.returns-in_default
+returns-in_default g c =
     rw (← c.self.view_is)
     (none_of (λ (x : Container). x.app) c.args.app c.args.after (values_of c.self.inside.containers.entries) c.self.inside.of_apps c.self.inside.next c.self.invariant.1 c.self.invariant.0.1 c.in_default.ensures.none)
 
-pub returns-clause-found : goal.returns-clause-found
-returns-clause-found g c =
+pub returns : goal.returns
+returns g c =
     let first =
     first_of (λ (x : Container). x.app) c.args.app c.args.after (values_of c.self.inside.containers.entries) c.self.inside.of_apps c.self.inside.next c.self.invariant.1 c.self.invariant.0.1
     c.in-Some.number c.in-Some.ensures.has c.in-Some.ensures.above c.in-Some.ensures.least

@@ -19,14 +19,14 @@ invariant_of-self g c =
           (index_left (λ (x : Container). x.node) (values_of c.self.inside.containers.entries) c.self.inside.on_nodes c.self.invariant.2 c.remove-in-Some-2.new.self c.args.number _ there c.remove-in-Some-2.ensures),
     )
 
-pub returns-in-Some-clause-left : goal.returns-in-Some-clause-left
-returns-in-Some-clause-left g c =
+pub returns-in-Some : goal.returns-in-Some
+returns-in-Some g c =
     rw (← c.self.view_is)
     (ap (λ (xs : List Container). let t : ContainerTable = record { containers = xs; next = c.self.inside.next } in t)
     (removed c.self.inside.containers.entries c.remove.new.self.entries c.self.inside.next c.args.number c.self.invariant.0 c.in-Some.ensures.entries).values)
 
-pub returns-in-None-clause-left : goal.returns-in-None-clause-left
-returns-in-None-clause-left g c =
+pub returns-in-None : goal.returns-in-None
+returns-in-None g c =
     rw (← c.self.view_is)
     (ap (λ (xs : List Container). let t : ContainerTable = record { containers = xs; next = c.self.inside.next } in t)
     (removed c.self.inside.containers.entries c.remove.new.self.entries c.self.inside.next c.args.number c.self.invariant.0 c.in-None.ensures.entries).values)

@@ -11,12 +11,12 @@ use Rattle.cap_nodes.proofs.Sums.{less_within}
 use Rattle.cap_nodes.proofs.nodes.Nodes.gone.Goals as goal
 
 pub unreachable-requires : goal.unreachable-requires
-unreachable-requires g c = no_load c.self.inside.present.loads c.args.number (sym c.in_default.ensures.found) (rw (← c.self.view_is) at c.requires.present)
+unreachable-requires g c = no_load c.self.inside.present.loads c.args.number (sym c.in_default.ensures) (rw (← c.self.view_is) at c.requires.present)
 
 pub minus-self-inside-requires : goal.minus-self-inside-requires
 minus-self-inside-requires g c =
     let long : length c.in-Some.load.now.node.total ≡ g.row.K = rw c.node.ensures at c.total.ensures.vector.count in
-    let fits = total_fits g.row.K c.self.inside.present.next c.args.number c.self.inside.present.loads c.in-Some.load.now c.in-Some.ensures.rising (sym c.in-Some.ensures.found) (omega (arith, long)) in
+    let fits = total_fits g.row.K c.self.inside.present.next c.args.number c.self.inside.present.loads c.in-Some.load.now c.self.invariant.2 (sym c.in-Some.ensures) (omega (arith, long)) in
     (search amounts_fit, (search amounts_fit, rw (c.total.ensures.value, c.node.ensures, c.self.invariant.1) fits))
 
 pub invariant_of-self : goal.invariant_of-self
@@ -27,7 +27,7 @@ invariant_of-self g c =
     let empty : filter (λ (x : Container). x.node == c.args.number) c.self.inside.live.containers ≡ [] = rw (← c.self.view_is) at c.requires.empty in
     rw c.remove.ensures (
       without_empty g.row.K c.self.inside.present.loads c.self.inside.live.containers c.self.invariant.0 c.args.number empty,
-      e ∙ total_without g.row.K c.self.inside.present.next c.args.number c.self.inside.present.loads c.in-Some.load.now c.in-Some.ensures.rising (sym c.in-Some.ensures.found),
+      e ∙ total_without g.row.K c.self.inside.present.next c.args.number c.self.inside.present.loads c.in-Some.load.now c.self.invariant.2 (sym c.in-Some.ensures),
       rising_kept (λ (p : Load). p.node.number) (λ (p : Load). not (p.node.number == c.args.number)) 1 c.self.inside.present.loads c.self.inside.present.next c.self.invariant.2,
       less_within amount_max c.self.inside.total c.total.result c.minus-self-inside.result c.minus-self-inside.ensures c.self.invariant.3,
     )

@@ -1,22 +1,16 @@
 use Rattle.cap_nodes.proofs.Sizes.{present_fits, load_fits}
 use Rattle.std.proofs.Common.{sym}
-use Rattle.cap_nodes.proofs.Changes.{homes_all, node_of_load, node_of_none, held_all, rising_nodes}
+use Rattle.cap_nodes.proofs.Changes.{homes_all, node_of_load, node_of_none, held_all}
 use Rattle.cap_nodes.proofs.nodes.Nodes.node.Goals as goal
 
 pub returns-in-Some-clause-found : goal.returns-in-Some-clause-found
-returns-in-Some-clause-found g c = rw (← c.self.view_is, c.node.ensures) (sym (node_of_load c.self.inside.present.loads c.args.number c.in-Some.load.now (sym c.in-Some.ensures.found)))
+returns-in-Some-clause-found g c = rw (← c.self.view_is, c.node.ensures) (sym (node_of_load c.self.inside.present.loads c.args.number c.in-Some.load.now (sym c.in-Some.ensures)))
 
 pub returns-in-None-clause-found : goal.returns-in-None-clause-found
-returns-in-None-clause-found g c = rw (← c.self.view_is) (sym (node_of_none c.self.inside.present.loads c.args.number (sym c.in-None.ensures.found)))
-
-pub returns-in-Some-clause-rising : goal.returns-in-Some-clause-rising
-returns-in-Some-clause-rising g c = rw (← c.self.view_is) (rising_nodes c.self.inside.present.loads c.self.inside.present.next c.in-Some.ensures.rising)
+returns-in-None-clause-found g c = rw (← c.self.view_is) (sym (node_of_none c.self.inside.present.loads c.args.number (sym c.in-None.ensures)))
 
 pub returns-in-Some-clause-held : goal.returns-in-Some-clause-held
 returns-in-Some-clause-held g c = rw (← c.self.view_is) (held_all g.row.K c.self.inside.live.containers c.self.inside.present.loads c.self.invariant.0.ties)
-
-pub returns-in-None-clause-rising : goal.returns-in-None-clause-rising
-returns-in-None-clause-rising g c = rw (← c.self.view_is) (rising_nodes c.self.inside.present.loads c.self.inside.present.next c.in-None.ensures.rising)
 
 pub returns-in-None-clause-held : goal.returns-in-None-clause-held
 returns-in-None-clause-held g c = rw (← c.self.view_is) (held_all g.row.K c.self.inside.live.containers c.self.inside.present.loads c.self.invariant.0.ties)

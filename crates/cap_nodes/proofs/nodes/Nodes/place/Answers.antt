@@ -31,7 +31,7 @@ invariant_of-self-2 g c =
     let room : Fits c.args.resource.now (less at.load.node.total at.load.held) = rw (free_is g.row.K c.self.inside.present.loads c.self.inside.live.containers c.self.invariant.0 c.args.node at.load at.at) (rw (← c.self.view_is) at c.requires.room) in
     let count = of_found (λ (p : Load). length (plus p.held c.args.resource.now) ≡ g.row.K) _ at.load at.at c.hold.ensures.count in
     rw (c.hold.ensures.more, c.in-Ok.ensures.ok.1) (
-      with_one g.row.K c.self.inside.present.loads c.self.inside.live.containers c.self.invariant.0 c.self.inside.present.next c.args.node at.load container c.hold.ensures.rising at.at refl room count,
+      with_one g.row.K c.self.inside.present.loads c.self.inside.live.containers c.self.invariant.0 c.self.inside.present.next c.args.node at.load container c.self.invariant.2 at.at refl room count,
       c.self.invariant.1 ∙ ap (sum_of_totals g.row.K) (sym (same_nodes c.args.node (held_more c.args.resource.now) c.self.inside.present.loads (λ p. refl))),
       rising_changed c.args.node (held_more c.args.resource.now) (λ p. refl) c.self.inside.present.loads c.self.inside.present.next c.self.invariant.2,
       c.self.invariant.3,

@@ -19,7 +19,7 @@ invariant_of-self-2 g c =
     let small : IsWithin amount_max c.args.total.now = λ k. omega (arith, within k, amount-plus (sum_of_totals g.row.K (nodes_of c.self.inside.present.loads)) c.args.total.now k) in
     let count : length (plus (sum_of_totals g.row.K (nodes_of c.self.inside.present.loads)) c.args.total.now) ≡ g.row.K = rw c.self.invariant.1 at c.in-Some.ensures.count in
     rw c.in-Ok.ensures.ok.1 (
-      with_node g.row.K c.self.inside.present.loads c.self.inside.live.containers c.self.invariant.0 c.self.inside.present.next node c.in-Ok.ensures.rising refl small,
+      with_node g.row.K c.self.inside.present.loads c.self.inside.live.containers c.self.invariant.0 c.self.inside.present.next node c.self.invariant.2 refl small,
       c.in-Some.ensures.some ∙ ap (λ v. plus v c.args.total.now) c.self.invariant.1 ∙ sym (totals-push g.row.K (nodes_of c.self.inside.present.loads) node count) ∙ ap (sum_of_totals g.row.K) (sym (nodes_pushed c.self.inside.present.loads load)),
       rising_more (λ (p : Load). p.node.number) 1 c.self.inside.present.loads load c.self.inside.present.next refl c.self.invariant.2,
       λ k. rw (c.in-Some.ensures.some, c.self.invariant.1) (within k),

@@ -24,5 +24,5 @@ push-requires g c =
     let few = c.if-count-ge-LIVE_MAX.false in
     let count = c.count.ensures.value in
     let below = c.if-next-ge-NUMBER_END.false in
-    let next = c.next.ensures.value in
+    let next = c.next.ensures in
     (search containers_fit, ((search), (omega (arith, few, count), omega (arith, below, next))))

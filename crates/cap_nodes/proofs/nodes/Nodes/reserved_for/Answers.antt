@@ -1,14 +1,10 @@
 use Rattle.cap_nodes.proofs.Sizes.{containers_fit}
 use Rattle.std.proofs.Common.{◌∙◌, sym}
-use Rattle.cap_nodes.proofs.Changes.{rising_nodes}
 use Rattle.cap_nodes.proofs.Walked.{kept_count}
 use Rattle.cap_nodes.proofs.nodes.Nodes.reserved_for.Goals as goal
 
-pub returns-clause-count : goal.returns-clause-count
-returns-clause-count g c = rw (← c.self.view_is) (c.count_for.ensures ∙ sym (kept_count c.args.app c.args.key.now c.self.inside.reserved.containers))
-
-pub returns-clause-rising : goal.returns-clause-rising
-returns-clause-rising g c = rw (← c.self.view_is) (rising_nodes c.self.inside.present.loads c.self.inside.present.next c.self.invariant.2)
+pub returns : goal.returns
+returns g c = rw (← c.self.view_is) (c.count_for.ensures ∙ sym (kept_count c.args.app c.args.key.now c.self.inside.reserved.containers))
 
 pub count_for-requires : goal.count_for-requires
 count_for-requires g c = search containers_fit

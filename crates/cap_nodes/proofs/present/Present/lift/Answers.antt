@@ -14,8 +14,8 @@ invariant_of-self g c =
     let there : load_at (values_of c.self.inside.loads.entries) c.args.number ≡ Some c.in-Some.load.now = sym (found c.self.inside.loads.entries c.self.inside.next c.args.number c.self.invariant) ∙ sym c.in-Some.ensures.value in
     (changed c.self.inside.loads.entries (c.get_mut.follows.lender c.lift.new.self).entries c.self.inside.next c.args.number (held_less c.args.resource.now) (λ p. refl) c.in-Some.load.now c.lift.new.self c.self.invariant there c.lift.ensures (c.get_mut.follows.holds c.lift.new.self).0).present
 
-pub returns-clause-less : goal.returns-clause-less
-returns-clause-less g c =
+pub returns : goal.returns
+returns g c =
     let there : load_at (values_of c.self.inside.loads.entries) c.args.number ≡ Some c.in-Some.load.now = sym (found c.self.inside.loads.entries c.self.inside.next c.args.number c.self.invariant) ∙ sym c.in-Some.ensures.value in
     rw (← c.self.view_is)
     (ap (λ (xs : List Load). let t : LoadTable = record { loads = xs; next = c.self.inside.next } in t)
