@@ -9,8 +9,8 @@ use Rattle.cap_base.specs.Listing.{MayFollow, IsListed, IsListedFromRoot, IsList
 use Rattle.cap_base.specs.Limits.{depth_max, factor_max}
 use Rattle.cap_base.proofs.lists.Members.{each_of, of_each, of_map}
 use Rattle.cap_tree.specs.Spot.{change_along, leads_to}
-use Rattle.cap_tree.specs.Queue.{Queue, with_running}
-use Rattle.cap_tree.specs.Rows.{Row, AreRows, queues_of, settings_of_row, changed_at, with_state}
+use Rattle.cap_tree.specs.Queue.{Queue, with_running, with_settings}
+use Rattle.cap_tree.specs.Rows.{Row, AreRows, queues_of, settings_of_row, changed_at, with_row, with_state}
 use Rattle.cap_tree.proofs.RowPaths.{names_kept, short_kept, paths_kept}
 
 -- where paths stay, what they say of each other stays
@@ -29,7 +29,7 @@ module _ (f : QueueRow → QueueRow) (p : (q : QueueRow) → (f q).path ≡ q.pa
       ap (λ x. is_some (cond (bytes_eq x path) (Some (f q)) (find (λ (r : QueueRow). bytes_eq r.path path) (map f qs)))) (p q)
       ∙ some_cases (bytes_eq q.path path) (f q) q (find (λ (r : QueueRow). bytes_eq r.path path) (map f qs)) (find (λ (r : QueueRow). bytes_eq r.path path) qs) (path_kept path qs)
 
-module _ (f : QueueRow → QueueRow) (p : (q : QueueRow) → (f q).path ≡ q.path) (k : (q : QueueRow) → (f q).factor ≡ q.factor) where
+module _ (f : QueueRow → QueueRow) (p : (q : QueueRow) → (f q).path ≡ q.path) (k : (q : QueueRow) → q.factor ≤ factor_max → (f q).factor ≤ factor_max) where
   distinct_kept : (qs : List QueueRow) → HasDistinctPaths qs → HasDistinctPaths (map f qs)
   distinct_kept [] d = tt
   distinct_kept (q ∷ qs) d = (ap (λ x. list_any (λ (r : QueueRow). bytes_eq r.path x) (map f qs)) (p q) ∙ any_kept f p (λ x. bytes_eq x q.path) qs ∙ d.0, distinct_kept qs d.1)
@@ -55,7 +55,7 @@ module _ (f : QueueRow → QueueRow) (p : (q : QueueRow) → (f q).path ≡ q.pa
     };
     listed = from_root_kept qs l.listed;
     levels = all_kept (λ q. depth q.path ≤ depth_max) qs (λ q h. subst (λ x. depth x ≤ depth_max) (sym (p q)) h) l.levels;
-    factors = all_kept (λ q. q.factor ≤ factor_max) qs (λ q h. subst (λ x. x ≤ factor_max) (sym (k q)) h) l.factors;
+    factors = all_kept (λ q. q.factor ≤ factor_max) qs k l.factors;
   }
 
 -- a change that keeps the settings
@@ -127,8 +127,59 @@ state_rows running position path rows e = e ∙ state_is_change path running row
 pub state_kept : (running : Bool) (position path : List ℕ) (rows : List Row) → map (change_along (λ x. x) (with_running running) position) rows ≡ map (with_state path running) rows → AreRows rows →
     AreRows (map (change_along (λ x. x) (with_running running) position) rows)
 state_kept running position path rows e a = record {
-  listing = subst IsListing (sym (ap queues_of e ∙ state_in_settings path running rows)) (listing_kept (set_running path running) (same_path path running) (same_factor path running) (queues_of rows) a.listing);
+  listing = subst IsListing (sym (ap queues_of e ∙ state_in_settings path running rows)) (listing_kept (set_running path running) (same_path path running) (λ q h. subst (λ x. x ≤ factor_max) (sym (same_factor path running q)) h) (queues_of rows) a.listing);
   paths = paths_kept (λ x. x) (with_running running) position rows a.paths;
   short = short_kept (λ x. x) (with_running running) position rows 15 a.short;
   names = names_kept (λ x. x) (with_running running) (λ q. refl) (λ q. refl) position rows a.names;
+}
+
+-- a change of a queue's settings
+
+abbrev pub set_settings : QueueRow → QueueRow → QueueRow
+set_settings row q = if bytes_eq q.path row.path then record q { guaranteed = row.guaranteed; maximum = row.maximum; factor = row.factor; running = row.running } else q
+
+same_path_of : (row q : QueueRow) → (set_settings row q).path ≡ q.path
+same_path_of row q = by (bytes_eq q.path row.path)
+  where
+    by : (b : Bool) → (if b then record q { guaranteed = row.guaranteed; maximum = row.maximum; factor = row.factor; running = row.running } else q).path ≡ q.path
+    by true = refl
+    by false = refl
+
+low_factor : (row q : QueueRow) → row.factor ≤ factor_max → q.factor ≤ factor_max → (set_settings row q).factor ≤ factor_max
+low_factor row q g h = by (bytes_eq q.path row.path)
+  where
+    by : (b : Bool) → (if b then record q { guaranteed = row.guaranteed; maximum = row.maximum; factor = row.factor; running = row.running } else q).factor ≤ factor_max
+    by true = g
+    by false = h
+
+settings_cases : (b : Bool) (row : QueueRow) (r : Row) →
+    settings_of_row (if b then record r { item = with_settings row r.item } else r)
+    ≡ (if b then record (settings_of_row r) { guaranteed = row.guaranteed; maximum = row.maximum; factor = row.factor; running = row.running } else settings_of_row r)
+settings_cases true row r = refl
+settings_cases false row r = refl
+
+pub row_in_settings : (row : QueueRow) (rows : List Row) → queues_of (map (with_row row) rows) ≡ map (set_settings row) (queues_of rows)
+row_in_settings row [] = refl
+row_in_settings row (r ∷ rows) = λ i. settings_cases (bytes_eq r.path row.path) row r i ∷ row_in_settings row rows i
+
+row_is_change : (row : QueueRow) (rows : List Row) → map (changed_at (λ x. x) (with_settings row) row.path) rows ≡ map (with_row row) rows
+row_is_change row [] = refl
+row_is_change row (r ∷ rows) = λ i. by (bytes_eq r.path row.path) (is_under r.path row.path) i ∷ row_is_change row rows i
+  where
+    by : (b c : Bool) → (if b then record r { item = with_settings row r.item } else (if c then record r { item = r.item } else r)) ≡ (if b then record r { item = with_settings row r.item } else r)
+    by true c = refl
+    by false true = refl
+    by false false = refl
+
+pub row_rows : (row : QueueRow) (position path : List ℕ) (rows : List Row) → path ≡ row.path →
+    map (change_along (λ x. x) (with_settings row) position) rows ≡ map (changed_at (λ x. x) (with_settings row) path) rows → map (change_along (λ x. x) (with_settings row) position) rows ≡ map (with_row row) rows
+row_rows row position path rows at e = e ∙ ap (λ p. map (changed_at (λ x. x) (with_settings row) p) rows) at ∙ row_is_change row rows
+
+pub row_kept : (row : QueueRow) (position : List ℕ) (rows : List Row) → row.factor ≤ factor_max → map (change_along (λ x. x) (with_settings row) position) rows ≡ map (with_row row) rows → AreRows rows →
+    AreRows (map (change_along (λ x. x) (with_settings row) position) rows)
+row_kept row position rows f e a = record {
+  listing = subst IsListing (sym (ap queues_of e ∙ row_in_settings row rows)) (listing_kept (set_settings row) (same_path_of row) (λ q. low_factor row q f) (queues_of rows) a.listing);
+  paths = paths_kept (λ x. x) (with_settings row) position rows a.paths;
+  short = short_kept (λ x. x) (with_settings row) position rows 15 a.short;
+  names = names_kept (λ x. x) (with_settings row) (λ q. refl) (λ q. refl) position rows a.names;
 }

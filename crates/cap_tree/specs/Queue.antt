@@ -79,6 +79,10 @@ moved_at K user old new q =
 abbrev pub with_running : Bool → Queue → Queue
 with_running running q = record q { running = running }
 
+-- with the settings of a row
+abbrev pub with_settings : QueueRow → Queue → Queue
+with_settings row q = record q { guaranteed = row.guaranteed; maximum = row.maximum; factor = row.factor; running = row.running }
+
 -- the user has an application there, and one with use is not its last
 abbrev pub MayLeave : Option Count → Type 0
 MayLeave None = ⊥

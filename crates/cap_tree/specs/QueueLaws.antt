@@ -7,7 +7,8 @@ use Rattle.cap_vector.specs.Vector.{amount, is_zero}
 use Rattle.cap_vector.proofs.AmountLemmas.{amount-exchanged, amount-is_zero, amount-zeros}
 use Rattle.cap_tree.specs.Measure.{Measure}
 use Rattle.cap_tree.specs.Count.{Count, IsPart, of_count, zero_count, is_zero_count, count_moved}
-use Rattle.cap_tree.specs.Queue.{Queue, Users, of_queue, of_user, user_row, count_in, with_count}
+use Rattle.cap_tree.specs.Queue.{Queue, Users, of_queue, of_user, user_row, count_in, with_count, with_settings}
+use Rattle.cap_base.specs.Settings.{QueueRow}
 use Rattle.cap_tree.specs.UserLaws.{row-le-sum, sum-with_count, sum_of}
 
 -- a part of a whole, before and after a move: the old part was in it
@@ -54,6 +55,10 @@ same_number n = omega arith
 pub same_after : (running : Bool) (q : Queue) (m : Measure) → of_queue (record q { running = running }) m ≡ (of_queue q m - 0) + 0
 same_after running q (Measure.uses k) = same_number (amount q.used k)
 same_after running q Measure.active = same_number q.active
+
+pub same_counts : (row : QueueRow) (q : Queue) (m : Measure) → of_queue (with_settings row q) m ≡ (of_queue q m - 0) + 0
+same_counts row q (Measure.uses k) = same_number (amount q.used k)
+same_counts row q Measure.active = same_number q.active
 
 pub none_fits : (n : ℕ) → 0 ≤ n
 none_fits n = omega arith

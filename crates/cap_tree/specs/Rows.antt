@@ -13,7 +13,7 @@ use Rattle.cap_tree.specs.Spot.{Spot, first, first_of, leads_to, item_at, path_a
 use Rattle.cap_tree.specs.Branch.{root_count}
 use Rattle.cap_tree.specs.Measure.{MayChange}
 use Rattle.cap_tree.specs.Count.{Count, of_count, zero_count, one_app, use_alone}
-use Rattle.cap_tree.specs.Queue.{Queue, of_queue, user_row, moved_above, moved_at, with_running}
+use Rattle.cap_tree.specs.Queue.{Queue, of_queue, user_row, moved_above, moved_at, with_running, with_settings}
 use Rattle.cap_base.specs.Texts.{dot}
 
 -- a row: the queue's position, its dotted path, and what it holds
@@ -72,6 +72,10 @@ applied_row K path user old new = moved_row K path user (use_alone old) (use_alo
 -- with the queue's own state
 abbrev pub with_state : List ℕ → Bool → Row → Row
 with_state path running r = if bytes_eq r.path path then record r { item = with_running running r.item } else r
+
+-- with the settings of a row, at the queue of its path
+abbrev pub with_row : QueueRow → Row → Row
+with_row row r = if bytes_eq r.path row.path then record r { item = with_settings row r.item } else r
 
 -- the row of a user in the queue of a position
 abbrev pub user_row_at : List ℕ → List ℕ → List Row → Option Count

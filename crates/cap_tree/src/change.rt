@@ -1,10 +1,10 @@
-//! The changes of a tree, each at one queue and those above it: what a user counts is moved, a queue's state is set.
+//! The changes of a tree, each at one queue and those above it: what a user counts is moved, a queue's state or settings are set.
 ghost use Rattle.std.specs.Prelude.{◌≡◌};
 
 use crate::branch::{Change, Test};
 use crate::count::Part;
 use crate::queue::Queue;
-use cap_base::{NoMemory, ShortText};
+use cap_base::{NoMemory, QueueRow, ShortText};
 use std::alloc::Allocator;
 
 /// Takes an old part away from what is counted of a user in a leaf, of the leaf and of each queue above it, and adds a new one.
@@ -93,6 +93,51 @@ impl<const K: usize, A: Allocator> Change<Queue<K, A>> for SetState {
     ghost stored_above = { λ c x m. same_number (of_queue x m) };
 
     ghost stored_at = { λ c x m. same_after c.running x m };
+
+    ghost own_above = { λ c x m. refl };
+
+    ghost own_at = { λ c x m h. same_number (of_users x m) };
+
+    ghost old_fits = { λ c x m h. none_fits (of_users x m) };
+}
+
+/// A queue takes the settings of a row.
+#[derive(Drop)]
+pub(crate) struct SetSettings<'a, const K: usize> {
+    pub(crate) row: &'a QueueRow<K>,
+}
+
+impl<'a, const K: usize, A: Allocator> Change<Queue<K, A>> for SetSettings<'a, K> {
+    ghost use Rattle.std.specs.Prelude.{refl};
+    ghost use Rattle.cap_tree.specs.Queue.{of_queue, of_users, with_settings};
+    ghost use Rattle.cap_tree.specs.QueueLaws.{none_fits, same_counts, same_number};
+
+    ghost old = { λ c m. 0 };
+
+    ghost new = { λ c m. 0 };
+
+    ghost above = { λ c x. x };
+
+    ghost at = { λ c. with_settings c.row.now };
+
+    ghost can = { λ c q. Unit {0} };
+
+    ghost grows = { λ c q. ⊥ };
+
+    fn change_above(&self, _item: &mut Queue<K, A>) {}
+
+    fn change_at(&self, item: &mut Queue<K, A>) -> Result<(), NoMemory> {
+        item.set_settings(self.row);
+        Ok(())
+    }
+
+    ghost name_above = { λ c x. refl };
+
+    ghost name_at = { λ c x. refl };
+
+    ghost stored_above = { λ c x m. same_number (of_queue x m) };
+
+    ghost stored_at = { λ c x m. same_counts c.row.now x m };
 
     ghost own_above = { λ c x m. refl };
 

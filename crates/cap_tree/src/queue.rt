@@ -3,7 +3,7 @@ ghost use Rattle.std.specs.Prelude.{◌≡◌, ◌≤◌, None, IfOk, OnOk, OnEr
 ghost use Rattle.cap_base.specs.Paths.{name_of};
 ghost use Rattle.cap_tree.specs.Count.{IsPart, MayMove};
 ghost use Rattle.cap_tree.specs.Measure.{Measure};
-ghost use Rattle.cap_tree.specs.Queue.{IsUnused, HasSettingsOf, count_in, moved_above, moved_at, of_queue, of_users, queue_count, stays_in_maximum, stays_in_user_limit, use_of, user_row, with_count, with_running};
+ghost use Rattle.cap_tree.specs.Queue.{IsUnused, HasSettingsOf, count_in, moved_above, moved_at, of_queue, of_users, queue_count, stays_in_maximum, stays_in_user_limit, use_of, user_row, with_count, with_running, with_settings};
 
 use crate::branch::{CopyIn, Served, TreeItem};
 use crate::count::{Part, Total, moved};
@@ -285,6 +285,18 @@ impl<const K: usize, A: Allocator> Queue<K, A> {
         }
         self.move_below(old, new);
         Ok(())
+    }
+
+    /// Sets its settings to those of a row. What is counted of it stays.
+    pub(crate) fn set_settings(&mut self, row: &QueueRow<K>)
+        ensures { self.new ≡ with_settings row.now self.old }
+    {
+        let guaranteed = row.guaranteed();
+        self.shares = Shares::of(&self.count.used, &guaranteed);
+        self.guaranteed = guaranteed;
+        self.maximum = row.maximum();
+        self.factor = row.factor();
+        self.running = row.is_running();
     }
 
     /// Sets its own state.

@@ -2,7 +2,7 @@
 ghost use Rattle.std.specs.Prelude.{◌≡◌, ◌<◌, ◌≤◌, ◌+◌, length, ◌++◌, ◌∷◌, [], map, None, Some, IfErr, IfOk, IfSome, MatchOption, OnOk, OnErr};
 ghost use Rattle.std.specs.List.{All, slice_get};
 ghost use Rattle.cap_vector.specs.Vector.{IsWithin, amounts_exchanged, sum_max};
-ghost use Rattle.cap_base.specs.Limits.{number_end, queues_max};
+ghost use Rattle.cap_base.specs.Limits.{factor_max, number_end, queues_max};
 ghost use Rattle.cap_base.specs.Trees.{depth};
 ghost use Rattle.cap_base.specs.Cascade.{holds_of};
 ghost use Rattle.cap_tree.specs.Growth.{IsGrowing};
@@ -10,12 +10,12 @@ ghost use Rattle.cap_tree.specs.Limits.{over_limit};
 ghost use Rattle.cap_tree.specs.Paths.{TreeFitsInMemory};
 ghost use Rattle.cap_tree.specs.Count.{IsPart};
 ghost use Rattle.cap_tree.specs.Queue.{IsUnused, MayGive, MayLeave, count_in, stays_in_user_limit, use_of};
-ghost use Rattle.cap_tree.specs.Rows.{AreRows, FindsQueue, HasRoomAtRoot, active_in, applied_row, entered_row, is_running, items_to, left_row, lowered_row, moved_rows, queues_of, root_use, used_at, user_row_at, with_state};
+ghost use Rattle.cap_tree.specs.Rows.{AreRows, FindsQueue, HasRoomAtRoot, active_in, applied_row, entered_row, is_running, items_to, left_row, lowered_row, moved_rows, queues_of, root_use, used_at, user_row_at, with_row, with_state};
 ghost use Rattle.cap_tree.specs.Service.{HasNoChildAfter, IsNextChild};
 ghost use Rattle.cap_tree.specs.Spot.{IsPosition, item_at, path_at};
 
 use crate::branch::Branch;
-use crate::change::{Move, Running, SetState};
+use crate::change::{Move, Running, SetSettings, SetState};
 use crate::count::Part;
 use crate::found::{Found, Kind, Path};
 use crate::over_limit::{InMaximum, OverLimit};
@@ -118,6 +118,19 @@ impl<const K: usize, A: Allocator + Copy> QueueTree<K, A> {
         ensures { self.new ≡ map (with_state (path_at path.now.items self.old) running) self.old }
     {
         let change = SetState { running };
+        let Ok(()) = self.root.change(path.as_slice(), &change) else {
+            unreachable!()
+        };
+    }
+
+    /// Sets the settings of the queue at a position to those of a row of its path, and nothing else.
+    fn set_row(&mut self, path: &Path<A>, row: &QueueRow<K>)
+        requires position { IsPosition self.old path.now.items }
+        requires path { path_at path.now.items self.old ≡ row.now.path }
+        requires factor { row.now.factor ≤ factor_max }
+        ensures { self.new ≡ map (with_row row.now) self.old }
+    {
+        let change = SetSettings { row };
         let Ok(()) = self.root.change(path.as_slice(), &change) else {
             unreachable!()
         };
