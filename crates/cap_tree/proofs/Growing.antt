@@ -105,7 +105,7 @@ has_row : (path : List ℕ) (rows : List Row) → has_path (queues_of rows) path
 has_row path [] h = absurd (cc h)
 has_row path (s ∷ ss) h = has_row_cases (bytes_eq s.path path) path s ss refl h (has_row path ss)
 
-path_of_row : (rows : List Row) (r : Row) → IsIn r rows → has_path (queues_of rows) r.path ≡ true
+pub path_of_row : (rows : List Row) (r : Row) → IsIn r rows → has_path (queues_of rows) r.path ≡ true
 path_of_row [] r m = absurd m
 path_of_row (s ∷ ss) r m = by (bytes_eq s.path r.path) refl m (path_of_row ss r)
   where

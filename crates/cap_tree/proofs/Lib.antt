@@ -1,6 +1,7 @@
 pub mod Adding
 pub mod Callers
 pub mod Copies
+pub mod Counting
 pub mod Finding
 pub mod Finds
 pub mod Growing
@@ -11,6 +12,7 @@ pub mod OneUser
 pub mod Ranking
 pub mod Rooms
 pub mod RowPaths
+pub mod SamePaths
 pub mod Service
 pub mod ServiceRows
 pub mod Served

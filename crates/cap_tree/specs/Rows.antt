@@ -1,11 +1,12 @@
 -- The rows of a tree of queues.
-use Rattle.std.specs.Prelude.{◌≡◌, ℕ, ◌≤◌, Bool, true, false, if◌then◌else◌, ◌++◌, ◌∷◌, [], bytes_eq, nat_eq, List, Option, None, map, filter, find, length}
+use Rattle.std.specs.Prelude.{◌≡◌, ℕ, ◌≤◌, Bool, true, false, if◌then◌else◌, ◌&&◌, ◌++◌, ◌∷◌, [], bytes_eq, nat_eq, List, Option, None, map, filter, find, length}
 use Rattle.smallvec.specs.SmallVec.{SmallVec}
 use Rattle.std.specs.Option.{option_map_or}
 use Rattle.std.specs.List.{All, list_all, list_any, starts_with}
 use Rattle.cap_base.specs.Settings.{QueueRow}
 use Rattle.cap_base.specs.Paths.{is_under, name_of}
 use Rattle.cap_base.specs.Listing.{IsListing}
+use Rattle.cap_base.specs.Trees.{has_path}
 use Rattle.cap_tree.specs.Finding.{IsStart}
 use Rattle.cap_tree.specs.declared.found.Found.{Found}
 use Rattle.cap_tree.specs.declared.found.Found.TheVariants.{Leaf, Parent, Missing}
@@ -112,6 +113,10 @@ is_running rows path = list_all (λ q. q.running) (filter (λ q. is_under q.path
 -- whether a queue stands below the path
 abbrev pub has_children : List Row → List ℕ → Bool
 has_children rows path = list_any (λ q. starts_with nat_eq q.path (path ++ dot ∷ [])) (queues_of rows)
+
+-- whether two lists of queues have the same paths: each that stands in the one stands in the other
+abbrev pub has_same_paths : List QueueRow → List QueueRow → Bool
+has_same_paths these those = list_all (λ q. has_path those q.path) these && list_all (λ q. has_path these q.path) those
 
 -- the position is that of the queue with the path
 pub record IsAt (rows : List Row) (path position : List ℕ) : Type 0 where

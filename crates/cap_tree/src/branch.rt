@@ -1,5 +1,5 @@
 //! A tree of items over any allocator, seen as a list of its spots (`Branch`): changed, tested, copied and served.
-ghost use Rattle.std.specs.Prelude.{◌≡◌, ◌+◌, ◌-◌, ◌≤◌, ◌∷◌, [], ℕ, List, Some, Bool, IfSome, IfOk, OnOk, OnErr, MatchOption, map, length, ◌++◌};
+ghost use Rattle.std.specs.Prelude.{◌≡◌, ◌+◌, ◌-◌, ◌<◌, ◌≤◌, ◌∷◌, [], ℕ, List, Some, Bool, IfSome, IfOk, OnOk, OnErr, MatchOption, map, length, ◌++◌};
 ghost use Rattle.std.specs.List.{All, slice_get};
 ghost use Rattle.std.specs.Cmp.{IsTotalOrder};
 ghost use Rattle.std.specs.Option.{option_copied};
@@ -227,6 +227,26 @@ impl<T: TreeItem + Drop, A: Allocator + Copy> Branch<T, A> {
         ensures { first self.now ≡ Some result.now }
     {
         &self.item
+    }
+
+    /// What is left of a number after 1 is taken away for each item of the tree. None where there are more items.
+    pub fn count_down(&self, count: usize) -> Option<usize>
+        ensures { MatchOption result (count < length self.now)
+            (λ left. left + length self.now ≡ count) }
+    {
+        let children = self.children.len();
+        if count == 0 {
+            return None;
+        }
+        let mut left = count - 1;
+        for i in 0..children {
+            let child = &self.children[i];
+            let Some(rest) = child.count_down(left) else {
+                return None;
+            };
+            left = rest;
+        }
+        Some(left)
     }
 
     /// The item that the steps lead to.

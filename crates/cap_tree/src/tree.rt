@@ -1,5 +1,5 @@
 //! The tree of queues, seen as the list of its rows (`QueueTree`): its reads, and its changes at a queue.
-ghost use Rattle.std.specs.Prelude.{◌≡◌, ◌<◌, ◌≤◌, ◌+◌, length, ◌++◌, ◌∷◌, [], map, None, Some, IfErr, IfOk, IfSome, MatchOption, OnOk, OnErr};
+ghost use Rattle.std.specs.Prelude.{◌≡◌, ◌<◌, ◌≤◌, ◌+◌, ◌==◌, length, ◌++◌, ◌∷◌, [], map, None, Some, IfErr, IfOk, IfSome, MatchOption, OnOk, OnErr};
 ghost use Rattle.std.specs.List.{All, slice_get};
 ghost use Rattle.cap_vector.specs.Vector.{IsWithin, amounts_exchanged, sum_max};
 ghost use Rattle.cap_base.specs.Limits.{factor_max, number_end, queues_max};
@@ -10,7 +10,7 @@ ghost use Rattle.cap_tree.specs.Limits.{over_limit};
 ghost use Rattle.cap_tree.specs.Paths.{TreeFitsInMemory};
 ghost use Rattle.cap_tree.specs.Count.{IsPart};
 ghost use Rattle.cap_tree.specs.Queue.{IsUnused, MayGive, MayLeave, count_in, stays_in_user_limit, use_of};
-ghost use Rattle.cap_tree.specs.Rows.{AreRows, FindsQueue, HasRoomAtRoot, active_in, applied_row, entered_row, is_running, items_to, left_row, lowered_row, moved_rows, queues_of, root_use, used_at, user_row_at, with_row, with_state};
+ghost use Rattle.cap_tree.specs.Rows.{AreRows, FindsQueue, HasRoomAtRoot, active_in, applied_row, entered_row, has_same_paths, is_running, items_to, left_row, lowered_row, moved_rows, queues_of, root_use, used_at, user_row_at, with_row, with_state};
 ghost use Rattle.cap_tree.specs.Service.{HasNoChildAfter, IsNextChild};
 ghost use Rattle.cap_tree.specs.Spot.{IsPosition, item_at, path_at};
 
@@ -121,6 +121,31 @@ impl<const K: usize, A: Allocator + Copy> QueueTree<K, A> {
         let Ok(()) = self.root.change(path.as_slice(), &change) else {
             unreachable!()
         };
+    }
+
+    /// Whether the queues of the settings have exactly the paths of the queues of the tree. It takes no memory.
+    pub fn same_paths(&self, config: &Config<K>) -> bool
+        ensures { result ≡ has_same_paths config.now.queues (queues_of self.now) }
+    {
+        let queues = config.queues();
+        for queue in queues {
+            let path = queue.path();
+            if let Found::Missing = self.find(path.as_bytes()) {
+                return false;
+            }
+        }
+        self.has_count(queues.len())
+    }
+
+    /// Whether it has so many queues. And what is true of every tree, as `find` says it.
+    fn has_count(&self, count: usize) -> bool
+        ensures is { result ≡ (length self.now == count) }
+        ensures rows { AreRows self.now }
+    {
+        let Some(left) = self.root.count_down(count) else {
+            return false;
+        };
+        left == 0
     }
 
     /// Sets the settings of the queue at a position to those of a row of its path, and nothing else.
