@@ -12,6 +12,7 @@ pub mod OneUser
 pub mod Ranking
 pub mod Rooms
 pub mod RowPaths
+pub mod RowSettings
 pub mod SamePaths
 pub mod Service
 pub mod ServiceRows

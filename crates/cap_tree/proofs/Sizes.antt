@@ -72,6 +72,9 @@ shares_in_queue K A alloc = part_fits (layout (queue.the_row K A alloc)) (6 ∷ 
 pub row_fits : (n : ℕ) (A : RattleType) (alloc : Ghosts A.Denot) → FitsInMemory (queue.the_row (param 0 (number n)) A alloc) → FitsInMemory (row.the_row (param 0 (number n)))
 row_fits n A alloc fits = omega (arith, fits)
 
+pub row_in_tree : (n : ℕ) (A : RattleType) (alloc : Ghosts A.Denot) → FitsInMemory (tree.the_row (param 0 (number n)) A alloc) → FitsInMemory (row.the_row (param 0 (number n)))
+row_in_tree n A alloc fits = row_fits n A alloc (queue_fits (param 0 (number n)) A alloc fits)
+
 move_in_queue : (ℓ : NamedLft) (n : ℕ) (A : RattleType) (alloc : Ghosts A.Denot) → FitsInMemory (queue.the_row (param 0 (number n)) A alloc) → FitsInMemory (move.the_row ℓ (param 0 (number n)))
 move_in_queue ℓ n A alloc fits = omega (arith, fits)
 

@@ -78,6 +78,10 @@ with_state path running r = if bytes_eq r.path path then record r { item = with_
 abbrev pub with_row : QueueRow → Row → Row
 with_row row r = if bytes_eq r.path row.path then record r { item = with_settings row r.item } else r
 
+-- with the settings of the first of these rows that has its path
+abbrev pub with_row_of_path : List QueueRow → Row → Row
+with_row_of_path queues r = option_map_or (λ q. record r { item = with_settings q r.item }) (find (λ q. bytes_eq q.path r.path) queues) r
+
 -- the row of a user in the queue of a position
 abbrev pub user_row_at : List ℕ → List ℕ → List Row → Option Count
 user_row_at position user rows = option_map_or (λ q. user_row user q.users) (item_at position rows) None

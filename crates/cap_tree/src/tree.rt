@@ -1,5 +1,5 @@
 //! The tree of queues, seen as the list of its rows (`QueueTree`): its reads, and its changes at a queue.
-ghost use Rattle.std.specs.Prelude.{◌≡◌, ◌<◌, ◌≤◌, ◌+◌, ◌==◌, length, ◌++◌, ◌∷◌, [], map, None, Some, IfErr, IfOk, IfSome, MatchOption, OnOk, OnErr};
+ghost use Rattle.std.specs.Prelude.{◌≡◌, ◌<◌, ◌≤◌, ◌+◌, ◌==◌, length, ◌++◌, ◌∷◌, [], map, None, Some, true, IfErr, IfOk, IfSome, MatchOption, OnOk, OnErr};
 ghost use Rattle.std.specs.List.{All, slice_get};
 ghost use Rattle.cap_vector.specs.Vector.{IsWithin, amounts_exchanged, sum_max};
 ghost use Rattle.cap_base.specs.Limits.{factor_max, number_end, queues_max};
@@ -10,7 +10,7 @@ ghost use Rattle.cap_tree.specs.Limits.{over_limit};
 ghost use Rattle.cap_tree.specs.Paths.{TreeFitsInMemory};
 ghost use Rattle.cap_tree.specs.Count.{IsPart};
 ghost use Rattle.cap_tree.specs.Queue.{IsUnused, MayGive, MayLeave, count_in, stays_in_user_limit, use_of};
-ghost use Rattle.cap_tree.specs.Rows.{AreRows, FindsQueue, HasRoomAtRoot, active_in, applied_row, entered_row, has_same_paths, is_running, items_to, left_row, lowered_row, moved_rows, queues_of, root_use, used_at, user_row_at, with_row, with_state};
+ghost use Rattle.cap_tree.specs.Rows.{AreRows, FindsQueue, HasRoomAtRoot, active_in, applied_row, entered_row, has_same_paths, is_running, items_to, left_row, lowered_row, moved_rows, queues_of, root_use, used_at, user_row_at, with_row, with_row_of_path, with_state};
 ghost use Rattle.cap_tree.specs.Service.{HasNoChildAfter, IsNextChild};
 ghost use Rattle.cap_tree.specs.Spot.{IsPosition, item_at, path_at};
 
@@ -159,6 +159,23 @@ impl<const K: usize, A: Allocator + Copy> QueueTree<K, A> {
         let Ok(()) = self.root.change(path.as_slice(), &change) else {
             unreachable!()
         };
+    }
+
+    /// Sets the settings of each queue to those of the row of its path: what it is guaranteed, its maximum, its user limit factor
+    /// and its own state. What is counted stays. It takes no memory.
+    pub fn set_limits(&mut self, config: &Config<K>)
+        requires { has_same_paths config.now.queues (queues_of self.old) ≡ true }
+        ensures { self.new ≡ map (with_row_of_path config.now.queues) self.old }
+    {
+        let rows = config.queues();
+        for row in rows {
+            let path = row.path();
+            match self.find(path.as_bytes()) {
+                Found::Leaf(position) => self.set_row(&position, row),
+                Found::Parent(position) => self.set_row(&position, row),
+                Found::Missing => unreachable!(),
+            }
+        }
     }
 
     /// Takes an old part away from what is counted of a user in the leaf, of the leaf and of each queue above it, and adds a new
