@@ -2,6 +2,7 @@
 ghost use Rattle.cap_tree.specs.Spot.{IsPosition};
 
 use cap_base::RESOURCES;
+use cap_config::{Config, read_config};
 use cap_model::ShortText;
 use cap_testing::{Change, ChangeAt, NESTED_QUEUES, change_queue, first, tree_after};
 use cap_tree::{Found, OverLimit, Path, QueueTree};
@@ -323,6 +324,113 @@ fn accepts(tree: &Tree, path: &str, old: [u64; 2], new: [u64; 2]) -> Option<Resu
     match tree.find(path.as_bytes()) {
         Found::Leaf(position) => Some(tree.accept(&position, &user, &old, &new)),
         _ => None,
+    }
+}
+
+/// Other limits of the nested queues, in another order. `root.a.y` has no state, and so runs.
+const OTHER_LIMITS: &[u8] = b"yarn.scheduler.capacity.root.queues=b,a
+yarn.scheduler.capacity.root.b.state=STOPPED
+yarn.scheduler.capacity.root.b.capacity=[memory=512,vcores=1]
+yarn.scheduler.capacity.root.a.queues=y,x
+yarn.scheduler.capacity.root.a.capacity=[memory=1024,vcores=2]
+yarn.scheduler.capacity.root.a.maximum-capacity=[memory=2048,vcores=3]
+yarn.scheduler.capacity.root.a.x.user-limit-factor=7
+";
+
+/// Property lines, and whether their queues have the paths of the nested queues.
+const PATHS: [(&[u8], bool); 6] = [
+    (NESTED_QUEUES, true),
+    (OTHER_LIMITS, true),
+    (b"yarn.scheduler.capacity.root.queues=a,b", false),
+    (
+        b"yarn.scheduler.capacity.root.queues=a,b\nyarn.scheduler.capacity.root.a.queues=x",
+        false,
+    ),
+    (
+        b"yarn.scheduler.capacity.root.queues=a,b\nyarn.scheduler.capacity.root.a.queues=x,z",
+        false,
+    ),
+    (
+        b"yarn.scheduler.capacity.root.queues=a,b,c\nyarn.scheduler.capacity.root.a.queues=x,y",
+        false,
+    ),
+];
+
+/// Whether the nested queues have the paths of these property lines.
+fn same_paths(alloc: Global, lines: &[u8]) -> Option<bool> {
+    let config = read_config(alloc, lines).ok()?;
+    let tree = tree_after(alloc, NESTED_QUEUES, &[])?;
+    Some(tree.same_paths(&config))
+}
+
+#[test]
+fn paths_are_the_same_in_any_order(rt: HostRuntime) {
+    for &(lines, answer) in &PATHS {
+        assert!(rt; same_paths(rt.alloc(), lines) == Some(answer));
+    }
+}
+
+/// `ann` uses so much in `root.a.x` that it is over the other maximum of `root.a`.
+const OVER: [ChangeAt; 3] = [
+    ("root.b", "bob", Change::Enter),
+    ("root.a.x", "ann", Change::Enter),
+    ("root.a.x", "ann", Change::Apply([0, 0], [4096, 4])),
+];
+
+/// Sets the limits, where the paths are the same.
+fn with_limits(mut tree: Tree, config: &Config<RESOURCES>) -> Option<Tree> {
+    if !tree.same_paths(config) {
+        return None;
+    }
+    tree.set_limits(config);
+    Some(tree)
+}
+
+/// What is seen once the other limits are set, and whether `ann` may have one MiB more in `root.a.x`.
+fn seen_in_limits(alloc: Global, path: &str) -> Option<(Seen, Result<(), OverLimit>)> {
+    let config = read_config(alloc, OTHER_LIMITS).ok()?;
+    let tree = with_limits(tree_after(alloc, NESTED_QUEUES, &OVER)?, &config)?;
+    let more = accepts(&tree, "root.a.x", [0, 0], [1, 0])?;
+    Some((shown(&tree, path, "ann")?, more))
+}
+
+#[test]
+fn limits_are_set_and_what_is_counted_stays(rt: HostRuntime) {
+    let used = [4096, 4];
+    let a = Seen {
+        capacity: [1024, 2],
+        active: 1,
+        used,
+        ..A
+    };
+    let x = Seen {
+        active: 1,
+        used,
+        user_active: 1,
+        user_used: used,
+        ..X
+    };
+    let b = Seen {
+        capacity: [512, 1],
+        runs: false,
+        active: 1,
+        ..B
+    };
+    let root = Seen {
+        active: 2,
+        used,
+        ..ROOT
+    };
+    let over = Err(OverLimit::Maximum { level: 1 });
+    for &(path, answer) in &[
+        ("root", root),
+        ("root.a", a),
+        ("root.a.x", x),
+        ("root.a.y", Y),
+        ("root.b", b),
+    ] {
+        let given = seen_in_limits(rt.alloc(), path);
+        assert!(rt; given == Some((answer, over)), "{path}");
     }
 }
 

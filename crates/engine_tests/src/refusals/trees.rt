@@ -6,6 +6,7 @@ use crate::refusals::table::Before;
 use bytes::BytesMut;
 use cap_base::RESOURCES;
 use cap_commit::Cluster;
+use cap_config::{Config, read_config};
 use cap_copy::Snapshot;
 use cap_frames::put_frame;
 use cap_model::ShortText;
@@ -77,11 +78,25 @@ static ENDED: [ChangeAt; 3] = [
     ("root.a", "ann", Change::Leave),
 ];
 
+/// Sets the limits of its own settings. Whether their paths are the same.
+fn set_limits(tree: &mut Tree, config: &Config<RESOURCES>) -> bool {
+    let same = tree.same_paths(config);
+    if same {
+        tree.set_limits(config);
+    }
+    same
+}
+
 /// What is seen after the first of these changes and after the others, and which child of `root` is served first between them, where no bytes
-/// are left.
-fn changed(alloc: Global, hoard: &mut Hoard, tree: &mut Tree) -> Option<Changed> {
+/// are left. The limits that it has are set between them.
+fn changed(
+    alloc: Global,
+    hoard: &mut Hoard,
+    tree: &mut Tree,
+    config: &Config<RESOURCES>,
+) -> Option<Changed> {
     hoard.leave(alloc, 0);
-    let grew = change_queues(tree, &GROWN).is_some();
+    let grew = change_queues(tree, &GROWN).is_some() && set_limits(tree, config);
     let (grown, child) = (shown(tree), first_child(tree));
     let did_end = change_queues(tree, &ENDED).is_some();
     let ended = shown(tree);
@@ -95,8 +110,9 @@ fn changed(alloc: Global, hoard: &mut Hoard, tree: &mut Tree) -> Option<Changed>
 
 fn changed_in_none(alloc: Global) -> Option<Changed> {
     let mut hoard = Hoard::new(alloc)?;
+    let config = read_config(alloc, TWO_QUEUES).ok()?;
     let mut tree = tree_after(alloc, TWO_QUEUES, &[("root.a", "ann", Change::Enter)])?;
-    changed(alloc, &mut hoard, &mut tree)
+    changed(alloc, &mut hoard, &mut tree, &config)
 }
 
 #[test]
