@@ -30,6 +30,10 @@ asks_max = 256
 abbrev pub numbers_max : ℕ
 numbers_max = 1024
 
+-- the greatest number of bytes of property lines in one request: a frame's payload without the kind, the call id and their length
+abbrev pub text_max : ℕ
+text_max = 65526
+
 -- the greatest number of bytes of a host, a rack, a place or a user, and of the path of a queue
 abbrev pub name_max : ℕ
 name_max = 64
@@ -55,6 +59,6 @@ factor_max = 1000
 abbrev pub resources_max : ℕ
 resources_max = 1000
 
--- how many kinds of resource the engine and its messages have: memory and vcores
+-- how many kinds of resource the engine has: memory, vcores and yarn.io/gpu
 abbrev pub resources : ℕ
-resources = 2
+resources = 3

@@ -14,6 +14,10 @@ HasDistinctPaths (q ∷ queues) = (list_any (λ r. bytes_eq r.path q.path) queue
 abbrev pub has_path : List QueueRow → List ℕ → Bool
 has_path queues path = is_some (find (λ r. bytes_eq r.path path) queues)
 
+-- whether two lists of queues have the same paths: each that stands in the one stands in the other
+abbrev pub has_same_paths : List QueueRow → List QueueRow → Bool
+has_same_paths these those = list_all (λ q. has_path those q.path) these && list_all (λ q. has_path these q.path) those
+
 -- queues that are a tree: no path stands there twice, and where a path is there, so is each beginning of it that ends before a dot
 pub record IsTree (queues : List QueueRow) : Type 0 where
   pub distinct : HasDistinctPaths queues

@@ -12,7 +12,7 @@ pub use no_memory::NoMemory;
 pub use settings::{Config, QueueRow};
 pub use text::{PathText, ShortText, Text};
 
-/// How many kinds of resource the engine and its messages have: memory, in MiB, and vcores.
-pub const RESOURCES: usize = 2;
+/// How many kinds of resource the engine has: memory, in MiB, vcores, and `yarn.io/gpu`.
+pub const RESOURCES: usize = 3;
 
-const _: () = prove!(RESOURCES == 2);
+const _: () = prove!(RESOURCES == 3);

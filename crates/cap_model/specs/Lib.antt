@@ -18,6 +18,7 @@ pub mod RegisterNode
 pub mod Heartbeat
 pub mod NodeGone
 pub mod QueueCalls
+pub mod Refresh
 pub mod Replies
 pub mod Reporting
 pub mod Events

@@ -20,4 +20,6 @@ status_of Refusal.TotalTooLarge = 13
 status_of Refusal.TooManyNodes = 14
 status_of Refusal.ZeroResource = 15
 status_of Refusal.NumbersSpent = 16
+status_of (Refusal.BadSettings line number) = 17
+status_of Refusal.OtherQueues = 18
 status_of Refusal.NoMemory = 20

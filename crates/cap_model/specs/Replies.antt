@@ -1,4 +1,4 @@
--- The reply function: what each of the ten calls is answered, and the cluster after it.
+-- The reply function: what each of the eleven calls is answered, and the cluster after it.
 use Rattle.std.specs.Prelude.{◌≡◌, ◌⊎◌, ℕ, Bool, true, false, not, Option, Some, None}
 use Rattle.cap_model.specs.declared.request.Request.{Request}
 use Rattle.cap_model.specs.declared.refusal.Refusal.{Refusal}
@@ -14,6 +14,7 @@ use Rattle.cap_model.specs.RegisterNode.{register_node_refusal, register_node_re
 use Rattle.cap_model.specs.Heartbeat.{heartbeat_refusal, heartbeat_reply, after_heartbeat, is_repeated_heartbeat}
 use Rattle.cap_model.specs.NodeGone.{node_gone_refusal, node_gone_reply, after_node_gone}
 use Rattle.cap_model.specs.QueueCalls.{queue_refusal, queue_info_reply, after_set_queue_state, cluster_info_reply}
+use Rattle.cap_model.specs.Refresh.{refresh_refusal, after_refresh}
 
 -- what stands for a refused call, or else what the call gives
 abbrev pub refused_or : {A : Type 0} → Option Refusal → (Refusal → A) → A → A
@@ -33,6 +34,7 @@ module _ {K : ℕ} where
   refusal_of cluster (Request.QueueInfo path) = queue_refusal cluster path
   refusal_of cluster (Request.SetQueueState path running) = queue_refusal cluster path
   refusal_of cluster Request.ClusterInfo = None
+  refusal_of cluster (Request.Refresh text) = refresh_refusal cluster text
 
   -- the reply to a call that is not refused
   abbrev pub granted_reply : Flat K → Request K → Reply K
@@ -46,6 +48,7 @@ module _ {K : ℕ} where
   granted_reply cluster (Request.QueueInfo path) = queue_info_reply cluster path
   granted_reply cluster (Request.SetQueueState path running) = Reply.SetQueueState
   granted_reply cluster Request.ClusterInfo = cluster_info_reply cluster
+  granted_reply cluster (Request.Refresh text) = Reply.Refresh
 
   -- the cluster after a call that is not refused
   abbrev pub granted_cluster : Flat K → Request K → Flat K
@@ -59,6 +62,7 @@ module _ {K : ℕ} where
   granted_cluster cluster (Request.QueueInfo path) = cluster
   granted_cluster cluster (Request.SetQueueState path running) = after_set_queue_state cluster path running
   granted_cluster cluster Request.ClusterInfo = cluster
+  granted_cluster cluster (Request.Refresh text) = after_refresh cluster text
 
   -- the reply to a call, memory aside
   abbrev pub reply_to : Flat K → Request K → Reply K
@@ -68,7 +72,7 @@ module _ {K : ℕ} where
   abbrev pub after_request : Flat K → Request K → Flat K
   after_request cluster request = refused_or (refusal_of cluster request) (λ refusal. cluster) (granted_cluster cluster request)
 
-  -- whether a call may need memory: those that make the cluster grow, where they repeat nothing
+  -- whether a call may need memory: those that make the cluster grow, where they repeat nothing, and a Refresh, to read its text
   abbrev pub may_grow : Flat K → Request K → Bool
   may_grow cluster (Request.Submit path user) = true
   may_grow cluster (Request.RegisterMaster app) = false
@@ -80,11 +84,17 @@ module _ {K : ℕ} where
   may_grow cluster (Request.QueueInfo path) = false
   may_grow cluster (Request.SetQueueState path running) = false
   may_grow cluster Request.ClusterInfo = false
+  may_grow cluster (Request.Refresh text) = true
 
-  -- a call that may grow, is not refused, and found no memory
+  -- why a call is refused before it wants memory; a Refresh wants some to read its text, whatever is wrong there
+  abbrev pub early_refusal : Flat K → Request K → Option Refusal
+  early_refusal cluster (Request.Refresh text) = None
+  early_refusal cluster request = refusal_of cluster request
+
+  -- a call that may need memory, is not refused before that, and found none
   pub record LacksMemory (cluster : Flat K) (request : Request K) (reply : Reply K) : Type 0 where
     pub grows : may_grow cluster request ≡ true
-    pub unrefused : refusal_of cluster request ≡ None
+    pub unrefused : early_refusal cluster request ≡ None
     pub reply_is : reply ≡ Reply.Refused Refusal.NoMemory
 
   -- the reply and the new cluster are the reply function's: no memory is wanted
@@ -109,3 +119,4 @@ module _ {K : ℕ} where
   map_reply f (Reply.QueueInfo report) = Reply.QueueInfo report
   map_reply f Reply.SetQueueState = Reply.SetQueueState
   map_reply f (Reply.ClusterInfo report) = Reply.ClusterInfo report
+  map_reply f Reply.Refresh = Reply.Refresh

@@ -22,7 +22,7 @@ pub use ask::{Ask, Key, takes_place};
 pub use cap_base::{Config, NoMemory, PathText, QueueRow, ShortText, Text};
 pub use container::{Container, Reservation};
 pub use event::Event;
-pub use list::{Asks, List, Numbers};
+pub use list::{Asks, List, Numbers, SettingsText};
 pub use news::{Cause, End, Grant};
 pub use owned::ReplyRoom;
 pub use proposal::{Proposal, ProposalKind, Reason, Verdict, first_reason};

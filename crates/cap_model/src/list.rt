@@ -1,4 +1,5 @@
-//! The lists that requests bring, bounded by their type (`List`): asks (`Asks`) and container numbers (`Numbers`).
+//! The lists that requests bring, bounded by their type (`List`): asks (`Asks`), container numbers (`Numbers`), and property
+//! lines (`SettingsText`).
 ghost use Rattle.std.specs.Prelude.{◌≡◌, ◌≤◌, length, IfOk};
 
 use crate::ask::Ask;
@@ -17,6 +18,9 @@ pub type Asks<const K: usize> = List<Ask<K>, 256>;
 
 /// The containers that one request names.
 pub type Numbers = List<u64, 1024>;
+
+/// The bytes of the property lines of one request: as many as a frame holds beside its head.
+pub type SettingsText = List<u8, 65_526>;
 
 impl<T, const MAX: usize> Model for List<T, MAX> {
     ghost use Rattle.std.specs.Prelude.{List as Items, ◌≤◌, length};

@@ -38,6 +38,11 @@ pub enum Refusal {
     ZeroResource,
     /// The next application or node number would be 2^62.
     NumbersSpent,
+    /// The property lines of a Refresh have a fault: the first one's line, counted from 1 (0 where `root` has no queues), and
+    /// the number of what is wrong there.
+    BadSettings { line: u32, number: u8 },
+    /// The property lines of a Refresh name other queues than the cluster has.
+    OtherQueues,
     /// An allocation failed.
     NoMemory,
 }
@@ -68,6 +73,8 @@ impl Refusal {
             Refusal::TooManyNodes => 14,
             Refusal::ZeroResource => 15,
             Refusal::NumbersSpent => 16,
+            Refusal::BadSettings { .. } => 17,
+            Refusal::OtherQueues => 18,
             Refusal::NoMemory => 20,
         }
     }

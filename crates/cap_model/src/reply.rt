@@ -46,6 +46,7 @@ pub enum ReplyWith<const K: usize, A> {
     ClusterInfo {
         report: ClusterReport<K>,
     },
+    Refresh,
 }
 
 impl<const K: usize, A: Copy> Clone for ReplyWith<K, A> {
@@ -81,6 +82,7 @@ impl<const K: usize, A> ReplyWith<K, A> {
             ReplyWith::QueueInfo { report } => ReplyWith::QueueInfo { report: *report },
             ReplyWith::SetQueueState => ReplyWith::SetQueueState,
             ReplyWith::ClusterInfo { report } => ReplyWith::ClusterInfo { report: *report },
+            ReplyWith::Refresh => ReplyWith::Refresh,
         }
     }
 }

@@ -1,7 +1,7 @@
-//! The ten calls of clients, application masters, node managers and operators (`Request`).
+//! The eleven calls of clients, application masters, node managers and operators (`Request`).
 ghost use Rattle.std.specs.Prelude.{◌≡◌, IfOk};
 
-use crate::list::{Asks, Numbers};
+use crate::list::{Asks, Numbers, SettingsText};
 use cap_base::{NoMemory, PathText, ShortText};
 use cap_vector::Resource;
 use std::alloc::Global;
@@ -56,6 +56,10 @@ pub enum Request<const K: usize> {
     },
     /// What the cluster holds.
     ClusterInfo,
+    /// All settings become those of property lines, as by `yarn rmadmin -refreshQueues`.
+    Refresh {
+        text: SettingsText,
+    },
 }
 
 impl<const K: usize> Request<K> {
@@ -102,6 +106,9 @@ impl<const K: usize> Request<K> {
                 running: *running,
             },
             Request::ClusterInfo => Request::ClusterInfo,
+            Request::Refresh { text } => Request::Refresh {
+                text: text.copy(alloc)?,
+            },
         })
     }
 }

@@ -118,10 +118,6 @@ is_running rows path = list_all (λ q. q.running) (filter (λ q. is_under q.path
 abbrev pub has_children : List Row → List ℕ → Bool
 has_children rows path = list_any (λ q. starts_with nat_eq q.path (path ++ dot ∷ [])) (queues_of rows)
 
--- whether two lists of queues have the same paths: each that stands in the one stands in the other
-abbrev pub has_same_paths : List QueueRow → List QueueRow → Bool
-has_same_paths these those = list_all (λ q. has_path those q.path) these && list_all (λ q. has_path these q.path) those
-
 -- the position is that of the queue with the path
 pub record IsAt (rows : List Row) (path position : List ℕ) : Type 0 where
   pub present : IsPosition rows position

@@ -2,7 +2,21 @@
 use Rattle.std.specs.Prelude.{◌≡◌, ℕ, Result, Ok, Err}
 use Rattle.cap_base.specs.declared.properties.fault.ConfigFault.{ConfigFault}
 use Rattle.cap_base.specs.declared.properties.fault.ConfigFaultKind.{ConfigFaultKind}
-use Rattle.cap_base.specs.declared.properties.fault.ConfigFaultKind.TheVariants.{NoMemory}
+use Rattle.cap_base.specs.declared.properties.fault.ConfigFaultKind.TheVariants.{BadLine, UnknownKey, Repeated, BadValue, NoSuchQueue, OverParent, GuaranteeOverMaximum, TooManyQueues, TooDeep, NoChild, NoMemory}
+
+-- the number of what is wrong, as an operator is told it
+abbrev pub fault_number : ConfigFaultKind → ℕ
+fault_number BadLine = 1
+fault_number UnknownKey = 2
+fault_number Repeated = 3
+fault_number BadValue = 4
+fault_number NoSuchQueue = 5
+fault_number OverParent = 6
+fault_number GuaranteeOverMaximum = 7
+fault_number TooManyQueues = 8
+fault_number TooDeep = 9
+fault_number NoChild = 10
+fault_number NoMemory = 20
 
 abbrev pub fault_at : ℕ → ConfigFaultKind → ConfigFault
 fault_at line kind = record { line = line; kind = kind }

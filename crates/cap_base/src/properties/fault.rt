@@ -13,23 +13,45 @@ pub struct ConfigFault {
     pub kind: ConfigFaultKind,
 }
 
-/// What is wrong. Its number is the one that a report to an operator gives.
+/// What is wrong.
 #[derive(Clone, Copy, Debug, Drop, PartialEq, Eq)]
 pub enum ConfigFaultKind {
-    BadLine = 1,
-    UnknownKey = 2,
-    Repeated = 3,
-    BadValue = 4,
-    NoSuchQueue = 5,
-    OverParent = 6,
-    GuaranteeOverMaximum = 7,
-    TooManyQueues = 8,
-    TooDeep = 9,
-    NoChild = 10,
-    NoMemory = 20,
+    BadLine,
+    UnknownKey,
+    Repeated,
+    BadValue,
+    NoSuchQueue,
+    OverParent,
+    GuaranteeOverMaximum,
+    TooManyQueues,
+    TooDeep,
+    NoChild,
+    NoMemory,
 }
 
 impl ConfigFaultKind {
+    ghost use Rattle.std.specs.Prelude.{◌≡◌};
+    ghost use Rattle.cap_base.specs.properties.Fault.{fault_number};
+
+    /// The number of what is wrong, as a report to an operator gives it.
+    pub fn number(self) -> u8
+        ensures { result ≡ fault_number self }
+    {
+        match self {
+            ConfigFaultKind::BadLine => 1,
+            ConfigFaultKind::UnknownKey => 2,
+            ConfigFaultKind::Repeated => 3,
+            ConfigFaultKind::BadValue => 4,
+            ConfigFaultKind::NoSuchQueue => 5,
+            ConfigFaultKind::OverParent => 6,
+            ConfigFaultKind::GuaranteeOverMaximum => 7,
+            ConfigFaultKind::TooManyQueues => 8,
+            ConfigFaultKind::TooDeep => 9,
+            ConfigFaultKind::NoChild => 10,
+            ConfigFaultKind::NoMemory => 20,
+        }
+    }
+
     /// What is wrong, in words.
     fn words(self) -> &'static str {
         match self {
