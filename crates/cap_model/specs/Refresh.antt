@@ -11,7 +11,7 @@ use Rattle.cap_model.specs.Flat.{Flat}
 
 -- a queue with all that the row of its path sets
 abbrev pub refreshed_queue : List QueueRow → QueueRow → QueueRow
-refreshed_queue rows q = option_map_or (λ row. record row { path = q.path }) (find (λ row. bytes_eq row.path q.path) rows) q
+refreshed_queue rows q = option_map_or (λ (row : QueueRow). record row { path = q.path }) (find (λ row. bytes_eq row.path q.path) rows) q
 
 -- settings that become others: the queues stay in their order
 abbrev pub refreshed_settings : Settings → Settings → Settings
