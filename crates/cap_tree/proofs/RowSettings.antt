@@ -9,12 +9,12 @@ use Rattle.std.proofs.lemmas.Slice.Eq.{bytes_eq-Decides}
 use Rattle.cap_base.specs.Settings.{QueueRow}
 use Rattle.cap_base.specs.Limits.{factor_max}
 use Rattle.cap_base.specs.Listing.{IsListing}
-use Rattle.cap_base.specs.Trees.{HasDistinctPaths, has_path}
+use Rattle.cap_base.specs.Trees.{HasDistinctPaths, has_path, has_same_paths}
 use Rattle.cap_base.proofs.lists.Filters.{map_same, map_twice}
 use Rattle.cap_base.proofs.lists.Members.{in_right, none_in, all_in, each_of}
 use Rattle.cap_base.proofs.lists.Tests.{or_left, or_right, bytes_turned}
 use Rattle.cap_tree.specs.Queue.{with_settings}
-use Rattle.cap_tree.specs.Rows.{Row, has_same_paths, queues_of, settings_of_row, with_row, with_row_of_path}
+use Rattle.cap_tree.specs.Rows.{Row, queues_of, settings_of_row, with_row, with_row_of_path}
 use Rattle.cap_tree.proofs.SamePaths.{member}
 
 -- one more row, of a path that none before it has

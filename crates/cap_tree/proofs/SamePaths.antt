@@ -6,13 +6,13 @@ use Rattle.std.proofs.lemmas.Bool.{and_parts, and_from}
 use Rattle.std.proofs.lemmas.List.{take_more}
 use Rattle.std.proofs.lemmas.Slice.Eq.{bytes_eq-Decides}
 use Rattle.cap_base.specs.Settings.{QueueRow}
-use Rattle.cap_base.specs.Trees.{HasDistinctPaths, has_path}
+use Rattle.cap_base.specs.Trees.{HasDistinctPaths, has_path, has_same_paths}
 use Rattle.cap_base.proofs.lists.Filters.{length-kept}
 use Rattle.cap_base.proofs.lists.Members.{IsIn, all_in}
 use Rattle.cap_base.proofs.lists.Tests.{or_left, or_right, same_test}
 use Rattle.cap_tree.specs.declared.found.Found.{Found}
 use Rattle.cap_tree.specs.declared.found.Found.TheVariants.{Leaf, Parent, Missing}
-use Rattle.cap_tree.specs.Rows.{Row, FindsQueue, IsAt, has_same_paths, queues_of}
+use Rattle.cap_tree.specs.Rows.{Row, FindsQueue, IsAt, queues_of}
 use Rattle.cap_tree.proofs.Growing.{path_of_row}
 use Rattle.cap_tree.proofs.RowPaths.{at_position}
 

@@ -3,14 +3,14 @@ ghost use Rattle.std.specs.Prelude.{◌≡◌, ◌<◌, ◌≤◌, ◌+◌, ◌=
 ghost use Rattle.std.specs.List.{All, slice_get};
 ghost use Rattle.cap_vector.specs.Vector.{IsWithin, amounts_exchanged, sum_max};
 ghost use Rattle.cap_base.specs.Limits.{factor_max, number_end, queues_max};
-ghost use Rattle.cap_base.specs.Trees.{depth};
+ghost use Rattle.cap_base.specs.Trees.{depth, has_same_paths};
 ghost use Rattle.cap_base.specs.Cascade.{holds_of};
 ghost use Rattle.cap_tree.specs.Growth.{IsGrowing};
 ghost use Rattle.cap_tree.specs.Limits.{over_limit};
 ghost use Rattle.cap_tree.specs.Paths.{TreeFitsInMemory};
 ghost use Rattle.cap_tree.specs.Count.{IsPart};
 ghost use Rattle.cap_tree.specs.Queue.{IsUnused, MayGive, MayLeave, count_in, stays_in_user_limit, use_of};
-ghost use Rattle.cap_tree.specs.Rows.{AreRows, FindsQueue, HasRoomAtRoot, active_in, applied_row, entered_row, has_same_paths, is_running, items_to, left_row, lowered_row, moved_rows, queues_of, root_use, used_at, user_row_at, with_row, with_row_of_path, with_state};
+ghost use Rattle.cap_tree.specs.Rows.{AreRows, FindsQueue, HasRoomAtRoot, active_in, applied_row, entered_row, is_running, items_to, left_row, lowered_row, moved_rows, queues_of, root_use, used_at, user_row_at, with_row, with_row_of_path, with_state};
 ghost use Rattle.cap_tree.specs.Service.{HasNoChildAfter, IsNextChild};
 ghost use Rattle.cap_tree.specs.Spot.{IsPosition, item_at, path_at};
 
