@@ -48,4 +48,6 @@ module _ {K : ℕ} where
 
   -- the cluster after a Refresh that is not refused
   abbrev pub after_refresh : Flat K → List ℕ → Flat K
-  after_refresh cluster text = option_map_or (λ settings. with_settings (first_of_settings K settings) cluster) (settings_in text) cluster
+  after_refresh cluster text = record cluster {
+    settings = option_map_or (λ settings. refreshed_settings (first_of_settings K settings) cluster.settings) (settings_in text) cluster.settings;
+  }
