@@ -69,11 +69,11 @@ module _ {K : ℕ} where
     pub node : holds_of (λ node. fits r.resource node.total) (node_at cluster r.node) ≡ true
     pub ask : holds_of (λ app. holds_of (λ ask. nat_le (reservations_for cluster r.app r.key) ask.count) (ask_at r.key app.asks)) (app_at cluster r.app) ≡ true
 
-  -- the bounds of a well-formed cluster: no queue over its maximum, no user over the limit, each queue the sum of its children, no node over its
-  -- total, at most one reservation a node, which fits there and is asked for, and no container number twice
+  -- the bounds of a well-formed cluster: each queue the sum of its children, no node over its total, at most one reservation a node, which fits
+  -- there and is asked for, and no container number twice. A Refresh may lower a maximum or a user limit below what is used: of these
+  -- LimitsAreMetOrNotRisen tells
   pub record IsBounded (cluster : Flat K) : Type 0 where
     pub formed : IsWellFormed cluster
-    pub queues : All (IsQueueBounded cluster) cluster.settings.queues
     pub parents : All (IsSumOfChildren cluster) cluster.settings.queues
     pub nodes : All (IsNodeBounded cluster) cluster.nodes.present
     pub reservations : All (IsReservationBounded cluster) cluster.nodes.reserved

@@ -24,3 +24,4 @@ pub mod Reporting
 pub mod Events
 pub mod Verdicts
 pub mod Bounds
+pub mod Risen
