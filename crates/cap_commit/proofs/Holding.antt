@@ -44,7 +44,8 @@ use Rattle.cap_commit.proofs.Owning.{IsOwned, IsReservedFor, count_for, live_kep
 use Rattle.cap_laws.proofs.bounds.ReservedNodes.{none_reserved_yet}
 use Rattle.cap_commit.proofs.RowsAt.{row_at, still_at}
 use Rattle.cap_commit.proofs.Moving.{HasOneMore, enters, leaves, may_leave, moved_settings, moved_stays, tied_moved}
-use Rattle.cap_commit.proofs.Ties.{of_user_in, unused_tied, tied_stays, tied_state}
+use Rattle.cap_commit.specs.declared.limits.Limits.{Limits}
+use Rattle.cap_commit.proofs.Ties.{ChangesSettings, of_user_in, unused_tied, tied_changed, tied_stays}
 
 -- a change of the queues that keeps their paths keeps which of them are leaves
 pub leaf_kept : (f : QueueRow → QueueRow) (p : (q : QueueRow) → (f q).path ≡ q.path) → {K : ℕ} (old new : Flat K) (path : List ℕ) → new.settings.queues ≡ map f old.settings.queues → IsLeaf old path → IsLeaf new path
@@ -163,24 +164,24 @@ module _ {K : ℕ} where
         held_apps apps' (λ a. a) (record { number = λ a. refl; leaf = λ a. refl; user = λ a. refl }) (ap (λ (t : AppTable). t.active) e ∙ sym (map-id p.apps.table.active)) (ap (λ (t : AppTable). t.next) e) (λ n. ap (position_of n) same)
         (λ n. ap (live_of n) same)
 
-    -- after a queue's own state was set
-    pub held_state : (path : List ℕ) (running : Bool) → IsCluster (record p { rows = map (with_state path running) p.rows })
-    held_state path running =
-        let q : Parts K = record p { rows = map (with_state path running) p.rows } in
+    -- after a change of settings
+    pub held_settings : (f : Row → Row) (g : QueueRow → QueueRow) (limits' : Limits K) → ChangesSettings f g → limits'.application_limit ≤ applications_max →
+        IsCluster (record p { rows = map f p.rows; limits = limits' })
+    held_settings f g limits' k few =
+        let q : Parts K = record p { rows = map f p.rows; limits = limits' } in
         record {
-          tied = tied_stays old (flat_of q) (record { counts = λ t. refl; uses = same_use old (flat_of q) (record { live = refl; reserved = refl; apps = λ app node s. refl }) }) q.rows (tied_state old path running p.rows h.tied);
+          tied = tied_stays old (flat_of q) (record { counts = λ t. refl; uses = same_use old (flat_of q) (record { live = refl; reserved = refl; apps = λ app node s. refl }) }) q.rows (tied_changed f g k old p.rows h.tied);
           placed =
               of_each (IsInLeaf q) p.apps.table.active
               (λ a m.
-              still_placed p q (λ x l. leaf_kept (set_running path running) (Rattle.cap_tree.proofs.Listings.same_path path running) old (flat_of q) x (state_in_settings path running p.rows) l)
-              (λ x position at. still_at (with_state path running) (λ r. kept_if (bytes_eq r.path path) (λ (x : Row). x.position) _ r refl) (λ r. kept_if (bytes_eq r.path path) (λ (x : Row). x.path) _ r refl) p.rows x position at) a a refl refl refl
+              still_placed p q (λ x l. leaf_kept g k.same old (flat_of q) x (k.queues p.rows) l) (still_at f k.position k.path p.rows) a a refl refl refl
               (each_of (IsInLeaf p) p.apps.table.active h.placed a m));
           counted = h.counted;
           owned = owned_stands (λ (c : Container). c.app) p.nodes.live p.nodes.live old (flat_of q) (λ n. refl) (λ c i. i) h.owned;
           reserved = owned_stands (λ (r : Reservation). r.app) p.nodes.reserved p.nodes.reserved old (flat_of q) (λ n. refl) (λ r i. i) h.reserved;
           reservations = h.reservations;
           numbers = h.numbers;
-          limit = h.limit;
+          limit = few;
           few = h.few;
           few_live = h.few_live;
           resources = h.resources;

@@ -1,17 +1,22 @@
 -- The rows of a tree keep what the flat cluster counts, as calls change both.
-use Rattle.std.proofs.Common.{◌≡◌, ℕ, Bool, true, false, List, [], map, refl, sym, ◌∙◌, ap, subst}
-use Rattle.std.specs.Prelude.{bytes_eq, ◌&&◌, if◌then◌else◌}
+use Rattle.std.proofs.Common.{◌≡◌, ℕ, Bool, true, false, List, [], ◌∷◌, Option, Some, None, map, refl, sym, ◌∙◌, ap, subst}
+use Rattle.std.specs.Prelude.{bytes_eq, find, ◌&&◌, if◌then◌else◌}
+use Rattle.std.specs.Option.{option_map_or}
 use Rattle.std.specs.List.{All}
 use Rattle.cap_vector.specs.Vector.{amount}
 use Rattle.cap_vector.proofs.AmountLemmas.{amount-zeros}
+use Rattle.cap_base.specs.Settings.{QueueRow}
 use Rattle.cap_model.specs.Flat.{Flat}
+use Rattle.cap_model.specs.Refresh.{refreshed_queue}
 use Rattle.cap_base.specs.Paths.{is_under}
 use Rattle.cap_base.proofs.lists.Members.{each_of, of_each, of_map}
+use Rattle.cap_base.proofs.lists.Tests.{kept_if}
 use Rattle.cap_laws.proofs.uses.Tallies.{Test, count_of, used_by}
 use Rattle.cap_tree.specs.Measure.{Measure}
-use Rattle.cap_tree.specs.Queue.{Queue, IsUnused, of_user, with_running}
+use Rattle.cap_tree.specs.Queue.{Queue, IsUnused, of_user, with_running, with_settings}
 use Rattle.cap_tree.specs.UserLaws.{no_user_counts}
-use Rattle.cap_tree.specs.Rows.{Row, changed_at, with_state}
+use Rattle.cap_tree.specs.Rows.{Row, changed_at, queues_of, settings_of_row, with_row_of_path, with_state}
+use Rattle.cap_tree.proofs.Listings.{same_path, set_running, state_in_settings}
 use Rattle.cap_commit.specs.ClusterState.{IsRowOf, of_cluster}
 use Rattle.cap_laws.proofs.uses.Idle.{idle_use}
 
@@ -57,16 +62,70 @@ module _ {K : ℕ} (old new : Flat K) where
   pub tied_stays : CountsSame old new → (rows : List Row) → All (IsRowOf old) rows → All (IsRowOf new) rows
   tied_stays s rows a = of_each (IsRowOf new) rows (λ r m. row_stays s r (each_of (IsRowOf old) rows a r m))
 
--- a queue's own state changes nothing of it
-pub tied_state : {K : ℕ} (cluster : Flat K) (path : List ℕ) (running : Bool) (rows : List Row) → All (IsRowOf cluster) rows → All (IsRowOf cluster) (map (with_state path running) rows)
-tied_state cluster path running rows a =
-    of_each (IsRowOf cluster) (map (with_state path running) rows) (λ r m.
-    let w = of_map (with_state path running) rows r m in
-    subst (IsRowOf cluster) (w.2) (by (w.0) (bytes_eq (w.0).path path) (each_of (IsRowOf cluster) rows a (w.0) (w.1))))
+-- a change of rows that leaves each where it is, with what it counts; and what it changes of the settings that rows show
+pub record ChangesSettings (f : Row → Row) (g : QueueRow → QueueRow) : Type 0 where
+  pub position : (r : Row) → (f r).position ≡ r.position
+  pub path : (r : Row) → (f r).path ≡ r.path
+  pub counts : {K : ℕ} (cluster : Flat K) (r : Row) → IsRowOf cluster r → IsRowOf cluster (f r)
+  pub queues : (rows : List Row) → queues_of (map f rows) ≡ map g (queues_of rows)
+  pub same : (q : QueueRow) → (g q).path ≡ q.path
+
+pub tied_changed : (f : Row → Row) (g : QueueRow → QueueRow) → ChangesSettings f g → {K : ℕ} (cluster : Flat K) (rows : List Row) → All (IsRowOf cluster) rows → All (IsRowOf cluster) (map f rows)
+tied_changed f g k cluster rows a =
+    of_each (IsRowOf cluster) (map f rows) (λ r m.
+    let w = of_map f rows r m in
+    subst (IsRowOf cluster) (w.2) (k.counts cluster (w.0) (each_of (IsRowOf cluster) rows a (w.0) (w.1))))
+
+-- a queue's own state is such a change
+pub state_changes : (path : List ℕ) (running : Bool) → ChangesSettings (with_state path running) (set_running path running)
+state_changes path running = record {
+  position = λ r. kept_if (bytes_eq r.path path) (λ (x : Row). x.position) _ r refl;
+  path = λ r. kept_if (bytes_eq r.path path) (λ (x : Row). x.path) _ r refl;
+  counts = λ cluster r. by cluster r (bytes_eq r.path path);
+  queues = state_in_settings path running;
+  same = same_path path running;
+}
   where
-    by : (r : Row) (b : Bool) → IsRowOf cluster r → IsRowOf cluster (if b then record r { item = with_running running r.item } else r)
-    by r true h = record { active = h.active; used = h.used; users = h.users }
-    by r false h = h
+    by : {K : ℕ} (cluster : Flat K) (r : Row) (b : Bool) → IsRowOf cluster r → IsRowOf cluster (if b then record r { item = with_running running r.item } else r)
+    by cluster r true h = record { active = h.active; used = h.used; users = h.users }
+    by cluster r false h = h
+
+-- and so are all settings of the rows of the same paths
+pub rows_change : (qs : List QueueRow) → ChangesSettings (with_row_of_path qs) (refreshed_queue qs)
+rows_change qs = record {
+  position = λ r. place r (find (λ q. bytes_eq q.path r.path) qs);
+  path = λ r. name r (find (λ q. bytes_eq q.path r.path) qs);
+  counts = λ cluster r. by cluster r (find (λ q. bytes_eq q.path r.path) qs);
+  queues = shown;
+  same = λ q. stays q (find (λ row. bytes_eq row.path q.path) qs);
+}
+  where
+    changed : Row → Option QueueRow → Row
+    changed r o = option_map_or (λ (q : QueueRow). record r { item = with_settings q r.item }) o r
+
+    place : (r : Row) (o : Option QueueRow) → (changed r o).position ≡ r.position
+    place r None = refl
+    place r (Some q) = refl
+
+    name : (r : Row) (o : Option QueueRow) → (changed r o).path ≡ r.path
+    name r None = refl
+    name r (Some q) = refl
+
+    by : {K : ℕ} (cluster : Flat K) (r : Row) (o : Option QueueRow) → IsRowOf cluster r → IsRowOf cluster (changed r o)
+    by cluster r None h = h
+    by cluster r (Some q) h = record { active = h.active; used = h.used; users = h.users }
+
+    stays : (q : QueueRow) (o : Option QueueRow) → (option_map_or (λ (row : QueueRow). record row { path = q.path }) o q).path ≡ q.path
+    stays q None = refl
+    stays q (Some row) = refl
+
+    one : (r : Row) (o : Option QueueRow) → settings_of_row (changed r o) ≡ option_map_or (λ (row : QueueRow). record row { path = r.path }) o (settings_of_row r)
+    one r None = refl
+    one r (Some q) = refl
+
+    shown : (rows : List Row) → queues_of (map (with_row_of_path qs) rows) ≡ map (refreshed_queue qs) (queues_of rows)
+    shown [] = refl
+    shown (r ∷ rows) = λ i. one r (find (λ q. bytes_eq q.path r.path) qs) i ∷ shown rows i
 
 -- a change at the leaf of a path and at the queues above it
 pub changed_row : (above at : Queue → Queue) (leaf : List ℕ) (Q : Row → Type 0) (r : Row) → (bytes_eq r.path leaf ≡ true → Q (record r { item = at r.item })) →

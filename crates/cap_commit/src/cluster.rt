@@ -1,5 +1,5 @@
 //! The cluster (`Cluster`): opened from settings, its parts lent for reading, and the changes that calls make of it.
-ghost use Rattle.std.specs.Prelude.{◌≡◌, ◌≤◌, ◌+◌, ◌==◌, ◌&&◌, ◌∷◌, [], Some, None, IfOk, OnOk, OnErr, IsOk, IfSome, IsSome, is_some, length, find, ◌<◌, option_and_then};
+ghost use Rattle.std.specs.Prelude.{◌≡◌, ◌≤◌, ◌+◌, ◌==◌, ◌&&◌, ◌∷◌, [], Some, None, IfOk, OnOk, OnErr, IsOk, IfSome, IsSome, is_some, length, find, true, ◌<◌, option_and_then};
 ghost use Rattle.std.specs.List.{All};
 ghost use Rattle.cap_base.specs.Limits.{applications_max, live_max, resources_max};
 ghost use Rattle.cap_model.specs.Flat.{opened_cluster, queue_at, app_at, node_at, node_in, with_app, with_node, with_reserved, containers_on, containers_of};
@@ -9,6 +9,7 @@ ghost use Rattle.cap_model.specs.Submit.{submit_refusal, after_submit};
 ghost use Rattle.cap_model.specs.RegisterNode.{register_node_refusal, after_register_node};
 ghost use Rattle.cap_model.specs.RegisterMaster.{after_register_master};
 ghost use Rattle.cap_model.specs.QueueCalls.{after_set_queue_state, queue_report};
+ghost use Rattle.cap_model.specs.Refresh.{has_its_queues, with_settings};
 ghost use Rattle.cap_base.specs.Paths.{root_path};
 ghost use Rattle.cap_model.specs.Asking.{after_ask, rounded_ask};
 ghost use Rattle.cap_model.specs.Allocate.{after_telling};
@@ -24,7 +25,7 @@ ghost use Rattle.cap_commit.specs.ClusterState.{IsRowOf};
 ghost use Rattle.cap_laws.specs.Reservations.{kept_by_ask};
 ghost use Rattle.cap_commit.specs.Owners.{owns, containers_owned, containers_named};
 
-use crate::limits::Limits;
+use crate::limits::{Limits, limits_of};
 use crate::owner::Owner;
 use crate::queue_report::report_of;
 use cap_asks::{Apps, Position};
@@ -86,18 +87,13 @@ impl<const K: usize> Cluster<K> {
     pub fn from_config(alloc: Global, config: &Config<K>) -> Result<Cluster<K>, NoMemory>
         ensures { IfOk result (λ cluster. cluster.flat ≡ opened_cluster config.now) }
     {
-        let application_limit = config.application_limit();
+        let limits = limits_of(config);
         let tree = match QueueTree::from_config(alloc, config) {
             Ok(tree) => tree,
             Err(NoMemory) => return Err(NoMemory),
         };
         let Ok(tree) = Box::new(alloc, tree) else {
             return Err(NoMemory);
-        };
-        let limits = Limits {
-            minimum_allocation: config.minimum_allocation(),
-            maximum_allocation: config.maximum_allocation(),
-            application_limit,
         };
         Ok(Cluster {
             tree,
@@ -188,6 +184,19 @@ impl<const K: usize> Cluster<K> {
     {
         let tree = &mut *self.tree;
         tree.set_state(position, running);
+    }
+
+    /// All settings become these, of the same queues: each queue takes its capacity, maximum capacity, user limit factor and own
+    /// state, and the cluster the bounds of one container and the limit of active applications. The queues stay in their order, and
+    /// all that is used, asked for and reserved stays, also above a lowered limit. It takes no memory.
+    pub fn set_settings(&mut self, config: &Config<K>)
+        requires { has_its_queues self.old.flat config.now ≡ true }
+        ensures flat { self.new.flat ≡ with_settings config.now self.old.flat }
+        ensures accounts { self.new.accounts ≡ self.old.accounts }
+    {
+        self.limits = limits_of(config);
+        let tree = &mut *self.tree;
+        tree.set_limits(config);
     }
 
     /// An application enters the leaf queue of this path, which is at this position, for a user, under the next number. `NoMemory`

@@ -7,14 +7,14 @@ use cap_commit::Cluster;
 use cap_masters::{allocate, finish_master, register_master, submit};
 use cap_model::{Reply, Request};
 use cap_trackers::{
-    cluster_info, heartbeat, node_gone, queue_info, register_node, set_queue_state,
+    cluster_info, heartbeat, node_gone, queue_info, refresh, register_node, set_queue_state,
 };
 use std::alloc::Global;
 
 /// Makes the call that the request names, and answers it; `Cluster::view` lends the reply in full. A refusal changes nothing, and
 /// neither does a failed allocation.
 pub fn dispatch(
-    _alloc: Global,
+    alloc: Global,
     cluster: &mut Cluster<RESOURCES>,
     request: &Request<RESOURCES>,
 ) -> Reply<RESOURCES>
@@ -42,5 +42,6 @@ pub fn dispatch(
         Request::QueueInfo { path } => queue_info(cluster, path),
         Request::SetQueueState { path, running } => set_queue_state(cluster, path, *running),
         Request::ClusterInfo => cluster_info(cluster),
+        Request::Refresh { text } => refresh(alloc, cluster, text),
     }
 }

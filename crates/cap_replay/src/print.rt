@@ -111,7 +111,7 @@ fn put_proposal(line: &mut Vec<u8>, proposal: &Proposal<RESOURCES>) -> Result<()
         b" reserve"
     };
     let key = proposal.key();
-    let [memory, vcores] = proposal.resource().amounts();
+    let [memory, vcores, _] = proposal.resource().amounts();
     let numbers = [
         proposal.app(),
         u64::from(key.priority),

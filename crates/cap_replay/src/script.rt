@@ -202,7 +202,7 @@ impl Script {
 
     /// Prints the fault of the settings.
     pub(crate) fn print_fault(&mut self, fault: ConfigFault) -> Result<(), Stop> {
-        print_fault(&mut self.printed, fault.line, fault.kind as u8)?;
+        print_fault(&mut self.printed, fault.line, fault.kind.number())?;
         Ok(())
     }
 

@@ -3,6 +3,8 @@
 
 mod node_calls;
 mod queue_calls;
+mod refreshing;
 
 pub use crate::node_calls::{heartbeat, node_gone, register_node};
 pub use crate::queue_calls::{cluster_info, queue_info, set_queue_state};
+pub use crate::refreshing::refresh;

@@ -2,14 +2,15 @@ use Rattle.std.proofs.Common.{ap, ◌∙◌, arith}
 use Rattle.cap_tree.specs.Rows.{queues_of}
 use Rattle.cap_tree.specs.Spot.{path_at}
 use Rattle.cap_tree.proofs.Listings.{state_in_settings}
-use Rattle.cap_commit.proofs.Holding.{held_state, with_queues}
+use Rattle.cap_commit.proofs.Holding.{held_settings, with_queues}
+use Rattle.cap_commit.proofs.Ties.{state_changes}
 use Rattle.cap_commit.proofs.Sizes.{tree_fits}
 use Rattle.cap_commit.proofs.cluster.Cluster.set_state.Goals as goal
 
 pub invariant_of-self : goal.invariant_of-self
 invariant_of-self g c =
     let now = rw c.deref_mut-tree.ensures.value at c.set_state.ensures in
-    rw now (held_state _ c.self.invariant (path_at c.args.position.now.items c.self.inside.tree.value) c.args.running)
+    rw now (held_settings _ c.self.invariant _ _ c.self.inside.limits (state_changes (path_at c.args.position.now.items c.self.inside.tree.value) c.args.running) c.self.invariant.limit)
 
 pub returns-clause-flat : goal.returns-clause-flat
 returns-clause-flat g c =
