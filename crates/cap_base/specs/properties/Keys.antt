@@ -5,7 +5,7 @@ use Rattle.std.specs.Str.{bytes_eq}
 use Rattle.cap_base.specs.Texts.{is_text, dot}
 use Rattle.cap_base.specs.declared.properties.key.Key.{Key}
 use Rattle.cap_base.specs.declared.properties.setting.Setting.{Setting}
-use Rattle.cap_base.specs.declared.properties.setting.Setting.TheVariants.{Queues, Capacity, MaximumCapacity, UserLimitFactor, State, MaximumApplications, MinimumMemory, MinimumVcores, MaximumMemory, MaximumVcores}
+use Rattle.cap_base.specs.declared.properties.setting.Setting.TheVariants.{Queues, Capacity, MaximumCapacity, UserLimitFactor, State, MaximumApplications, MinimumMemory, MinimumVcores, MinimumGpu, MaximumMemory, MaximumVcores, MaximumGpu}
 
 -- how a property is written: the whole key of one of the cluster, the end of the key of one of a queue
 unfoldable pub spelling : Setting → List ℕ
@@ -17,11 +17,13 @@ spelling State = codes "state"
 spelling MaximumApplications = codes "yarn.scheduler.capacity.maximum-applications"
 spelling MinimumMemory = codes "yarn.scheduler.minimum-allocation-mb"
 spelling MinimumVcores = codes "yarn.scheduler.minimum-allocation-vcores"
+spelling MinimumGpu = codes "yarn.resource-types.yarn.io/gpu.minimum-allocation"
 spelling MaximumMemory = codes "yarn.scheduler.maximum-allocation-mb"
 spelling MaximumVcores = codes "yarn.scheduler.maximum-allocation-vcores"
+spelling MaximumGpu = codes "yarn.resource-types.yarn.io/gpu.maximum-allocation"
 
 abbrev pub cluster_settings : List Setting
-cluster_settings = MaximumApplications ∷ MinimumMemory ∷ MinimumVcores ∷ MaximumMemory ∷ MaximumVcores ∷ []
+cluster_settings = MaximumApplications ∷ MinimumMemory ∷ MinimumVcores ∷ MinimumGpu ∷ MaximumMemory ∷ MaximumVcores ∷ MaximumGpu ∷ []
 
 abbrev pub queue_settings : List Setting
 queue_settings = Queues ∷ Capacity ∷ MaximumCapacity ∷ UserLimitFactor ∷ State ∷ []

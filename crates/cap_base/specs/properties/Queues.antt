@@ -7,7 +7,7 @@ use Rattle.cap_base.specs.declared.properties.entry.Entry.{Entry}
 use Rattle.cap_base.specs.declared.properties.value.Value.{Value}
 use Rattle.cap_base.specs.declared.properties.value.Value.TheVariants.{Names, Amounts, Number, Running}
 use Rattle.cap_base.specs.declared.properties.setting.Setting.{Setting}
-use Rattle.cap_base.specs.declared.properties.setting.Setting.TheVariants.{Queues, Capacity, MaximumCapacity, UserLimitFactor, State, MaximumApplications, MinimumMemory, MinimumVcores, MaximumMemory, MaximumVcores}
+use Rattle.cap_base.specs.declared.properties.setting.Setting.TheVariants.{Queues, Capacity, MaximumCapacity, UserLimitFactor, State, MaximumApplications, MinimumMemory, MinimumVcores, MinimumGpu, MaximumMemory, MaximumVcores, MaximumGpu}
 use Rattle.cap_base.specs.properties.Keys.{root, is_dot, parts_at_last_dot}
 use Rattle.cap_base.specs.properties.Seen.{contains_bytes}
 use Rattle.cap_base.specs.Texts.{dot}
@@ -21,8 +21,10 @@ setting_number State = 4
 setting_number MaximumApplications = 5
 setting_number MinimumMemory = 6
 setting_number MinimumVcores = 7
-setting_number MaximumMemory = 8
-setting_number MaximumVcores = 9
+setting_number MinimumGpu = 8
+setting_number MaximumMemory = 9
+setting_number MaximumVcores = 10
+setting_number MaximumGpu = 11
 
 abbrev pub same_setting : Setting → Setting → Bool
 same_setting a b = setting_number a == setting_number b

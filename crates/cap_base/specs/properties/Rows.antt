@@ -5,10 +5,10 @@ use Rattle.cap_base.specs.Settings.{QueueRow, Settings}
 use Rattle.cap_base.specs.declared.properties.entry.Entry.{Entry}
 use Rattle.cap_base.specs.declared.properties.value.Value.{Value}
 use Rattle.cap_base.specs.declared.properties.value.Value.TheVariants.{Names, Amounts, Number, Running}
-use Rattle.cap_base.specs.declared.properties.setting.Setting.TheVariants.{UserLimitFactor, State, MaximumApplications, MinimumMemory, MinimumVcores, MaximumMemory, MaximumVcores}
+use Rattle.cap_base.specs.declared.properties.setting.Setting.TheVariants.{UserLimitFactor, State, MaximumApplications}
 use Rattle.cap_base.specs.properties.Keys.{root}
 use Rattle.cap_base.specs.properties.Queues.{entry_for, guaranteed, maximum, child, names_below}
-use Rattle.cap_base.specs.properties.Tests.{number_or, cluster_entry}
+use Rattle.cap_base.specs.properties.Tests.{number_or, cluster_entry, minimum_allocation, maximum_allocation}
 
 -- the user limit factor of a queue
 abbrev pub factor : List Entry → List ℕ → ℕ
@@ -47,7 +47,7 @@ rows_under (suc levels) entries path = row_of entries path ∷ flat_map (λ name
 unfoldable pub settings_of : List Entry → Settings
 settings_of entries = record {
   queues = rows_under 16 entries root;
-  minimum_allocation = number_or (cluster_entry entries MinimumMemory) 1024 ∷ number_or (cluster_entry entries MinimumVcores) 1 ∷ [];
-  maximum_allocation = number_or (cluster_entry entries MaximumMemory) 8192 ∷ number_or (cluster_entry entries MaximumVcores) 4 ∷ [];
+  minimum_allocation = minimum_allocation entries;
+  maximum_allocation = maximum_allocation entries;
   application_limit = number_or (cluster_entry entries MaximumApplications) 10000;
 }

@@ -1,13 +1,14 @@
 -- The tests over the whole text: each finds its least line.
-use Rattle.std.specs.Prelude.{ℕ, ◌+◌, List, [], ◌∷◌, length, find, Option, Some, None, Bool, true, false, not, ◌&&◌, ◌||◌, ◌==◌, slice_index, nat_lt, max, min, if◌then◌else◌, is_none}
-use Rattle.std.specs.List.{sum_by}
+use Rattle.std.specs.Prelude.{ℕ, ◌+◌, List, [], ◌∷◌, length, map, find, Option, Some, None, Bool, true, false, not, ◌&&◌, ◌==◌, slice_index, nat_lt, max, min, if◌then◌else◌, is_none}
+use Rattle.std.specs.List.{list_any, sum_by}
 use Rattle.std.specs.Option.{option_map}
 use Rattle.std.specs.Str.{bytes_eq}
+use Rattle.cap_vector.specs.Vector.{amount_max}
 use Rattle.cap_base.specs.declared.properties.entry.Entry.{Entry}
 use Rattle.cap_base.specs.declared.properties.value.Value.{Value}
 use Rattle.cap_base.specs.declared.properties.value.Value.TheVariants.{Names, Amounts, Number, Running}
 use Rattle.cap_base.specs.declared.properties.setting.Setting.{Setting}
-use Rattle.cap_base.specs.declared.properties.setting.Setting.TheVariants.{Queues, Capacity, MaximumCapacity, MinimumMemory, MinimumVcores, MaximumMemory, MaximumVcores}
+use Rattle.cap_base.specs.declared.properties.setting.Setting.TheVariants.{Queues, Capacity, MaximumCapacity, MinimumMemory, MinimumVcores, MinimumGpu, MaximumMemory, MaximumVcores, MaximumGpu}
 use Rattle.cap_base.specs.declared.properties.fault.ConfigFault.{ConfigFault}
 use Rattle.cap_base.specs.declared.properties.fault.ConfigFaultKind.{ConfigFaultKind}
 use Rattle.cap_base.specs.declared.properties.fault.ConfigFaultKind.TheVariants.{BadValue, NoChild, NoSuchQueue, TooDeep, TooManyQueues, GuaranteeOverMaximum, OverParent}
@@ -34,6 +35,21 @@ abbrev pub number_or : Option Entry → ℕ → ℕ
 number_or (Some entry) default = number_in default entry.value
 number_or None default = default
 
+-- the least amounts of a container, and the most
+abbrev pub minimum_allocation : List Entry → List ℕ
+minimum_allocation entries =
+    number_or (cluster_entry entries MinimumMemory) 1024
+    ∷ number_or (cluster_entry entries MinimumVcores) 1
+    ∷ number_or (cluster_entry entries MinimumGpu) 0
+    ∷ []
+
+abbrev pub maximum_allocation : List Entry → List ℕ
+maximum_allocation entries =
+    number_or (cluster_entry entries MaximumMemory) 8192
+    ∷ number_or (cluster_entry entries MaximumVcores) 4
+    ∷ number_or (cluster_entry entries MaximumGpu) amount_max
+    ∷ []
+
 abbrev pub line_or_zero : Option Entry → ℕ
 line_or_zero (Some entry) = entry.line
 line_or_zero None = 0
@@ -52,7 +68,9 @@ unfoldable pub allocation_line : List Entry → Option ℕ
 allocation_line entries =
     lesser
     (pair_line (cluster_entry entries MinimumMemory) 1024 (cluster_entry entries MaximumMemory) 8192)
+    (lesser
     (pair_line (cluster_entry entries MinimumVcores) 1 (cluster_entry entries MaximumVcores) 4)
+    (pair_line (cluster_entry entries MinimumGpu) 0 (cluster_entry entries MaximumGpu) amount_max))
 
 -- a list with no name
 abbrev pub is_childless : Value → Bool
@@ -113,9 +131,13 @@ line_past count (entry ∷ entries) =
 abbrev pub too_many_line : List Entry → Option ℕ
 too_many_line entries = line_past 1 entries
 
+-- memory, vcores and GPUs, by their place in a resource
+abbrev pub each_resource : List ℕ
+each_resource = 0 ∷ 1 ∷ 2 ∷ []
+
 -- whether an amount is more than the other's
 abbrev pub exceeds : List ℕ → List ℕ → Bool
-exceeds a b = nat_lt (slice_index b 0) (slice_index a 0) || nat_lt (slice_index b 1) (slice_index a 1)
+exceeds a b = list_any (λ k. nat_lt (slice_index b k) (slice_index a k)) each_resource
 
 abbrev pub exceeds_limit : List ℕ → Option (List ℕ) → Bool
 exceeds_limit amounts (Some most) = exceeds amounts most
@@ -145,7 +167,7 @@ abbrev pub sum_below : List Entry → List ℕ → List (List ℕ) → ℕ → �
 sum_below entries path names k = sum_by (λ name. slice_index (guaranteed entries (child path name)) k) names
 
 abbrev pub guaranteed_below : List Entry → List ℕ → List (List ℕ) → List ℕ
-guaranteed_below entries path names = sum_below entries path names 0 ∷ sum_below entries path names 1 ∷ []
+guaranteed_below entries path names = map (sum_below entries path names) each_resource
 
 -- under a queue other than root, capacities that add up to more than the queue's own
 abbrev pub is_overspent : List Entry → List ℕ → List (List ℕ) → Bool

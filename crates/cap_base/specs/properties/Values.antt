@@ -1,40 +1,40 @@
 -- The values of property lines.
-use Rattle.std.specs.Prelude.{ℕ, ◌+◌, ◌-◌, List, [], ◌∷◌, ◌++◌, length, take, drop, map, Option, Some, None, Bool, true, false, not, ◌&&◌, ◌==◌, nat_le, nat_eq, if◌then◌else◌, codes, option_and_then, slice_index}
+use Rattle.std.specs.Prelude.{ℕ, ◌+◌, ◌-◌, List, [], ◌∷◌, ◌++◌, length, take, drop, map, find, Option, Some, None, Bool, true, false, not, ◌&&◌, ◌==◌, nat_le, nat_eq, if◌then◌else◌, codes, option_and_then, slice_index}
 use Rattle.std.specs.List.{list_all, slice_split, starts_with}
 use Rattle.std.specs.Str.{bytes_eq}
 use Rattle.cap_base.specs.Texts.{is_text}
-use Rattle.cap_vector.specs.Vector.{amount_max}
+use Rattle.cap_vector.specs.Vector.{amount_max, is_within}
 use Rattle.cap_base.specs.declared.properties.value.Value.{Value}
 use Rattle.cap_base.specs.declared.properties.value.Value.TheVariants.{Names, Amounts, Number, Running}
 use Rattle.cap_base.specs.declared.properties.key.Key.{Key}
 use Rattle.cap_base.specs.declared.properties.setting.Setting.{Setting}
-use Rattle.cap_base.specs.declared.properties.setting.Setting.TheVariants.{Queues, Capacity, MaximumCapacity, UserLimitFactor, State, MaximumApplications, MinimumMemory, MinimumVcores, MaximumMemory, MaximumVcores}
-use Rattle.cap_text.specs.Pieces.{parts_at, trimmed_bytes}
+use Rattle.cap_base.specs.declared.properties.setting.Setting.TheVariants.{Queues, Capacity, MaximumCapacity, UserLimitFactor, State, MaximumApplications, MinimumMemory, MinimumVcores, MinimumGpu, MaximumMemory, MaximumVcores, MaximumGpu}
+use Rattle.cap_text.specs.Pieces.{trimmed_bytes}
 use Rattle.cap_text.specs.Numbers.{number_of}
 use Rattle.cap_base.specs.properties.Keys.{is_name}
 use Rattle.cap_base.specs.properties.Seen.{contains_bytes}
 
+-- what stands between commas, without the spaces round it
+abbrev pub pieces_of : List ℕ → List (List ℕ)
+pieces_of bytes = map trimmed_bytes (slice_split (λ b. b == 44) bytes)
+
 -- the names of a list; an empty one has none
 unfoldable pub names_of : List ℕ → List (List ℕ)
 names_of [] = []
-names_of (b ∷ bytes) = map trimmed_bytes (slice_split (λ c. c == 44) (b ∷ bytes))
+names_of (b ∷ bytes) = pieces_of (b ∷ bytes)
 
 -- the greatest number of digits that a number may have
 abbrev pub digits_max : ℕ
 digits_max = 13
 
--- a number from 1 on
-unfoldable pub number_within : ℕ → List ℕ → Option Value
-number_within most bytes = option_and_then (λ n. if nat_le 1 n && nat_le n most then Some (Number n) else None) (number_of digits_max bytes)
+-- a number between two
+unfoldable pub number_within : ℕ → ℕ → List ℕ → Option Value
+number_within least most bytes = option_and_then (λ n. if nat_le least n && nat_le n most then Some (Number n) else None) (number_of digits_max bytes)
 
 unfoldable pub state_of : List ℕ → Option Value
 state_of bytes =
     if bytes_eq bytes (codes "RUNNING") then Some (Running true) else
     if bytes_eq bytes (codes "STOPPED") then Some (Running false) else None
-
--- the number after a name
-unfoldable pub number_after : List ℕ → List ℕ → Option ℕ
-number_after name part = if starts_with nat_eq part name then number_of digits_max (drop (length name) part) else None
 
 -- what stands between brackets
 unfoldable pub in_brackets : List ℕ → Option (List ℕ)
@@ -43,22 +43,28 @@ in_brackets bytes =
     then Some (take (length bytes - 2) (drop 1 bytes))
     else None
 
--- a resource of two amounts, each at most the greatest
-unfoldable pub resource : Option ℕ → Option ℕ → Option (List ℕ)
-resource (Some memory) (Some vcores) = if nat_le memory amount_max && nat_le vcores amount_max then Some (memory ∷ vcores ∷ []) else None
-resource (Some memory) None = None
-resource None vcores = None
+-- the number after a name, in the first piece that begins with it
+unfoldable pub part : List ℕ → List (List ℕ) → Option ℕ
+part name pieces = option_and_then (λ piece. number_of digits_max (drop (length name) piece)) (find (λ piece. starts_with nat_eq piece name) pieces)
 
--- memory and vcores, in either order
-unfoldable pub amounts_in : List ℕ → List ℕ → Option (List ℕ)
-amounts_in first second =
-    if starts_with nat_eq first (codes "memory=")
-    then resource (number_after (codes "memory=") first) (number_after (codes "vcores=") second)
-    else resource (number_after (codes "memory=") second) (number_after (codes "vcores=") first)
+-- the GPUs of a resource in so many pieces: where it names some they are the third piece, and else there are two pieces and no GPU
+unfoldable pub gpus_in : ℕ → Option ℕ → Option ℕ
+gpus_in count (Some gpus) = if count == 3 then Some gpus else None
+gpus_in count None = if count == 2 then Some 0 else None
+
+-- a resource of three amounts, each at most the greatest
+unfoldable pub resource : Option ℕ → Option ℕ → Option ℕ → Option (List ℕ)
+resource (Some memory) (Some vcores) (Some gpus) =
+    if is_within amount_max (memory ∷ vcores ∷ gpus ∷ []) then Some (memory ∷ vcores ∷ gpus ∷ []) else None
+resource memory vcores gpus = None
+
+-- memory, vcores and perhaps GPUs, in any order
+unfoldable pub amounts_in : List (List ℕ) → Option (List ℕ)
+amounts_in pieces =
+    resource (part (codes "memory=") pieces) (part (codes "vcores=") pieces) (gpus_in (length pieces) (part (codes "yarn.io/gpu=") pieces))
 
 unfoldable pub amounts_of : List ℕ → Option (List ℕ)
-amounts_of bytes =
-    option_and_then (λ inner. option_and_then (λ parts. amounts_in (trimmed_bytes parts.0) (trimmed_bytes parts.1)) (parts_at 44 inner)) (in_brackets bytes)
+amounts_of bytes = option_and_then (λ inner. amounts_in (pieces_of inner)) (in_brackets bytes)
 
 -- a name for a queue below this path: with the path and a dot before it there are at most 255 bytes
 abbrev pub is_name_under : List ℕ → List ℕ → Bool
@@ -98,13 +104,15 @@ unfoldable pub value_at : Option (List ℕ) → Setting → List ℕ → Option 
 value_at queue Queues bytes = listed_names queue bytes
 value_at queue Capacity bytes = as_amounts (amounts_of bytes)
 value_at queue MaximumCapacity bytes = as_amounts (amounts_of bytes)
-value_at queue UserLimitFactor bytes = number_within 1000 bytes
+value_at queue UserLimitFactor bytes = number_within 1 1000 bytes
 value_at queue State bytes = state_of bytes
-value_at queue MaximumApplications bytes = number_within 1000000 bytes
-value_at queue MinimumMemory bytes = number_within amount_max bytes
-value_at queue MinimumVcores bytes = number_within amount_max bytes
-value_at queue MaximumMemory bytes = number_within amount_max bytes
-value_at queue MaximumVcores bytes = number_within amount_max bytes
+value_at queue MaximumApplications bytes = number_within 1 1000000 bytes
+value_at queue MinimumMemory bytes = number_within 1 amount_max bytes
+value_at queue MinimumVcores bytes = number_within 1 amount_max bytes
+value_at queue MinimumGpu bytes = number_within 0 amount_max bytes
+value_at queue MaximumMemory bytes = number_within 1 amount_max bytes
+value_at queue MaximumVcores bytes = number_within 1 amount_max bytes
+value_at queue MaximumGpu bytes = number_within 0 amount_max bytes
 
 abbrev pub value_of : Key → List ℕ → Option Value
 value_of key bytes = value_at key.queue key.setting bytes

@@ -57,10 +57,10 @@ impl ConfigFaultKind {
         match self {
             ConfigFaultKind::BadLine => "write the line as key=value, in printable ASCII alone",
             ConfigFaultKind::UnknownKey =>
-                "no such property: a queue has yarn.scheduler.capacity.<queue-path> and then .queues, .capacity, .maximum-capacity, .user-limit-factor or .state, its path begins with root, and root has .queues and .state alone",
+                "no such property: a queue has yarn.scheduler.capacity.<queue-path> and then .queues, .capacity, .maximum-capacity, .user-limit-factor or .state, its path begins with root, and root has .queues and .state alone; for GPUs there are yarn.resource-types.yarn.io/gpu.minimum-allocation and yarn.resource-types.yarn.io/gpu.maximum-allocation",
             ConfigFaultKind::Repeated => "an earlier line has the same property: keep one of them",
             ConfigFaultKind::BadValue =>
-                "the value has another form or range: a resource is [memory=N,vcores=N], a state RUNNING or STOPPED, queues are names of 1 to 64 letters, digits, _ or -, none of them twice, and no maximum allocation is below the minimum",
+                "the value has another form or range: a resource is [memory=N,vcores=N] or [memory=N,vcores=N,yarn.io/gpu=N], a state RUNNING or STOPPED, queues are names of 1 to 64 letters, digits, _ or -, none of them twice, and no maximum allocation is below the minimum",
             ConfigFaultKind::NoSuchQueue =>
                 "the queue is not listed by the .queues line of the queue above it, from root on",
             ConfigFaultKind::OverParent =>

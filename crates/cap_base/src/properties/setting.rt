@@ -19,8 +19,12 @@ pub enum Setting {
     MinimumMemory,
     /// `yarn.scheduler.minimum-allocation-vcores`
     MinimumVcores,
+    /// `yarn.resource-types.yarn.io/gpu.minimum-allocation`
+    MinimumGpu,
     /// `yarn.scheduler.maximum-allocation-mb`
     MaximumMemory,
     /// `yarn.scheduler.maximum-allocation-vcores`
     MaximumVcores,
+    /// `yarn.resource-types.yarn.io/gpu.maximum-allocation`
+    MaximumGpu,
 }

@@ -9,7 +9,7 @@ use cap_vector::Resource;
 pub enum Value<'t> {
     /// The names of the queues below.
     Names(Names<'t>),
-    /// Memory in MiB, and vcores.
+    /// Memory in MiB, vcores, and `yarn.io/gpu`.
     Amounts(Resource<RESOURCES>),
     Number(u64),
     /// RUNNING, and not STOPPED.
