@@ -1,9 +1,10 @@
 -- The tests over the whole text: each finds its least line.
-use Rattle.std.specs.Prelude.{ℕ, ◌+◌, List, [], ◌∷◌, length, map, find, Option, Some, None, Bool, true, false, not, ◌&&◌, ◌==◌, slice_index, nat_lt, max, min, if◌then◌else◌, is_none}
-use Rattle.std.specs.List.{list_any, sum_by}
+use Rattle.std.specs.Prelude.{ℕ, ◌+◌, List, [], ◌∷◌, length, find, Option, Some, None, Bool, true, false, not, ◌&&◌, ◌==◌, nat_lt, max, min, if◌then◌else◌, is_none}
+use Rattle.std.specs.List.{list_any, range_with_len, sum_by}
 use Rattle.std.specs.Option.{option_map}
 use Rattle.std.specs.Str.{bytes_eq}
-use Rattle.cap_vector.specs.Vector.{amount_max}
+use Rattle.cap_vector.specs.Vector.{amount, amount_max, by_amount}
+use Rattle.cap_base.specs.Limits.{resources}
 use Rattle.cap_base.specs.declared.properties.entry.Entry.{Entry}
 use Rattle.cap_base.specs.declared.properties.value.Value.{Value}
 use Rattle.cap_base.specs.declared.properties.value.Value.TheVariants.{Names, Amounts, Number, Running}
@@ -131,13 +132,9 @@ line_past count (entry ∷ entries) =
 abbrev pub too_many_line : List Entry → Option ℕ
 too_many_line entries = line_past 1 entries
 
--- memory, vcores and GPUs, by their place in a resource
-abbrev pub each_resource : List ℕ
-each_resource = 0 ∷ 1 ∷ 2 ∷ []
-
 -- whether an amount is more than the other's
 abbrev pub exceeds : List ℕ → List ℕ → Bool
-exceeds a b = list_any (λ k. nat_lt (slice_index b k) (slice_index a k)) each_resource
+exceeds a b = list_any (λ k. nat_lt (amount b k) (amount a k)) (range_with_len 0 resources)
 
 abbrev pub exceeds_limit : List ℕ → Option (List ℕ) → Bool
 exceeds_limit amounts (Some most) = exceeds amounts most
@@ -164,10 +161,10 @@ is_over_parts entries amounts None = false
 
 -- the sum of an amount of the capacities of the queues with these names
 abbrev pub sum_below : List Entry → List ℕ → List (List ℕ) → ℕ → ℕ
-sum_below entries path names k = sum_by (λ name. slice_index (guaranteed entries (child path name)) k) names
+sum_below entries path names k = sum_by (λ name. amount (guaranteed entries (child path name)) k) names
 
 abbrev pub guaranteed_below : List Entry → List ℕ → List (List ℕ) → List ℕ
-guaranteed_below entries path names = map (sum_below entries path names) each_resource
+guaranteed_below entries path names = by_amount resources (sum_below entries path names)
 
 -- under a queue other than root, capacities that add up to more than the queue's own
 abbrev pub is_overspent : List Entry → List ℕ → List (List ℕ) → Bool
