@@ -1,8 +1,9 @@
 -- Laws of the bounds: what holds in every state of a run.
-use Rattle.std.specs.Prelude.{◌≡◌, ℕ, ◌+◌, ◌<◌, List, Some, None, ◌++◌, count_by, ◌&&◌, if◌then◌else◌}
+use Rattle.std.specs.Prelude.{◌≡◌, ℕ, ◌+◌, ◌<◌, Bool, true, false, List, Some, None, ◌++◌, count_by, ◌&&◌, if◌then◌else◌}
 use Rattle.std.specs.List.{All}
 use Rattle.cap_model.specs.Asks.{Ask}
 use Rattle.cap_model.specs.declared.news.Cause.{Cause}
+use Rattle.cap_model.specs.declared.request.Request.{Request}
 use Rattle.cap_model.specs.Flat.{Flat, App, Container, with_app, opened_cluster, app_at, node_at}
 use Rattle.cap_base.specs.Paths.{is_under, is_child_of}
 use Rattle.cap_base.specs.Settings.{Settings, QueueRow}
@@ -41,11 +42,24 @@ NumbersAreNotUsedAgain =
     (K : ℕ) (events : List (Event K)) (old new : Flat K) (n : ℕ) → IsWellFormed old → Run old events new →
     (n < old.apps.next → app_at old n ≡ None → app_at new n ≡ None) × (n < old.nodes.next_node → node_at old n ≡ None → node_at new n ≡ None)
 
--- a step from a bounded cluster keeps each queue within its maximum and each user within the user limit
-abbrev pub QueuesStayBounded : Type 0
-QueuesStayBounded = (K : ℕ) (old new : Flat K) (event : Event K) → IsBounded old → Step old event new → All (IsQueueBounded new) new.settings.queues
+-- whether a call is a Refresh, the one that may lower a maximum or a user limit
+abbrev pub is_refresh : {K : ℕ} → Request K → Bool
+is_refresh (Request.Refresh text) = true
+is_refresh _ = false
 
--- it keeps what runs on each node within the node's total
+-- and whether an event is one
+abbrev pub refreshes : {K : ℕ} → Event K → Bool
+refreshes (Event.Call by request reply) = is_refresh request
+refreshes (Event.Grant c) = false
+refreshes (Event.Reserve r) = false
+
+-- where each queue is within its maximum and each user within the user limit, a step that is no Refresh keeps them so
+abbrev pub QueuesStayBounded : Type 0
+QueuesStayBounded =
+    (K : ℕ) (old new : Flat K) (event : Event K) → IsBounded old → All (IsQueueBounded old) old.settings.queues → refreshes event ≡ false → Step old event new →
+    All (IsQueueBounded new) new.settings.queues
+
+-- a step keeps what runs on each node within the node's total
 abbrev pub NodesStayBounded : Type 0
 NodesStayBounded = (K : ℕ) (old new : Flat K) (event : Event K) → IsBounded old → Step old event new → All (IsNodeBounded new) new.nodes.present
 
@@ -74,6 +88,10 @@ ReportStaysBounded = (K : ℕ) (old : Flat K) (n id ignored : ℕ) → IsBounded
 -- a cluster that was opened just now over listed queues is bounded
 abbrev pub OpenedIsBounded : Type 0
 OpenedIsBounded = (K : ℕ) (settings : Settings) → IsListing settings.queues → IsBounded (opened_cluster {K = K} settings)
+
+-- and each of its queues is within its maximum, and each user within the user limit
+abbrev pub OpenedMeetsLimits : Type 0
+OpenedMeetsLimits = (K : ℕ) (settings : Settings) → All (IsQueueBounded (opened_cluster {K = K} settings)) settings.queues
 
 -- every state of a run from a bounded cluster is bounded: the one after each beginning of its events, and so the closing one
 abbrev pub RunsStayBounded : Type 0

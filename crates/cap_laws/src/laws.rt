@@ -1,7 +1,7 @@
 //! Laws of the definitions in `specs/`, for callers to cite. The functions do nothing.
 ghost use Rattle.cap_laws.specs.EngineLaws.{RejectedExactly, NumbersStayDistinct, GrantedOnce, StepIsDetermined, RunLeadsToOneState, ContainersBalance, EndedOnce, LiveIsWhatWasNotEnded, OneOfEachRank, ChoiceIsComputed, ChoiceFromIsComputed, AppNumbersStayDistinct, ReasonsAreInOrder, PassedIsStep};
 ghost use Rattle.cap_laws.specs.NewsLaws.{GrantsAreToldInOrder, EndsAreToldInOrder, GrantsAreToldOverRuns, NewGrantsAreOfTheGranted, EndsAreToldOverRuns, NewEndsAreOfTheEnded};
-ghost use Rattle.cap_laws.specs.BoundLaws.{ParentUsesChildren, StepStaysWellFormed, QueuesStayBounded, NodesStayBounded, ReservationsStayApart, ReservationsStayBounded, TreesAddUp, StepStaysBounded, RunsStayBounded, OpenedIsBounded, WantedIsSeen, UsesAreSums, SizesStay, OpenedIsWithinSizes, NumbersAreNotUsedAgain, RunsStayWithinSizes, EndsStayBounded, AskStaysBounded, ReportStaysBounded};
+ghost use Rattle.cap_laws.specs.BoundLaws.{ParentUsesChildren, StepStaysWellFormed, QueuesStayBounded, NodesStayBounded, ReservationsStayApart, ReservationsStayBounded, TreesAddUp, StepStaysBounded, RunsStayBounded, OpenedIsBounded, OpenedMeetsLimits, WantedIsSeen, UsesAreSums, SizesStay, OpenedIsWithinSizes, NumbersAreNotUsedAgain, RunsStayWithinSizes, EndsStayBounded, AskStaysBounded, ReportStaysBounded};
 
 /// A proposal has no reason to be rejected exactly where it is admissible, and of several the one of the smallest number.
 pub fn reason_says_why()
@@ -71,7 +71,7 @@ pub fn steps_keep_clusters_well_formed()
     ensures { StepStaysWellFormed }
 {}
 
-/// A step keeps queues within their maxima and users within the user limit.
+/// A step that is no Refresh keeps queues within their maxima and users within the user limit, where all of them are.
 pub fn steps_keep_queues_within_limits()
     ensures { QueuesStayBounded }
 {}
@@ -104,9 +104,10 @@ pub fn parts_of_calls_keep_bounds()
     ensures reports { ReportStaysBounded }
 {}
 
-/// A cluster that was opened just now is bounded, and so is every state of a run from a bounded one.
+/// A cluster that was opened just now is bounded and within its limits, and every state of a run from a bounded one is bounded.
 pub fn runs_stay_bounded()
     ensures opened { OpenedIsBounded }
+    ensures limits { OpenedMeetsLimits }
     ensures runs { RunsStayBounded }
 {}
 

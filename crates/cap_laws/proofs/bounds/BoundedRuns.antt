@@ -11,13 +11,13 @@ use Rattle.cap_model.specs.declared.event.Event.{Event}
 use Rattle.cap_model.specs.Events.{Step, Run}
 use Rattle.cap_model.specs.Bounds.{FitsMaximum, IsLeaf, AreThere, IsQueueBounded, IsNodeBounded, IsReservationBounded, IsWellFormed, IsBounded}
 use Rattle.cap_base.specs.Listing.{IsListing}
-use Rattle.cap_laws.specs.BoundLaws.{StepStaysBounded, RunsStayBounded, OpenedIsBounded}
+use Rattle.cap_laws.specs.BoundLaws.{StepStaysBounded, RunsStayBounded, OpenedIsBounded, OpenedMeetsLimits}
 use Rattle.cap_base.proofs.lists.Members.{of_each}
 use Rattle.cap_model.proofs.uses.Measures.{use_amount, use_past}
 use Rattle.cap_base.proofs.Amounts.{amounts_fit}
 use Rattle.cap_laws.proofs.numbers.ContainerNumbers.{numbers_stay_distinct}
 use Rattle.cap_laws.proofs.bounds.Formed.{step_formed}
-use Rattle.cap_laws.proofs.bounds.StepBounds.{step_bounds_queues, step_bounds_nodes, step_apart, step_bounds_reservations}
+use Rattle.cap_laws.proofs.bounds.StepBounds.{step_bounds_nodes, step_apart, step_bounds_reservations}
 use Rattle.cap_base.proofs.paths.Listed.{listings_stand_below}
 use Rattle.cap_laws.proofs.uses.TreeSums.{trees_add_up}
 
@@ -27,7 +27,6 @@ module _ {K : ℕ} where
       let w = step_formed old new event b.formed s in
       record {
         formed = w;
-        queues = step_bounds_queues old new event b s;
         parents = trees_add_up K new w;
         nodes = step_bounds_nodes old new event b s;
         reservations = step_bounds_reservations old new event b s;
@@ -75,17 +74,20 @@ module _ (K : ℕ) where
       let w = empty_formed settings t in
       record {
         formed = w;
-        queues = of_each (IsQueueBounded (opened_cluster {K = K} settings)) settings.queues
-            (λ q m. record {
-              maximum = empty_in_maximum settings q.path q.maximum;
-              users = λ user. nothing_used settings (λ leaf u. bytes_eq q.path leaf && bytes_eq user u) (times q.factor q.guaranteed);
-            });
         parents = trees_add_up K (opened_cluster {K = K} settings) w;
         nodes = of_each (IsNodeBounded (opened_cluster {K = K} settings)) [] (λ node m. absurd m);
         reservations = of_each (IsReservationBounded (opened_cluster {K = K} settings)) [] (λ r m. absurd m);
         apart = tt;
         numbers = omega arith;
       }
+
+pub opened_meets_limits : OpenedMeetsLimits
+opened_meets_limits K settings =
+    of_each (IsQueueBounded (opened_cluster {K = K} settings)) settings.queues
+    (λ q m. record {
+      maximum = empty_in_maximum K settings q.path q.maximum;
+      users = λ user. nothing_used K settings (λ leaf u. bytes_eq q.path leaf && bytes_eq user u) (times q.factor q.guaranteed);
+    })
 
 pub step_stays_bounded : StepStaysBounded
 step_stays_bounded K old new event b s = step_bounded old new event b s

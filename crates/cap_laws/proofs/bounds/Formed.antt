@@ -2,7 +2,8 @@
 use Rattle.std.proofs.Common.{◌≡◌, ℕ, Bool, true, false, List, [], ◌∷◌, ◌++◌, refl, sym, ◌∙◌, ap, subst, inl, inr}
 use Rattle.std.specs.Prelude.{Option, Some, None, IsSome, is_some, is_none, cond, not, ◌||◌, ◌==◌, find, map, option_map, bytes_eq, nat_eq, if◌then◌else◌}
 use Rattle.std.specs.List.{All, list_any, starts_with}
-use Rattle.cap_base.specs.Settings.{QueueRow}
+use Rattle.std.specs.Option.{option_map_or}
+use Rattle.cap_base.specs.Settings.{QueueRow, Settings}
 use Rattle.cap_model.specs.Asks.{Ask}
 use Rattle.cap_model.specs.declared.request.Request.{Request}
 use Rattle.cap_model.specs.News.{Reply}
@@ -13,15 +14,17 @@ use Rattle.cap_model.specs.Submit.{has_children, submit_refusal, is_running}
 use Rattle.cap_model.specs.RegisterNode.{new_node}
 use Rattle.cap_model.specs.Allocate.{after_processed_allocate, is_repeated_allocate}
 use Rattle.cap_model.specs.Heartbeat.{after_processed_heartbeat, is_repeated_heartbeat, beat_of}
+use Rattle.cap_model.specs.Refresh.{refreshed_queue, refreshed_settings, first_of_settings, after_refresh}
 use Rattle.cap_model.specs.Replies.{Replies, refused_or, refusal_of, granted_cluster}
 use Rattle.cap_model.specs.declared.event.Event.{Event}
 use Rattle.cap_model.specs.Events.{Step, after_grant, after_reserve, grant_proposal, reserve_proposal}
 use Rattle.cap_model.specs.Sight.{sight_of}
 use Rattle.cap_model.specs.Admission.{NodeProposal, IsAdmissible}
 use Rattle.cap_base.specs.Members.{IsRising}
+use Rattle.cap_base.specs.properties.First.{settings_in}
 use Rattle.cap_base.specs.Trees.{HasDistinctPaths, IsTree, StandBelow}
 use Rattle.cap_model.specs.Bounds.{IsLeaf, AreThere, IsWellFormed}
-use Rattle.cap_laws.specs.BoundLaws.{StepStaysWellFormed}
+use Rattle.cap_laws.specs.BoundLaws.{StepStaysWellFormed, is_refresh}
 use Rattle.cap_base.proofs.lists.Members.{IsIn, of_filter, in_either, each_of, of_each, of_map}
 use Rattle.cap_laws.proofs.choice.Reasons.{none_holds}
 use Rattle.cap_base.proofs.lists.Tests.{true_of_none, some_kept}
@@ -81,20 +84,32 @@ tree_kept f e qs t = record {
 }
 
 module _ {K : ℕ} where
+  -- queues of the same paths, in the same order
+  pub record HasSamePaths (old new : Flat K) : Type 0 where
+    pub change : QueueRow → QueueRow
+    pub path : (q : QueueRow) → (change q).path ≡ q.path
+    pub queues : new.settings.queues ≡ map change old.settings.queues
+
   -- the same queues, but for their states
   pub record HasSameQueues (old new : Flat K) : Type 0 where
     pub change : QueueRow → QueueRow
     pub keeps : KeepsQueue change
     pub queues : new.settings.queues ≡ map change old.settings.queues
 
-  pub same_queues : (old new : Flat K) → new.settings ≡ old.settings → HasSameQueues old new
+  paths_of : (old new : Flat K) → HasSameQueues old new → HasSamePaths old new
+  paths_of old new s = record { change = s.change; path = s.keeps.path; queues = s.queues }
+
+  same_queues : (old new : Flat K) → new.settings ≡ old.settings → HasSameQueues old new
   same_queues old new e = record {
     change = λ q. q;
     keeps = record { path = λ q. refl; guaranteed = λ q. refl; maximum = λ q. refl; factor = λ q. refl };
-    queues = ap (λ (s : Rattle.cap_base.specs.Settings.Settings). s.queues) e ∙ sym (Rattle.std.proofs.lemmas.List.map-id old.settings.queues);
+    queues = ap (λ (s : Settings). s.queues) e ∙ sym (Rattle.std.proofs.lemmas.List.map-id old.settings.queues);
   }
 
-  pub allocate_queues : (old : Flat K) (n id : ℕ) (asks : List Ask) (releases : List ℕ) (b : Bool) → HasSameQueues old (cond b old (after_processed_allocate old n id asks releases))
+  pub same_paths : (old new : Flat K) → new.settings ≡ old.settings → HasSamePaths old new
+  same_paths old new e = paths_of old new (same_queues old new e)
+
+  allocate_queues : (old : Flat K) (n id : ℕ) (asks : List Ask) (releases : List ℕ) (b : Bool) → HasSameQueues old (cond b old (after_processed_allocate old n id asks releases))
   allocate_queues old n id asks releases true = same_queues old old refl
   allocate_queues old n id asks releases false = same_queues old (after_processed_allocate old n id asks releases) (asked n asks old).settings
 
@@ -102,10 +117,11 @@ module _ {K : ℕ} where
   beat_queues old n id ended true = same_queues old old refl
   beat_queues old n id ended false = same_queues old (after_processed_heartbeat old n id ended) refl
 
-  pub call_queues : (old : Flat K) (request : Request K) → HasSameQueues old (granted_cluster old request)
-  call_queues old (Request.Allocate app id asks releases) = allocate_queues old app id asks releases (is_repeated_allocate old app id)
-  call_queues old (Request.Heartbeat node id ended) = beat_queues old node id ended (is_repeated_heartbeat old node id)
-  call_queues old (Request.SetQueueState path running) = record {
+  -- a call that is no Refresh
+  pub call_queues : (old : Flat K) (request : Request K) → is_refresh request ≡ false → HasSameQueues old (granted_cluster old request)
+  call_queues old (Request.Allocate app id asks releases) e = allocate_queues old app id asks releases (is_repeated_allocate old app id)
+  call_queues old (Request.Heartbeat node id ended) e = beat_queues old node id ended (is_repeated_heartbeat old node id)
+  call_queues old (Request.SetQueueState path running) e = record {
     change = λ q. if bytes_eq q.path path then record q { running = running } else q;
     keeps = record {
       path = λ q. same (bytes_eq q.path path) q (λ (x : QueueRow). x.path) refl;
@@ -127,13 +143,32 @@ module _ {K : ℕ} where
       same_factor : (b : Bool) (q : QueueRow) → (cond b (record q { running = running }) q).factor ≡ q.factor
       same_factor true q = refl
       same_factor false q = refl
-  call_queues old request = same_queues old (granted_cluster old request) refl
+  call_queues old (Request.Refresh text) e = absurd (cc e)
+  call_queues old request e = same_queues old (granted_cluster old request) refl
 
-  leaf_kept : (old new : Flat K) → HasSameQueues old new → (path : List ℕ) → IsLeaf old path → IsLeaf new path
+  -- a Refresh sets all but the path of each queue
+  refresh_paths : (old : Flat K) (text : List ℕ) → HasSamePaths old (after_refresh old text)
+  refresh_paths old text = by (settings_in text)
+    where
+      by : (o : Option Settings) → HasSamePaths old (record old { settings = option_map_or (λ settings. refreshed_settings (first_of_settings K settings) old.settings) o old.settings })
+      by None = same_paths old old refl
+      by (Some settings) =
+          let rows = (first_of_settings K settings).queues in
+          record { change = refreshed_queue rows; path = λ q. its_path (find (λ (r : QueueRow). bytes_eq r.path q.path) rows) q; queues = refl }
+        where
+          its_path : (o : Option QueueRow) (q : QueueRow) → (option_map_or (λ (row : QueueRow). record row { path = q.path }) o q).path ≡ q.path
+          its_path None q = refl
+          its_path (Some row) q = refl
+
+  call_paths : (old : Flat K) (request : Request K) → HasSamePaths old (granted_cluster old request)
+  call_paths old (Request.Refresh text) = refresh_paths old text
+  call_paths old request = paths_of old (granted_cluster old request) (call_queues old request refl)
+
+  leaf_kept : (old new : Flat K) → HasSamePaths old new → (path : List ℕ) → IsLeaf old path → IsLeaf new path
   leaf_kept old new s path l = record {
-    present = subst (λ qs. IsSome (find (λ (r : QueueRow). bytes_eq r.path path) qs)) (sym s.queues) (found_kept s.change s.keeps.path path old.settings.queues l.present);
+    present = subst (λ qs. IsSome (find (λ (r : QueueRow). bytes_eq r.path path) qs)) (sym s.queues) (found_kept s.change s.path path old.settings.queues l.present);
     childless = ap (list_any (λ (q : QueueRow). starts_with nat_eq q.path (path ++ 46 ∷ []))) s.queues
-        ∙ any_kept s.change s.keeps.path (λ p. starts_with nat_eq p (path ++ 46 ∷ [])) old.settings.queues
+        ∙ any_kept s.change s.path (λ p. starts_with nat_eq p (path ++ 46 ∷ [])) old.settings.queues
         ∙ l.childless;
   }
 
@@ -149,7 +184,7 @@ module _ {K : ℕ} where
       ∷ []) e in
       record { present = true_of_none (queue_at old path) tests.0; childless = tests.1.0 }
 
-  leaves_move : (old new : Flat K) → HasSameQueues old new → AppsMove old new → All (λ app. IsLeaf old app.leaf) old.apps.active → All (λ app. IsLeaf new app.leaf) new.apps.active
+  leaves_move : (old new : Flat K) → HasSamePaths old new → AppsMove old new → All (λ app. IsLeaf old app.leaf) old.apps.active → All (λ app. IsLeaf new app.leaf) new.apps.active
   leaves_move old new s (AppsMove.change m) a =
       of_each (λ app. IsLeaf new app.leaf) new.apps.active
       (λ app g.
@@ -213,10 +248,10 @@ module _ {K : ℕ} where
   reserved_placed cluster h = of_each (λ (r : Reservation). AreThere cluster r.app r.node) cluster.nodes.reserved (λ r m. h r.app r.node (inr (r, m, refl, refl)))
 
   -- the parts together
-  pub formed : (old new : Flat K) → IsWellFormed old → HasSameQueues old new → AppsMove old new → HasNodeNumbers new → HasPlaces new → IsWellFormed new
+  pub formed : (old new : Flat K) → IsWellFormed old → HasSamePaths old new → AppsMove old new → HasNodeNumbers new → HasPlaces new → IsWellFormed new
   formed old new w s m n h = record {
-    tree = subst (λ qs. IsTree qs) (sym s.queues) (tree_kept s.change s.keeps.path old.settings.queues w.tree);
-    order = subst (λ qs. StandBelow qs) (sym s.queues) (order_kept s.change s.keeps.path old.settings.queues w.order);
+    tree = subst (λ qs. IsTree qs) (sym s.queues) (tree_kept s.change s.path old.settings.queues w.tree);
+    order = subst (λ qs. StandBelow qs) (sym s.queues) (order_kept s.change s.path old.settings.queues w.order);
     leaves = leaves_move old new s m w.leaves;
     apps = app_numbers_move old new m w.apps;
     nodes = n;
@@ -224,19 +259,19 @@ module _ {K : ℕ} where
     reserved = reserved_placed new h;
   }
 
-  -- what holds of a cluster and after each call that is not refused holds after each call
-  pub after_call : (P : Flat K → Type 0) (old : Flat K) → P old → ((request : Request K) → refusal_of old request ≡ None → P (granted_cluster old request)) →
-      (new : Flat K) (request : Request K) (reply : Reply K) → Replies old request reply new → P new
-  after_call P old h f new request reply (inl r) = subst P (sym (r.1)) (by (refusal_of old request) refl)
+  -- what holds of a cluster, and after a call where it is not refused, holds after the call
+  pub after_call : (P : Flat K → Type 0) (old : Flat K) → P old → (request : Request K) → (refusal_of old request ≡ None → P (granted_cluster old request)) →
+      (new : Flat K) (reply : Reply K) → Replies old request reply new → P new
+  after_call P old h request f new reply (inl r) = subst P (sym (r.1)) (by (refusal_of old request) refl)
     where
       by : (o : Option Refusal) → refusal_of old request ≡ o → P (refused_or o (λ refusal. old) (granted_cluster old request))
-      by None e = f request e
+      by None e = f e
       by (Some refusal) e = h
-  after_call P old h f new request reply (inr r) = subst P (sym (r.1)) h
+  after_call P old h request f new reply (inr r) = subst P (sym (r.1)) h
 
   call_formed : (old : Flat K) → IsWellFormed old → (request : Request K) → refusal_of old request ≡ None → IsWellFormed (granted_cluster old request)
   call_formed old w request e =
-      formed old (granted_cluster old request) w (call_queues old request) (call_moves old request e) (call_nodes old request w.nodes)
+      formed old (granted_cluster old request) w (call_paths old request) (call_moves old request e) (call_nodes old request w.nodes)
       (places_stay old (granted_cluster old request) (lessened old (places_of old w) request) (places_of old w))
 
   -- the application and the node of an admissible proposal
@@ -272,13 +307,13 @@ module _ {K : ℕ} where
   ]
 
   pub step_formed : (old new : Flat K) (event : Event K) → IsWellFormed old → Step old event new → IsWellFormed new
-  step_formed old new (Event.Call by request reply) w s = after_call IsWellFormed old w (call_formed old w) new request reply s
+  step_formed old new (Event.Call by request reply) w s = after_call IsWellFormed old w request (call_formed old w request) new reply s
   step_formed old new (Event.Grant c) w (admissible, number, after) =
       subst IsWellFormed (sym after)
-      (formed old (after_grant old c) w (same_queues old (after_grant old c) refl) (AppsMove.change (grant_change old c)) w.nodes (grant_places old c (places_of old w) (its_place old (grant_proposal c) w admissible)))
+      (formed old (after_grant old c) w (same_paths old (after_grant old c) refl) (AppsMove.change (grant_change old c)) w.nodes (grant_places old c (places_of old w) (its_place old (grant_proposal c) w admissible)))
   step_formed old new (Event.Reserve r) w (admissible, after) =
       subst IsWellFormed (sym after)
-      (formed old (after_reserve old r) w (same_queues old (after_reserve old r) refl) (AppsMove.change (no_change old (after_reserve old r) refl refl)) w.nodes
+      (formed old (after_reserve old r) w (same_paths old (after_reserve old r) refl) (AppsMove.change (no_change old (after_reserve old r) refl refl)) w.nodes
       (reserve_places old r (places_of old w) (its_place old (reserve_proposal r) w admissible)))
 
 pub step_stays_well_formed : StepStaysWellFormed

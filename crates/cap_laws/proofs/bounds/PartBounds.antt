@@ -1,9 +1,7 @@
 -- A part of a call keeps the bounds: it only takes away from what is used.
 use Rattle.std.proofs.Common.{◌≡◌, ℕ, List, refl, sym, subst}
 use Rattle.std.specs.Prelude.{not, map}
-use Rattle.std.specs.List.{All}
 use Rattle.std.specs.Option.{option_map_or}
-use Rattle.cap_base.specs.Settings.{Settings}
 use Rattle.cap_model.specs.Asks.{Ask}
 use Rattle.cap_model.specs.declared.news.Cause.{Cause}
 use Rattle.cap_model.specs.Flat.{Flat, App, ClusterNode, Container, app_at, is_for, with_app}
@@ -11,17 +9,17 @@ use Rattle.cap_model.specs.Asking.{after_ask, put_ask, reservations_left}
 use Rattle.cap_model.specs.Ending.{is_among, with_ends, after_ends}
 use Rattle.cap_model.specs.Allocate.{after_telling}
 use Rattle.cap_base.specs.Members.{IsRising}
-use Rattle.cap_model.specs.Bounds.{IsQueueBounded, IsReservationBounded, IsBounded}
+use Rattle.cap_model.specs.Bounds.{IsReservationBounded, IsBounded}
 use Rattle.cap_laws.specs.BoundLaws.{EndsStayBounded, AskStaysBounded, ReportStaysBounded}
-use Rattle.cap_base.proofs.lists.Members.{each_of, of_each}
+use Rattle.cap_base.proofs.lists.Members.{of_each}
 use Rattle.cap_laws.proofs.lists.Parts.{IsPart, part_itself, part_keep_first}
 use Rattle.cap_laws.proofs.calls.Moves.{AppsChange, AppsMove, one_change, ends_change}
 use Rattle.cap_laws.proofs.numbers.ContainerNumbers.{IsThinned, thinned_same, thinned_numbers}
 use Rattle.cap_laws.proofs.calls.Lessening.{only_apps}
-use Rattle.cap_laws.proofs.bounds.CallBounds.{places_stay, queue_stays, nodes_stay, apart_part}
+use Rattle.cap_laws.proofs.bounds.CallBounds.{places_stay, nodes_stay, apart_part}
 use Rattle.cap_laws.proofs.bounds.Reserving.{AreBounded, ask_keeps}
 use Rattle.cap_laws.proofs.bounds.StepBounds.{asks_same, asking_at, asking_one, each_bounded}
-use Rattle.cap_laws.proofs.bounds.Formed.{formed, same_queues, places_of}
+use Rattle.cap_laws.proofs.bounds.Formed.{formed, same_paths, places_of}
 use Rattle.cap_laws.proofs.uses.TreeSums.{trees_add_up}
 
 module _ {K : ℕ} where
@@ -42,11 +40,9 @@ module _ {K : ℕ} where
       let numbers =
       subst (λ n. IsRising 1 (map (λ (node : ClusterNode). node.number) new.nodes.present) n) (sym p.next_node)
       (subst (λ xs. IsRising 1 (map (λ (node : ClusterNode). node.number) xs) old.nodes.next_node) (sym p.present) b.formed.nodes) in
-      let w = formed old new b.formed (same_queues old new p.settings) (AppsMove.change p.apps) numbers (places_stay old new less h) in
+      let w = formed old new b.formed (same_paths old new p.settings) (AppsMove.change p.apps) numbers (places_stay old new less h) in
       record {
         formed = w;
-        queues = subst (λ (s : Settings). All (IsQueueBounded new) s.queues) (sym p.settings)
-            (of_each (IsQueueBounded new) old.settings.queues (λ q m. queue_stays old new less h q (each_of (IsQueueBounded old) old.settings.queues b.queues q m)));
         parents = trees_add_up K new w;
         nodes = nodes_stay old new less h b.formed.nodes b.nodes;
         reservations = of_each (IsReservationBounded new) new.nodes.reserved p.wanted;

@@ -161,7 +161,7 @@ module _ {K : ℕ} where
       }
 
   step_sizes : (old new : Flat K) (event : Event K) → IsWithinSizes old → Step old event new → IsWithinSizes new
-  step_sizes old new (Event.Call by request reply) s r = after_call IsWithinSizes old s (λ request e. call_sizes old s request e) new request reply r
+  step_sizes old new (Event.Call by request reply) s r = after_call IsWithinSizes old s request (call_sizes old s request) new reply r
   step_sizes old new (Event.Grant c) s (admissible, number, after) =
       let few = (admissible.0).few_live in
       let left = (admissible.0).numbers_left in

@@ -18,7 +18,7 @@ use Rattle.cap_model.specs.Replies.{granted_cluster}
 use Rattle.cap_model.specs.declared.event.Event.{Event}
 use Rattle.cap_model.specs.Events.{Step, after_grant, after_reserve, grant_proposal, reserve_proposal}
 use Rattle.cap_model.specs.Bounds.{FitsMaximum, AreApart, IsQueueBounded, IsNodeBounded, IsReservationBounded, IsBounded, AreThere}
-use Rattle.cap_laws.specs.BoundLaws.{QueuesStayBounded, NodesStayBounded, ReservationsStayApart, ReservationsStayBounded}
+use Rattle.cap_laws.specs.BoundLaws.{is_refresh, refreshes, QueuesStayBounded, NodesStayBounded, ReservationsStayApart, ReservationsStayBounded}
 use Rattle.cap_base.proofs.lists.Members.{IsIn, each_of, of_each, of_map}
 use Rattle.cap_laws.proofs.lists.Parts.{part_itself, part_filter}
 use Rattle.cap_model.proofs.lists.Numbered.{find_changed, find_others, find_with_more}
@@ -63,15 +63,15 @@ module _ {K : ℕ} where
         (subst (λ g. fits (user_use new x.path user) (times x.factor g) ≡ true) (sym (s.keeps.guaranteed x)) (b.users user)));
   }
 
-  call_bounds_queues : (old : Flat K) → IsBounded old → (request : Request K) → All (IsQueueBounded (granted_cluster old request)) (granted_cluster old request).settings.queues
-  call_bounds_queues old b request =
+  call_bounds_queues : (old : Flat K) → IsBounded old → All (IsQueueBounded old) old.settings.queues → (request : Request K) → is_refresh request ≡ false → All (IsQueueBounded (granted_cluster old request)) (granted_cluster old request).settings.queues
+  call_bounds_queues old b within request e =
       let new = granted_cluster old request in
       let h = places_of old b.formed in
-      let s = call_queues old request in
+      let s = call_queues old request e in
       of_each (IsQueueBounded new) new.settings.queues
       (λ q m.
       let w = of_map s.change old.settings.queues q (subst (λ qs. IsIn q qs) s.queues m) in
-      subst (IsQueueBounded new) (w.2) (moved_queue old new s (w.0) (queue_stays old new (lessened old h request) h (w.0) (each_of (IsQueueBounded old) old.settings.queues b.queues (w.0) (w.1)))))
+      subst (IsQueueBounded new) (w.2) (moved_queue old new s (w.0) (queue_stays old new (lessened old h request) h (w.0) (each_of (IsQueueBounded old) old.settings.queues within (w.0) (w.1)))))
 
   pub each_bounded : (old : Flat K) → IsBounded old → AreBounded old
   each_bounded old b = each_of (IsReservationBounded old) old.nodes.reserved b.reservations
@@ -116,29 +116,30 @@ module _ {K : ℕ} where
 
   -- steps
 
-  pub step_bounds_queues : (old new : Flat K) (event : Event K) → IsBounded old → Step old event new → All (IsQueueBounded new) new.settings.queues
-  step_bounds_queues old new (Event.Call by request reply) b s = after_call (λ c. All (IsQueueBounded c) c.settings.queues) old b.queues (λ request e. call_bounds_queues old b request) new request reply s
-  step_bounds_queues old new (Event.Grant c) b (admissible, number, after) =
+  step_bounds_queues : (old new : Flat K) (event : Event K) → IsBounded old → All (IsQueueBounded old) old.settings.queues → refreshes event ≡ false → Step old event new → All (IsQueueBounded new) new.settings.queues
+  step_bounds_queues old new (Event.Call by request reply) b within e s =
+      after_call (λ c. All (IsQueueBounded c) c.settings.queues) old within request (λ h. call_bounds_queues old b within request e) new reply s
+  step_bounds_queues old new (Event.Grant c) b within e (admissible, number, after) =
       subst (λ x. All (IsQueueBounded x) x.settings.queues) (sym after)
       (of_each (IsQueueBounded (after_grant old c)) old.settings.queues
-      (λ q m. queue_grows old (after_grant old c) (grant_proposal c) (grant_grows old c) b.formed (admissible.0) q m (each_of (IsQueueBounded old) old.settings.queues b.queues q m)))
-  step_bounds_queues old new (Event.Reserve r) b (admissible, after) =
+      (λ q m. queue_grows old (after_grant old c) (grant_proposal c) (grant_grows old c) b.formed (admissible.0) q m (each_of (IsQueueBounded old) old.settings.queues within q m)))
+  step_bounds_queues old new (Event.Reserve r) b within e (admissible, after) =
       subst (λ x. All (IsQueueBounded x) x.settings.queues) (sym after)
       (of_each (IsQueueBounded (after_reserve old r)) old.settings.queues
-      (λ q m. queue_grows old (after_reserve old r) (reserve_proposal r) (reserve_grows old r) b.formed (admissible.0) q m (each_of (IsQueueBounded old) old.settings.queues b.queues q m)))
+      (λ q m. queue_grows old (after_reserve old r) (reserve_proposal r) (reserve_grows old r) b.formed (admissible.0) q m (each_of (IsQueueBounded old) old.settings.queues within q m)))
 
   pub step_bounds_nodes : (old new : Flat K) (event : Event K) → IsBounded old → Step old event new → All (IsNodeBounded new) new.nodes.present
   step_bounds_nodes old new (Event.Call by request reply) b s =
       let h = places_of old b.formed in
-      after_call (λ c. All (IsNodeBounded c) c.nodes.present) old b.nodes (λ request e. nodes_stay old (granted_cluster old request) (lessened old h request) h b.formed.nodes b.nodes) new request reply s
+      after_call (λ c. All (IsNodeBounded c) c.nodes.present) old b.nodes request (λ e. nodes_stay old (granted_cluster old request) (lessened old h request) h b.formed.nodes b.nodes) new reply s
   step_bounds_nodes old new (Event.Grant c) b (admissible, number, after) =
       subst (λ x. All (IsNodeBounded x) x.nodes.present) (sym after) (nodes_grow old b.formed.nodes c (admissible.1.0) b.nodes)
   step_bounds_nodes old new (Event.Reserve r) b (admissible, after) = subst (λ x. All (IsNodeBounded x) x.nodes.present) (sym after) b.nodes
 
   pub step_apart : (old new : Flat K) (event : Event K) → IsBounded old → Step old event new → AreApart new.nodes.reserved
   step_apart old new (Event.Call by request reply) b s =
-      after_call (λ c. AreApart c.nodes.reserved) old b.apart
-      (λ request e. apart_part old.nodes.reserved (granted_cluster old request).nodes.reserved (lessened old (places_of old b.formed) request).reserved b.apart) new request reply s
+      after_call (λ c. AreApart c.nodes.reserved) old b.apart request
+      (λ e. apart_part old.nodes.reserved (granted_cluster old request).nodes.reserved (lessened old (places_of old b.formed) request).reserved b.apart) new reply s
   step_apart old new (Event.Grant c) b (admissible, number, after) =
       subst (λ x. AreApart x.nodes.reserved) (sym after)
       (apart_part old.nodes.reserved (filter (λ (r : Reservation). not (r.node == c.node)) old.nodes.reserved) (part_filter (λ (r : Reservation). not (r.node == c.node)) old.nodes.reserved) b.apart)
@@ -152,14 +153,14 @@ module _ {K : ℕ} where
       placed = each_of (λ (r : Reservation). AreThere old r.app r.node) old.nodes.reserved b.formed.reserved
 
       by : (event : Event K) → Step old event new → AreBounded new
-      by (Event.Call who request reply) s = after_call AreBounded old (each_bounded old b) (λ request e. call_bounds_reservations old (places_of old b.formed) (each_bounded old b) request) new request reply s
+      by (Event.Call who request reply) s = after_call AreBounded old (each_bounded old b) request (λ e. call_bounds_reservations old (places_of old b.formed) (each_bounded old b) request) new reply s
       by (Event.Grant c) (admissible, number, after) =
           subst AreBounded (sym after) (grant_keeps old b.apart placed (each_bounded old b) c (seen_is old b.formed.apps c.app (admissible.0).registered) (admissible.1.1))
       by (Event.Reserve r) (admissible, after) =
           subst AreBounded (sym after) (reserve_keeps old b.apart placed (each_bounded old b) r (seen_is old b.formed.apps r.app (admissible.0).registered) (admissible.1.0) (admissible.1.3))
 
 pub queues_stay_bounded : QueuesStayBounded
-queues_stay_bounded K old new event b s = step_bounds_queues old new event b s
+queues_stay_bounded K old new event b within e s = step_bounds_queues old new event b within e s
 
 pub nodes_stay_bounded : NodesStayBounded
 nodes_stay_bounded K old new event b s = step_bounds_nodes old new event b s

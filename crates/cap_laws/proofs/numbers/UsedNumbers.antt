@@ -66,7 +66,7 @@ module _ {K : ℕ} where
       )
 
   step_spent : (old new : Flat K) (event : Event K) (n : ℕ) → IsWellFormed old → IsSpent n old → Step old event new → IsSpent n new
-  step_spent old new (Event.Call by request reply) n w s r = after_call (IsSpent n) old s (λ request e. call_spent old n w s request) new request reply r
+  step_spent old new (Event.Call by request reply) n w s r = after_call (IsSpent n) old s request (λ e. call_spent old n w s request) new reply r
   step_spent old new (Event.Grant c) n w s (admissible, number, after) = subst (IsSpent n) (sym after) s
   step_spent old new (Event.Reserve r) n w s (admissible, after) = subst (IsSpent n) (sym after) s
 
