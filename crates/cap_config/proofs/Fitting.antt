@@ -6,6 +6,7 @@ use Rattle.std.proofs.lemmas.Bool.Decides.{nat_tests}
 use Rattle.std.proofs.lemmas.Bool.{not-true}
 use Rattle.cap_base.specs.Limits.{resources}
 use Rattle.cap_vector.specs.Vector.{zeros}
+use Rattle.cap_vector.specs.AmountLaws.{amount-zeros}
 use Rattle.cap_base.specs.declared.properties.entry.Entry.{Entry}
 use Rattle.cap_base.specs.declared.properties.value.Value.{Value}
 use Rattle.cap_base.specs.declared.properties.value.Value.TheVariants.{Names, Amounts, Number, Running}
@@ -13,6 +14,8 @@ use Rattle.cap_base.specs.declared.properties.setting.Setting.TheVariants.{Queue
 use Rattle.cap_base.specs.properties.Keys.{root, parts_at_last_dot}
 use Rattle.cap_base.specs.properties.Queues.{entry_for, is_entry_for, is_path_at, same_setting, names_below, names_or_none, names_in_value, guaranteed, maximum, amounts_at, amounts_or, or_zero}
 use Rattle.cap_base.specs.properties.Tests.{exceeds, exceeds_limit, is_over_limit, is_over_maximum, over_maximum_line, is_over_parts, guaranteed_below, is_over_above, is_over_parent, over_parent_line}
+use Rattle.cap_config.proofs.Exceeding.{exceeds_not}
+use Rattle.cap_config.proofs.Spending.{none_below}
 use Rattle.cap_config.proofs.Above.{parent_is}
 use Rattle.cap_config.proofs.Trees.{maximum_own, maximum_inherited}
 use Rattle.cap_config.proofs.Found.{found_has, names_at, nowhere_all}
@@ -22,11 +25,8 @@ for_both : (same : Bool) (queue : Option (List ℕ)) (path : List ℕ) → is_pa
 for_both true queue path h = (refl, names_at true queue path h)
 for_both false queue path h = absurd (cc h)
 
-none_less : (a b : ℕ) → (ltb a 0 || ltb b 0) ≡ false
-none_less a b = grind (arith, nat_tests)
-
 zero_fits : (limit : Option (List ℕ)) → exceeds_limit (zeros resources) limit ≡ false
-zero_fits (Some most) = none_less (get_or most 0 0) (get_or most 1 0)
+zero_fits (Some most) = exceeds_not (zeros resources) most (λ k small. let e = amount-zeros resources k in omega (arith, e))
 zero_fits None = refl
 
 -- an entry with no fault of its capacity
@@ -54,9 +54,6 @@ pub guarantee_fits : (entries : List Entry) → over_maximum_line entries ≡ No
 guarantee_fits entries none path = fits_at entries path (entry_for entries Capacity path) refl none
 
 -- the capacities of those below it
-sum_of_none : (entries : List Entry) (path most : List ℕ) → exceeds (guaranteed_below entries path []) most ≡ false
-sum_of_none entries path most = none_less (get_or most 0 0) (get_or most 1 0)
-
 spent : (a b : Bool) → a ≡ false → (not a && b) ≡ false → b ≡ false
 spent true b other h = absurd (cc other)
 spent false b other h = h
@@ -66,9 +63,9 @@ below_fits : (entries : List Entry) (value : Value) (queue : Option (List ℕ)) 
 below_fits entries (Names names) queue path q other of_maximum h =
     let here : is_over_above entries of_maximum (Some path) (Names names) ≡ false = not-true _ (subst (λ (o : Option (List ℕ)). not (is_over_above entries of_maximum o (Names names)) ≡ true) q h) in
     spent (bytes_eq path root) _ other here
-below_fits entries (Amounts amounts) queue path q other of_maximum h = sum_of_none entries path (guaranteed entries path)
-below_fits entries (Number n) queue path q other of_maximum h = sum_of_none entries path (guaranteed entries path)
-below_fits entries (Running running) queue path q other of_maximum h = sum_of_none entries path (guaranteed entries path)
+below_fits entries (Amounts amounts) queue path q other of_maximum h = none_below entries path (guaranteed entries path)
+below_fits entries (Number n) queue path q other of_maximum h = none_below entries path (guaranteed entries path)
+below_fits entries (Running running) queue path q other of_maximum h = none_below entries path (guaranteed entries path)
 
 sum_at : (entries : List Entry) (path : List ℕ) (o : Option Entry) → entry_for entries Queues path ≡ o → over_parent_line entries ≡ None → bytes_eq path root ≡ false →
     exceeds (guaranteed_below entries path (names_or_none o)) (guaranteed entries path) ≡ false
@@ -77,7 +74,7 @@ sum_at entries path (Some entry) is none other =
     let has = found_has (is_entry_for Queues path) (λ e. not (is_over_parent entries e)) entries entry is (nowhere_all (is_over_parent entries) entries none) in
     let for = for_both (same_setting entry.setting Queues) entry.queue path has.0 in
     below_fits entries entry.value entry.queue path for.1 other (same_setting entry.setting MaximumCapacity) has.1
-sum_at entries path None is none other = sum_of_none entries path (guaranteed entries path)
+sum_at entries path None is none other = none_below entries path (guaranteed entries path)
 
 pub children_fit : (entries : List Entry) → over_parent_line entries ≡ None → (path : List ℕ) → bytes_eq path root ≡ false →
     exceeds (guaranteed_below entries path (names_below entries path)) (guaranteed entries path) ≡ false
@@ -88,11 +85,8 @@ abbrev pub is_over : Option (List ℕ) → Option (List ℕ) → Bool
 is_over (Some amounts) limit = exceeds_limit amounts limit
 is_over None limit = false
 
-not_less : (a b : ℕ) → (ltb a a || ltb b b) ≡ false
-not_less a b = grind (arith, nat_tests)
-
 itself_fits : (limit : Option (List ℕ)) → is_over limit limit ≡ false
-itself_fits (Some amounts) = not_less (get_or amounts 0 0) (get_or amounts 1 0)
+itself_fits (Some amounts) = exceeds_not amounts amounts (λ k small. omega arith)
 itself_fits None = refl
 
 own_maximum : (entries : List Entry) (same : Bool) (queue : Option (List ℕ)) (value : Value) (path parent name amounts : List ℕ) → same ≡ true → queue ≡ Some path → parts_at_last_dot path ≡ Some (parent, name) →

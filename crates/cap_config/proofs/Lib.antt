@@ -1,6 +1,7 @@
 pub mod Dots
 pub mod QueueKeys
 pub mod Resources
+pub mod Parts
 pub mod Among
 pub mod NameLists
 pub mod NextLine
@@ -10,6 +11,7 @@ pub mod Trees
 pub mod FirstLines
 pub mod RowLists
 pub mod Firsts
+pub mod Exceeding
 pub mod Spending
 pub mod Kept
 pub mod Found

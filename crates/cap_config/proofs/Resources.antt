@@ -1,33 +1,36 @@
--- A resource of two amounts.
+-- A resource of three amounts.
 use Rattle.std.proofs.Common.{◌≡◌, ℕ, zero, suc, ◌≤◌, List, [], ◌∷◌, get_or, true, false, Option, Some, None, refl, ap, arith}
-use Rattle.std.specs.Prelude.{◌↔◌, IfSome, IsSome, nat_le, ◌&&◌}
+use Rattle.std.specs.Prelude.{◌↔◌, IfSome, IsSome}
 use Rattle.std.proofs.lemmas.Bool.{false_from_ne_true}
 use Rattle.std.proofs.lemmas.Bool.Decides.{nat_tests}
 use Rattle.cap_base.specs.Limits.{resources}
-use Rattle.cap_vector.specs.Vector.{IsVector, amount_max}
+use Rattle.cap_vector.specs.Vector.{IsVector, IsWithin, amount_max, is_within}
 use Rattle.cap_base.specs.properties.Values.{resource}
 
-two_within : (m v : ℕ) → m ≤ amount_max → v ≤ amount_max → (k : ℕ) → get_or (m ∷ v ∷ []) k 0 ≤ amount_max
-two_within m v hm hv zero = hm
-two_within m v hm hv (suc zero) = hv
-two_within m v hm hv (suc (suc k)) = omega arith
+three_within : (m v g : ℕ) → m ≤ amount_max → v ≤ amount_max → g ≤ amount_max → IsWithin amount_max (m ∷ v ∷ g ∷ [])
+three_within m v g hm hv hg zero = hm
+three_within m v g hm hv hg (suc zero) = hv
+three_within m v g hm hv hg (suc (suc zero)) = hg
+three_within m v g hm hv hg (suc (suc (suc k))) = omega arith
 
-pub two_are_vector : (m v : ℕ) → m ≤ amount_max → v ≤ amount_max → IsVector resources amount_max (m ∷ v ∷ [])
-two_are_vector m v hm hv = record { count = refl; within = two_within m v hm hv }
+pub three_are_vector : (m v g : ℕ) → m ≤ amount_max → v ≤ amount_max → g ≤ amount_max → IsVector resources amount_max (m ∷ v ∷ g ∷ [])
+three_are_vector m v g hm hv hg = record { count = refl; within = three_within m v g hm hv hg }
 
--- two amounts are a resource where each is within the bound
-are_vector : (m v : ℕ) → (nat_le m amount_max && nat_le v amount_max) ≡ true → IsVector resources amount_max (m ∷ v ∷ [])
-are_vector m v h = record { count = refl; within = two_within m v (grind (arith, nat_tests)) (grind (arith, nat_tests)) }
+-- three amounts are a resource where each is within the bound
+are_vector : (m v g : ℕ) → is_within amount_max (m ∷ v ∷ g ∷ []) ≡ true → IsVector resources amount_max (m ∷ v ∷ g ∷ [])
+are_vector m v g h = three_are_vector m v g (grind (arith, nat_tests)) (grind (arith, nat_tests)) (grind (arith, nat_tests))
 
-are_within : (m v : ℕ) → IsVector resources amount_max (m ∷ v ∷ []) → (nat_le m amount_max && nat_le v amount_max) ≡ true
-are_within m v h =
+are_within : (m v g : ℕ) → IsVector resources amount_max (m ∷ v ∷ g ∷ []) → is_within amount_max (m ∷ v ∷ g ∷ []) ≡ true
+are_within m v g h =
     let hm : m ≤ amount_max = h.within 0 in
     let hv : v ≤ amount_max = h.within 1 in
+    let hg : g ≤ amount_max = h.within 2 in
     grind (arith, nat_tests)
 
-pub resource_is : (m v : ℕ) (r : Option (List ℕ)) → IfSome r (λ x. x ≡ m ∷ v ∷ []) → (IsSome r ↔ IsVector resources amount_max (m ∷ v ∷ [])) → r ≡ resource (Some m) (Some v)
+pub resource_is : (m v g : ℕ) (r : Option (List ℕ)) → IfSome r (λ x. x ≡ m ∷ v ∷ g ∷ []) → (IsSome r ↔ IsVector resources amount_max (m ∷ v ∷ g ∷ [])) →
+    r ≡ resource (Some m) (Some v) (Some g)
 unfolding resource
-resource_is m v None some iff =
-    let no : (nat_le m amount_max && nat_le v amount_max) ≡ false = false_from_ne_true _ (λ yes. absurd (cc (iff.1 (are_vector m v yes)))) in
+resource_is m v g None some iff =
+    let no : is_within amount_max (m ∷ v ∷ g ∷ []) ≡ false = false_from_ne_true _ (λ yes. absurd (cc (iff.1 (are_vector m v g yes)))) in
     rw no refl
-resource_is m v (Some x) some iff = rw (are_within m v (iff.0 refl)) (ap Some some)
+resource_is m v g (Some x) some iff = rw (are_within m v g (iff.0 refl)) (ap Some some)

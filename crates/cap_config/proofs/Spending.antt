@@ -1,17 +1,18 @@
 -- Capacities of the queues below, one after the other.
 use Rattle.std.proofs.Common.{◌≡◌, ℕ, suc, ◌+◌, ◌-◌, ◌<◌, ◌≤◌, List, [], ◌∷◌, length, get_or, drop, drop-cons, Bool, true, false, ltb, refl, sym, ap, ◌∙◌, add-one, arith}
-use Rattle.std.specs.Prelude.{◌||◌}
 use Rattle.std.proofs.lemmas.Bool.Decides.{nat_tests}
 use Rattle.std.proofs.lemmas.List.{drop_all}
 use Rattle.std.proofs.lemmas.List.Sums.{sum_by-cons}
-use Rattle.std.proofs.lemmas.Bool.{or_parts}
+use Rattle.cap_base.specs.Limits.{resources}
+use Rattle.cap_vector.specs.Vector.{by_amount}
 use Rattle.cap_base.specs.declared.properties.entry.Entry.{Entry}
 use Rattle.cap_base.specs.properties.Queues.{guaranteed, child}
 use Rattle.cap_base.specs.properties.Tests.{exceeds, guaranteed_below, sum_below}
+use Rattle.cap_config.proofs.Exceeding.{amount_of_all, exceeds_not, exceeds_same, not_exceeds}
 
--- what is left of two amounts
+-- what is left of amounts
 abbrev pub left_of : List ℕ → List ℕ → List ℕ
-left_of a b = (get_or a 0 0 - get_or b 0 0) ∷ (get_or a 1 0 - get_or b 1 0) ∷ []
+left_of a b = by_amount resources (λ k. get_or a k 0 - get_or b k 0)
 
 -- whether the queues of these names are guaranteed more than is left
 abbrev pub overspends : List Entry → List ℕ → List ℕ → List (List ℕ) → Bool
@@ -28,34 +29,42 @@ sum_more entries path names i name guarantee k h is g =
     ∙ sum_by-cons (λ (n : List ℕ). get_or (guaranteed entries (child path n)) k 0) name (drop (i + 1) names)
     ∙ ap (λ (x : List ℕ). get_or x k 0 + sum_below entries path (drop (i + 1) names) k) (sym g)
 
-passes_more : (l m g h s t : ℕ) → (ltb l g || ltb m h) ≡ true → (ltb l (g + s) || ltb m (h + t)) ≡ true
-passes_more l m g h s t over = grind (arith, nat_tests)
-
-lt_later : (l g s : ℕ) → ltb l g ≡ false → ltb l (g + s) ≡ ltb (l - g) s
+lt_later : (l g s : ℕ) → g ≤ l → ltb l (g + s) ≡ ltb (l - g) s
 lt_later l g s h = grind (arith, nat_tests)
 
-both_are : (a b x y : Bool) → a ≡ x → b ≡ y → (a || b) ≡ (x || y)
-both_are a b x y h k = rw (h, k) refl
+-- an amount of the queues of these names, and of those but the first
+each_more : (entries : List Entry) (path : List ℕ) (names : List (List ℕ)) (i : ℕ) (name guarantee : List ℕ) → i < length names → name ≡ get_or names i name →
+    guarantee ≡ guaranteed entries (child path name) → (k : ℕ) → k < resources →
+    get_or (guaranteed_below entries path (drop i names)) k 0 ≡ get_or guarantee k 0 + get_or (guaranteed_below entries path (drop (i + 1) names)) k 0
+each_more entries path names i name guarantee h is g k small =
+    amount_of_all (sum_below entries path (drop i names)) k small
+    ∙ sum_more entries path names i name guarantee k h is g
+    ∙ ap (λ n. get_or guarantee k 0 + n) (sym (amount_of_all (sum_below entries path (drop (i + 1) names)) k small))
+
+over_by : (b : Bool) (sums guarantee left : List ℕ) → exceeds sums left ≡ b → ((k : ℕ) → k < resources → get_or guarantee k 0 ≤ get_or sums k 0) → exceeds guarantee left ≡ true → b ≡ true
+over_by true sums guarantee left is more over = refl
+over_by false sums guarantee left is more over =
+    absurd (cc (sym over ∙ exceeds_not guarantee left (λ k small. let m = more k small in let f = not_exceeds sums left is k small in omega (arith, m, f))))
 
 pub spend_here : (entries : List Entry) (path left : List ℕ) (names : List (List ℕ)) (i : ℕ) (name guarantee : List ℕ) → i < length names → name ≡ get_or names i name →
     guarantee ≡ guaranteed entries (child path name) → exceeds guarantee left ≡ true → overspends entries path left (drop i names) ≡ true
 spend_here entries path left names i name guarantee h is g over =
-    both_are _ _ _ _ (ap (ltb (get_or left 0 0)) (sum_more entries path names i name guarantee 0 h is g)) (ap (ltb (get_or left 1 0)) (sum_more entries path names i name guarantee 1 h is g))
-    ∙ passes_more (get_or left 0 0) (get_or left 1 0) (get_or guarantee 0 0) (get_or guarantee 1 0) (sum_below entries path (drop (i + 1) names) 0) (sum_below entries path (drop (i + 1) names) 1) over
+    over_by (overspends entries path left (drop i names)) (guaranteed_below entries path (drop i names)) guarantee left refl
+    (λ k small. let e = each_more entries path names i name guarantee h is g k small in omega (arith, e)) over
 
 pub spend_later : (entries : List Entry) (path left : List ℕ) (names : List (List ℕ)) (i : ℕ) (name guarantee : List ℕ) → i < length names → name ≡ get_or names i name →
     guarantee ≡ guaranteed entries (child path name) → exceeds guarantee left ≡ false → overspends entries path left (drop i names) ≡ overspends entries path (left_of left guarantee) (drop (i + 1) names)
 spend_later entries path left names i name guarantee h is g over =
-    let no = or_parts _ _ over in
-    both_are _ _ _ _
-    (ap (ltb (get_or left 0 0)) (sum_more entries path names i name guarantee 0 h is g) ∙ lt_later (get_or left 0 0) (get_or guarantee 0 0) (sum_below entries path (drop (i + 1) names) 0) no.0)
-    (ap (ltb (get_or left 1 0)) (sum_more entries path names i name guarantee 1 h is g) ∙ lt_later (get_or left 1 0) (get_or guarantee 1 0) (sum_below entries path (drop (i + 1) names) 1) no.1)
+    let rest = guaranteed_below entries path (drop (i + 1) names) in
+    exceeds_same (guaranteed_below entries path (drop i names)) left rest (left_of left guarantee)
+    (λ k small.
+        ap (ltb (get_or left k 0)) (each_more entries path names i name guarantee h is g k small)
+        ∙ lt_later (get_or left k 0) (get_or guarantee k 0) (get_or rest k 0) (not_exceeds guarantee left over k small)
+        ∙ ap (λ n. ltb n (get_or rest k 0)) (sym (amount_of_all (λ j. get_or left j 0 - get_or guarantee j 0) k small)))
 
-none_over : (l m : ℕ) → (ltb l 0 || ltb m 0) ≡ false
-none_over l m = grind (arith, nat_tests)
+-- no queue is guaranteed anything
+pub none_below : (entries : List Entry) (path most : List ℕ) → exceeds (guaranteed_below entries path []) most ≡ false
+none_below entries path most = exceeds_not (guaranteed_below entries path []) most (λ k small. let e = amount_of_all (λ j. 0) k small in omega (arith, e))
 
 pub spend_none : (entries : List Entry) (path left : List ℕ) (names : List (List ℕ)) (i : ℕ) → length names ≤ i → overspends entries path left (drop i names) ≡ false
-spend_none entries path left names i h = ap (overspends entries path left) (drop_all i names h) ∙ none_over (get_or left 0 0) (get_or left 1 0)
-
-pub two_are : (a b x y : ℕ) → a ≡ x → b ≡ y → x ∷ y ∷ [] ≡ a ∷ b ∷ []
-two_are a b x y ha hb = rw (ha, hb) refl
+spend_none entries path left names i h = ap (overspends entries path left) (drop_all i names h) ∙ none_below entries path left

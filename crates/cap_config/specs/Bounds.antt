@@ -1,8 +1,8 @@
 -- The bounds that the values of a text keep.
-use Rattle.std.specs.Prelude.{ℕ, List, [], ◌&&◌, Option, Some, None, Bool, true, nat_le, if◌then◌else◌}
+use Rattle.std.specs.Prelude.{ℕ, List, [], length, ◌&&◌, ◌==◌, Option, Some, None, Bool, true, nat_le, if◌then◌else◌}
 use Rattle.std.specs.List.{list_all}
 use Rattle.cap_vector.specs.Vector.{amount_max}
-use Rattle.cap_base.specs.Limits.{applications_max, factor_max}
+use Rattle.cap_base.specs.Limits.{applications_max, factor_max, resources}
 use Rattle.cap_base.specs.declared.properties.setting.Setting.{Setting}
 use Rattle.cap_base.specs.declared.properties.setting.Setting.TheVariants.{MaximumApplications, UserLimitFactor}
 use Rattle.cap_base.specs.properties.Queues.{same_setting}
@@ -22,13 +22,17 @@ most_of setting =
     if same_setting setting MaximumApplications then applications_max else
     if same_setting setting UserLimitFactor then factor_max else amount_max
 
+-- an amount of each resource
+abbrev pub has_each : List ℕ → Bool
+has_each amounts = length amounts == resources
+
 abbrev pub is_kept : ℕ → Value → Option (List ℕ) → Bool
 is_kept most (Names names) queue = are_under queue names
-is_kept most (Amounts amounts) queue = true
+is_kept most (Amounts amounts) queue = has_each amounts
 is_kept most (Number n) queue = nat_le n most
 is_kept most (Running running) queue = true
 
--- the names are those of queues with a path, each once, and a number is at most the greatest for its setting
+-- the names are those of queues with a path, each once, a number is at most the greatest for its setting, and there is an amount of each resource
 abbrev pub is_bounded : Entry → Bool
 is_bounded entry = is_kept (most_of entry.setting) entry.value entry.queue
 

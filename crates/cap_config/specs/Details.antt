@@ -1,6 +1,8 @@
 -- What there is to say of a fault beyond its line and its kind.
-use Rattle.std.specs.Prelude.{ℕ, ◌+◌, ◌-◌, ◌^◌, List, [], ◌∷◌, find, Option, Some, None, Bool, true, false, ◌==◌, min, slice_index, if◌then◌else◌, Result, Ok, Err}
+use Rattle.std.specs.Prelude.{ℕ, ◌+◌, ◌-◌, ◌^◌, List, [], ◌∷◌, find, Option, Some, None, Bool, true, false, ◌==◌, min, if◌then◌else◌, Result, Ok, Err}
 use Rattle.std.specs.Str.Lines.{lines}
+use Rattle.cap_vector.specs.Vector.{amount, by_amount, zeros}
+use Rattle.cap_base.specs.Limits.{resources}
 use Rattle.cap_base.specs.Texts.{is_text}
 use Rattle.cap_config.specs.declared.detail.Detail.{Detail}
 use Rattle.cap_config.specs.declared.detail.Detail.TheVariants.{Plain, Earlier, Form, Unlisted, Over}
@@ -10,7 +12,7 @@ use Rattle.cap_base.specs.declared.properties.entry.Entry.{Entry}
 use Rattle.cap_base.specs.declared.properties.key.Key.{Key}
 use Rattle.cap_base.specs.declared.properties.value.Value.{Value}
 use Rattle.cap_base.specs.declared.properties.value.Value.TheVariants.{Names, Amounts, Number, Running}
-use Rattle.cap_base.specs.declared.properties.setting.Setting.TheVariants.{Capacity, MaximumCapacity, MinimumMemory, MinimumVcores, MaximumMemory, MaximumVcores}
+use Rattle.cap_base.specs.declared.properties.setting.Setting.TheVariants.{MaximumCapacity}
 use Rattle.cap_base.specs.declared.properties.fault.ConfigFault.{ConfigFault}
 use Rattle.cap_base.specs.declared.properties.fault.ConfigFaultKind.{ConfigFaultKind}
 use Rattle.cap_base.specs.declared.properties.fault.ConfigFaultKind.TheVariants.{Repeated, BadValue, NoSuchQueue, GuaranteeOverMaximum, OverParent}
@@ -18,7 +20,7 @@ use Rattle.cap_base.specs.properties.Entries.{read_lines}
 use Rattle.cap_base.specs.properties.Keys.{key_of, parts_at_last_dot}
 use Rattle.cap_config.specs.LineKeys.{line_key, first_with}
 use Rattle.cap_base.specs.properties.Queues.{above, amounts_at, child, entry_for, guaranteed, is_below, maximum}
-use Rattle.cap_base.specs.properties.Tests.{cluster_entry, exceeds, number_or}
+use Rattle.cap_base.specs.properties.Tests.{exceeds, minimum_allocation, maximum_allocation}
 
 -- amounts over a limit, where one of them is
 unfoldable pub over : Limit → List ℕ → List ℕ → Detail
@@ -28,12 +30,9 @@ abbrev pub over_some : Limit → List ℕ → Option (List ℕ) → Detail
 over_some limit amounts (Some most) = over limit amounts most
 over_some limit amounts None = Plain
 
--- the least amounts of a container, and the most
+-- a minimum allocation over the maximum allocation
 unfoldable pub allocation_detail : List Entry → Detail
-allocation_detail entries =
-    over MaximumAllocation
-    (number_or (cluster_entry entries MinimumMemory) 1024 ∷ number_or (cluster_entry entries MinimumVcores) 1 ∷ [])
-    (number_or (cluster_entry entries MaximumMemory) 8192 ∷ number_or (cluster_entry entries MaximumVcores) 4 ∷ [])
+allocation_detail entries = over MaximumAllocation (minimum_allocation entries) (maximum_allocation entries)
 
 -- the first path, from `root` on, that the queue above it doesn't list: one of these paths above `path`, or else the one before
 abbrev pub missing_or : Bool → List ℕ → Option (List ℕ) → Option (List ℕ)
@@ -81,15 +80,15 @@ over_above entries amounts None = Plain
 abbrev pub added : ℕ → ℕ → ℕ
 added a b = min (a + b) (2 ^ 64 - 1)
 
-abbrev pub both_added : List ℕ → List ℕ → List ℕ
-both_added a b = added (slice_index a 0) (slice_index b 0) ∷ added (slice_index a 1) (slice_index b 1) ∷ []
+abbrev pub all_added : List ℕ → List ℕ → List ℕ
+all_added a b = by_amount resources (λ k. added (amount a k) (amount b k))
 
 unfoldable pub added_below : List Entry → List ℕ → List ℕ → List (List ℕ) → List ℕ
 added_below entries path sums [] = sums
-added_below entries path sums (name ∷ names) = added_below entries path (both_added sums (guaranteed entries (child path name))) names
+added_below entries path sums (name ∷ names) = added_below entries path (all_added sums (guaranteed entries (child path name))) names
 
 abbrev pub over_capacity : List Entry → List ℕ → List (List ℕ) → Detail
-over_capacity entries path names = over OwnCapacity (added_below entries path (0 ∷ 0 ∷ []) names) (guaranteed entries path)
+over_capacity entries path names = over OwnCapacity (added_below entries path (zeros resources) names) (guaranteed entries path)
 
 abbrev pub over_parent : List Entry → Option (List ℕ) → Value → Detail
 over_parent entries (Some path) (Amounts amounts) = over_above entries amounts (parts_at_last_dot path)

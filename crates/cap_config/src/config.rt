@@ -1,13 +1,16 @@
 //! The settings that lines without a fault make, with a row for each queue (`config_of`).
-ghost use Rattle.std.specs.Prelude.{◌≡◌, ◌≤◌, ◌++◌, ◌∷◌, [], IfOk, None, OnOk, true};
-ghost use Rattle.cap_vector.specs.Vector.{amount_max};
-ghost use Rattle.cap_config.specs.Bounds.{are_bounded, most_of};
+ghost use Rattle.std.specs.Prelude.{◌≡◌, ◌≤◌, ◌++◌, IfOk, None, OnOk, true};
+ghost use Rattle.cap_vector.specs.Vector.{IsResource};
+ghost use Rattle.cap_config.specs.Bounds.{are_bounded};
+ghost use Rattle.cap_base.specs.Limits.{applications_max, resources};
+ghost use Rattle.cap_base.specs.declared.properties.setting.Setting.TheVariants.{MaximumApplications};
 ghost use Rattle.cap_base.specs.Texts.{is_text};
 ghost use Rattle.cap_base.specs.properties.Queues.{child};
 ghost use Rattle.cap_base.specs.properties.Tests.{cluster_entry, number_or, whole_fault};
 ghost use Rattle.cap_config.specs.Index.{IsIndex};
 ghost use Rattle.cap_base.specs.properties.Rows.{row_of, rows_under, settings_of};
 
+use crate::allocation::{maximum_allocation, minimum_allocation};
 use crate::index::{Index, child_bytes};
 use crate::key::ROOT;
 use crate::queues::{LEVELS_MAX, factor, guaranteed, is_running, maximum, names_below, number_or};
@@ -33,35 +36,27 @@ pub fn config_of(alloc: Global, index: &Index) -> Result<Config<RESOURCES>, Allo
     let entries = index.entries;
     Ok(Config::new(
         queues,
-        allocation(
-            cluster_number(entries, Setting::MinimumMemory, 1024),
-            cluster_number(entries, Setting::MinimumVcores, 1),
-        ),
-        allocation(
-            cluster_number(entries, Setting::MaximumMemory, 8192),
-            cluster_number(entries, Setting::MaximumVcores, 4),
-        ),
-        cluster_number(entries, Setting::MaximumApplications, 10_000),
+        allocation(minimum_allocation(entries)),
+        allocation(maximum_allocation(entries)),
+        application_limit(entries),
     ))
 }
 
-/// The number that a property of the cluster sets, or its default where no line sets it.
-fn cluster_number(entries: &[Entry], setting: Setting, default: u64) -> u64
-    requires bounded { are_bounded entries.now ≡ true }
-    requires default { default ≤ most_of setting }
-    ensures value { result ≡ number_or (cluster_entry entries.now setting) default }
-    ensures small { result ≤ most_of setting }
+/// How many applications may be active at once.
+fn application_limit(entries: &[Entry]) -> u64
+    requires { are_bounded entries.now ≡ true }
+    ensures value { result ≡ number_or (cluster_entry entries.now MaximumApplications) 10000 }
+    ensures small { result ≤ applications_max }
 {
-    number_or(cluster_entry(entries, setting), default)
+    number_or(cluster_entry(entries, Setting::MaximumApplications), 10_000)
 }
 
 /// These amounts as a resource.
-fn allocation(memory: u64, vcores: u64) -> Resource<RESOURCES>
-    requires memory { memory ≤ amount_max }
-    requires vcores { vcores ≤ amount_max }
-    ensures { result ≡ memory ∷ vcores ∷ [] }
+fn allocation(amounts: [u64; RESOURCES]) -> Resource<RESOURCES>
+    requires { IsResource resources amounts }
+    ensures { result ≡ amounts }
 {
-    let Some(allocation) = Resource::new([memory, vcores]) else {
+    let Some(allocation) = Resource::new(amounts) else {
         unreachable!()
     };
     allocation

@@ -1,18 +1,20 @@
 //! What a fault is about, beyond its line and its kind: it is found in the text again (`detail_of`, `Detail`).
-ghost use Rattle.std.specs.Prelude.{◌≡◌, ◌∷◌, [], IfOk};
+ghost use Rattle.std.specs.Prelude.{◌≡◌, IfOk};
 ghost use Rattle.std.specs.Option.{option_map, option_copied};
 ghost use Rattle.cap_config.specs.Index.{IsIndex};
 ghost use Rattle.cap_base.specs.properties.Keys.{key_of, parts_at_last_dot};
 ghost use Rattle.cap_config.specs.LineKeys.{line_key};
-ghost use Rattle.cap_config.specs.Details.{detail_in, line_detail, key_detail, earlier, form_of, limit_of, whole_detail, entry_on, entry_detail, allocation_detail, unlisted, unlisted_at, missing_path, over_maximum, over_own, over_parent, over_above, over_capacity, added_below, over, over_some};
+ghost use Rattle.cap_config.specs.Details.{detail_in, line_detail, key_detail, earlier, form_of, limit_of, whole_detail, entry_on, entry_detail, allocation_detail, unlisted, unlisted_at, missing_path, over_maximum, over_own, over_parent, over_above, over_capacity, added_below, all_added, over, over_some};
+ghost use Rattle.cap_vector.specs.Vector.{zeros};
+ghost use Rattle.cap_base.specs.Limits.{resources};
 
+use crate::allocation::{maximum_allocation, minimum_allocation};
 use crate::first_pass::read_lines;
 use crate::guarantees::exceeds;
 use crate::index::{Index, child_bytes, entry_at, index_of};
 use crate::key::{key_of, split_last_dot};
 use crate::line_keys::{first_with, line_key};
-use crate::queues::{amounts_at, guaranteed, lists, maximum, number_or};
-use crate::second_pass::cluster_entry;
+use crate::queues::{amounts_at, guaranteed, lists, maximum};
 use cap_base::properties::{ConfigFault, ConfigFaultKind, Entry, Setting, Value};
 use cap_base::{PathText, RESOURCES, ShortText};
 use cap_vector::Resource;
@@ -29,11 +31,11 @@ pub enum Detail {
     Form(Setting),
     /// The first path, from `root` on, that is not listed by the queue above it.
     Unlisted(PathText),
-    /// Amounts in MiB and vcores, of which at least one is over its limit.
+    /// Amounts in MiB, vcores and GPUs, of which at least one is over its limit.
     Over {
         limit: Limit,
-        amounts: [u64; 2],
-        most: [u64; 2],
+        amounts: [u64; RESOURCES],
+        most: [u64; RESOURCES],
     },
 }
 
@@ -157,20 +159,16 @@ fn entry_detail(
 fn allocation_detail(entries: &[Entry]) -> Detail
     ensures { result ≡ allocation_detail entries.now }
 {
-    let least = [
-        number_or(cluster_entry(entries, Setting::MinimumMemory), 1024),
-        number_or(cluster_entry(entries, Setting::MinimumVcores), 1),
-    ];
-    let most = [
-        number_or(cluster_entry(entries, Setting::MaximumMemory), 8192),
-        number_or(cluster_entry(entries, Setting::MaximumVcores), 4),
-    ];
-    over(Limit::MaximumAllocation, least, most)
+    over(
+        Limit::MaximumAllocation,
+        minimum_allocation(entries),
+        maximum_allocation(entries),
+    )
 }
 
 /// Amounts over a limit, where one of them is.
 #[tactic(auto, unfolding(crate::specs::Details::over))]
-fn over(limit: Limit, amounts: [u64; 2], most: [u64; 2]) -> Detail
+fn over(limit: Limit, amounts: [u64; RESOURCES], most: [u64; RESOURCES]) -> Detail
     ensures { result ≡ over limit amounts most }
 {
     if exceeds(amounts, most) {
@@ -313,19 +311,26 @@ fn added_below(
     index: &Index,
     path: &[u8],
     names: &[ShortText],
-) -> Result<[u64; 2], AllocError>
+) -> Result<[u64; RESOURCES], AllocError>
     requires { IsIndex index.now }
     ensures { IfOk result (λ sums. sums ≡
-        added_below index.now.entries.now path.now (0 ∷ 0 ∷ []) names.now) }
+        added_below index.now.entries.now path.now (zeros resources) names.now) }
 {
-    let mut sums: [u64; 2] = [0, 0];
+    let mut sums = [0; RESOURCES];
     for name in names {
         let child = child_bytes(alloc, path, name.as_bytes())?;
-        let guarantee = guaranteed(index, &child).amounts();
-        sums = [
-            sums[0].saturating_add(guarantee[0]),
-            sums[1].saturating_add(guarantee[1]),
-        ];
+        sums = added(sums, guaranteed(index, &child).amounts());
     }
     Ok(sums)
+}
+
+/// The sum of each amount.
+fn added(amounts: [u64; RESOURCES], more: [u64; RESOURCES]) -> [u64; RESOURCES]
+    ensures { result ≡ all_added amounts more }
+{
+    let mut sums = [0; RESOURCES];
+    for k in 0..RESOURCES {
+        sums[k] = amounts[k].saturating_add(more[k]);
+    }
+    sums
 }

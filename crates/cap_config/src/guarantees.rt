@@ -1,5 +1,7 @@
 //! The tests of capacities and maximum capacities, each of a queue's own and of those of the queue above.
-ghost use Rattle.std.specs.Prelude.{◌≡◌, IfOk};
+ghost use Rattle.std.specs.Prelude.{◌≡◌, ◌-◌, IfOk};
+ghost use Rattle.cap_vector.specs.Vector.{amount, by_amount};
+ghost use Rattle.cap_base.specs.Limits.{resources};
 ghost use Rattle.cap_config.specs.Index.{IsIndex};
 ghost use Rattle.cap_base.specs.properties.Tests.{exceeds, exceeds_limit, is_over_limit, is_over_maximum, over_maximum_line, is_over_parts, guaranteed_below, is_overspent, is_over_parent, over_parent_line};
 ghost use Rattle.cap_base.specs.properties.Keys.{parts_at_last_dot};
@@ -57,10 +59,15 @@ fn exceeds_limit(amounts: &Resource<RESOURCES>, limit: Option<Resource<RESOURCES
 }
 
 /// Whether an amount is more than the other's.
-pub fn exceeds(a: [u64; 2], b: [u64; 2]) -> bool
+pub fn exceeds(a: [u64; RESOURCES], b: [u64; RESOURCES]) -> bool
     ensures { result ≡ exceeds a b }
 {
-    b[0] < a[0] || b[1] < a[1]
+    for k in 0..RESOURCES {
+        if b[k] < a[k] {
+            return true;
+        }
+    }
+    false
 }
 
 /// The first line that sets a maximum capacity over that of the queue above, or lists queues below one other than root
@@ -124,7 +131,7 @@ fn overspends(
     alloc: Global,
     index: &Index,
     path: &[u8],
-    most: [u64; 2],
+    most: [u64; RESOURCES],
     names: &[ShortText],
 ) -> Result<bool, AllocError>
     requires { IsIndex index.now }
@@ -138,10 +145,18 @@ fn overspends(
         if exceeds(guarantee, left) {
             return Ok(true);
         }
-        left = [
-            left[0].saturating_sub(guarantee[0]),
-            left[1].saturating_sub(guarantee[1]),
-        ];
+        left = less(left, guarantee);
     }
     Ok(false)
+}
+
+/// What is left of each amount.
+fn less(amounts: [u64; RESOURCES], taken: [u64; RESOURCES]) -> [u64; RESOURCES]
+    ensures { result ≡ by_amount resources (λ k. amount amounts k - amount taken k) }
+{
+    let mut left = [0; RESOURCES];
+    for k in 0..RESOURCES {
+        left[k] = amounts[k].saturating_sub(taken[k]);
+    }
+    left
 }

@@ -11,12 +11,14 @@ use cap_base::properties::{Key, Setting};
 use cap_text::split_once;
 
 /// The properties of the whole cluster.
-const CLUSTER_SETTINGS: [Setting; 5] = [
+const CLUSTER_SETTINGS: [Setting; 7] = [
     Setting::MaximumApplications,
     Setting::MinimumMemory,
     Setting::MinimumVcores,
+    Setting::MinimumGpu,
     Setting::MaximumMemory,
     Setting::MaximumVcores,
+    Setting::MaximumGpu,
 ];
 
 /// The properties of one queue.

@@ -1,6 +1,7 @@
 //! The operator's settings: property lines of the Capacity Scheduler, read whole or refused at the first fault.
 #![tactic(auto)]
 
+mod allocation;
 mod config;
 mod detail;
 mod entry;

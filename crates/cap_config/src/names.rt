@@ -45,7 +45,7 @@ pub fn names_for<'t>(
 }
 
 /// How many commas there are.
-fn commas(bytes: &[u8]) -> usize
+pub fn commas(bytes: &[u8]) -> usize
     ensures count { result ≡ count_by (λ byte. nat_eq byte 44) bytes.now }
     ensures few { result ≤ length bytes.now }
 {

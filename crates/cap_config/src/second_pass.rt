@@ -12,6 +12,7 @@ use crate::key::ROOT;
 use crate::queues::{LEVELS_MAX, is_queue, level, number_or};
 use crate::setting::same_setting;
 use cap_base::properties::{ConfigFault, ConfigFaultKind, Entry, Setting, Value};
+use cap_vector::AMOUNT_MAX;
 use std::alloc::Global;
 
 /// The greatest number of queues, root among them.
@@ -96,7 +97,13 @@ fn allocation_line(entries: &[Entry]) -> Option<usize>
         cluster_entry(entries, Setting::MaximumVcores),
         4,
     );
-    lesser(memory, vcores)
+    let gpus = pair_line(
+        cluster_entry(entries, Setting::MinimumGpu),
+        0,
+        cluster_entry(entries, Setting::MaximumGpu),
+        AMOUNT_MAX,
+    );
+    lesser(memory, lesser(vcores, gpus))
 }
 
 fn lesser(a: Option<usize>, b: Option<usize>) -> Option<usize>

@@ -19,8 +19,10 @@ pub fn spelling(setting: Setting) -> &'static [u8]
         Setting::MaximumApplications => b"yarn.scheduler.capacity.maximum-applications",
         Setting::MinimumMemory => b"yarn.scheduler.minimum-allocation-mb",
         Setting::MinimumVcores => b"yarn.scheduler.minimum-allocation-vcores",
+        Setting::MinimumGpu => b"yarn.resource-types.yarn.io/gpu.minimum-allocation",
         Setting::MaximumMemory => b"yarn.scheduler.maximum-allocation-mb",
         Setting::MaximumVcores => b"yarn.scheduler.maximum-allocation-vcores",
+        Setting::MaximumGpu => b"yarn.resource-types.yarn.io/gpu.maximum-allocation",
     }
 }
 
@@ -43,8 +45,10 @@ fn setting_number(setting: Setting) -> u8
         Setting::MaximumApplications => 5,
         Setting::MinimumMemory => 6,
         Setting::MinimumVcores => 7,
-        Setting::MaximumMemory => 8,
-        Setting::MaximumVcores => 9,
+        Setting::MinimumGpu => 8,
+        Setting::MaximumMemory => 9,
+        Setting::MaximumVcores => 10,
+        Setting::MaximumGpu => 11,
     }
 }
 

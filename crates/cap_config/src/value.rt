@@ -1,9 +1,9 @@
 //! The value that the bytes of a property line give its key: amounts, a number, a state or a list of names (`value_of`).
-ghost use Rattle.std.specs.Prelude.{◌≡◌, IfOk};
+ghost use Rattle.std.specs.Prelude.{◌≡◌, ◌∷◌, [], length, IfOk};
 ghost use Rattle.std.specs.Option.{option_map};
-ghost use Rattle.cap_base.specs.properties.Values.{value_of, listed_names, as_amounts, number_within, state_of, amounts_of, amounts_in, in_brackets, number_after, resource};
+ghost use Rattle.cap_base.specs.properties.Values.{value_of, listed_names, as_amounts, number_within, state_of, amounts_of, amounts_in, pieces_of, part, gpus_in, in_brackets, resource};
 
-use crate::names::names_for;
+use crate::names::{commas, names_for};
 use cap_base::properties::{Key, Setting, Value};
 use cap_base::{PathText, RESOURCES};
 use cap_text::{number_of, split_once, trimmed};
@@ -31,13 +31,14 @@ pub fn value_of<'t>(
     match key.setting {
         Setting::Queues => listed(alloc, &key.queue, bytes),
         Setting::Capacity | Setting::MaximumCapacity => Ok(as_amounts(amounts_of(bytes))),
-        Setting::UserLimitFactor => Ok(number_within(bytes, FACTOR_MAX)),
+        Setting::UserLimitFactor => Ok(number_within(bytes, 1, FACTOR_MAX)),
         Setting::State => Ok(state_of(bytes)),
-        Setting::MaximumApplications => Ok(number_within(bytes, APPLICATIONS_MAX)),
+        Setting::MaximumApplications => Ok(number_within(bytes, 1, APPLICATIONS_MAX)),
         Setting::MinimumMemory
         | Setting::MinimumVcores
         | Setting::MaximumMemory
-        | Setting::MaximumVcores => Ok(number_within(bytes, AMOUNT_MAX)),
+        | Setting::MaximumVcores => Ok(number_within(bytes, 1, AMOUNT_MAX)),
+        Setting::MinimumGpu | Setting::MaximumGpu => Ok(number_within(bytes, 0, AMOUNT_MAX)),
     }
 }
 
@@ -67,13 +68,13 @@ fn as_amounts<'t>(amounts: Option<Resource<RESOURCES>>) -> Option<Value<'t>>
     }
 }
 
-/// A number from 1 to `most`.
+/// A number from `least` to `most`.
 #[tactic(auto, unfolding(cap_base::specs::properties::Values::number_within))]
-fn number_within<'t>(bytes: &[u8], most: u64) -> Option<Value<'t>>
-    ensures { result ≡ number_within most bytes.now }
+fn number_within<'t>(bytes: &[u8], least: u64, most: u64) -> Option<Value<'t>>
+    ensures { result ≡ number_within least most bytes.now }
 {
     match number_of(bytes, DIGITS_MAX) {
-        Some(number) if 1 <= number && number <= most => Some(Value::Number(number)),
+        Some(number) if least <= number && number <= most => Some(Value::Number(number)),
         _ => None,
     }
 }
@@ -91,46 +92,14 @@ fn state_of<'t>(bytes: &[u8]) -> Option<Value<'t>>
     }
 }
 
-/// `[memory=N,vcores=N]`, the two in either order, with spaces allowed round each.
+/// `[memory=N,vcores=N]`, or the same with a third part `yarn.io/gpu=N`: in any order, with spaces allowed round each.
 #[tactic(auto, unfolding(cap_base::specs::properties::Values::amounts_of))]
 fn amounts_of(bytes: &[u8]) -> Option<Resource<RESOURCES>>
     ensures { result ≡ amounts_of bytes.now }
 {
     match in_brackets(bytes) {
-        Some(inner) => match split_once(inner, b',') {
-            Some((first, second)) => amounts_in(trimmed(first), trimmed(second)),
-            None => None,
-        },
+        Some(inner) => amounts_in(inner),
         None => None,
-    }
-}
-
-/// Memory and vcores, in either order.
-#[tactic(auto, unfolding(cap_base::specs::properties::Values::amounts_in))]
-fn amounts_in(first: &[u8], second: &[u8]) -> Option<Resource<RESOURCES>>
-    ensures { result ≡ amounts_in first.now second.now }
-{
-    if first.starts_with(b"memory=") {
-        resource(
-            number_after(b"memory=", first),
-            number_after(b"vcores=", second),
-        )
-    } else {
-        resource(
-            number_after(b"memory=", second),
-            number_after(b"vcores=", first),
-        )
-    }
-}
-
-/// A resource of these amounts, each at most the greatest.
-#[tactic(auto, unfolding(cap_base::specs::properties::Values::resource))]
-fn resource(memory: Option<u64>, vcores: Option<u64>) -> Option<Resource<RESOURCES>>
-    ensures { result ≡ resource memory vcores }
-{
-    match (memory, vcores) {
-        (Some(memory), Some(vcores)) => Resource::new([memory, vcores]),
-        _ => None,
     }
 }
 
@@ -145,13 +114,73 @@ fn in_brackets(bytes: &[u8]) -> Option<&[u8]>
     }
 }
 
-/// The number after a name.
-#[tactic(auto, unfolding(cap_base::specs::properties::Values::number_after))]
-fn number_after(name: &[u8], part: &[u8]) -> Option<u64>
-    ensures { result ≡ number_after name.now part.now }
+/// Memory, vcores and perhaps GPUs, with commas between them.
+#[tactic(auto, unfolding(cap_base::specs::properties::Values::amounts_in))]
+fn amounts_in(bytes: &[u8]) -> Option<Resource<RESOURCES>>
+    ensures { result ≡ amounts_in (pieces_of bytes.now) }
 {
-    if !part.starts_with(name) {
+    let memory = part(b"memory=", bytes);
+    let vcores = part(b"vcores=", bytes);
+    let gpus = part(b"yarn.io/gpu=", bytes);
+    resource(memory, vcores, gpus_in(pieces(bytes), gpus))
+}
+
+/// The number after a name, in the first piece between commas that begins with it.
+fn part(name: &[u8], bytes: &[u8]) -> Option<u64>
+    ensures { result ≡ part name.now (pieces_of bytes.now) }
+{
+    let mut rest = bytes;
+    while let Some((front, after)) = split_once(rest, b',') {
+        let piece = trimmed(front);
+        if piece.starts_with(name) {
+            return number_after(name, piece);
+        }
+        rest = after;
+    }
+    number_after(name, trimmed(rest))
+}
+
+/// The number after a name. None where the piece begins otherwise.
+#[tactic(auto, unfolding(cap_base::specs::properties::Values::part))]
+fn number_after(name: &[u8], piece: &[u8]) -> Option<u64>
+    ensures { result ≡ part name.now (piece.now ∷ []) }
+{
+    if !piece.starts_with(name) {
         return None;
     }
-    number_of(&part[name.len()..], DIGITS_MAX)
+    number_of(&piece[name.len()..], DIGITS_MAX)
+}
+
+/// How many pieces there are between commas.
+fn pieces(bytes: &[u8]) -> usize
+    ensures { result ≡ length (pieces_of bytes.now) }
+{
+    commas(bytes) + 1
+}
+
+/// The GPUs of a resource in so many pieces: those of its third piece, or 0 where memory and vcores stand alone.
+#[tactic(auto, unfolding(cap_base::specs::properties::Values::gpus_in))]
+fn gpus_in(pieces: usize, gpus: Option<u64>) -> Option<u64>
+    ensures { result ≡ gpus_in pieces gpus }
+{
+    match gpus {
+        Some(gpus) if pieces == 3 => Some(gpus),
+        None if pieces == 2 => Some(0),
+        _ => None,
+    }
+}
+
+/// A resource of these amounts, each at most the greatest.
+#[tactic(auto, unfolding(cap_base::specs::properties::Values::resource))]
+fn resource(
+    memory: Option<u64>,
+    vcores: Option<u64>,
+    gpus: Option<u64>,
+) -> Option<Resource<RESOURCES>>
+    ensures { result ≡ resource memory vcores gpus }
+{
+    match (memory, vcores, gpus) {
+        (Some(memory), Some(vcores), Some(gpus)) => Resource::new([memory, vcores, gpus]),
+        _ => None,
+    }
 }
