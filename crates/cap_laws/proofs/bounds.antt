@@ -5,6 +5,7 @@ pub mod Formed
 pub mod Growing
 pub mod PartBounds
 pub mod ReservedAfter
+pub mod Risen
 pub mod Reserving
 pub mod Sizes
 pub mod StepBounds

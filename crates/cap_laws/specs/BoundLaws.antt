@@ -8,7 +8,8 @@ use Rattle.cap_model.specs.Flat.{Flat, App, Container, with_app, opened_cluster,
 use Rattle.cap_base.specs.Paths.{is_under, is_child_of}
 use Rattle.cap_base.specs.Settings.{Settings, QueueRow}
 use Rattle.cap_vector.specs.Vector.{IsSum}
-use Rattle.cap_model.specs.Uses.{wanted, queue_use}
+use Rattle.cap_base.specs.Amounts.{fits}
+use Rattle.cap_model.specs.Uses.{wanted, queue_use, user_use}
 use Rattle.cap_base.specs.Listing.{IsListing}
 use Rattle.cap_model.specs.Asking.{after_ask}
 use Rattle.cap_model.specs.Ending.{after_ends}
@@ -17,6 +18,7 @@ use Rattle.cap_model.specs.Sight.{sight_of, still_wanted}
 use Rattle.cap_model.specs.declared.event.Event.{Event}
 use Rattle.cap_model.specs.Events.{Step, Run}
 use Rattle.cap_model.specs.Bounds.{AreApart, IsQueueBounded, IsNodeBounded, IsReservationBounded, IsSumOfChildren, IsWellFormed, IsBounded, IsWithinSizes}
+use Rattle.cap_model.specs.Risen.{in_queue, of_user, QuietRun, MeetsMaximum, MeetsUserLimit, LimitsAreMetOrNotRisen}
 
 -- an application in a queue with children, or under it, is in or under exactly one of them
 abbrev pub IsInOneChild : {K : ℕ} → Flat K → List ℕ → App → Type 0
@@ -53,11 +55,28 @@ refreshes (Event.Call by request reply) = is_refresh request
 refreshes (Event.Grant c) = false
 refreshes (Event.Reserve r) = false
 
--- where each queue is within its maximum and each user within the user limit, a step that is no Refresh keeps them so
+-- a maximum that is met, and a user limit that is, stays met at a step that is no Refresh
+abbrev pub LimitsStayMet : Type 0
+LimitsStayMet =
+    (K : ℕ) (old new : Flat K) (event : Event K) → IsWellFormed old → refreshes event ≡ false → Step old event new →
+    ((path : List ℕ) → MeetsMaximum path old → MeetsMaximum path new) × ((path user : List ℕ) → MeetsUserLimit path user old → MeetsUserLimit path user new)
+
+-- so where each queue is within its maximum and each user within the user limit, they are after such a step
 abbrev pub QueuesStayBounded : Type 0
 QueuesStayBounded =
-    (K : ℕ) (old new : Flat K) (event : Event K) → IsBounded old → All (IsQueueBounded old) old.settings.queues → refreshes event ≡ false → Step old event new →
+    (K : ℕ) (old new : Flat K) (event : Event K) → IsWellFormed old → All (IsQueueBounded old) old.settings.queues → refreshes event ≡ false → Step old event new →
     All (IsQueueBounded new) new.settings.queues
+
+-- a run without grants and reservations for a queue leaves its use where it was, or lower; and so of a user's
+abbrev pub QuietRunsRaiseNothing : Type 0
+QuietRunsRaiseNothing =
+    (K : ℕ) (events : List (Event K)) (old new : Flat K) → IsWellFormed old →
+    ((path : List ℕ) → QuietRun (in_queue path) old events new → fits (queue_use new path) (queue_use old path) ≡ true)
+    × ((path user : List ℕ) → QuietRun (of_user path user) old events new → fits (user_use new path user) (user_use old path user) ≡ true)
+
+-- in every state of a run from a well-formed cluster each limit is met, or what it bounds has not risen since it was; whatever a Refresh lowers
+abbrev pub LimitsOverRuns : Type 0
+LimitsOverRuns = (K : ℕ) (events : List (Event K)) (old new : Flat K) → IsWellFormed old → Run old events new → LimitsAreMetOrNotRisen old events new
 
 -- a step keeps what runs on each node within the node's total
 abbrev pub NodesStayBounded : Type 0

@@ -1,7 +1,7 @@
 //! Laws of the definitions in `specs/`, for callers to cite. The functions do nothing.
 ghost use Rattle.cap_laws.specs.EngineLaws.{RejectedExactly, NumbersStayDistinct, GrantedOnce, StepIsDetermined, RunLeadsToOneState, ContainersBalance, EndedOnce, LiveIsWhatWasNotEnded, OneOfEachRank, ChoiceIsComputed, ChoiceFromIsComputed, AppNumbersStayDistinct, ReasonsAreInOrder, PassedIsStep};
 ghost use Rattle.cap_laws.specs.NewsLaws.{GrantsAreToldInOrder, EndsAreToldInOrder, GrantsAreToldOverRuns, NewGrantsAreOfTheGranted, EndsAreToldOverRuns, NewEndsAreOfTheEnded};
-ghost use Rattle.cap_laws.specs.BoundLaws.{ParentUsesChildren, StepStaysWellFormed, QueuesStayBounded, NodesStayBounded, ReservationsStayApart, ReservationsStayBounded, TreesAddUp, StepStaysBounded, RunsStayBounded, OpenedIsBounded, OpenedMeetsLimits, WantedIsSeen, UsesAreSums, SizesStay, OpenedIsWithinSizes, NumbersAreNotUsedAgain, RunsStayWithinSizes, EndsStayBounded, AskStaysBounded, ReportStaysBounded};
+ghost use Rattle.cap_laws.specs.BoundLaws.{ParentUsesChildren, StepStaysWellFormed, QueuesStayBounded, LimitsStayMet, QuietRunsRaiseNothing, LimitsOverRuns, NodesStayBounded, ReservationsStayApart, ReservationsStayBounded, TreesAddUp, StepStaysBounded, RunsStayBounded, OpenedIsBounded, OpenedMeetsLimits, WantedIsSeen, UsesAreSums, SizesStay, OpenedIsWithinSizes, NumbersAreNotUsedAgain, RunsStayWithinSizes, EndsStayBounded, AskStaysBounded, ReportStaysBounded};
 
 /// A proposal has no reason to be rejected exactly where it is admissible, and of several the one of the smallest number.
 pub fn reason_says_why()
@@ -71,9 +71,18 @@ pub fn steps_keep_clusters_well_formed()
     ensures { StepStaysWellFormed }
 {}
 
-/// A step that is no Refresh keeps queues within their maxima and users within the user limit, where all of them are.
+/// A step that is no Refresh keeps a queue within its maximum, and a user within the user limit.
 pub fn steps_keep_queues_within_limits()
-    ensures { QueuesStayBounded }
+    ensures limits { LimitsStayMet }
+    ensures queues { QueuesStayBounded }
+{}
+
+/// In every state of a run each queue's use is within its maximum, or not risen since the lowering that put it over, and of
+/// users the same of the user limit: no grant and no reservation for it has come since a state in which the limit was met, or
+/// since the opening. A run without them leaves the use where it was, or lower.
+pub fn limits_are_met_or_not_risen()
+    ensures runs { LimitsOverRuns }
+    ensures quiet { QuietRunsRaiseNothing }
 {}
 
 /// A step keeps what runs on a node within the node's total.

@@ -1,17 +1,15 @@
 -- A call keeps the bounds: it only takes away.
 use Rattle.std.proofs.Common.{◌≡◌, ℕ, ◌≤◌, Bool, true, false, List, [], ◌∷◌, refl, sym, ◌∙◌, ap, subst, inl, inr, arith}
-use Rattle.std.specs.Prelude.{Option, Some, None, ◌&&◌, ◌==◌, filter, map, bytes_eq, if◌then◌else◌}
+use Rattle.std.specs.Prelude.{◌==◌, filter, map, if◌then◌else◌}
 use Rattle.std.specs.List.{All, list_any, sum_by}
 use Rattle.std.proofs.lemmas.Bool.{cases_lt, or_from}
 use Rattle.std.proofs.lemmas.Bool.Decides.{nat_tests}
 use Rattle.cap_vector.specs.Vector.{amount}
-use Rattle.cap_base.specs.Settings.{QueueRow}
-use Rattle.cap_base.specs.Amounts.{fits, times}
+use Rattle.cap_base.specs.Amounts.{fits}
 use Rattle.cap_model.specs.Flat.{Flat, App, ClusterNode, Container, Reservation, app_at, node_at}
-use Rattle.cap_base.specs.Paths.{is_under}
-use Rattle.cap_model.specs.Uses.{use_of, queue_use, node_held}
+use Rattle.cap_model.specs.Uses.{use_of, node_held}
 use Rattle.cap_base.specs.Members.{IsRising}
-use Rattle.cap_model.specs.Bounds.{FitsMaximum, AreApart, IsNodeBounded, IsQueueBounded}
+use Rattle.cap_model.specs.Bounds.{AreApart, IsNodeBounded}
 use Rattle.cap_base.proofs.lists.Members.{IsIn, each_of, of_each}
 use Rattle.cap_base.proofs.lists.Tests.{or_left, or_right, not_none, some_kept}
 use Rattle.cap_laws.proofs.lists.Parts.{IsPart, part_filter, part_sum}
@@ -66,19 +64,6 @@ module _ {K : ℕ} (old new : Flat K) (less : IsLessened old new) (h : HasPlaces
           sum_by_agree (λ (r : Reservation). counted new test k r.app r.resource) (λ r. counted old test k r.app r.resource) new.nodes.reserved (λ r m. same r.app r.node r.resource (inr (r, m, refl, refl))) in
           let c = part_sum (λ (r : Reservation). counted old test k r.app r.resource) old.nodes.reserved new.nodes.reserved less.reserved in
           omega (arith, a, c)
-
-  pub still_fits : (test : List ℕ → List ℕ → Bool) (most : List ℕ) → fits (use_of old (λ a. test a.leaf a.user)) most ≡ true → fits (use_of new (λ a. test a.leaf a.user)) most ≡ true
-  still_fits test most g = amounts_fit _ most (λ k. let a = use_falls test k in let b = fits_amounts (use_of old (λ a. test a.leaf a.user)) most g k in omega (arith, a, b))
-
-  still_in_maximum : (path : List ℕ) (most : Option (List ℕ)) → FitsMaximum (queue_use old path) most → FitsMaximum (queue_use new path) most
-  still_in_maximum path None g = g
-  still_in_maximum path (Some m) g = still_fits (λ leaf user. is_under path leaf) m g
-
-  pub queue_stays : (q : QueueRow) → IsQueueBounded old q → IsQueueBounded new q
-  queue_stays q b = record {
-    maximum = still_in_maximum q.path q.maximum b.maximum;
-    users = λ user. still_fits (λ leaf u. bytes_eq q.path leaf && bytes_eq user u) (times q.factor q.guaranteed) (b.users user);
-  }
 
   -- what a node holds only falls, and on a new node nothing runs
   held_falls : (n k : ℕ) → amount (node_held new n) k ≤ amount (node_held old n) k

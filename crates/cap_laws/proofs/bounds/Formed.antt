@@ -65,11 +65,13 @@ some_mapped : {A B : Type 0} (f : A → B) (o : Option A) → IsSome o → IsSom
 some_mapped f None h = absurd (cc h)
 some_mapped f (Some x) h = refl
 
+-- a queue that keeps its path is found as before
+pub find_kept : (f : QueueRow → QueueRow) → ((q : QueueRow) → (f q).path ≡ q.path) → (path : List ℕ) (qs : List QueueRow) →
+    find (λ r. bytes_eq r.path path) (map f qs) ≡ option_map f (find (λ r. bytes_eq r.path path) qs)
+find_kept f e path qs = find_mapped_at f (λ (r : QueueRow). bytes_eq r.path path) qs ∙ (λ i. option_map f (find (λ r. bytes_eq (e r i) path) qs))
+
 found_kept : (f : QueueRow → QueueRow) → ((q : QueueRow) → (f q).path ≡ q.path) → (path : List ℕ) (qs : List QueueRow) → IsSome (find (λ r. bytes_eq r.path path) qs) → IsSome (find (λ r. bytes_eq r.path path) (map f qs))
-found_kept f e path qs h =
-    let same : find (λ (r : QueueRow). bytes_eq r.path path) (map f qs) ≡ option_map f (find (λ r. bytes_eq r.path path) qs) =
-    find_mapped_at f (λ (r : QueueRow). bytes_eq r.path path) qs ∙ (λ i. option_map f (find (λ r. bytes_eq (e r i) path) qs)) in
-    subst (λ o. IsSome o) (sym same) (some_mapped f (find (λ r. bytes_eq r.path path) qs) h)
+found_kept f e path qs h = subst (λ o. IsSome o) (sym (find_kept f e path qs)) (some_mapped f (find (λ r. bytes_eq r.path path) qs) h)
 
 abbrev HasAbove : List QueueRow → QueueRow → Type 0
 HasAbove queues q = (front rest : List ℕ) → q.path ≡ front ++ 46 ∷ rest → IsSome (find (λ r. bytes_eq r.path front) queues)
@@ -99,7 +101,7 @@ module _ {K : ℕ} where
   paths_of : (old new : Flat K) → HasSameQueues old new → HasSamePaths old new
   paths_of old new s = record { change = s.change; path = s.keeps.path; queues = s.queues }
 
-  same_queues : (old new : Flat K) → new.settings ≡ old.settings → HasSameQueues old new
+  pub same_queues : (old new : Flat K) → new.settings ≡ old.settings → HasSameQueues old new
   same_queues old new e = record {
     change = λ q. q;
     keeps = record { path = λ q. refl; guaranteed = λ q. refl; maximum = λ q. refl; factor = λ q. refl };

@@ -1,6 +1,6 @@
--- An admissible grant or reservation keeps queues, users and nodes within their bounds.
+-- An admissible grant or reservation leaves the queues and the user that it counts for within their limits, and nodes within their totals.
 use Rattle.std.proofs.Common.{◌≡◌, ℕ, ◌+◌, ◌≤◌, ◌<◌, Bool, true, false, List, [], ◌∷◌, ◌++◌, refl, sym, ◌∙◌, ap, subst, inl, inr, arith}
-use Rattle.std.specs.Prelude.{◌⊎◌, Option, Some, None, is_some, is_none, not, ◌&&◌, ◌||◌, ◌==◌, filter, map, option_map, unwrap_or, bytes_eq, if◌then◌else◌}
+use Rattle.std.specs.Prelude.{◌⊎◌, Option, Some, None, is_some, is_none, not, ◌||◌, ◌==◌, filter, map, option_map, unwrap_or, bytes_eq, if◌then◌else◌}
 use Rattle.std.specs.List.{All, sum_by}
 use Rattle.std.proofs.lemmas.Bool.{cases_lt, and_parts, cases_Bool}
 use Rattle.std.proofs.lemmas.Bool.Decides.{nat_tests}
@@ -14,13 +14,13 @@ use Rattle.cap_base.specs.Cascade.{holds_of}
 use Rattle.cap_base.specs.Amounts.{fits, times}
 use Rattle.cap_model.specs.Asks.{same_key}
 use Rattle.cap_model.specs.Flat.{Flat, ClusterNode, Container, Reservation, app_at, node_at}
-use Rattle.cap_base.specs.Paths.{is_under}
 use Rattle.cap_model.specs.Uses.{use_of, queue_use, user_use, node_held, node_free}
 use Rattle.cap_model.specs.Sight.{sight_of, node_sight, queue_sight, seen_node, seen_queue, QueueSight, NodeSight}
 use Rattle.cap_model.specs.Admission.{NodeProposal, IsWithinLimits, leaf_path, user_name, room_replaced, use_after, fits_free}
 use Rattle.cap_model.specs.Events.{grant_proposal, reserve_proposal, after_grant, after_reserve}
 use Rattle.cap_base.specs.Members.{IsRising}
-use Rattle.cap_model.specs.Bounds.{FitsMaximum, IsNodeBounded, IsQueueBounded, IsWellFormed}
+use Rattle.cap_model.specs.Bounds.{FitsMaximum, IsNodeBounded, IsWellFormed}
+use Rattle.cap_model.specs.Risen.{in_queue, of_user}
 use Rattle.cap_base.proofs.lists.Members.{IsIn, in_filter, each_of, of_each}
 use Rattle.cap_base.proofs.lists.Sums.{sum_by_agree}
 use Rattle.cap_model.proofs.lists.Numbered.{found_by_number}
@@ -43,22 +43,20 @@ module _ {K : ℕ} (old new : Flat K) (p : NodeProposal) where
       (test : List ℕ → List ℕ → Bool) (k : ℕ) → k < K →
       amount (use_of new (λ a. test a.leaf a.user)) k + counted old test k p.app (room_replaced (sight_of old) p) ≤ amount (use_of old (λ a. test a.leaf a.user)) k + counted old test k p.app p.resource
 
+  -- where the application does not count, the use does not grow
+  pub not_grown : IsGrown → (test : List ℕ → List ℕ → Bool) → counts test (app_at old p.app) ≡ false → (k : ℕ) → amount (use_of new (λ a. test a.leaf a.user)) k ≤ amount (use_of old (λ a. test a.leaf a.user)) k
+  not_grown grown test e k =
+      elim (cases_lt k K) [
+        | inl b ↦
+            let nothing : counted old test k p.app p.resource ≡ 0 = ap (λ b. if b then amount p.resource k else 0) e in
+            let g = grown test k b in
+            omega (arith, nothing, g)
+        | inr past ↦ omega (arith, use_past new test k past)
+      ]
+
   module _ (grown : IsGrown) (formed : IsWellFormed old) (within : IsWithinLimits (sight_of old) p) where
     seen : IsSeen old p.app
     seen = seen_is old formed.apps p.app within.registered
-
-    -- where the application does not count, the use does not grow
-    outside : (test : List ℕ → List ℕ → Bool) (most : List ℕ) → counts test (app_at old p.app) ≡ false → fits (use_of old (λ a. test a.leaf a.user)) most ≡ true → fits (use_of new (λ a. test a.leaf a.user)) most ≡ true
-    outside test most e h =
-        amounts_fit (use_of new (λ a. test a.leaf a.user)) most
-        (λ k. elim (cases_lt k K) [
-          | inl b ↦
-              let nothing : counted old test k p.app p.resource ≡ 0 = ap (λ b. if b then amount p.resource k else 0) e in
-              let g = grown test k b in
-              let f = fits_amounts (use_of old (λ a. test a.leaf a.user)) most h k in
-              omega (arith, nothing, g, f)
-          | inr past ↦ omega (arith, use_past new test k past)
-        ])
 
     -- where it counts, the use is at most the one that was tested
     inside : (test : List ℕ → List ℕ → Bool) (most : List ℕ) → counts test (app_at old p.app) ≡ true → fits (use_after (sight_of old) p (use_of old (λ a. test a.leaf a.user))) most ≡ true →
@@ -90,34 +88,24 @@ module _ {K : ℕ} (old new : Flat K) (p : NodeProposal) where
     user_is = ap (λ o. unwrap_or (option_map (λ (a : Rattle.cap_model.specs.Sight.AppSight). a.user) o) []) seen.seen
 
     module _ (q : QueueRow) (m : IsIn q old.settings.queues) where
-      in_maximum : (o : Option (List ℕ)) → FitsMaximum (queue_use old q.path) o → (is_under q.path seen.app.leaf ≡ true → is_none o || holds_of (fits (use_after (sight_of old) p (queue_use old q.path))) o ≡ true) →
-          FitsMaximum (queue_use new q.path) o
-      in_maximum None b t = tt
-      in_maximum (Some most) b t =
-          elim (cases_Bool (is_under q.path seen.app.leaf)) [
-            | inl u ↦ inside (λ leaf user. is_under q.path leaf) most (counts_is (λ leaf user. is_under q.path leaf) ∙ u) (t u)
-            | inr u ↦ outside (λ leaf user. is_under q.path leaf) most (counts_is (λ leaf user. is_under q.path leaf) ∙ u) b
-          ]
+      -- where the application is in the queue or under it, the queue is within its maximum
+      pub maximum_met : counts (in_queue q.path) (app_at old p.app) ≡ true → FitsMaximum (queue_use new q.path) q.maximum
+      maximum_met e = by q.maximum (maximum_stays old p seen.app leaf_is within.maxima q m (sym (counts_is (in_queue q.path)) ∙ e))
+        where
+          by : (o : Option (List ℕ)) → is_none o || holds_of (fits (use_after (sight_of old) p (queue_use old q.path))) o ≡ true → FitsMaximum (queue_use new q.path) o
+          by None t = tt
+          by (Some most) t = inside (in_queue q.path) most e t
 
-      -- the test of the user limit, at this queue and the application's user
-      limit_holds : (user : List ℕ) → bytes_eq q.path seen.app.leaf && bytes_eq user seen.app.user ≡ true → fits (use_after (sight_of old) p (user_use old q.path user)) (times q.factor q.guaranteed) ≡ true
-      limit_holds user h =
-          let both = and_parts (bytes_eq q.path seen.app.leaf) (bytes_eq user seen.app.user) h in
+      -- where it is the user's, and in the leaf queue, the user is within the user limit
+      pub limit_met : (user : List ℕ) → counts (of_user q.path user) (app_at old p.app) ≡ true → fits (user_use new q.path user) (times q.factor q.guaranteed) ≡ true
+      limit_met user e =
+          let both = and_parts (bytes_eq q.path seen.app.leaf) (bytes_eq user seen.app.user) (sym (counts_is (of_user q.path user)) ∙ e) in
           let leaf : leaf_path (sight_of old) p ≡ q.path = leaf_is ∙ sym ((bytes_eq-Decides q.path seen.app.leaf).0 (both.0)) in
           let name : user_name (sight_of old) p ≡ user = user_is ∙ sym ((bytes_eq-Decides user seen.app.user).0 (both.1)) in
           let found : seen_queue (sight_of old) (leaf_path (sight_of old) p) ≡ Some (queue_sight old q) = ap (seen_queue (sight_of old)) leaf ∙ leaf_seen old q formed.tree.distinct m in
-          sym (λ i. holds_of (λ (x : QueueSight). fits (use_after (sight_of old) p (x.used_by (name i))) (times x.row.factor x.row.guaranteed)) (found i)) ∙ within.user
-
-      pub queue_grows : IsQueueBounded old q → IsQueueBounded new q
-      queue_grows b = record {
-        maximum = in_maximum q.maximum b.maximum (maximum_stays old p seen.app leaf_is within.maxima q m);
-        users = λ user.
-            let test : List ℕ → List ℕ → Bool = λ leaf u. bytes_eq q.path leaf && bytes_eq user u in
-            elim (cases_Bool (test seen.app.leaf seen.app.user)) [
-              | inl u ↦ inside test (times q.factor q.guaranteed) (counts_is test ∙ u) (limit_holds user u)
-              | inr u ↦ outside test (times q.factor q.guaranteed) (counts_is test ∙ u) (b.users user)
-            ];
-      }
+          let tested : fits (use_after (sight_of old) p (user_use old q.path user)) (times q.factor q.guaranteed) ≡ true =
+          sym (λ i. holds_of (λ (x : QueueSight). fits (use_after (sight_of old) p (x.used_by (name i))) (times x.row.factor x.row.guaranteed)) (found i)) ∙ within.user in
+          inside (of_user q.path user) (times q.factor q.guaranteed) e tested
 
 module _ {K : ℕ} (old : Flat K) where
   counted_nothing : (test : List ℕ → List ℕ → Bool) (k app : ℕ) → counted old test k app [] ≡ 0

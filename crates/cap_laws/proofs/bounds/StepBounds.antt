@@ -2,13 +2,10 @@
 use Rattle.std.proofs.Common.{◌≡◌, ℕ, Bool, true, false, List, [], ◌∷◌, refl, sym, ◌∙◌, ap, subst, inr}
 use Rattle.std.specs.Prelude.{Option, Some, None, cond, not, ◌==◌, ◌-◌, length, filter, find, map, option_map, if◌then◌else◌}
 use Rattle.std.specs.List.{All}
-use Rattle.cap_base.specs.Settings.{QueueRow}
-use Rattle.cap_base.specs.Amounts.{fits, times}
 use Rattle.cap_model.specs.Asks.{Ask}
 use Rattle.cap_model.specs.declared.news.Cause.{Cause}
 use Rattle.cap_model.specs.declared.request.Request.{Request}
 use Rattle.cap_model.specs.Flat.{Flat, App, Reservation, app_at, containers_on}
-use Rattle.cap_model.specs.Uses.{queue_use, user_use}
 use Rattle.cap_model.specs.Asking.{after_asks}
 use Rattle.cap_model.specs.Ending.{with_ends}
 use Rattle.cap_model.specs.Submit.{new_app}
@@ -16,19 +13,19 @@ use Rattle.cap_model.specs.Allocate.{after_processed_allocate, after_telling, af
 use Rattle.cap_model.specs.Heartbeat.{after_processed_heartbeat, is_repeated_heartbeat, ended_by}
 use Rattle.cap_model.specs.Replies.{granted_cluster}
 use Rattle.cap_model.specs.declared.event.Event.{Event}
-use Rattle.cap_model.specs.Events.{Step, after_grant, after_reserve, grant_proposal, reserve_proposal}
-use Rattle.cap_model.specs.Bounds.{FitsMaximum, AreApart, IsQueueBounded, IsNodeBounded, IsReservationBounded, IsBounded, AreThere}
-use Rattle.cap_laws.specs.BoundLaws.{is_refresh, refreshes, QueuesStayBounded, NodesStayBounded, ReservationsStayApart, ReservationsStayBounded}
-use Rattle.cap_base.proofs.lists.Members.{IsIn, each_of, of_each, of_map}
+use Rattle.cap_model.specs.Events.{Step}
+use Rattle.cap_model.specs.Bounds.{AreApart, IsNodeBounded, IsReservationBounded, IsBounded, AreThere}
+use Rattle.cap_laws.specs.BoundLaws.{NodesStayBounded, ReservationsStayApart, ReservationsStayBounded}
+use Rattle.cap_base.proofs.lists.Members.{IsIn, each_of, of_each}
 use Rattle.cap_laws.proofs.lists.Parts.{part_itself, part_filter}
 use Rattle.cap_model.proofs.lists.Numbered.{find_changed, find_others, find_with_more}
 use Rattle.cap_laws.proofs.calls.Lessening.{HasPlaces, IsSite, IsLessened, lessened, gone_app}
-use Rattle.cap_laws.proofs.bounds.CallBounds.{queue_stays, nodes_stay, apart_part}
+use Rattle.cap_laws.proofs.bounds.CallBounds.{nodes_stay, apart_part}
 use Rattle.cap_laws.proofs.choice.Proposers.{seen_is}
-use Rattle.cap_laws.proofs.bounds.Growing.{queue_grows, grant_grows, reserve_grows, nodes_grow}
+use Rattle.cap_laws.proofs.bounds.Growing.{nodes_grow}
 use Rattle.cap_laws.proofs.bounds.Reserving.{asking, AreBounded, carried, asks_keep}
 use Rattle.cap_laws.proofs.bounds.ReservedAfter.{reserve_keeps, grant_keeps, reserve_apart}
-use Rattle.cap_laws.proofs.bounds.Formed.{HasSameQueues, call_queues, places_of, after_call}
+use Rattle.cap_laws.proofs.bounds.Formed.{places_of, after_call}
 
 asking_kept : (f : App → App) → ((a : App) → (f a).asks ≡ a.asks) → (o : Option App) → asking (option_map f o) ≡ asking o
 asking_kept f e None = refl
@@ -53,25 +50,6 @@ asking_one m f number asks n xs =
 
 module _ {K : ℕ} where
   -- calls
-
-  moved_queue : (old new : Flat K) (s : HasSameQueues old new) (x : QueueRow) → IsQueueBounded new x → IsQueueBounded new (s.change x)
-  moved_queue old new s x b = record {
-    maximum = subst (λ o. FitsMaximum (queue_use new (s.change x).path) o) (sym (s.keeps.maximum x)) (subst (λ p. FitsMaximum (queue_use new p) x.maximum) (sym (s.keeps.path x)) b.maximum);
-    users = λ user.
-        subst (λ p. fits (user_use new p user) (times (s.change x).factor (s.change x).guaranteed) ≡ true) (sym (s.keeps.path x))
-        (subst (λ n. fits (user_use new x.path user) (times n (s.change x).guaranteed) ≡ true) (sym (s.keeps.factor x))
-        (subst (λ g. fits (user_use new x.path user) (times x.factor g) ≡ true) (sym (s.keeps.guaranteed x)) (b.users user)));
-  }
-
-  call_bounds_queues : (old : Flat K) → IsBounded old → All (IsQueueBounded old) old.settings.queues → (request : Request K) → is_refresh request ≡ false → All (IsQueueBounded (granted_cluster old request)) (granted_cluster old request).settings.queues
-  call_bounds_queues old b within request e =
-      let new = granted_cluster old request in
-      let h = places_of old b.formed in
-      let s = call_queues old request e in
-      of_each (IsQueueBounded new) new.settings.queues
-      (λ q m.
-      let w = of_map s.change old.settings.queues q (subst (λ qs. IsIn q qs) s.queues m) in
-      subst (IsQueueBounded new) (w.2) (moved_queue old new s (w.0) (queue_stays old new (lessened old h request) h (w.0) (each_of (IsQueueBounded old) old.settings.queues within (w.0) (w.1)))))
 
   pub each_bounded : (old : Flat K) → IsBounded old → AreBounded old
   each_bounded old b = each_of (IsReservationBounded old) old.nodes.reserved b.reservations
@@ -116,18 +94,6 @@ module _ {K : ℕ} where
 
   -- steps
 
-  step_bounds_queues : (old new : Flat K) (event : Event K) → IsBounded old → All (IsQueueBounded old) old.settings.queues → refreshes event ≡ false → Step old event new → All (IsQueueBounded new) new.settings.queues
-  step_bounds_queues old new (Event.Call by request reply) b within e s =
-      after_call (λ c. All (IsQueueBounded c) c.settings.queues) old within request (λ h. call_bounds_queues old b within request e) new reply s
-  step_bounds_queues old new (Event.Grant c) b within e (admissible, number, after) =
-      subst (λ x. All (IsQueueBounded x) x.settings.queues) (sym after)
-      (of_each (IsQueueBounded (after_grant old c)) old.settings.queues
-      (λ q m. queue_grows old (after_grant old c) (grant_proposal c) (grant_grows old c) b.formed (admissible.0) q m (each_of (IsQueueBounded old) old.settings.queues within q m)))
-  step_bounds_queues old new (Event.Reserve r) b within e (admissible, after) =
-      subst (λ x. All (IsQueueBounded x) x.settings.queues) (sym after)
-      (of_each (IsQueueBounded (after_reserve old r)) old.settings.queues
-      (λ q m. queue_grows old (after_reserve old r) (reserve_proposal r) (reserve_grows old r) b.formed (admissible.0) q m (each_of (IsQueueBounded old) old.settings.queues within q m)))
-
   pub step_bounds_nodes : (old new : Flat K) (event : Event K) → IsBounded old → Step old event new → All (IsNodeBounded new) new.nodes.present
   step_bounds_nodes old new (Event.Call by request reply) b s =
       let h = places_of old b.formed in
@@ -158,9 +124,6 @@ module _ {K : ℕ} where
           subst AreBounded (sym after) (grant_keeps old b.apart placed (each_bounded old b) c (seen_is old b.formed.apps c.app (admissible.0).registered) (admissible.1.1))
       by (Event.Reserve r) (admissible, after) =
           subst AreBounded (sym after) (reserve_keeps old b.apart placed (each_bounded old b) r (seen_is old b.formed.apps r.app (admissible.0).registered) (admissible.1.0) (admissible.1.3))
-
-pub queues_stay_bounded : QueuesStayBounded
-queues_stay_bounded K old new event b within e s = step_bounds_queues old new event b within e s
 
 pub nodes_stay_bounded : NodesStayBounded
 nodes_stay_bounded K old new event b s = step_bounds_nodes old new event b s

@@ -18,7 +18,7 @@ use Rattle.cap_model.proofs.lists.Numbered.{found_by_number}
 use Rattle.cap_base.proofs.lists.Filters.{find_mapped_at}
 
 -- a queue of a list without repeated paths is found by its path
-found_by_path : (qs : List QueueRow) (q : QueueRow) → HasDistinctPaths qs → IsIn q qs → find (λ r. bytes_eq r.path q.path) qs ≡ Some q
+pub found_by_path : (qs : List QueueRow) (q : QueueRow) → HasDistinctPaths qs → IsIn q qs → find (λ r. bytes_eq r.path q.path) qs ≡ Some q
 found_by_path [] q d m = absurd m
 found_by_path (r ∷ qs) q d (inl e) =
     let same : bytes_eq r.path q.path ≡ true = (bytes_eq-Decides r.path q.path).1 (ap (λ (x : QueueRow). x.path) e) in
