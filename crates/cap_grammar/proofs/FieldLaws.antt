@@ -1,13 +1,14 @@
 -- A field that is read is the field that was written, and what was written is read again.
-use Rattle.std.proofs.Common.{◌≡◌, ℕ, zero, suc, ◌+◌, ◌^◌, ◌<◌, ◌≤◌, Bool, true, false, cond, List, [], ◌∷◌, ◌++◌, length, get_or, take, drop, Option, Some, None, refl, sym, ap, subst, ◌∙◌, append_assoc, arith, inl, inr, ◌⊎◌}
+use Rattle.std.proofs.Common.{◌≡◌, ℕ, zero, suc, ◌+◌, ◌-◌, ◌^◌, ◌<◌, ◌≤◌, Bool, true, false, cond, List, [], ◌∷◌, ◌++◌, length, get_or, take, drop, Option, Some, None, refl, sym, ap, subst, ◌∙◌, append_assoc, arith, inl, inr, ◌⊎◌}
 use Rattle.std.specs.Prelude.{◌==◌, nat_lt, nat_le}
 use Rattle.std.specs.List.{flat_map, AllByRecursion}
 use Rattle.std.specs.Int.{Width, w16, w32, w64, byte_len, from_be_bytes, to_be_bytes}
 use Rattle.std.proofs.lemmas.Bool.{cases_lt, eqb-true, ltb-false, le-ltb}
 use Rattle.std.proofs.lemmas.Bool.Decides.{nat_tests}
-use Rattle.std.proofs.lemmas.List.{take_at, drop_at, take-append-drop, length-append, length-take, get_or-drop, get_or-take, get_or_past, append-nil, nil_from_length}
+use Rattle.std.proofs.lemmas.List.{take_at, drop_at, take-append-drop, length-append, length-replicate, length-take, get_or-drop, get_or-take, get_or_past, append-nil, nil_from_length}
 use Rattle.std.proofs.lemmas.Nat.{be_bytes_2, be_bytes_4, be_bytes_8, from_be_bytes-to_be_bytes_2, from_be_bytes-to_be_bytes_4, from_be_bytes-to_be_bytes_8}
-use Rattle.cap_vector.specs.Vector.{IsVector}
+use Rattle.cap_vector.specs.Vector.{IsVector, zeros}
+use Rattle.cap_grammar.specs.Shown.{shown_amounts, IsShownVector}
 use Rattle.cap_grammar.specs.Spelling.{text, resource, flag, list_bytes, FitsListed}
 use Rattle.cap_grammar.specs.Fields.{◌>>=◌, number_at, byte_at, flag_of_byte, flag_at, text_at, amount_at, amounts_at, pair_at, passing_at, times_at, all_at, counted_at}
 
@@ -233,50 +234,59 @@ is_u64 = is_number w64 (2 ^ 64) wide64
 
 -- ---- lists
 
+-- two types of values, each made of the other within its bounds
+pub record AreMade {A B : Type 0} (f : A → B) (g : B → A) (F : A → Type 0) (G : B → Type 0) : Type 0 where
+  pub back : (x : A) → F x → g (f x) ≡ x
+  pub forth : (y : B) → G y → f (g y) ≡ y
+  pub to : (x : A) → F x → G (f x)
+  pub from : (y : B) → G y → F (g y)
+
 -- a field whose value is made of another's
-pub is_made : {A B : Type 0} (f : A → B) (g : B → A) (field : List ℕ → Option (A × List ℕ)) (s : A → List ℕ) (F : A → Type 0) → ((x : A) → g (f x) ≡ x) → ((y : B) → f (g y) ≡ y) → IsField field s F →
-    IsField (λ bytes. field bytes >>= λ x. Some (f x.0, x.1)) (λ y. s (g y)) (λ y. F (g y))
-is_made {A} {B} f g field s F back forth is = record {
+pub is_made : {A B : Type 0} (f : A → B) (g : B → A) (field : List ℕ → Option (A × List ℕ)) (s : A → List ℕ) (F : A → Type 0) (G : B → Type 0) → AreMade f g F G → IsField field s F →
+    IsField (λ bytes. field bytes >>= λ x. Some (f x.0, x.1)) (λ y. s (g y)) G
+is_made {A} {B} f g field s F G made_of is = record {
   takes = λ bytes y rest fits e.
       let a = bind_some (field bytes) (λ x. Some (f x.0, x.1)) (y, rest) e in
       let t = is.takes bytes a.0.0 a.0.1 fits a.1 in
       let made : B × List ℕ = (f a.0.0, a.0.1) in
       let same : made ≡ (y, rest) = cc (a.2) in
-      subst (λ (p : B × List ℕ). Takes bytes (s (g p.0)) p.1 × F (g p.0)) same (rw (back a.0.0) t);
-  again = λ y rest fits. ap (λ (o : Option (A × List ℕ)). o >>= λ x. Some (f x.0, x.1)) (is.again (g y) rest fits) ∙ ap (λ (z : B). Some (z, rest)) (forth y);
+      let spelled : Takes bytes (s (g (f a.0.0))) a.0.1 = rw (made_of.back a.0.0 t.1) t.0 in
+      subst (λ (p : B × List ℕ). Takes bytes (s (g p.0)) p.1 × G p.0) same (spelled, made_of.to a.0.0 t.1);
+  again = λ y rest fits. ap (λ (o : Option (A × List ℕ)). o >>= λ x. Some (f x.0, x.1)) (is.again (g y) rest (made_of.from y fits)) ∙ ap (λ (z : B). Some (z, rest)) (made_of.forth y fits);
 }
 
 pub is_u16 : IsField (number_at w16) (to_be_bytes w16) (λ n. n < 2 ^ 16)
 is_u16 = is_number w16 (2 ^ 16) wide16
 
-counted_takes : {A : Type 0} (most : ℕ) (field : List ℕ → Option (A × List ℕ)) (s : A → List ℕ) (F : A → Type 0) → IsField field s F → (bytes : List ℕ) (xs : List A) (rest : List ℕ) → AreBytes bytes →
-    counted_at most field bytes ≡ Some (xs, rest) → Takes bytes (list_bytes s xs) rest × FitsListed most F xs
+counted_takes : {A : Type 0} (w : Width) (limit : ℕ) (wide : IsWide w limit) (most : ℕ) (field : List ℕ → Option (A × List ℕ)) (s : A → List ℕ) (F : A → Type 0) → IsField field s F → (bytes : List ℕ) (xs : List A) (rest : List ℕ) → AreBytes bytes →
+    counted_at w most field bytes ≡ Some (xs, rest) → Takes bytes (list_bytes w s xs) rest × FitsListed most F xs
 unfolding counted_at list_bytes
-counted_takes {A} most field s F is bytes xs rest fits e =
-    let count = is_passing (λ n. nat_le n most) (number_at w16) (to_be_bytes w16) (λ n. n < 2 ^ 16) is_u16 in
-    let a = bind_some (passing_at (λ n. nat_le n most) (number_at w16) bytes) (λ n. times_at n.0 field n.1) (xs, rest) e in
+counted_takes {A} w limit wide most field s F is bytes xs rest fits e =
+    let count = is_passing (λ n. nat_le n most) (number_at w) (to_be_bytes w) (λ n. n < limit) (is_number w limit wide) in
+    let a = bind_some (passing_at (λ n. nat_le n most) (number_at w) bytes) (λ n. times_at n.0 field n.1) (xs, rest) e in
     let first = count.takes bytes a.0.0 a.0.1 fits a.1 in
     let more = (is_times a.0.0 field s F is).takes a.0.1 xs rest first.0.rest_fits a.2 in
     let len : a.0.0 ≡ length xs = sym more.1.0 in
     let small : nat_le a.0.0 most ≡ true = first.1.1 in (
-      subst (λ n. Takes bytes (to_be_bytes w16 n ++ flat_map s xs) rest) len (Takes-then bytes (to_be_bytes w16 a.0.0) a.0.1 (flat_map s xs) rest first.0 more.0),
+      subst (λ n. Takes bytes (to_be_bytes w n ++ flat_map s xs) rest) len (Takes-then bytes (to_be_bytes w a.0.0) a.0.1 (flat_map s xs) rest first.0 more.0),
       record { few = grind (arith, nat_tests, small, len); each = more.1.1 },
     )
 
-counted_again : {A : Type 0} (most : ℕ) (small : most < 2 ^ 16) (field : List ℕ → Option (A × List ℕ)) (s : A → List ℕ) (F : A → Type 0) → IsField field s F → (xs : List A) (rest : List ℕ) → FitsListed most F xs →
-    counted_at most field (list_bytes s xs ++ rest) ≡ Some (xs, rest)
+counted_again : {A : Type 0} (w : Width) (limit : ℕ) (wide : IsWide w limit) (most : ℕ) (small : most < limit) (field : List ℕ → Option (A × List ℕ)) (s : A → List ℕ) (F : A → Type 0) → IsField field s F → (xs : List A) (rest : List ℕ) → FitsListed most F xs →
+    counted_at w most field (list_bytes w s xs ++ rest) ≡ Some (xs, rest)
 unfolding counted_at list_bytes
-counted_again {A} most small field s F is xs rest fits =
-    let count = is_passing (λ n. nat_le n most) (number_at w16) (to_be_bytes w16) (λ n. n < 2 ^ 16) is_u16 in
+counted_again {A} w limit wide most small field s F is xs rest fits =
+    let count = is_passing (λ n. nat_le n most) (number_at w) (to_be_bytes w) (λ n. n < limit) (is_number w limit wide) in
     let few : length xs ≤ most = fits.few in
     let passes : nat_le (length xs) most ≡ true = grind (arith, nat_tests, few) in
-    ap (λ (bs : List ℕ). passing_at (λ n. nat_le n most) (number_at w16) bs >>= λ n. times_at n.0 field n.1) (append_assoc (to_be_bytes w16 (length xs)) (flat_map s xs) rest)
+    ap (λ (bs : List ℕ). passing_at (λ n. nat_le n most) (number_at w) bs >>= λ n. times_at n.0 field n.1) (append_assoc (to_be_bytes w (length xs)) (flat_map s xs) rest)
     ∙ ap (λ (o : Option (ℕ × List ℕ)). o >>= λ n. times_at n.0 field n.1) (count.again (length xs) (flat_map s xs ++ rest) (omega (arith, few, small), passes))
     ∙ (is_times (length xs) field s F is).again xs rest (refl, fits.each)
 
 -- a list with its length before it
-pub is_counted : {A : Type 0} (most : ℕ) → most < 2 ^ 16 → (field : List ℕ → Option (A × List ℕ)) (s : A → List ℕ) (F : A → Type 0) → IsField field s F → IsField (counted_at most field) (list_bytes s) (FitsListed most F)
-is_counted most small field s F is = record { takes = counted_takes most field s F is; again = counted_again most small field s F is }
+pub is_counted : {A : Type 0} (w : Width) (limit : ℕ) → IsWide w limit → (most : ℕ) → most < limit → (field : List ℕ → Option (A × List ℕ)) (s : A → List ℕ) (F : A → Type 0) → IsField field s F →
+    IsField (counted_at w most field) (list_bytes w s) (FitsListed most F)
+is_counted w limit wide most small field s F is = record { takes = counted_takes w limit wide most field s F is; again = counted_again w limit wide most small field s F is }
 
 -- ---- texts
 
@@ -314,19 +324,56 @@ is_amount : (bound : ℕ) → IsField (amount_at bound) (to_be_bytes w64) (FitsA
 unfolding amount_at
 is_amount bound = is_passing (λ n. nat_le n bound) (number_at w64) (to_be_bytes w64) (λ n. n < 2 ^ 64) is_u64
 
-within_each : (bound : ℕ) (v : List ℕ) → AllByRecursion (FitsAmount bound) v → (i : ℕ) → get_or v i 0 ≤ bound
-within_each bound [] each i = omega arith
-within_each bound (x ∷ v) each zero = let h = each.0.1 in grind (arith, nat_tests)
-within_each bound (x ∷ v) each (suc i) = within_each bound v each.1 i
-
 each_within : (bound : ℕ) → bound < 2 ^ 64 → (v : List ℕ) → ((i : ℕ) → get_or v i 0 ≤ bound) → AllByRecursion (FitsAmount bound) v
 each_within bound small [] h = tt
 each_within bound small (x ∷ v) h = let first = h 0 in ((omega arith, grind (arith, nat_tests)), each_within bound small v (λ i. h (suc i)))
 
-pub is_amounts : (k bound : ℕ) → bound < 2 ^ 64 → IsField (amounts_at k bound) resource (IsVector k bound)
+-- n amounts, each within its bound
+abbrev Few : ℕ → ℕ → List ℕ → Type 0
+Few n bound v = (length v ≡ n) × AllByRecursion (FitsAmount bound) v
+
+-- the first n of a vector
+few_of : (k n bound : ℕ) → n ≤ k → bound < 2 ^ 64 → (v : List ℕ) → IsVector k bound v → Few n bound (take n v)
+few_of k n bound le small v is =
+    let count = is.count in
+    (omega (arith, length-take n v, count, le), each_within bound small (take n v) (λ i. elim (cases_lt i n) [
+      | inl lt ↦ rw (get_or-take n v i 0 lt) (is.within i)
+      | inr past ↦ rw (get_or_past (take n v) i 0 (omega (arith, length-take n v, past))) (omega arith)
+    ]))
+
+pub zeros_within : (bound m i : ℕ) → get_or (zeros m) i 0 ≤ bound
+zeros_within bound zero i = omega arith
+zeros_within bound (suc m) zero = omega arith
+zeros_within bound (suc m) (suc i) = zeros_within bound m i
+
+padded_within : (bound m : ℕ) (v : List ℕ) → AllByRecursion (FitsAmount bound) v → (i : ℕ) → get_or (v ++ zeros m) i 0 ≤ bound
+padded_within bound m [] each i = zeros_within bound m i
+padded_within bound m (x ∷ v) each zero = let h = each.0.1 in grind (arith, nat_tests)
+padded_within bound m (x ∷ v) each (suc i) = padded_within bound m v each.1 i
+
+-- amounts with 0 in place of the others
+padded : (k n bound : ℕ) → n ≤ k → (v : List ℕ) → Few n bound v → IsShownVector k n bound (v ++ zeros (k - n))
+padded k n bound le v few =
+    let len = few.0 in
+    let count : length (v ++ zeros (k - n)) ≡ k = omega (arith, length-append v (zeros (k - n)), length-replicate {A = ℕ} (k - n) 0, len, le) in
+    record {
+      vector = record { count = count; within = padded_within bound (k - n) v few.1 };
+      is_shown = rw (take_at v (zeros (k - n)) n len, count) refl;
+    }
+
+-- a vector of k amounts, as it is shown
+pub shown_is_vector : (k n bound : ℕ) → n ≤ k → bound < 2 ^ 64 → (v : List ℕ) → IsVector k bound v → IsShownVector k n bound (shown_amounts n v)
+shown_is_vector k n bound le small v is =
+    subst (λ m. IsShownVector k n bound (take n v ++ zeros (m - n))) (sym is.count) (padded k n bound le (take n v) (few_of k n bound le small v is))
+
+pub is_amounts : (k n bound : ℕ) → n ≤ k → bound < 2 ^ 64 → IsField (amounts_at k n bound) (resource n) (IsShownVector k n bound)
 unfolding amounts_at resource
-is_amounts k bound small =
-    is_field_of (amounts_at k bound) (flat_map (to_be_bytes w64)) (λ v. (length v ≡ k) × AllByRecursion (FitsAmount bound) v) (IsVector k bound)
-    (is_times k (amount_at bound) (to_be_bytes w64) (FitsAmount bound) (is_amount bound))
-    (λ v h. record { count = h.0; within = within_each bound v h.1 })
-    (λ v h. (h.count, each_within bound small v h.within))
+is_amounts k n bound le small =
+    is_made (λ v. v ++ zeros (k - n)) (take n) (times_at n (amount_at bound)) (flat_map (to_be_bytes w64)) (Few n bound) (IsShownVector k n bound)
+    (record {
+      back = λ v few. take_at v (zeros (k - n)) n few.0;
+      forth = λ v is. subst (λ m. take n v ++ zeros (m - n) ≡ v) is.vector.count is.is_shown;
+      to = padded k n bound le;
+      from = λ v is. few_of k n bound le small v is.vector;
+    })
+    (is_times n (amount_at bound) (to_be_bytes w64) (FitsAmount bound) (is_amount bound))

@@ -18,43 +18,43 @@ number_rest w bytes n rest e =
     sym (ap (λ (p : ℕ × List ℕ). p.1) both.1)
 
 -- a number that passed a test
-passed : (test : ℕ → Bool) (bytes : List ℕ) (n : ℕ) (rest : List ℕ) → passing_at test (number_at w16) bytes ≡ Some (n, rest) → number_at w16 bytes ≡ Some (n, rest)
-passed test bytes n rest e =
-    bind_then (number_at w16 bytes) (λ x. if test x.0 then Some x else None) (n, rest) e (λ x at is. at ∙ (guard_then (test x.0) (Some x) (n, rest) is).1)
+passed : (w : Width) (test : ℕ → Bool) (bytes : List ℕ) (n : ℕ) (rest : List ℕ) → passing_at test (number_at w) bytes ≡ Some (n, rest) → number_at w bytes ≡ Some (n, rest)
+passed w test bytes n rest e =
+    bind_then (number_at w bytes) (λ x. if test x.0 then Some x else None) (n, rest) e (λ x at is. at ∙ (guard_then (test x.0) (Some x) (n, rest) is).1)
 
 -- a list whose length is not 0
-pub has_items : (test : ℕ → Bool) (bytes : List ℕ) (n : ℕ) (rest : List ℕ) → passing_at test (number_at w16) bytes ≡ Some (n, rest) → 0 < n → HasItemsAt 0 bytes
-has_items test bytes n rest e some = ap (holds_of (λ x. nat_lt 0 x.0)) (passed test bytes n rest e) ∙ lt-ltb 0 n some
+pub has_items : (w : Width) (test : ℕ → Bool) (bytes : List ℕ) (n : ℕ) (rest : List ℕ) → passing_at test (number_at w) bytes ≡ Some (n, rest) → 0 < n → HasItemsAt w 0 bytes
+has_items w test bytes n rest e some = ap (holds_of (λ x. nat_lt 0 x.0)) (passed w test bytes n rest e) ∙ lt-ltb 0 n some
 
 -- what stands after a list that may be empty
-pub items_or_rest : {A : Type 0} (most : ℕ) (field : List ℕ → Option (A × List ℕ)) (bytes : List ℕ) (xs : List A) (rest : List ℕ) → counted_at most field bytes ≡ Some (xs, rest) → HasItemsAt 0 bytes ⊎ (rest ≡ drop 2 bytes)
+pub items_or_rest : {A : Type 0} (most : ℕ) (field : List ℕ → Option (A × List ℕ)) (bytes : List ℕ) (xs : List A) (rest : List ℕ) → counted_at w16 most field bytes ≡ Some (xs, rest) → HasItemsAt w16 0 bytes ⊎ (rest ≡ drop 2 bytes)
 unfolding counted_at
 items_or_rest {A} most field bytes xs rest e =
     bind_then (passing_at (λ n. nat_le n most) (number_at w16) bytes) (λ n. times_at n.0 field n.1) (xs, rest) e (λ n at is. by n.0 n.1 at is)
   where
-    by : (n : ℕ) (after : List ℕ) → passing_at (λ n. nat_le n most) (number_at w16) bytes ≡ Some (n, after) → times_at n field after ≡ Some (xs, rest) → HasItemsAt 0 bytes ⊎ (rest ≡ drop 2 bytes)
+    by : (n : ℕ) (after : List ℕ) → passing_at (λ n. nat_le n most) (number_at w16) bytes ≡ Some (n, after) → times_at n field after ≡ Some (xs, rest) → HasItemsAt w16 0 bytes ⊎ (rest ≡ drop 2 bytes)
     by zero after at is =
         let same : ([], after) ≡ (xs, rest) = cc is in
-        inr (sym (ap (λ (p : List A × List ℕ). p.1) same) ∙ number_rest w16 bytes zero after (passed (λ n. nat_le n most) bytes zero after at))
-    by (suc n) after at is = inl (has_items (λ n. nat_le n most) bytes (suc n) after at (omega arith))
+        inr (sym (ap (λ (p : List A × List ℕ). p.1) same) ∙ number_rest w16 bytes zero after (passed w16 (λ n. nat_le n most) bytes zero after at))
+    by (suc n) after at is = inl (has_items w16 (λ n. nat_le n most) bytes (suc n) after at (omega arith))
 
 -- the same further on in the bytes
-pub items_further : (i j : ℕ) (bytes rest : List ℕ) → rest ≡ drop j bytes → HasItemsAt i rest → HasItemsAt (j + i) bytes
-items_further i j bytes rest e has = subst (λ (x : List ℕ). holds_of (λ n. nat_lt 0 n.0) (number_at w16 x) ≡ true) (ap (λ (x : List ℕ). drop i x) e ∙ drop-drop i j bytes) has
+pub items_further : (w : Width) (i j : ℕ) (bytes rest : List ℕ) → rest ≡ drop j bytes → HasItemsAt w i rest → HasItemsAt w (j + i) bytes
+items_further w i j bytes rest e has = subst (λ (x : List ℕ). holds_of (λ n. nat_lt 0 n.0) (number_at w x) ≡ true) (ap (λ (x : List ℕ). drop i x) e ∙ drop-drop i j bytes) has
 
 -- the lists of a body stand after a number of eight bytes and one of four
 pub two_numbers : (bytes first second : List ℕ) (a b : ℕ) → number_at w64 bytes ≡ Some (a, first) → number_at w32 first ≡ Some (b, second) → second ≡ drop 12 bytes
 two_numbers bytes first second a b e f = number_rest w32 first b second f ∙ ap (λ (x : List ℕ). drop 4 x) (number_rest w64 bytes a first e) ∙ drop-drop 4 8 bytes
 
-pub first_list : (bytes first second : List ℕ) (a b : ℕ) → number_at w64 bytes ≡ Some (a, first) → number_at w32 first ≡ Some (b, second) → HasItemsAt 0 second → HasItemsAt 12 bytes
-first_list bytes first second a b e f has = items_further 0 12 bytes second (two_numbers bytes first second a b e f) has
+pub first_list : (bytes first second : List ℕ) (a b : ℕ) → number_at w64 bytes ≡ Some (a, first) → number_at w32 first ≡ Some (b, second) → HasItemsAt w16 0 second → HasItemsAt w16 12 bytes
+first_list bytes first second a b e f has = items_further w16 0 12 bytes second (two_numbers bytes first second a b e f) has
 
-pub second_list : {A : Type 0} (most : ℕ) (field : List ℕ → Option (A × List ℕ)) (bytes first second third : List ℕ) (a b : ℕ) (xs : List A) → number_at w64 bytes ≡ Some (a, first) → number_at w32 first ≡ Some (b, second) → counted_at most field second ≡ Some (xs, third)
-    → HasItemsAt 0 third → HasItemsAt 12 bytes ⊎ HasItemsAt 14 bytes
+pub second_list : {A : Type 0} (most : ℕ) (field : List ℕ → Option (A × List ℕ)) (bytes first second third : List ℕ) (a b : ℕ) (xs : List A) → number_at w64 bytes ≡ Some (a, first) → number_at w32 first ≡ Some (b, second) → counted_at w16 most field second ≡ Some (xs, third)
+    → HasItemsAt w16 0 third → HasItemsAt w16 12 bytes ⊎ HasItemsAt w16 14 bytes
 second_list most field bytes first second third a b xs e f g has =
     elim (items_or_rest most field second xs third g) [
       | inl some ↦ inl (first_list bytes first second a b e f some)
-      | inr after ↦ inr (items_further 0 14 bytes third (after ∙ ap (λ (x : List ℕ). drop 2 x) (two_numbers bytes first second a b e f) ∙ drop-drop 2 12 bytes) has)
+      | inr after ↦ inr (items_further w16 0 14 bytes third (after ∙ ap (λ (x : List ℕ). drop 2 x) (two_numbers bytes first second a b e f) ∙ drop-drop 2 12 bytes) has)
     ]
 
 -- the version is the first byte, and the body stands after six

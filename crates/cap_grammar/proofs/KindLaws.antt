@@ -1,11 +1,10 @@
 -- What has a case for each kind of request and of reply: bodies are read again as they were spelled, and are bytes.
-use Rattle.std.proofs.Common.{◌≡◌, ℕ, ◌^◌, ◌<◌, Bool, true, List, [], ◌∷◌, ◌++◌, length, Some, None, refl, sym, ap, subst, ◌∙◌, arith, inl, inr}
-use Rattle.std.specs.Prelude.{◌==◌, if◌then◌else◌, Option}
-use Rattle.std.specs.Int.{w32, w64, to_be_bytes}
+use Rattle.std.proofs.Common.{◌≡◌, ℕ, ◌^◌, ◌<◌, Bool, true, List, [], ◌∷◌, ◌++◌, length, map, Some, None, refl, sym, ap, subst, ◌∙◌, arith, inl, inr}
+use Rattle.std.specs.Prelude.{◌==◌, if◌then◌else◌, Option, option_map}
+use Rattle.std.specs.Int.{w16, w32, w64, to_be_bytes}
 use Rattle.std.proofs.lemmas.Bool.{eqb-true}
 use Rattle.std.proofs.lemmas.List.{nil_from_length}
 use Rattle.std.proofs.lemmas.List.Elements.{All-nil}
-use Rattle.cap_vector.specs.Vector.{IsResource}
 use Rattle.cap_base.specs.Limits.{resources}
 use Rattle.cap_model.specs.Asks.{Ask}
 use Rattle.cap_model.specs.declared.request.Request.{Request}
@@ -15,13 +14,15 @@ use Rattle.cap_model.specs.declared.replies.HeartbeatReply.{HeartbeatReply}
 use Rattle.cap_model.specs.News.{Reply, AllocateReply}
 use Rattle.cap_model.specs.declared.reply.ReplyWith.TheVariants as Reply
 use Rattle.cap_frames.specs.Stream.{IsBytes}
-use Rattle.cap_grammar.specs.Spelling.{list_bytes, ask, FitsAsk, FitsNumber, text, resource, flag, IsKind, kind_of, request_body, FitsRequest, allocate_bytes, FitsAllocated, beat, FitsBeat, queue_report, cluster_report, IsOfKind, reply_body, FitsReply}
+use Rattle.cap_grammar.specs.Shown.{amounts_spelled, shown_amounts, shown_grant, shown_news, shown}
+use Rattle.cap_grammar.specs.Spelling.{list_bytes, byte, ask, FitsAsk, FitsNumber, text, resource, flag, IsKind, kind_of, request_body, FitsRequest, IsSpelledResource, allocate_bytes, FitsAllocated, beat, FitsBeat, queue_report, cluster_report, IsOfKind, refusal_body, refusal_bytes, FitsRefusal, reply_body, FitsReply}
 use Rattle.cap_grammar.specs.Fields.{◌>>=◌, number_at, byte_at, all_at}
-use Rattle.cap_grammar.specs.Bodies.{submission_at, submit_at, register_master_at, finish_master_at, wishes_at, allocate_at, report_at, heartbeat_at, node_gone_at, registration_at, register_node_at, path_text_at, queue_info_at, queue_state_at, set_queue_state_at, cluster_info_at, body_at}
+use Rattle.cap_grammar.specs.Bodies.{submission_at, submit_at, register_master_at, finish_master_at, wishes_at, allocate_at, report_at, heartbeat_at, node_gone_at, registration_at, register_node_at, path_text_at, queue_info_at, queue_state_at, set_queue_state_at, cluster_info_at, lines_at, refresh_at, body_at}
 use Rattle.cap_grammar.proofs.FieldLaws.{AreBytes, bind_some, guard_then, chosen, IsField, all_takes, all_again, is_u32, is_u64}
-use Rattle.cap_grammar.proofs.RequestFields.{Submission, FitsSubmission, submission, is_submission, Wishes, FitsWishes, wishes, is_wishes, NodeReport, FitsNodeReport, node_report, is_node_report, Registration, FitsRegistration, registration, is_registration, FitsPath, is_path_field, State, FitsState, state, is_state}
-use Rattle.cap_grammar.proofs.ReplyFields.{refusal_at, limit_to, maximum_of, maximum_again, limit_fits, Report, FitsReport, report_of, queue_report_at, is_report, Bounds, bounds_at, bounds_of, FitsBounds, is_bounds, Allocated, allocated_at, allocated_again, Beat, beat_at, beat_of, FitsBeatParts, is_beat, Info, FitsInfo, info_of, info_at, is_info}
-use Rattle.cap_grammar.proofs.SpelledBytes.{Small, one, both, word, long, a_text, host_is_text, rack_is_text, amounts, a_flag, a_queue, a_cluster, a_list, an_ask, an_allocated, a_beat}
+use Rattle.cap_grammar.proofs.RequestFields.{Submission, FitsSubmission, submission, is_submission, Wishes, FitsWishes, wishes, is_wishes, NodeReport, FitsNodeReport, node_report, is_node_report, Registration, FitsRegistration, registration, is_registration, FitsPath, is_path_field, State, FitsState, state, is_state, FitsLines, is_lines}
+use Rattle.cap_grammar.proofs.ReplyFields.{lines_fault_at, is_lines_fault, refusal_at, shown_resource, shown_sum, grants_fit, limit_to, maximum_of, maximum_again, limit_fits, Report, FitsReport, report_of, queue_report_at, is_report, Bounds, bounds_at, bounds_of, FitsBounds, is_bounds, Allocated, allocated_at, allocated_again, Beat, beat_at, beat_of, FitsBeatParts, is_beat, Info, FitsInfo, info_of, info_at, is_info}
+use Rattle.cap_grammar.proofs.ShownLaws.{body_shown}
+use Rattle.cap_grammar.proofs.SpelledBytes.{Small, one, both, two, word, long, a_text, host_is_text, rack_is_text, amounts, a_flag, a_queue, a_cluster, a_list, an_ask, an_allocated, a_beat}
 
 -- ---- requests
 
@@ -176,6 +177,19 @@ cluster_info_again : cluster_info_at [] ≡ Some Request.ClusterInfo
 unfolding cluster_info_at
 cluster_info_again = refl
 
+refresh_takes : (bytes : List ℕ) (r : Request resources) → AreBytes bytes → refresh_at bytes ≡ Some r → IsBody 11 bytes r
+unfolding refresh_at
+refresh_takes bytes r fits e =
+    let b = bind_some (all_at lines_at bytes) (λ text. Some (Request.Refresh text)) r e in
+    let t = all_takes lines_at (list_bytes w32 byte) FitsLines is_lines bytes b.0 fits b.1 in
+    let made : Request resources = Request.Refresh b.0 in
+    let same : made ≡ r = cc (b.2) in
+    subst (λ (q : Request resources). IsBody 11 bytes q) same (record { kind_is = refl; spelled = t.0; fits = t.1 })
+
+refresh_again : (text : List ℕ) → FitsLines text → refresh_at (list_bytes w32 byte text) ≡ Some (Request.Refresh text)
+unfolding refresh_at
+refresh_again text fits = rw (all_again lines_at (list_bytes w32 byte) FitsLines is_lines text fits) refl
+
 -- ---- the body of a request
 
 IsBody-same : (kind other : ℕ) (bytes : List ℕ) (r : Request resources) → (kind == other) ≡ true → IsBody other bytes r → IsBody kind bytes r
@@ -190,6 +204,7 @@ later_at kind bytes =
     if kind == 8 then queue_info_at bytes else
     if kind == 9 then set_queue_state_at bytes else
     if kind == 10 then cluster_info_at bytes else
+    if kind == 11 then refresh_at bytes else
     None
 
 later_takes : (kind : ℕ) (bytes : List ℕ) (r : Request resources) → AreBytes bytes → later_at kind bytes ≡ Some r → IsBody kind bytes r
@@ -204,9 +219,12 @@ later_takes kind bytes r fits e =
             | inl t ↦ IsBody-same kind 8 bytes r t.0 (queue_info_takes bytes r fits t.1)
             | inr not-8 ↦ elim (chosen (kind == 9) (set_queue_state_at bytes) _ (Some r) not-8.1) [
               | inl t ↦ IsBody-same kind 9 bytes r t.0 (set_queue_state_takes bytes r fits t.1)
-              | inr not-9 ↦
-                  let g = guard_then (kind == 10) (cluster_info_at bytes) r not-9.1 in
-                  IsBody-same kind 10 bytes r g.0 (cluster_info_takes bytes r g.1)
+              | inr not-9 ↦ elim (chosen (kind == 10) (cluster_info_at bytes) _ (Some r) not-9.1) [
+                | inl t ↦ IsBody-same kind 10 bytes r t.0 (cluster_info_takes bytes r t.1)
+                | inr not-10 ↦
+                    let g = guard_then (kind == 11) (refresh_at bytes) r not-10.1 in
+                    IsBody-same kind 11 bytes r g.0 (refresh_takes bytes r fits g.1)
+              ]
             ]
           ]
         ]
@@ -242,6 +260,7 @@ body_again (Request.NodeGone node) fits = node_gone_again node fits
 body_again (Request.QueueInfo path) fits = queue_info_again path fits
 body_again (Request.SetQueueState path running) fits = set_queue_state_again path running fits
 body_again Request.ClusterInfo fits = cluster_info_again
+body_again (Request.Refresh text) fits = refresh_again text fits
 
 pub kind_is_listed : (r : Request resources) → IsKind (kind_of r)
 kind_is_listed Request.ClusterInfo = (omega arith, omega arith)
@@ -271,7 +290,8 @@ part_at kind bytes =
     if kind == 7 then made_at Request.NodeGone (number_at w64) bytes else
     if kind == 8 then made_at Request.QueueInfo path_text_at bytes else
     if kind == 9 then made_at (λ x. Request.SetQueueState x.0 x.1) queue_state_at bytes else
-    Some (Request.ClusterInfo, bytes)
+    if kind == 10 then Some (Request.ClusterInfo, bytes) else
+    made_at Request.Refresh lines_at bytes
 
 pub part_again : (r : Request resources) (rest : List ℕ) → FitsRequest r → part_at (kind_of r) (request_body r ++ rest) ≡ Some (r, rest)
 part_again (Request.Submit path user) rest fits = made_again (λ x. Request.Submit x.0 x.1) submission_at submission FitsSubmission is_submission (path, user) rest (fits.0, fits.1)
@@ -284,6 +304,7 @@ part_again (Request.NodeGone node) rest fits = made_again Request.NodeGone (numb
 part_again (Request.QueueInfo path) rest fits = made_again Request.QueueInfo path_text_at text FitsPath is_path_field path rest fits
 part_again (Request.SetQueueState path running) rest fits = made_again (λ x. Request.SetQueueState x.0 x.1) queue_state_at state FitsState is_state (path, running) rest (fits, tt)
 part_again Request.ClusterInfo rest fits = refl
+part_again (Request.Refresh text) rest fits = made_again Request.Refresh lines_at (list_bytes w32 byte) FitsLines is_lines text rest fits
 
 -- ---- a request is bytes
 
@@ -291,18 +312,19 @@ pub body_bytes : (r : Request resources) → FitsRequest r → IsBytes (request_
 body_bytes (Request.Submit path user) fits = both (text path) (text user) (a_text 255 path (omega arith) fits.0) (a_text 64 user (omega arith) fits.1)
 body_bytes (Request.RegisterMaster app) fits = long app
 body_bytes (Request.Allocate app response asks releases) fits =
-    both (to_be_bytes w64 app) (to_be_bytes w32 response ++ (list_bytes ask asks ++ list_bytes (to_be_bytes w64) releases)) (long app)
-    (both (to_be_bytes w32 response) (list_bytes ask asks ++ list_bytes (to_be_bytes w64) releases) (word response)
-    (both (list_bytes ask asks) (list_bytes (to_be_bytes w64) releases) (a_list _ ask FitsAsk an_ask asks fits.2) (a_list _ (to_be_bytes w64) _ (λ n f. long n) releases fits.3)))
+    both (to_be_bytes w64 app) (to_be_bytes w32 response ++ (list_bytes w16 ask asks ++ list_bytes w16 (to_be_bytes w64) releases)) (long app)
+    (both (to_be_bytes w32 response) (list_bytes w16 ask asks ++ list_bytes w16 (to_be_bytes w64) releases) (word response)
+    (both (list_bytes w16 ask asks) (list_bytes w16 (to_be_bytes w64) releases) (a_list w16 two _ ask FitsAsk an_ask asks fits.2) (a_list w16 two _ (to_be_bytes w64) _ (λ n f. long n) releases fits.3)))
 body_bytes (Request.FinishMaster app) fits = long app
 body_bytes (Request.RegisterNode host rack total) fits =
-    both (text host) (text rack ++ resource total) (a_text 64 host (omega arith) (host_is_text host fits.0)) (both (text rack) (resource total) (a_text 64 rack (omega arith) (rack_is_text rack fits.1)) (amounts total))
+    both (text host) (text rack ++ resource amounts_spelled total) (a_text 64 host (omega arith) (host_is_text host fits.0)) (both (text rack) (resource amounts_spelled total) (a_text 64 rack (omega arith) (rack_is_text rack fits.1)) (amounts amounts_spelled total))
 body_bytes (Request.Heartbeat node response ended) fits =
-    both (to_be_bytes w64 node) (to_be_bytes w32 response ++ list_bytes (to_be_bytes w64) ended) (long node) (both (to_be_bytes w32 response) (list_bytes (to_be_bytes w64) ended) (word response) (a_list _ (to_be_bytes w64) _ (λ n f. long n) ended fits.2))
+    both (to_be_bytes w64 node) (to_be_bytes w32 response ++ list_bytes w16 (to_be_bytes w64) ended) (long node) (both (to_be_bytes w32 response) (list_bytes w16 (to_be_bytes w64) ended) (word response) (a_list w16 two _ (to_be_bytes w64) _ (λ n f. long n) ended fits.2))
 body_bytes (Request.NodeGone node) fits = long node
 body_bytes (Request.QueueInfo path) fits = a_text 255 path (omega arith) fits
 body_bytes (Request.SetQueueState path running) fits = both (text path) (flag running) (a_text 255 path (omega arith) fits) (a_flag running)
 body_bytes Request.ClusterInfo fits = All-nil Small
+body_bytes (Request.Refresh text) fits = a_list w32 word _ byte _ (λ b lt. one b [] lt (All-nil Small)) text fits
 
 -- ---- what follows the status of a reply
 
@@ -339,30 +361,33 @@ granted_at kind bytes =
     if kind == 8 then (all_at queue_report_at bytes >>= reported) else
     if kind == 9 then (if length bytes == 0 then Some Reply.SetQueueState else None) else
     if kind == 10 then (all_at info_at bytes >>= informed) else
+    if kind == 11 then (if length bytes == 0 then Some Reply.Refresh else None) else
     None
 
 abbrev pub reply_body_at : ℕ → List ℕ → Option (Reply resources)
 reply_body_at kind bytes = do
   status ← byte_at bytes
-  if status.0 == 0 then granted_at kind status.1 else (refusal_at status.0 >>= λ refusal. Some (Reply.Refused refusal))
+  if status.0 == 0 then granted_at kind status.1 else (refusal_at status.0 status.1 >>= λ refusal. Some (Reply.Refused refusal))
 
-refused_again : (kind : ℕ) (refusal : Refusal) → reply_body_at kind (status_of refusal ∷ []) ≡ Some (Reply.Refused refusal)
-refused_again kind Refusal.NoMemory = refl
-refused_again kind _ = refl
+refused_again : (kind : ℕ) (refusal : Refusal) → FitsRefusal refusal → reply_body_at kind (refusal_bytes refusal) ≡ Some (Reply.Refused refusal)
+refused_again kind (Refusal.BadSettings line number) fits =
+    ap (λ (o : Option ((ℕ × ℕ) × List ℕ)). (o >>= λ x. Some (Refusal.BadSettings x.0.0 x.0.1)) >>= λ refusal. Some (Reply.Refused refusal)) (is_lines_fault.again (line, number) [] (fits.0, fits.1))
+refused_again kind Refusal.NoMemory fits = refl
+refused_again kind _ fits = refl
 
 app_again : (app : ℕ) → app < 2 ^ 64 → granted_at 1 (to_be_bytes w64 app) ≡ Some (Reply.Submit app)
 app_again app fits = ap (λ (o : Option ℕ). o >>= submitted) (all_again (number_at w64) (to_be_bytes w64) (λ n. n < 2 ^ 64) is_u64 app fits)
 
-bounds_again : (minimum maximum : List ℕ) → IsResource resources minimum → IsResource resources maximum → granted_at 2 (resource minimum ++ resource maximum) ≡ Some (Reply.RegisterMaster minimum maximum)
+bounds_again : (minimum maximum : List ℕ) → IsSpelledResource minimum → IsSpelledResource maximum → granted_at 2 (resource amounts_spelled minimum ++ resource amounts_spelled maximum) ≡ Some (Reply.RegisterMaster minimum maximum)
 bounds_again minimum maximum a b =
     let x : Bounds = (minimum, maximum) in
     ap (λ (o : Option Bounds). o >>= λ x. Some (Reply.RegisterMaster x.0 x.1)) (all_again bounds_at bounds_of FitsBounds is_bounds x (a, b))
 
-grants_again : (r : AllocateReply) → FitsAllocated r → granted_at 3 (allocate_bytes r) ≡ Some (Reply.Allocate r)
+grants_again : (r : AllocateReply) → FitsAllocated r → granted_at 3 (allocate_bytes (shown_news amounts_spelled r)) ≡ Some (Reply.Allocate (shown_news amounts_spelled r))
 unfolding allocate_bytes
 grants_again r fits =
     ap (λ (o : Option (Allocated × List ℕ)). (o >>= λ x. if length x.1 == 0 then Some x.0 else None) >>= λ x. Some (reply_from x))
-    (allocated_again r.response r.ignored r.grants r.ends fits.response fits.ignored fits.grants fits.ends)
+    (allocated_again r.response r.ignored (map (shown_grant amounts_spelled) r.grants) r.ends fits.response fits.ignored (grants_fit r.grants fits.grants) fits.ends)
 
 finish_again : (ended : ℕ) → ended < 2 ^ 32 → granted_at 4 (to_be_bytes w32 ended) ≡ Some (Reply.FinishMaster ended)
 finish_again ended fits = ap (λ (o : Option ℕ). o >>= finished) (all_again (number_at w32) (to_be_bytes w32) (λ n. n < 2 ^ 32) is_u32 ended fits)
@@ -385,23 +410,33 @@ report_again x fits = ap (λ (o : Option Report). o >>= reported) (all_again que
 info_again : (x : Info) → FitsInfo x → granted_at 10 (info_of x) ≡ informed x
 info_again x fits = ap (λ (o : Option Info). o >>= informed) (all_again info_at info_of FitsInfo is_info x fits)
 
-pub reply_body_again : (kind : ℕ) (reply : Reply resources) → IsOfKind kind reply → FitsReply reply → reply_body_at kind (reply_body reply) ≡ Some reply
+body_again_shown : (kind : ℕ) (reply : Reply resources) → IsOfKind kind reply → FitsReply reply → reply_body_at kind (reply_body (shown amounts_spelled reply)) ≡ Some (shown amounts_spelled reply)
 unfolding queue_report cluster_report
-reply_body_again kind (Reply.Refused refusal) of_kind fits = refused_again kind refusal
-reply_body_again kind (Reply.Submit app) of_kind fits = rw of_kind (app_again app fits)
-reply_body_again kind (Reply.RegisterMaster minimum maximum) of_kind fits = rw of_kind (bounds_again minimum maximum fits.0 fits.1)
-reply_body_again kind (Reply.Allocate reply) of_kind fits = rw of_kind (grants_again reply fits)
-reply_body_again kind (Reply.FinishMaster ended) of_kind fits = rw of_kind (finish_again ended fits)
-reply_body_again kind (Reply.RegisterNode node) of_kind fits = rw of_kind (node_again node fits)
-reply_body_again kind (Reply.Heartbeat reply) of_kind fits = rw of_kind (beat_again reply fits)
-reply_body_again kind (Reply.NodeGone ended) of_kind fits = rw of_kind (lost_again ended fits)
-reply_body_again kind (Reply.QueueInfo r) of_kind fits =
-    let x : Report = (((((r.running, r.leaf), r.guaranteed), limit_to r.maximum), r.used), r.apps) in
-    let ok : FitsReport x = (((((tt, tt), fits.guaranteed), limit_fits r.maximum fits.maximum), fits.used), fits.apps) in
-    rw of_kind (report_again x ok ∙ ap (λ (m : Option (List ℕ)). Some (Reply.QueueInfo (record r { maximum = m }))) (maximum_again r.maximum))
-reply_body_again kind Reply.SetQueueState of_kind fits = rw of_kind refl
-reply_body_again kind (Reply.ClusterInfo r) of_kind fits =
-    rw of_kind (info_again ((((r.nodes, r.apps), r.containers), r.totals), r.used) ((((fits.nodes, fits.apps), fits.containers), fits.totals), fits.used))
+body_again_shown kind (Reply.Refused refusal) of_kind fits = refused_again kind refusal fits
+body_again_shown kind (Reply.Submit app) of_kind fits = rw of_kind (app_again app fits)
+body_again_shown kind (Reply.RegisterMaster minimum maximum) of_kind fits = rw of_kind (bounds_again (shown_amounts amounts_spelled minimum) (shown_amounts amounts_spelled maximum) (shown_resource minimum fits.0) (shown_resource maximum fits.1))
+body_again_shown kind (Reply.Allocate reply) of_kind fits = rw of_kind (grants_again reply fits)
+body_again_shown kind (Reply.FinishMaster ended) of_kind fits = rw of_kind (finish_again ended fits)
+body_again_shown kind (Reply.RegisterNode node) of_kind fits = rw of_kind (node_again node fits)
+body_again_shown kind (Reply.Heartbeat reply) of_kind fits = rw of_kind (beat_again reply fits)
+body_again_shown kind (Reply.NodeGone ended) of_kind fits = rw of_kind (lost_again ended fits)
+body_again_shown kind (Reply.QueueInfo r) of_kind fits =
+    let guaranteed : List ℕ = shown_amounts amounts_spelled r.guaranteed in
+    let maximum : Option (List ℕ) = option_map (shown_amounts amounts_spelled) r.maximum in
+    let used : List ℕ = shown_amounts amounts_spelled r.used in
+    let x : Report = (((((r.running, r.leaf), guaranteed), limit_to maximum), used), r.apps) in
+    let ok : FitsReport x = (((((tt, tt), shown_resource r.guaranteed fits.guaranteed), limit_fits r.maximum fits.maximum), shown_sum r.used fits.used), fits.apps) in
+    rw of_kind (report_again x ok ∙ ap (λ (m : Option (List ℕ)). Some (Reply.QueueInfo (record r { guaranteed = guaranteed; maximum = m; used = used }))) (maximum_again maximum))
+body_again_shown kind Reply.SetQueueState of_kind fits = rw of_kind refl
+body_again_shown kind (Reply.ClusterInfo r) of_kind fits =
+    rw of_kind
+    (info_again ((((r.nodes, r.apps), r.containers), shown_amounts amounts_spelled r.totals), shown_amounts amounts_spelled r.used)
+    ((((fits.nodes, fits.apps), fits.containers), shown_resource r.totals fits.totals), shown_sum r.used fits.used))
+body_again_shown kind Reply.Refresh of_kind fits = rw of_kind refl
+
+-- what is read of a reply's bytes is what they show
+pub reply_body_again : (kind : ℕ) (reply : Reply resources) → IsOfKind kind reply → FitsReply reply → reply_body_at kind (reply_body reply) ≡ Some (shown amounts_spelled reply)
+reply_body_again kind reply of_kind fits = ap (reply_body_at kind) (sym (body_shown reply)) ∙ body_again_shown kind reply of_kind fits
 
 -- ---- a reply is bytes
 
@@ -409,10 +444,17 @@ status_small : (refusal : Refusal) → status_of refusal < 256
 status_small Refusal.NoMemory = omega arith
 status_small _ = omega arith
 
+refusal_is_bytes : (refusal : Refusal) → FitsRefusal refusal → IsBytes (refusal_body refusal)
+refusal_is_bytes (Refusal.BadSettings line number) fits = both (to_be_bytes w32 line) (byte number) (word line) (one number [] fits.1 (All-nil Small))
+refusal_is_bytes Refusal.NoMemory fits = All-nil Small
+refusal_is_bytes _ fits = All-nil Small
+
 pub reply_body_bytes : (r : Reply resources) → FitsReply r → IsBytes (reply_body r)
-reply_body_bytes (Reply.Refused refusal) fits = one (status_of refusal) [] (status_small refusal) (All-nil Small)
+reply_body_bytes (Reply.Refused refusal) fits = one (status_of refusal) (refusal_body refusal) (status_small refusal) (refusal_is_bytes refusal fits)
 reply_body_bytes (Reply.Submit app) fits = one 0 (to_be_bytes w64 app) (omega arith) (long app)
-reply_body_bytes (Reply.RegisterMaster minimum maximum) fits = one 0 (resource minimum ++ resource maximum) (omega arith) (both (resource minimum) (resource maximum) (amounts minimum) (amounts maximum))
+reply_body_bytes (Reply.RegisterMaster minimum maximum) fits =
+    one 0 (resource amounts_spelled minimum ++ resource amounts_spelled maximum) (omega arith)
+    (both (resource amounts_spelled minimum) (resource amounts_spelled maximum) (amounts amounts_spelled minimum) (amounts amounts_spelled maximum))
 reply_body_bytes (Reply.Allocate reply) fits = one 0 (allocate_bytes reply) (omega arith) (an_allocated reply fits)
 reply_body_bytes (Reply.FinishMaster ended) fits = one 0 (to_be_bytes w32 ended) (omega arith) (word ended)
 reply_body_bytes (Reply.RegisterNode node) fits = one 0 (to_be_bytes w64 node) (omega arith) (long node)
@@ -421,3 +463,4 @@ reply_body_bytes (Reply.NodeGone ended) fits = one 0 (to_be_bytes w32 ended) (om
 reply_body_bytes (Reply.QueueInfo report) fits = one 0 (queue_report report) (omega arith) (a_queue report)
 reply_body_bytes Reply.SetQueueState fits = one 0 [] (omega arith) (All-nil Small)
 reply_body_bytes (Reply.ClusterInfo report) fits = one 0 (cluster_report report) (omega arith) (a_cluster report)
+reply_body_bytes Reply.Refresh fits = one 0 [] (omega arith) (All-nil Small)

@@ -1,25 +1,27 @@
 -- How long the spelling of news is.
-use Rattle.std.proofs.Common.{◌≡◌, ℕ, ◌*◌, ◌≤◌, true, List, [], ◌∷◌, ◌++◌, length, length-append, arith}
+use Rattle.std.proofs.Common.{◌≡◌, ℕ, ◌*◌, ◌≤◌, true, List, [], ◌∷◌, ◌++◌, length, take, length-append, arith}
 use Rattle.std.specs.Prelude.{nat_le, nat_lt, ◌&&◌}
 use Rattle.std.specs.List.{flat_map, list_all, AllByRecursion}
 use Rattle.std.specs.Int.{w32, w64, to_be_bytes}
 use Rattle.std.proofs.lemmas.Bool.{and_parts}
 use Rattle.std.proofs.lemmas.Bool.Decides.{nat_tests}
+use Rattle.std.proofs.lemmas.List.{length-take}
 use Rattle.cap_base.specs.Limits.{resources}
 use Rattle.cap_vector.specs.Vector.{IsResource}
 use Rattle.cap_base.specs.Texts.{is_graphic}
 use Rattle.cap_model.specs.News.{Grant}
 use Rattle.cap_model.specs.declared.news.End.{End}
 use Rattle.cap_grammar.specs.Texts.{is_place}
+use Rattle.cap_grammar.specs.Shown.{amounts_spelled}
 use Rattle.cap_grammar.specs.Spelling.{text, resource, grant, FitsGrant, end}
 
 length_amounts : (v : List ℕ) → length (flat_map (to_be_bytes w64) v) ≡ 8 * length v
 length_amounts [] = omega arith
 length_amounts (n ∷ v) = omega (arith, length-append (to_be_bytes w64 n) (flat_map (to_be_bytes w64) v), length_amounts v)
 
-length_resource : (v : List ℕ) → IsResource resources v → length (resource v) ≡ 16
+length_resource : (v : List ℕ) → IsResource resources v → length (resource amounts_spelled v) ≡ 16
 unfolding resource
-length_resource v is = let two = is.count in omega (arith, length_amounts v, two)
+length_resource v is = let all = is.count in omega (arith, length_amounts (take amounts_spelled v), length-take amounts_spelled v, all)
 
 short_place : (t : List ℕ) → is_place t ≡ true → length t ≤ 64
 short_place t h =
@@ -30,11 +32,11 @@ short_place t h =
 pub length_grant : (g : Grant) → FitsGrant g → length (grant g) ≤ 109
 unfolding grant
 length_grant g fits =
-    let e : List ℕ = text g.host ++ resource g.resource in
+    let e : List ℕ = text g.host ++ resource amounts_spelled g.resource in
     let d : List ℕ = to_be_bytes w64 g.node ++ e in
     let c : List ℕ = to_be_bytes w64 g.key.request ++ d in
     let b : List ℕ = to_be_bytes w32 g.key.priority ++ c in
-    let le = length-append (text g.host) (resource g.resource) in
+    let le = length-append (text g.host) (resource amounts_spelled g.resource) in
     let lr = length_resource g.resource fits.resource in
     let lh = short_place g.host fits.host in
     omega (arith, le, lr, lh)

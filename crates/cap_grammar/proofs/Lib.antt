@@ -2,6 +2,7 @@ pub mod Lengths
 pub mod ListLaws
 pub mod Appends
 pub mod FieldLaws
+pub mod ShownLaws
 pub mod RequestFields
 pub mod ReplyFields
 pub mod SpelledBytes

@@ -1,7 +1,7 @@
 -- Fields that are read one after the other.
 use Rattle.std.proofs.Common.{◌≡◌, ℕ, zero, suc, ◌+◌, ◌-◌, ◌<◌, ◌≤◌, List, [], ◌∷◌, ◌++◌, Option, Some, None, refl, sym, ap, ◌∙◌, append_assoc, arith}
 use Rattle.std.specs.Prelude.{nat_le}
-use Rattle.std.specs.Int.{w16}
+use Rattle.std.specs.Int.{Width}
 use Rattle.std.proofs.lemmas.List.{append-nil}
 use Rattle.cap_grammar.specs.Fields.{◌>>=◌, number_at, passing_at, times_at, counted_at}
 
@@ -37,15 +37,15 @@ module _ {A : Type 0} (field : List ℕ → Option (A × List ℕ)) where
       bind_id (Some x) = refl
 
   -- the length was read, and then come the fields
-  pub counted_start : (most : ℕ) (bytes : List ℕ) (n : ℕ) (rest : List ℕ) (none : List A) → passing_at (λ n. nat_le n most) (number_at w16) bytes ≡ Some (n, rest) → none ≡ [] → counted_at most field bytes ≡ more_at none (n - 0) field rest
+  pub counted_start : (w : Width) (most : ℕ) (bytes : List ℕ) (n : ℕ) (rest : List ℕ) (none : List A) → passing_at (λ n. nat_le n most) (number_at w) bytes ≡ Some (n, rest) → none ≡ [] → counted_at w most field bytes ≡ more_at none (n - 0) field rest
   unfolding counted_at
-  counted_start most bytes n rest none e nothing =
+  counted_start w most bytes n rest none e nothing =
       let all : n ≡ n - 0 = omega arith in
       ap (λ (o : Option (ℕ × List ℕ)). o >>= λ x. times_at x.0 field x.1) e ∙ whole n rest ∙ (λ j. more_at (sym nothing j) (all j) field rest)
 
-  pub counted_fails : (most : ℕ) (bytes : List ℕ) → passing_at (λ n. nat_le n most) (number_at w16) bytes ≡ None → counted_at most field bytes ≡ None
+  pub counted_fails : (w : Width) (most : ℕ) (bytes : List ℕ) → passing_at (λ n. nat_le n most) (number_at w) bytes ≡ None → counted_at w most field bytes ≡ None
   unfolding counted_at
-  counted_fails most bytes e = ap (λ (o : Option (ℕ × List ℕ)). o >>= λ x. times_at x.0 field x.1) e
+  counted_fails w most bytes e = ap (λ (o : Option (ℕ × List ℕ)). o >>= λ x. times_at x.0 field x.1) e
 
   -- one more was read, or was not there
   step : (done : List A) (left : ℕ) (bytes : List ℕ) (x : A) (rest : List ℕ) → 1 ≤ left → field bytes ≡ Some (x, rest) → more_at done left field bytes ≡ more_at (done ++ x ∷ []) (left - 1) field rest

@@ -1,26 +1,36 @@
 -- The fields of replies, each with what spells it: refusals, and what calls give that is more than a number. No function reads
 -- replies so: these readers serve the laws alone.
-use Rattle.std.proofs.Common.{◌≡◌, ℕ, ◌^◌, ◌<◌, ◌≤◌, List, [], ◌∷◌, ◌++◌, length, Option, Some, None, refl, sym, ap, ◌∙◌, append_assoc, true, arith, zero, suc, Bool}
-use Rattle.std.specs.Prelude.{◌==◌, if◌then◌else◌, is_some, unwrap_or, IfSome}
+use Rattle.std.proofs.Common.{◌≡◌, ℕ, ◌^◌, ◌<◌, ◌≤◌, List, [], ◌∷◌, ◌++◌, length, Option, Some, None, map, refl, sym, ap, subst, ◌∙◌, append_assoc, true, arith, suc, Bool}
+use Rattle.std.specs.Prelude.{◌==◌, if◌then◌else◌, is_some, unwrap_or, option_map, IfSome}
 use Rattle.std.specs.List.{flat_map, AllByRecursion}
 use Rattle.std.specs.Int.{w16, w32, w64, to_be_bytes}
 use Rattle.std.proofs.lemmas.List.{append-nil}
-use Rattle.cap_vector.specs.Vector.{IsResource, IsSum, amount, amount_max, sum_max, zeros}
+use Rattle.cap_vector.specs.Vector.{IsResource, IsSum, amount_max, sum_max, zeros}
 use Rattle.cap_base.specs.Limits.{news_max, resources}
 use Rattle.cap_model.specs.declared.refusal.Refusal.{Refusal}
-use Rattle.cap_model.specs.declared.refusal.Refusal.TheVariants.{UnknownQueue, NotLeaf, QueueStopped, TooManyApplications, UnknownApplication, AlreadyRegistered, NotRegistered, BadResponseId, AskTooLarge, TooManyAsks, UnknownNode, HostTaken, TotalTooLarge, TooManyNodes, ZeroResource, NumbersSpent, NoMemory}
+use Rattle.cap_model.specs.declared.refusal.Refusal.TheVariants.{BadSettings, UnknownQueue, NotLeaf, QueueStopped, TooManyApplications, UnknownApplication, AlreadyRegistered, NotRegistered, BadResponseId, AskTooLarge, TooManyAsks, UnknownNode, HostTaken, TotalTooLarge, TooManyNodes, ZeroResource, NumbersSpent, OtherQueues, NoMemory}
 use Rattle.cap_model.specs.News.{Grant, cause_number}
 use Rattle.cap_model.specs.declared.news.End.{End}
 use Rattle.cap_model.specs.declared.news.Cause.{Cause}
 use Rattle.cap_grammar.specs.Texts.{is_place}
-use Rattle.cap_grammar.specs.Spelling.{counted_list, FitsListed, grant, FitsGrant, end, FitsEnd, text, resource, flag}
+use Rattle.cap_grammar.specs.Shown.{amounts_spelled, shown_amounts, shown_grant, IsShownVector}
+use Rattle.cap_grammar.specs.Spelling.{counted_list, FitsListed, grant, FitsGrant, end, FitsEnd, text, resource, flag, byte, FitsByte, IsSpelledResource}
 use Rattle.cap_grammar.specs.Fields.{◌>>=◌, byte_at, flag_at, number_at, amounts_at, text_at, pair_at, passing_at, times_at}
-use Rattle.cap_grammar.proofs.FieldLaws.{IsField, is_pair, is_flag, is_u16, is_u32, is_u64, is_amounts, is_text_passing, is_times, is_made, is_field_of}
+use Rattle.cap_grammar.proofs.ShownLaws.{how_many}
+use Rattle.cap_grammar.proofs.FieldLaws.{IsField, is_pair, is_byte, is_flag, is_u16, is_u32, is_u64, is_amounts, is_text_passing, is_times, is_made, shown_is_vector, zeros_within}
 
 -- ---- refusals
 
-abbrev pub refusal_at : ℕ → Option Refusal
-refusal_at status =
+-- the line and the number of a fault of property lines
+abbrev pub lines_fault_at : List ℕ → Option ((ℕ × ℕ) × List ℕ)
+lines_fault_at bytes = pair_at (number_at w32) byte_at bytes
+
+pub is_lines_fault : IsField lines_fault_at (λ (x : ℕ × ℕ). to_be_bytes w32 x.0 ++ byte x.1) (λ (x : ℕ × ℕ). (x.0 < 2 ^ 32) × FitsByte x.1)
+is_lines_fault = is_pair (number_at w32) (to_be_bytes w32) (λ n. n < 2 ^ 32) byte_at byte FitsByte is_u32 is_byte
+
+-- the refusal of a status, with what follows it
+abbrev pub refusal_at : ℕ → List ℕ → Option Refusal
+refusal_at status bytes =
     if status == 1 then Some UnknownQueue else
     if status == 2 then Some NotLeaf else
     if status == 3 then Some QueueStopped else
@@ -37,6 +47,8 @@ refusal_at status =
     if status == 14 then Some TooManyNodes else
     if status == 15 then Some ZeroResource else
     if status == 16 then Some NumbersSpent else
+    if status == 17 then (lines_fault_at bytes >>= λ x. Some (BadSettings x.0.0 x.0.1)) else
+    if status == 18 then Some OtherQueues else
     if status == 20 then Some NoMemory else
     None
 
@@ -47,16 +59,16 @@ abbrev pub Limit : Type 0
 Limit = Bool × List ℕ
 
 abbrev pub FitsLimit : Limit → Type 0
-FitsLimit x = Unit {0} × IsResource resources x.1
+FitsLimit x = Unit {0} × IsSpelledResource x.1
 
 abbrev pub limit_of : Limit → List ℕ
-limit_of x = flag x.0 ++ resource x.1
+limit_of x = flag x.0 ++ resource amounts_spelled x.1
 
 abbrev pub limit_at : List ℕ → Option (Limit × List ℕ)
-limit_at bytes = pair_at flag_at (amounts_at resources amount_max) bytes
+limit_at bytes = pair_at flag_at (amounts_at resources amounts_spelled amount_max) bytes
 
 pub is_limit : IsField limit_at limit_of FitsLimit
-is_limit = is_pair flag_at flag (λ holds. Unit {0}) (amounts_at resources amount_max) resource (IsResource resources) is_flag (is_amounts resources amount_max (omega arith))
+is_limit = is_pair flag_at flag (λ holds. Unit {0}) (amounts_at resources amounts_spelled amount_max) (resource amounts_spelled) IsSpelledResource is_flag (is_amounts resources amounts_spelled amount_max (omega arith) (omega arith))
 
 abbrev pub maximum_of : Limit → Option (List ℕ)
 maximum_of x = if x.0 then Some x.1 else None
@@ -68,36 +80,37 @@ pub maximum_again : (maximum : Option (List ℕ)) → maximum_of (limit_to maxim
 maximum_again None = refl
 maximum_again (Some amounts) = refl
 
-pub zeros_within : (k : ℕ) → amount (zeros resources) k ≤ amount_max
-zeros_within zero = omega arith
-zeros_within (suc zero) = omega arith
-zeros_within (suc (suc k)) = omega arith
+pub shown_resource : (v : List ℕ) → IsResource resources v → IsSpelledResource (shown_amounts amounts_spelled v)
+shown_resource v is = shown_is_vector resources amounts_spelled amount_max (omega arith) (omega arith) v is
 
-pub limit_fits : (maximum : Option (List ℕ)) → IfSome maximum (IsResource resources) → FitsLimit (limit_to maximum)
-limit_fits None fits = (tt, record { count = refl; within = zeros_within })
-limit_fits (Some amounts) fits = (tt, fits)
+pub shown_sum : (v : List ℕ) → IsSum resources v → IsShownVector resources amounts_spelled sum_max (shown_amounts amounts_spelled v)
+shown_sum v is = shown_is_vector resources amounts_spelled sum_max (omega arith) (omega arith) v is
+
+pub limit_fits : (maximum : Option (List ℕ)) → IfSome maximum (IsResource resources) → FitsLimit (limit_to (option_map (shown_amounts amounts_spelled) maximum))
+limit_fits None fits = (tt, record { vector = record { count = refl; within = zeros_within amount_max resources }; is_shown = refl })
+limit_fits (Some amounts) fits = (tt, shown_resource amounts fits)
 
 -- running and leaf, guaranteed, maximum, use and applications
 abbrev pub Report : Type 0
 Report = ((((Bool × Bool) × List ℕ) × Limit) × List ℕ) × ℕ
 
 abbrev pub FitsReport : Report → Type 0
-FitsReport x = ((((Unit {0} × Unit {0}) × IsResource resources x.0.0.0.1) × FitsLimit x.0.0.1) × IsSum resources x.0.1) × (x.1 < 2 ^ 32)
+FitsReport x = ((((Unit {0} × Unit {0}) × IsSpelledResource x.0.0.0.1) × FitsLimit x.0.0.1) × IsShownVector resources amounts_spelled sum_max x.0.1) × (x.1 < 2 ^ 32)
 
 abbrev pub report_of : Report → List ℕ
-report_of x = ((((flag x.0.0.0.0.0 ++ flag x.0.0.0.0.1) ++ resource x.0.0.0.1) ++ limit_of x.0.0.1) ++ resource x.0.1) ++ to_be_bytes w32 x.1
+report_of x = ((((flag x.0.0.0.0.0 ++ flag x.0.0.0.0.1) ++ resource amounts_spelled x.0.0.0.1) ++ limit_of x.0.0.1) ++ resource amounts_spelled x.0.1) ++ to_be_bytes w32 x.1
 
 abbrev pub flags_at : List ℕ → Option ((Bool × Bool) × List ℕ)
 flags_at bytes = pair_at flag_at flag_at bytes
 
 abbrev pub guarantee_at : List ℕ → Option (((Bool × Bool) × List ℕ) × List ℕ)
-guarantee_at bytes = pair_at flags_at (amounts_at resources amount_max) bytes
+guarantee_at bytes = pair_at flags_at (amounts_at resources amounts_spelled amount_max) bytes
 
 abbrev pub limits_at : List ℕ → Option ((((Bool × Bool) × List ℕ) × Limit) × List ℕ)
 limits_at bytes = pair_at guarantee_at limit_at bytes
 
 abbrev pub uses_at : List ℕ → Option (((((Bool × Bool) × List ℕ) × Limit) × List ℕ) × List ℕ)
-uses_at bytes = pair_at limits_at (amounts_at resources sum_max) bytes
+uses_at bytes = pair_at limits_at (amounts_at resources amounts_spelled sum_max) bytes
 
 abbrev pub queue_report_at : List ℕ → Option (Report × List ℕ)
 queue_report_at bytes = pair_at uses_at (number_at w32) bytes
@@ -110,9 +123,9 @@ is_report =
     is_pair _ _ _ _ _ _
     (is_pair _ _ _ _ _ _
     (is_pair _ _ _ _ _ _
-    (is_pair _ _ _ _ _ _ is_flags (is_amounts resources amount_max (omega arith)))
+    (is_pair _ _ _ _ _ _ is_flags (is_amounts resources amounts_spelled amount_max (omega arith) (omega arith)))
     is_limit)
-    (is_amounts resources sum_max (omega arith)))
+    (is_amounts resources amounts_spelled sum_max (omega arith) (omega arith)))
     is_u32
 
 -- ---- the bounds of a container
@@ -121,16 +134,16 @@ abbrev pub Bounds : Type 0
 Bounds = List ℕ × List ℕ
 
 abbrev pub bounds_at : List ℕ → Option (Bounds × List ℕ)
-bounds_at bytes = pair_at (amounts_at resources amount_max) (amounts_at resources amount_max) bytes
+bounds_at bytes = pair_at (amounts_at resources amounts_spelled amount_max) (amounts_at resources amounts_spelled amount_max) bytes
 
 abbrev pub bounds_of : Bounds → List ℕ
-bounds_of x = resource x.0 ++ resource x.1
+bounds_of x = resource amounts_spelled x.0 ++ resource amounts_spelled x.1
 
 abbrev pub FitsBounds : Bounds → Type 0
-FitsBounds x = IsResource resources x.0 × IsResource resources x.1
+FitsBounds x = IsSpelledResource x.0 × IsSpelledResource x.1
 
 pub is_bounds : IsField bounds_at bounds_of FitsBounds
-is_bounds = is_pair (amounts_at resources amount_max) resource (IsResource resources) (amounts_at resources amount_max) resource (IsResource resources) (is_amounts resources amount_max (omega arith)) (is_amounts resources amount_max (omega arith))
+is_bounds = is_pair (amounts_at resources amounts_spelled amount_max) (resource amounts_spelled) IsSpelledResource (amounts_at resources amounts_spelled amount_max) (resource amounts_spelled) IsSpelledResource (is_amounts resources amounts_spelled amount_max (omega arith) (omega arith)) (is_amounts resources amounts_spelled amount_max (omega arith) (omega arith))
 
 -- ---- lists with their length in one byte
 
@@ -148,13 +161,13 @@ abbrev pub GrantParts : Type 0
 GrantParts = ℕ × (ℕ × (ℕ × (ℕ × (List ℕ × List ℕ))))
 
 abbrev pub FitsGrantParts : GrantParts → Type 0
-FitsGrantParts x = (x.0 < 2 ^ 64) × ((x.1.0 < 2 ^ 32) × ((x.1.1.0 < 2 ^ 64) × ((x.1.1.1.0 < 2 ^ 64) × ((is_place x.1.1.1.1.0 ≡ true) × IsResource resources x.1.1.1.1.1))))
+FitsGrantParts x = (x.0 < 2 ^ 64) × ((x.1.0 < 2 ^ 32) × ((x.1.1.0 < 2 ^ 64) × ((x.1.1.1.0 < 2 ^ 64) × ((is_place x.1.1.1.1.0 ≡ true) × IsSpelledResource x.1.1.1.1.1))))
 
 abbrev pub grant_parts : GrantParts → List ℕ
-grant_parts x = to_be_bytes w64 x.0 ++ (to_be_bytes w32 x.1.0 ++ (to_be_bytes w64 x.1.1.0 ++ (to_be_bytes w64 x.1.1.1.0 ++ (text x.1.1.1.1.0 ++ resource x.1.1.1.1.1))))
+grant_parts x = to_be_bytes w64 x.0 ++ (to_be_bytes w32 x.1.0 ++ (to_be_bytes w64 x.1.1.0 ++ (to_be_bytes w64 x.1.1.1.0 ++ (text x.1.1.1.1.0 ++ resource amounts_spelled x.1.1.1.1.1))))
 
 abbrev pub grant_parts_at : List ℕ → Option (GrantParts × List ℕ)
-grant_parts_at bytes = pair_at (number_at w64) (pair_at (number_at w32) (pair_at (number_at w64) (pair_at (number_at w64) (pair_at (passing_at is_place text_at) (amounts_at resources amount_max))))) bytes
+grant_parts_at bytes = pair_at (number_at w64) (pair_at (number_at w32) (pair_at (number_at w64) (pair_at (number_at w64) (pair_at (passing_at is_place text_at) (amounts_at resources amounts_spelled amount_max))))) bytes
 
 pub is_grant_parts : IsField grant_parts_at grant_parts FitsGrantParts
 is_grant_parts =
@@ -162,7 +175,7 @@ is_grant_parts =
     (is_pair _ _ _ _ _ _ is_u32
     (is_pair _ _ _ _ _ _ is_u64
     (is_pair _ _ _ _ _ _ is_u64
-    (is_pair (passing_at is_place text_at) text (λ t. is_place t ≡ true) (amounts_at resources amount_max) resource (IsResource resources) (is_text_passing is_place) (is_amounts resources amount_max (omega arith))))))
+    (is_pair (passing_at is_place text_at) text (λ t. is_place t ≡ true) (amounts_at resources amounts_spelled amount_max) (resource amounts_spelled) IsSpelledResource (is_text_passing is_place) (is_amounts resources amounts_spelled amount_max (omega arith) (omega arith))))))
 
 abbrev pub grant_from : GrantParts → Grant
 grant_from x = record { container = x.0; key = record { priority = x.1.0; request = x.1.1.0 }; node = x.1.1.1.0; host = x.1.1.1.1.0; resource = x.1.1.1.1.1 }
@@ -175,13 +188,22 @@ grant_at bytes = do
   x ← grant_parts_at bytes
   Some (grant_from x.0, x.1)
 
-pub is_grant : IsField grant_at grant FitsGrant
+-- a grant whose amounts are all spelled, or 0
+abbrev pub FitsShownGrant : Grant → Type 0
+FitsShownGrant g = FitsGrantParts (grant_to g)
+
+pub is_grant : IsField grant_at grant FitsShownGrant
 unfolding grant
-is_grant =
-    is_field_of grant_at grant (λ g. FitsGrantParts (grant_to g)) FitsGrant
-    (is_made grant_from grant_to grant_parts_at grant_parts FitsGrantParts (λ x. refl) (λ g. refl) is_grant_parts)
-    (λ g h. record { container = h.0; priority = h.1.0; request = h.1.1.0; node = h.1.1.1.0; host = h.1.1.1.1.0; resource = h.1.1.1.1.1 })
-    (λ g h. (h.container, (h.priority, (h.request, (h.node, (h.host, h.resource))))))
+is_grant = is_made grant_from grant_to grant_parts_at grant_parts FitsGrantParts FitsShownGrant (record { back = λ x fits. refl; forth = λ g fits. refl; to = λ x fits. fits; from = λ g fits. fits }) is_grant_parts
+
+grants_each : (gs : List Grant) → AllByRecursion FitsGrant gs → AllByRecursion FitsShownGrant (map (shown_grant amounts_spelled) gs)
+grants_each [] fits = tt
+grants_each (g ∷ gs) fits =
+    let h = fits.0 in
+    ((h.container, (h.priority, (h.request, (h.node, (h.host, shown_resource g.resource h.resource))))), grants_each gs fits.1)
+
+pub grants_fit : (gs : List Grant) → FitsListed news_max FitsGrant gs → FitsListed news_max FitsShownGrant (map (shown_grant amounts_spelled) gs)
+grants_fit gs fits = record { few = subst (λ n. n ≤ news_max) (sym (how_many amounts_spelled gs)) fits.few; each = grants_each gs fits.each }
 
 abbrev pub cause_of : ℕ → Cause
 cause_of n = if n == 1 then Cause.Released else if n == 2 then Cause.EndedOnNode else Cause.NodeLost
@@ -246,12 +268,12 @@ from_ends response ignored grants o = do
   ends ← o
   Some (((response, ignored), (grants, ends.0)), ends.1)
 
-pub allocated_again : (response ignored : ℕ) (grants : List Grant) (ends : List End) → response < 2 ^ 32 → ignored < 2 ^ 16 → FitsListed news_max FitsGrant grants → FitsListed news_max FitsEnd ends →
+pub allocated_again : (response ignored : ℕ) (grants : List Grant) (ends : List End) → response < 2 ^ 32 → ignored < 2 ^ 16 → FitsListed news_max FitsShownGrant grants → FitsListed news_max FitsEnd ends →
     allocated_at (to_be_bytes w32 response ++ (to_be_bytes w16 ignored ++ (counted_list grant grants ++ counted_list end ends))) ≡ Some (((response, ignored), (grants, ends)), [])
 allocated_again response ignored grants ends r i g e =
     ap from_response (is_u32.again response (to_be_bytes w16 ignored ++ (counted_list grant grants ++ counted_list end ends)) r)
     ∙ ap (from_ignored response) (is_u16.again ignored (counted_list grant grants ++ counted_list end ends) i)
-    ∙ ap (from_grants response ignored) (told_again grant_at grant FitsGrant is_grant grants (counted_list end ends) g)
+    ∙ ap (from_grants response ignored) (told_again grant_at grant FitsShownGrant is_grant grants (counted_list end ends) g)
     ∙ ap (from_ends response ignored grants) (ap (times_at (length ends) end_at) (sym (append-nil (flat_map end ends))) ∙ ends_again ends [] e.each)
 
 -- ---- what a Heartbeat gives
@@ -278,13 +300,13 @@ abbrev pub Info : Type 0
 Info = (((ℕ × ℕ) × ℕ) × List ℕ) × List ℕ
 
 abbrev pub FitsInfo : Info → Type 0
-FitsInfo x = ((((x.0.0.0.0 < 2 ^ 32) × (x.0.0.0.1 < 2 ^ 32)) × (x.0.0.1 < 2 ^ 32)) × IsResource resources x.0.1) × IsSum resources x.1
+FitsInfo x = ((((x.0.0.0.0 < 2 ^ 32) × (x.0.0.0.1 < 2 ^ 32)) × (x.0.0.1 < 2 ^ 32)) × IsSpelledResource x.0.1) × IsShownVector resources amounts_spelled sum_max x.1
 
 abbrev pub info_of : Info → List ℕ
-info_of x = (((to_be_bytes w32 x.0.0.0.0 ++ to_be_bytes w32 x.0.0.0.1) ++ to_be_bytes w32 x.0.0.1) ++ resource x.0.1) ++ resource x.1
+info_of x = (((to_be_bytes w32 x.0.0.0.0 ++ to_be_bytes w32 x.0.0.0.1) ++ to_be_bytes w32 x.0.0.1) ++ resource amounts_spelled x.0.1) ++ resource amounts_spelled x.1
 
 abbrev pub info_at : List ℕ → Option (Info × List ℕ)
-info_at bytes = pair_at (pair_at (pair_at (pair_at (number_at w32) (number_at w32)) (number_at w32)) (amounts_at resources amount_max)) (amounts_at resources sum_max) bytes
+info_at bytes = pair_at (pair_at (pair_at (pair_at (number_at w32) (number_at w32)) (number_at w32)) (amounts_at resources amounts_spelled amount_max)) (amounts_at resources amounts_spelled sum_max) bytes
 
 pub is_info : IsField info_at info_of FitsInfo
 is_info =
@@ -293,5 +315,5 @@ is_info =
     (is_pair _ _ _ _ _ _
     (is_pair (number_at w32) (to_be_bytes w32) (λ n. n < 2 ^ 32) (number_at w32) (to_be_bytes w32) (λ n. n < 2 ^ 32) is_u32 is_u32)
     is_u32)
-    (is_amounts resources amount_max (omega arith)))
-    (is_amounts resources sum_max (omega arith))
+    (is_amounts resources amounts_spelled amount_max (omega arith) (omega arith)))
+    (is_amounts resources amounts_spelled sum_max (omega arith) (omega arith))

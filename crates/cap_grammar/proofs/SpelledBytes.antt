@@ -1,8 +1,8 @@
 -- What is spelled in requests and replies is bytes.
-use Rattle.std.proofs.Common.{◌≡◌, ℕ, ◌%◌, ◌<◌, ◌≤◌, Bool, true, false, Option, List, [], ◌∷◌, ◌++◌, length, arith}
+use Rattle.std.proofs.Common.{◌≡◌, ℕ, ◌%◌, ◌<◌, ◌≤◌, Bool, true, false, Option, List, [], ◌∷◌, ◌++◌, length, take, arith}
 use Rattle.std.specs.Prelude.{nat_le, nat_lt, ◌&&◌, is_some, unwrap_or}
 use Rattle.std.specs.List.{list_all, flat_map, AllByRecursion}
-use Rattle.std.specs.Int.{w16, w32, w64, to_be_bytes}
+use Rattle.std.specs.Int.{Width, w16, w32, w64, to_be_bytes}
 use Rattle.std.proofs.lemmas.Bool.{and_parts}
 use Rattle.std.proofs.lemmas.Bool.Decides.{nat_tests}
 use Rattle.std.proofs.lemmas.List.Elements.{All-nil, All-cons, All-append, All-from_recursion}
@@ -17,6 +17,7 @@ use Rattle.cap_model.specs.declared.news.End.{End}
 use Rattle.cap_model.specs.declared.news.Cause.{Cause}
 use Rattle.cap_model.specs.declared.replies.HeartbeatReply.{HeartbeatReply}
 use Rattle.cap_base.specs.Limits.{news_max, resources}
+use Rattle.cap_grammar.specs.Shown.{amounts_spelled}
 use Rattle.cap_grammar.specs.Spelling.{list_bytes, FitsListed, ask, FitsAsk, counted_list, grant, FitsGrant, end, FitsEnd, allocate_bytes, FitsAllocated, beat, text, resource, flag, limit, queue_report, cluster_report}
 use Rattle.cap_frames.specs.Stream.{IsBytes}
 
@@ -61,59 +62,59 @@ each_amount : (v : List ℕ) → IsBytes (flat_map (to_be_bytes w64) v)
 each_amount [] = All-nil Small
 each_amount (n ∷ v) = both (to_be_bytes w64 n) (flat_map (to_be_bytes w64) v) (long n) (each_amount v)
 
-pub amounts : (v : List ℕ) → IsBytes (resource v)
+pub amounts : (n : ℕ) (v : List ℕ) → IsBytes (resource n v)
 unfolding resource
-amounts v = each_amount v
+amounts n v = each_amount (take n v)
 
 pub a_flag : (holds : Bool) → IsBytes (flag holds)
 a_flag false = one 0 [] (omega arith) (All-nil Small)
 a_flag true = one 1 [] (omega arith) (All-nil Small)
 
 a_limit : (maximum : Option (List ℕ)) → IsBytes (limit maximum)
-a_limit maximum = both (flag (is_some maximum)) (resource (unwrap_or maximum (zeros resources))) (a_flag (is_some maximum)) (amounts (unwrap_or maximum (zeros resources)))
+a_limit maximum = both (flag (is_some maximum)) (resource amounts_spelled (unwrap_or maximum (zeros resources))) (a_flag (is_some maximum)) (amounts amounts_spelled (unwrap_or maximum (zeros resources)))
 
 pub a_queue : (r : QueueReport resources) → IsBytes (queue_report r)
 unfolding queue_report
 a_queue r =
     let flags = flag r.running ++ flag r.leaf in
-    both (flags ++ resource r.guaranteed ++ limit r.maximum ++ resource r.used) (to_be_bytes w32 r.apps)
-    (both (flags ++ resource r.guaranteed ++ limit r.maximum) (resource r.used)
-    (both (flags ++ resource r.guaranteed) (limit r.maximum)
-    (both flags (resource r.guaranteed) (both (flag r.running) (flag r.leaf) (a_flag r.running) (a_flag r.leaf)) (amounts r.guaranteed))
+    both (flags ++ resource amounts_spelled r.guaranteed ++ limit r.maximum ++ resource amounts_spelled r.used) (to_be_bytes w32 r.apps)
+    (both (flags ++ resource amounts_spelled r.guaranteed ++ limit r.maximum) (resource amounts_spelled r.used)
+    (both (flags ++ resource amounts_spelled r.guaranteed) (limit r.maximum)
+    (both flags (resource amounts_spelled r.guaranteed) (both (flag r.running) (flag r.leaf) (a_flag r.running) (a_flag r.leaf)) (amounts amounts_spelled r.guaranteed))
     (a_limit r.maximum))
-    (amounts r.used))
+    (amounts amounts_spelled r.used))
     (word r.apps)
 
 pub a_cluster : (r : ClusterReport resources) → IsBytes (cluster_report r)
 unfolding cluster_report
 a_cluster r =
     let counts = to_be_bytes w32 r.nodes ++ to_be_bytes w32 r.apps ++ to_be_bytes w32 r.containers in
-    both (counts ++ resource r.totals) (resource r.used)
-    (both counts (resource r.totals)
+    both (counts ++ resource amounts_spelled r.totals) (resource amounts_spelled r.used)
+    (both counts (resource amounts_spelled r.totals)
     (both (to_be_bytes w32 r.nodes ++ to_be_bytes w32 r.apps) (to_be_bytes w32 r.containers)
     (both (to_be_bytes w32 r.nodes) (to_be_bytes w32 r.apps) (word r.nodes) (word r.apps))
     (word r.containers))
-    (amounts r.totals))
-    (amounts r.used)
+    (amounts amounts_spelled r.totals))
+    (amounts amounts_spelled r.used)
 
-two : (n : ℕ) → IsBytes (to_be_bytes w16 n)
+pub two : (n : ℕ) → IsBytes (to_be_bytes w16 n)
 two n = All-from_recursion Small (to_be_bytes w16 n) (small _, (small _, tt))
 
 each_of : {A : Type 0} (spell : A → List ℕ) (F : A → Type 0) → ((x : A) → F x → IsBytes (spell x)) → (xs : List A) → AllByRecursion F xs → IsBytes (flat_map spell xs)
 each_of spell F is [] fits = All-nil Small
 each_of spell F is (x ∷ xs) fits = both (spell x) (flat_map spell xs) (is x fits.0) (each_of spell F is xs fits.1)
 
-pub a_list : {A : Type 0} (most : ℕ) (spell : A → List ℕ) (F : A → Type 0) → ((x : A) → F x → IsBytes (spell x)) → (xs : List A) → FitsListed most F xs → IsBytes (list_bytes spell xs)
+pub a_list : {A : Type 0} (w : Width) → ((n : ℕ) → IsBytes (to_be_bytes w n)) → (most : ℕ) (spell : A → List ℕ) (F : A → Type 0) → ((x : A) → F x → IsBytes (spell x)) → (xs : List A) → FitsListed most F xs → IsBytes (list_bytes w spell xs)
 unfolding list_bytes
-a_list most spell F is xs fits = both (to_be_bytes w16 (length xs)) (flat_map spell xs) (two (length xs)) (each_of spell F is xs fits.each)
+a_list w number most spell F is xs fits = both (to_be_bytes w (length xs)) (flat_map spell xs) (number (length xs)) (each_of spell F is xs fits.each)
 
 pub an_ask : (a : Ask) → FitsAsk a → IsBytes (ask a)
 unfolding ask
 an_ask a fits =
-    both (to_be_bytes w32 a.key.priority) (to_be_bytes w64 a.key.request ++ (to_be_bytes w32 a.count ++ (resource a.resource ++ text a.place))) (word a.key.priority)
-    (both (to_be_bytes w64 a.key.request) (to_be_bytes w32 a.count ++ (resource a.resource ++ text a.place)) (long a.key.request)
-    (both (to_be_bytes w32 a.count) (resource a.resource ++ text a.place) (word a.count)
-    (both (resource a.resource) (text a.place) (amounts a.resource) (a_text 64 a.place (omega arith) fits.place))))
+    both (to_be_bytes w32 a.key.priority) (to_be_bytes w64 a.key.request ++ (to_be_bytes w32 a.count ++ (resource amounts_spelled a.resource ++ text a.place))) (word a.key.priority)
+    (both (to_be_bytes w64 a.key.request) (to_be_bytes w32 a.count ++ (resource amounts_spelled a.resource ++ text a.place)) (long a.key.request)
+    (both (to_be_bytes w32 a.count) (resource amounts_spelled a.resource ++ text a.place) (word a.count)
+    (both (resource amounts_spelled a.resource) (text a.place) (amounts amounts_spelled a.resource) (a_text 64 a.place (omega arith) fits.place))))
 
 a_told : {A : Type 0} (spell : A → List ℕ) (F : A → Type 0) → ((x : A) → F x → IsBytes (spell x)) → (xs : List A) → FitsListed news_max F xs → IsBytes (counted_list spell xs)
 a_told spell F is xs fits = let few : length xs ≤ 64 = fits.few in one (length xs) (flat_map spell xs) (omega (arith, few)) (each_of spell F is xs fits.each)
@@ -121,11 +122,11 @@ a_told spell F is xs fits = let few : length xs ≤ 64 = fits.few in one (length
 a_grant : (g : Grant) → FitsGrant g → IsBytes (grant g)
 unfolding grant
 a_grant g fits =
-    both (to_be_bytes w64 g.container) (to_be_bytes w32 g.key.priority ++ (to_be_bytes w64 g.key.request ++ (to_be_bytes w64 g.node ++ (text g.host ++ resource g.resource)))) (long g.container)
-    (both (to_be_bytes w32 g.key.priority) (to_be_bytes w64 g.key.request ++ (to_be_bytes w64 g.node ++ (text g.host ++ resource g.resource))) (word g.key.priority)
-    (both (to_be_bytes w64 g.key.request) (to_be_bytes w64 g.node ++ (text g.host ++ resource g.resource)) (long g.key.request)
-    (both (to_be_bytes w64 g.node) (text g.host ++ resource g.resource) (long g.node)
-    (both (text g.host) (resource g.resource) (a_text 64 g.host (omega arith) fits.host) (amounts g.resource)))))
+    both (to_be_bytes w64 g.container) (to_be_bytes w32 g.key.priority ++ (to_be_bytes w64 g.key.request ++ (to_be_bytes w64 g.node ++ (text g.host ++ resource amounts_spelled g.resource)))) (long g.container)
+    (both (to_be_bytes w32 g.key.priority) (to_be_bytes w64 g.key.request ++ (to_be_bytes w64 g.node ++ (text g.host ++ resource amounts_spelled g.resource))) (word g.key.priority)
+    (both (to_be_bytes w64 g.key.request) (to_be_bytes w64 g.node ++ (text g.host ++ resource amounts_spelled g.resource)) (long g.key.request)
+    (both (to_be_bytes w64 g.node) (text g.host ++ resource amounts_spelled g.resource) (long g.node)
+    (both (text g.host) (resource amounts_spelled g.resource) (a_text 64 g.host (omega arith) fits.host) (amounts amounts_spelled g.resource)))))
 
 a_cause : (c : Cause) → cause_number c < 256
 a_cause Cause.Released = omega arith

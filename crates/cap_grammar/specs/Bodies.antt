@@ -1,12 +1,13 @@
 -- Reading the body of each kind of request, and which bodies have lists.
 use Rattle.std.specs.Prelude.{◌≡◌, ◌⊎◌, ℕ, List, length, drop, Option, Some, None, Bool, true, nat_lt, ◌==◌, if◌then◌else◌}
-use Rattle.std.specs.Int.{w16, w32, w64}
+use Rattle.std.specs.Int.{Width, w16, w32, w64}
 use Rattle.cap_vector.specs.Vector.{amount_max}
-use Rattle.cap_base.specs.Limits.{asks_max, numbers_max, resources}
+use Rattle.cap_base.specs.Limits.{asks_max, numbers_max, resources, text_max}
 use Rattle.cap_model.specs.Asks.{Ask}
 use Rattle.cap_base.specs.Cascade.{holds_of}
 use Rattle.cap_model.specs.declared.request.Request.{Request}
-use Rattle.cap_grammar.specs.Fields.{◌>>=◌, pair_at, passing_at, all_at, counted_at, number_at, text_at, flag_at, amounts_at}
+use Rattle.cap_grammar.specs.Fields.{◌>>=◌, pair_at, passing_at, all_at, counted_at, byte_at, number_at, text_at, flag_at, amounts_at}
+use Rattle.cap_grammar.specs.Shown.{amounts_spelled}
 use Rattle.cap_grammar.specs.Texts.{is_host, is_rack, is_path, is_user, is_place}
 
 -- path of the leaf queue, and user
@@ -25,7 +26,7 @@ register_master_at bytes = do
 
 -- priority, request id, count, resource and place
 abbrev pub wish_at : List ℕ → Option ((ℕ × (ℕ × (ℕ × (List ℕ × List ℕ)))) × List ℕ)
-wish_at bytes = pair_at (number_at w32) (pair_at (number_at w64) (pair_at (number_at w32) (pair_at (amounts_at resources amount_max) (passing_at is_place text_at)))) bytes
+wish_at bytes = pair_at (number_at w32) (pair_at (number_at w64) (pair_at (number_at w32) (pair_at (amounts_at resources amounts_spelled amount_max) (passing_at is_place text_at)))) bytes
 
 abbrev pub ask_of : ℕ × (ℕ × (ℕ × (List ℕ × List ℕ))) → Ask
 ask_of x = record { key = record { priority = x.0; request = x.1.0 }; count = x.1.1.0; resource = x.1.1.1.0; place = x.1.1.1.1 }
@@ -37,7 +38,7 @@ ask_at bytes = do
 
 -- application, response id, asks and releases
 abbrev pub wishes_at : List ℕ → Option ((ℕ × (ℕ × (List Ask × List ℕ))) × List ℕ)
-wishes_at bytes = pair_at (number_at w64) (pair_at (number_at w32) (pair_at (counted_at asks_max ask_at) (counted_at numbers_max (number_at w64)))) bytes
+wishes_at bytes = pair_at (number_at w64) (pair_at (number_at w32) (pair_at (counted_at w16 asks_max ask_at) (counted_at w16 numbers_max (number_at w64)))) bytes
 
 unfoldable pub allocate_at : List ℕ → Option (Request resources)
 allocate_at bytes = do
@@ -51,7 +52,7 @@ finish_master_at bytes = do
 
 -- host, rack and total
 abbrev pub registration_at : List ℕ → Option ((List ℕ × (List ℕ × List ℕ)) × List ℕ)
-registration_at bytes = pair_at (passing_at is_host text_at) (pair_at (passing_at is_rack text_at) (amounts_at resources amount_max)) bytes
+registration_at bytes = pair_at (passing_at is_host text_at) (pair_at (passing_at is_rack text_at) (amounts_at resources amounts_spelled amount_max)) bytes
 
 unfoldable pub register_node_at : List ℕ → Option (Request resources)
 register_node_at bytes = do
@@ -60,7 +61,7 @@ register_node_at bytes = do
 
 -- node, response id and ended containers
 abbrev pub report_at : List ℕ → Option ((ℕ × (ℕ × List ℕ)) × List ℕ)
-report_at bytes = pair_at (number_at w64) (pair_at (number_at w32) (counted_at numbers_max (number_at w64))) bytes
+report_at bytes = pair_at (number_at w64) (pair_at (number_at w32) (counted_at w16 numbers_max (number_at w64))) bytes
 
 unfoldable pub heartbeat_at : List ℕ → Option (Request resources)
 heartbeat_at bytes = do
@@ -92,6 +93,15 @@ set_queue_state_at bytes = do
 unfoldable pub cluster_info_at : List ℕ → Option (Request resources)
 cluster_info_at bytes = if length bytes == 0 then Some Request.ClusterInfo else None
 
+-- property lines: how many bytes, and the bytes
+abbrev pub lines_at : List ℕ → Option (List ℕ × List ℕ)
+lines_at bytes = counted_at w32 text_max byte_at bytes
+
+unfoldable pub refresh_at : List ℕ → Option (Request resources)
+refresh_at bytes = do
+  text ← all_at lines_at bytes
+  Some (Request.Refresh text)
+
 -- the body of a request of this kind, all of the bytes
 unfoldable pub body_at : ℕ → List ℕ → Option (Request resources)
 body_at kind bytes =
@@ -105,12 +115,14 @@ body_at kind bytes =
     if kind == 8 then queue_info_at bytes else
     if kind == 9 then set_queue_state_at bytes else
     if kind == 10 then cluster_info_at bytes else
+    if kind == 11 then refresh_at bytes else
     None
 
--- a list that is not empty begins at a position of the bytes
-abbrev pub HasItemsAt : ℕ → List ℕ → Type 0
-HasItemsAt i bytes = holds_of (λ n. nat_lt 0 n.0) (number_at w16 (drop i bytes)) ≡ true
+-- a list that is not empty, with its length in a number of this width, begins at a position of the bytes
+abbrev pub HasItemsAt : Width → ℕ → List ℕ → Type 0
+HasItemsAt w i bytes = holds_of (λ n. nat_lt 0 n.0) (number_at w (drop i bytes)) ≡ true
 
--- memory is taken for the lists of a body of this kind, where they are not empty: asks and then releases, or ended containers
+-- memory is taken for the lists of a body of this kind, where they are not empty: asks and then releases, ended containers, or property lines
 abbrev pub ListsItems : ℕ → List ℕ → Type 0
-ListsItems kind body = ((kind ≡ 3) × (HasItemsAt 12 body ⊎ HasItemsAt 14 body)) ⊎ ((kind ≡ 6) × HasItemsAt 12 body)
+ListsItems kind body =
+    ((kind ≡ 3) × (HasItemsAt w16 12 body ⊎ HasItemsAt w16 14 body)) ⊎ (((kind ≡ 6) × HasItemsAt w16 12 body) ⊎ ((kind ≡ 11) × HasItemsAt w32 0 body))

@@ -1,6 +1,7 @@
 -- Reading fields from left to right. A field is a value and the bytes after it.
-use Rattle.std.specs.Prelude.{◌≡◌, ℕ, zero, suc, List, [], ◌∷◌, length, take, drop, Option, Some, None, Result, Ok, Err, Bool, true, false, nat_lt, nat_le, ◌==◌, if◌then◌else◌}
-use Rattle.std.specs.Int.{Width, w16, w64, byte_len, from_be_bytes}
+use Rattle.std.specs.Prelude.{◌≡◌, ℕ, zero, suc, ◌-◌, List, [], ◌∷◌, ◌++◌, length, take, drop, Option, Some, None, Result, Ok, Err, Bool, true, false, nat_lt, nat_le, ◌==◌, if◌then◌else◌}
+use Rattle.std.specs.Int.{Width, w64, byte_len, from_be_bytes}
+use Rattle.cap_vector.specs.Vector.{zeros}
 use Rattle.cap_grammar.specs.declared.fault.MessageFault.{MessageFault}
 use Rattle.cap_grammar.specs.declared.fault.MessageFault.TheVariants.{Bad}
 
@@ -76,12 +77,14 @@ text_at bytes = do
 unfoldable pub amount_at : ℕ → List ℕ → Option (ℕ × List ℕ)
 amount_at bound bytes = passing_at (λ n. nat_le n bound) (number_at w64) bytes
 
--- k amounts up to the bound
-unfoldable pub amounts_at : ℕ → ℕ → List ℕ → Option (List ℕ × List ℕ)
-amounts_at k bound bytes = times_at k (amount_at bound) bytes
+-- a vector of k amounts up to the bound: the first n, and 0 in place of the others
+unfoldable pub amounts_at : ℕ → ℕ → ℕ → List ℕ → Option (List ℕ × List ℕ)
+amounts_at k n bound bytes = do
+  x ← times_at n (amount_at bound) bytes
+  Some (x.0 ++ zeros (k - n), x.1)
 
 -- at most so many fields, with their number before them
-unfoldable pub counted_at : {A : Type 0} → ℕ → (List ℕ → Option (A × List ℕ)) → List ℕ → Option (List A × List ℕ)
-counted_at most field bytes = do
-  n ← passing_at (λ n. nat_le n most) (number_at w16) bytes
+unfoldable pub counted_at : {A : Type 0} → Width → ℕ → (List ℕ → Option (A × List ℕ)) → List ℕ → Option (List A × List ℕ)
+counted_at w most field bytes = do
+  n ← passing_at (λ n. nat_le n most) (number_at w) bytes
   times_at n.0 field n.1

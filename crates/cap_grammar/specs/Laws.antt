@@ -3,6 +3,7 @@ use Rattle.std.specs.Prelude.{◌≡◌, ℕ, ◌<◌, ◌^◌, List, [], ◌++�
 use Rattle.cap_base.specs.Limits.{resources}
 use Rattle.cap_model.specs.declared.request.Request.{Request}
 use Rattle.cap_model.specs.News.{Reply}
+use Rattle.cap_grammar.specs.Shown.{amounts_spelled, shown}
 use Rattle.cap_grammar.specs.Spelling.{FitsRequest, IsRequest, IsKind, IsOfKind, FitsReply, IsReply, fault_reply}
 use Rattle.cap_grammar.specs.Answers.{Says}
 use Rattle.cap_grammar.specs.declared.answers.Answer.{Answer}
@@ -32,9 +33,16 @@ RepliesHaveASpelling =
 abbrev pub RepliesHaveNoOther : Type 0
 RepliesHaveNoOther = (bytes others : List ℕ) (id kind : ℕ) (reply : Reply resources) → IsReply bytes id kind reply → IsReply others id kind reply → bytes ≡ others
 
-abbrev pub NoTwoRepliesShareOne : Type 0
-NoTwoRepliesShareOne =
-    (bytes : List ℕ) (id id' kind kind' : ℕ) (reply reply' : Reply resources) → IsReply bytes id kind reply → IsReply bytes id' kind' reply' → (id ≡ id') × (kind ≡ kind') × (reply ≡ reply')
+-- replies that share a spelling have one call id and one kind, and are the same or differ in amounts alone that are not spelled
+abbrev pub SharingRepliesAreAlike : Type 0
+SharingRepliesAreAlike =
+    (bytes : List ℕ) (id id' kind kind' : ℕ) (reply reply' : Reply resources) → IsReply bytes id kind reply → IsReply bytes id' kind' reply' →
+    (id ≡ id') × (kind ≡ kind') × (shown amounts_spelled reply ≡ shown amounts_spelled reply')
+
+-- replies that are the same, or differ in amounts alone that are not spelled, share a spelling
+abbrev pub AlikeRepliesShareOne : Type 0
+AlikeRepliesShareOne =
+    (bytes : List ℕ) (id kind : ℕ) (reply reply' : Reply resources) → IsReply bytes id kind reply → FitsReply reply' → shown amounts_spelled reply ≡ shown amounts_spelled reply' → IsReply bytes id kind reply'
 
 -- a reply to a request is none to a fault
 abbrev pub NoReplyIsAFault : Type 0

@@ -1,27 +1,33 @@
 -- The one spelling of each request and each reply.
-use Rattle.std.specs.Prelude.{◌≡◌, ℕ, ◌<◌, ◌≤◌, ◌^◌, ◌⊎◌, List, [], ◌∷◌, ◌++◌, length, Bool, true, Option, IfSome, is_some, unwrap_or, if◌then◌else◌}
+use Rattle.std.specs.Prelude.{◌≡◌, ℕ, ◌<◌, ◌≤◌, ◌^◌, ◌⊎◌, List, [], ◌∷◌, ◌++◌, length, take, Bool, true, Option, IfSome, is_some, unwrap_or, if◌then◌else◌}
 use Rattle.std.specs.List.{flat_map, AllByRecursion}
-use Rattle.std.specs.Int.{w16, w32, w64, to_be_bytes}
-use Rattle.cap_vector.specs.Vector.{IsResource, IsSum, zeros}
+use Rattle.std.specs.Int.{Width, w16, w32, w64, to_be_bytes}
+use Rattle.cap_vector.specs.Vector.{IsResource, IsSum, amount_max, zeros}
 use Rattle.cap_model.specs.Refusals.{status_of}
 use Rattle.cap_model.specs.Asks.{Ask}
-use Rattle.cap_base.specs.Limits.{asks_max, numbers_max, news_max, resources}
+use Rattle.cap_base.specs.Limits.{asks_max, numbers_max, news_max, resources, text_max}
 use Rattle.cap_model.specs.News.{Grant, AllocateReply, cause_number, Reply}
 use Rattle.cap_model.specs.declared.news.End.{End}
 use Rattle.cap_model.specs.declared.replies.HeartbeatReply.{HeartbeatReply}
 use Rattle.cap_model.specs.declared.report.QueueReport.{QueueReport}
 use Rattle.cap_model.specs.declared.report.ClusterReport.{ClusterReport}
+use Rattle.cap_model.specs.declared.refusal.Refusal.{Refusal}
 use Rattle.cap_model.specs.declared.request.Request.{Request}
 use Rattle.cap_model.specs.declared.reply.ReplyWith.TheVariants as Reply
+use Rattle.cap_grammar.specs.Shown.{amounts_spelled, IsShownVector}
 use Rattle.cap_grammar.specs.Texts.{is_host, is_rack, is_path, is_user, is_place}
 
 -- a text: its length and its bytes
 abbrev pub text : List ℕ → List ℕ
 text bytes = length bytes ∷ bytes
 
--- amounts, each of eight bytes
-unfoldable pub resource : List ℕ → List ℕ
-resource amounts = flat_map (to_be_bytes w64) amounts
+-- the first n amounts of a vector, each of eight bytes
+unfoldable pub resource : ℕ → List ℕ → List ℕ
+resource n amounts = flat_map (to_be_bytes w64) (take n amounts)
+
+-- a resource vector whose amounts are all spelled, or 0
+abbrev pub IsSpelledResource : List ℕ → Type 0
+IsSpelledResource v = IsShownVector resources amounts_spelled amount_max v
 
 -- a byte that is 1 or 0
 abbrev pub flag : Bool → List ℕ
@@ -29,13 +35,13 @@ flag holds = (if holds then 1 else 0) ∷ []
 
 -- whether there is a maximum, and the maximum, zeros where there is none
 abbrev pub limit : Option (List ℕ) → List ℕ
-limit maximum = flag (is_some maximum) ++ resource (unwrap_or maximum (zeros resources))
+limit maximum = flag (is_some maximum) ++ resource amounts_spelled (unwrap_or maximum (zeros resources))
 
 -- ---- requests
 
 -- a list with its length before it
-unfoldable pub list_bytes : {A : Type 0} → (A → List ℕ) → List A → List ℕ
-list_bytes spell xs = to_be_bytes w16 (length xs) ++ flat_map spell xs
+unfoldable pub list_bytes : {A : Type 0} → Width → (A → List ℕ) → List A → List ℕ
+list_bytes w spell xs = to_be_bytes w (length xs) ++ flat_map spell xs
 
 -- a list that is short enough, each item within its bounds
 pub record FitsListed {A : Type 0} (most : ℕ) (Fits : A → Type 0) (xs : List A) : Type 0 where
@@ -44,17 +50,24 @@ pub record FitsListed {A : Type 0} (most : ℕ) (Fits : A → Type 0) (xs : List
 
 -- priority, request id, count, resource and place
 unfoldable pub ask : Ask → List ℕ
-ask a = to_be_bytes w32 a.key.priority ++ (to_be_bytes w64 a.key.request ++ (to_be_bytes w32 a.count ++ (resource a.resource ++ text a.place)))
+ask a = to_be_bytes w32 a.key.priority ++ (to_be_bytes w64 a.key.request ++ (to_be_bytes w32 a.count ++ (resource amounts_spelled a.resource ++ text a.place)))
 
 pub record FitsAsk (a : Ask) : Type 0 where
   pub priority : a.key.priority < 2 ^ 32
   pub request : a.key.request < 2 ^ 64
   pub count : a.count < 2 ^ 32
-  pub resource : IsResource resources a.resource
+  pub resource : IsSpelledResource a.resource
   pub place : is_place a.place ≡ true
 
 abbrev pub FitsNumber : ℕ → Type 0
 FitsNumber n = n < 2 ^ 64
+
+-- one byte
+abbrev pub byte : ℕ → List ℕ
+byte b = b ∷ []
+
+abbrev pub FitsByte : ℕ → Type 0
+FitsByte b = b < 256
 
 abbrev pub kind_of : Request resources → ℕ
 kind_of (Request.Submit path user) = 1
@@ -67,18 +80,20 @@ kind_of (Request.NodeGone node) = 7
 kind_of (Request.QueueInfo path) = 8
 kind_of (Request.SetQueueState path running) = 9
 kind_of Request.ClusterInfo = 10
+kind_of (Request.Refresh text) = 11
 
 abbrev pub request_body : Request resources → List ℕ
 request_body (Request.Submit path user) = text path ++ text user
 request_body (Request.RegisterMaster app) = to_be_bytes w64 app
-request_body (Request.Allocate app response asks releases) = to_be_bytes w64 app ++ (to_be_bytes w32 response ++ (list_bytes ask asks ++ list_bytes (to_be_bytes w64) releases))
+request_body (Request.Allocate app response asks releases) = to_be_bytes w64 app ++ (to_be_bytes w32 response ++ (list_bytes w16 ask asks ++ list_bytes w16 (to_be_bytes w64) releases))
 request_body (Request.FinishMaster app) = to_be_bytes w64 app
-request_body (Request.RegisterNode host rack total) = text host ++ (text rack ++ resource total)
-request_body (Request.Heartbeat node response ended) = to_be_bytes w64 node ++ (to_be_bytes w32 response ++ list_bytes (to_be_bytes w64) ended)
+request_body (Request.RegisterNode host rack total) = text host ++ (text rack ++ resource amounts_spelled total)
+request_body (Request.Heartbeat node response ended) = to_be_bytes w64 node ++ (to_be_bytes w32 response ++ list_bytes w16 (to_be_bytes w64) ended)
 request_body (Request.NodeGone node) = to_be_bytes w64 node
 request_body (Request.QueueInfo path) = text path
 request_body (Request.SetQueueState path running) = text path ++ flag running
 request_body Request.ClusterInfo = []
+request_body (Request.Refresh text) = list_bytes w32 byte text
 
 -- its texts and numbers are within their bounds
 abbrev pub FitsRequest : Request resources → Type 0
@@ -87,12 +102,13 @@ FitsRequest (Request.RegisterMaster app) = app < 2 ^ 64
 FitsRequest (Request.Allocate app response asks releases) =
     (app < 2 ^ 64) × (response < 2 ^ 32) × FitsListed asks_max FitsAsk asks × FitsListed numbers_max FitsNumber releases
 FitsRequest (Request.FinishMaster app) = app < 2 ^ 64
-FitsRequest (Request.RegisterNode host rack total) = (is_host host ≡ true) × (is_rack rack ≡ true) × IsResource resources total
+FitsRequest (Request.RegisterNode host rack total) = (is_host host ≡ true) × (is_rack rack ≡ true) × IsSpelledResource total
 FitsRequest (Request.Heartbeat node response ended) = (node < 2 ^ 64) × (response < 2 ^ 32) × FitsListed numbers_max FitsNumber ended
 FitsRequest (Request.NodeGone node) = node < 2 ^ 64
 FitsRequest (Request.QueueInfo path) = is_path path ≡ true
 FitsRequest (Request.SetQueueState path running) = is_path path ≡ true
 FitsRequest Request.ClusterInfo = Unit {0}
+FitsRequest (Request.Refresh text) = FitsListed text_max FitsByte text
 
 -- version, kind, call id and body
 abbrev pub request_bytes : ℕ → Request resources → List ℕ
@@ -111,7 +127,7 @@ IsNoRequest bytes = (id : ℕ) (request : Request resources) → IsRequest bytes
 
 -- whether it runs, whether it is a leaf, guarantee, maximum, use and active applications of a queue
 unfoldable pub queue_report : QueueReport resources → List ℕ
-queue_report r = flag r.running ++ flag r.leaf ++ resource r.guaranteed ++ limit r.maximum ++ resource r.used ++ to_be_bytes w32 r.apps
+queue_report r = flag r.running ++ flag r.leaf ++ resource amounts_spelled r.guaranteed ++ limit r.maximum ++ resource amounts_spelled r.used ++ to_be_bytes w32 r.apps
 
 pub record FitsQueueReport (r : QueueReport resources) : Type 0 where
   pub guaranteed : IsResource resources r.guaranteed
@@ -121,7 +137,7 @@ pub record FitsQueueReport (r : QueueReport resources) : Type 0 where
 
 -- how many nodes, active applications and live containers, what the nodes have, and what is used
 unfoldable pub cluster_report : ClusterReport resources → List ℕ
-cluster_report r = to_be_bytes w32 r.nodes ++ to_be_bytes w32 r.apps ++ to_be_bytes w32 r.containers ++ resource r.totals ++ resource r.used
+cluster_report r = to_be_bytes w32 r.nodes ++ to_be_bytes w32 r.apps ++ to_be_bytes w32 r.containers ++ resource amounts_spelled r.totals ++ resource amounts_spelled r.used
 
 pub record FitsClusterReport (r : ClusterReport resources) : Type 0 where
   pub nodes : r.nodes < 2 ^ 32
@@ -137,7 +153,7 @@ counted_list spell xs = length xs ∷ flat_map spell xs
 -- container, key, node, host and resource
 unfoldable pub grant : Grant → List ℕ
 grant g =
-    to_be_bytes w64 g.container ++ (to_be_bytes w32 g.key.priority ++ (to_be_bytes w64 g.key.request ++ (to_be_bytes w64 g.node ++ (text g.host ++ resource g.resource))))
+    to_be_bytes w64 g.container ++ (to_be_bytes w32 g.key.priority ++ (to_be_bytes w64 g.key.request ++ (to_be_bytes w64 g.node ++ (text g.host ++ resource amounts_spelled g.resource))))
 
 pub record FitsGrant (g : Grant) : Type 0 where
   pub container : g.container < 2 ^ 64
@@ -173,11 +189,24 @@ pub record FitsBeat (r : HeartbeatReply) : Type 0 where
   pub ignored : r.ignored < 2 ^ 16
   pub live : r.live < 2 ^ 32
 
+-- what follows the number of a refusal: the line and the number of a fault of property lines, and nothing of any other
+abbrev pub refusal_body : Refusal → List ℕ
+refusal_body (Refusal.BadSettings line number) = to_be_bytes w32 line ++ byte number
+refusal_body _ = []
+
+-- the number of a refusal, and what follows it
+abbrev pub refusal_bytes : Refusal → List ℕ
+refusal_bytes refusal = status_of refusal ∷ refusal_body refusal
+
+abbrev pub FitsRefusal : Refusal → Type 0
+FitsRefusal (Refusal.BadSettings line number) = (line < 2 ^ 32) × FitsByte number
+FitsRefusal _ = Unit {0}
+
 -- the status, which is 0 or a refusal's number, and what follows it
 abbrev pub reply_body : Reply resources → List ℕ
-reply_body (Reply.Refused refusal) = status_of refusal ∷ []
+reply_body (Reply.Refused refusal) = refusal_bytes refusal
 reply_body (Reply.Submit app) = 0 ∷ to_be_bytes w64 app
-reply_body (Reply.RegisterMaster minimum maximum) = 0 ∷ resource minimum ++ resource maximum
+reply_body (Reply.RegisterMaster minimum maximum) = 0 ∷ resource amounts_spelled minimum ++ resource amounts_spelled maximum
 reply_body (Reply.Allocate reply) = 0 ∷ allocate_bytes reply
 reply_body (Reply.FinishMaster ended) = 0 ∷ to_be_bytes w32 ended
 reply_body (Reply.RegisterNode node) = 0 ∷ to_be_bytes w64 node
@@ -186,6 +215,7 @@ reply_body (Reply.NodeGone ended) = 0 ∷ to_be_bytes w32 ended
 reply_body (Reply.QueueInfo report) = 0 ∷ queue_report report
 reply_body Reply.SetQueueState = 0 ∷ []
 reply_body (Reply.ClusterInfo report) = 0 ∷ cluster_report report
+reply_body Reply.Refresh = 0 ∷ []
 
 -- a reply under the call id and the kind of its request
 abbrev pub reply_bytes : ℕ → ℕ → Reply resources → List ℕ
@@ -204,10 +234,11 @@ IsOfKind kind (Reply.NodeGone ended) = kind ≡ 7
 IsOfKind kind (Reply.QueueInfo report) = kind ≡ 8
 IsOfKind kind Reply.SetQueueState = kind ≡ 9
 IsOfKind kind (Reply.ClusterInfo report) = kind ≡ 10
+IsOfKind kind Reply.Refresh = kind ≡ 11
 
 -- its numbers are within their bounds
 abbrev pub FitsReply : Reply resources → Type 0
-FitsReply (Reply.Refused refusal) = Unit {0}
+FitsReply (Reply.Refused refusal) = FitsRefusal refusal
 FitsReply (Reply.Submit app) = app < 2 ^ 64
 FitsReply (Reply.RegisterMaster minimum maximum) = IsResource resources minimum × IsResource resources maximum
 FitsReply (Reply.Allocate reply) = FitsAllocated reply
@@ -218,10 +249,11 @@ FitsReply (Reply.NodeGone ended) = ended < 2 ^ 32
 FitsReply (Reply.QueueInfo report) = FitsQueueReport report
 FitsReply Reply.SetQueueState = Unit {0}
 FitsReply (Reply.ClusterInfo report) = FitsClusterReport report
+FitsReply Reply.Refresh = Unit {0}
 
 -- the number of a request's kind
 abbrev pub IsKind : ℕ → Type 0
-IsKind kind = (1 ≤ kind) × (kind ≤ 10)
+IsKind kind = (1 ≤ kind) × (kind ≤ 11)
 
 -- the bytes spell the reply to a request of this call id and kind
 pub record IsReply (bytes : List ℕ) (id kind : ℕ) (reply : Reply resources) : Type 0 where

@@ -1,10 +1,10 @@
 //! Replies read from their bytes, to be shown (`read_reply`, `Answer`).
 ghost use Rattle.std.specs.Prelude.{◌≡◌, IfOk, true};
-ghost use Rattle.cap_grammar.specs.Answers.{IsKindly, Says};
-ghost use Rattle.cap_grammar.specs.Spelling.{IsOfKind, IsFaultStatus};
+ghost use Rattle.cap_grammar.specs.Answers.{IsKindly, IsReadAs, Says};
+ghost use Rattle.cap_grammar.specs.Spelling.{IsFaultStatus};
 
 use crate::fault::MessageFault;
-use crate::fields::byte_of;
+use crate::fields::{byte_of, u32_of};
 use crate::output::{Out, REPLY_ROOM};
 use crate::replies::{BAD_LENGTH, BAD_MESSAGE, granted_of, kind_of, write_fault, write_reply};
 use crate::requests::head_of;
@@ -12,8 +12,11 @@ use cap_base::RESOURCES;
 use cap_model::{OwnedReply, Refusal, ReplyWith};
 use std::alloc::Global;
 
-/// All refusals.
-const REFUSALS: [Refusal; 17] = [
+/// The status of the refusal that a fault of property lines gets.
+const BAD_SETTINGS: u8 = 17;
+
+/// All refusals of which the status says all.
+const REFUSALS: [Refusal; 18] = [
     Refusal::UnknownQueue,
     Refusal::NotLeaf,
     Refusal::QueueStopped,
@@ -30,6 +33,7 @@ const REFUSALS: [Refusal; 17] = [
     Refusal::TooManyNodes,
     Refusal::ZeroResource,
     Refusal::NumbersSpent,
+    Refusal::OtherQueues,
     Refusal::NoMemory,
 ];
 
@@ -46,7 +50,8 @@ pub enum Answer {
     Fault(u8),
 }
 
-/// What the bytes of a reply say, all of them: of two answers no bytes say both. `Bad` where they are no reply. `NoMemory` if an allocation fails.
+/// What the bytes of a reply say, all of them: of two answers no bytes say both. `Bad` where they are no reply. `NoMemory` if an
+/// allocation fails. Amounts of `yarn.io/gpu`, which version 1 does not spell, are 0.
 pub fn read_reply(alloc: Global, bytes: &[u8]) -> Result<Answer, MessageFault>
     ensures { IfOk result (λ answer. Says bytes.now answer) }
 {
@@ -111,21 +116,23 @@ fn reply_of(
     status: u8,
     bytes: &[u8],
 ) -> Result<OwnedReply<RESOURCES>, MessageFault>
-    ensures { IfOk result (λ reply. IsOfKind kind reply) }
+    ensures { IfOk result (λ reply. IsReadAs kind reply) }
 {
     if status == 0 {
         return granted_of(alloc, kind, bytes);
     }
-    match refusal_of(status) {
-        Some(refusal) => Ok(ReplyWith::Refused(refusal)),
-        None => Err(MessageFault::Bad),
-    }
+    Ok(ReplyWith::Refused(refusal_of(status, bytes)?))
 }
 
-/// The refusal of this status.
-fn refusal_of(status: u8) -> Option<Refusal> {
-    REFUSALS
-        .iter()
-        .find(|refusal| refusal.status() == status)
-        .copied()
+/// The refusal of this status, from what follows it.
+fn refusal_of(status: u8, bytes: &[u8]) -> Result<Refusal, MessageFault> {
+    if status == BAD_SETTINGS {
+        let (line, rest) = u32_of(bytes)?;
+        let (number, _) = byte_of(rest)?;
+        return Ok(Refusal::BadSettings { line, number });
+    }
+    match REFUSALS.iter().find(|refusal| refusal.status() == status) {
+        Some(refusal) => Ok(*refusal),
+        None => Err(MessageFault::Bad),
+    }
 }

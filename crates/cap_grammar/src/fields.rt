@@ -3,6 +3,7 @@ ghost use Rattle.std.specs.Prelude.{◌≡◌, ◌≤◌, ◌<◌, ◌^◌, IfOk
 ghost use Rattle.std.specs.Int.{w16, w32, w64};
 ghost use Rattle.cap_base.specs.Limits.{resources};
 ghost use Rattle.cap_vector.specs.Vector.{amount_max, IsResource};
+ghost use Rattle.cap_grammar.specs.Shown.{amounts_spelled, shown_amounts};
 ghost use Rattle.cap_grammar.specs.Fields.{Gives, byte_at, flag_at, number_at, text_at, amount_at, amounts_at};
 
 use crate::fault::MessageFault;
@@ -89,14 +90,16 @@ fn amount_of(bytes: &[u8]) -> Result<(u64, &[u8]), MessageFault>
     Ok((amount, rest))
 }
 
+// Memory and vcores, and 0 of all else.
 #[tactic(auto, unfolding(crate::specs::Fields::amounts_at))]
-pub(crate) fn amounts_of(bytes: &[u8]) -> Result<([u64; 2], &[u8]), MessageFault>
-    ensures gives { Gives (λ x. (x.0, x.1.now)) result (amounts_at resources amount_max bytes.now) }
+pub(crate) fn amounts_of(bytes: &[u8]) -> Result<([u64; RESOURCES], &[u8]), MessageFault>
+    ensures gives { Gives (λ x. (x.0, x.1.now)) result
+        (amounts_at resources amounts_spelled amount_max bytes.now) }
     ensures vector { IfOk result (λ x. IsResource resources x.0) }
 {
     let (memory, rest) = amount_of(bytes)?;
     let (vcores, rest) = amount_of(rest)?;
-    Ok(([memory, vcores], rest))
+    Ok(([memory, vcores, 0], rest))
 }
 
 /// Memory in MiB and vcores.
@@ -106,11 +109,14 @@ pub(crate) fn pair_of(bytes: &[u8]) -> Result<([u64; 2], &[u8]), MessageFault> {
     Ok(([memory, vcores], rest))
 }
 
-/// The amounts, each at most `MAX`.
+/// Memory and vcores, each at most `MAX`, and 0 of all else.
 pub(crate) fn amounts_in<const MAX: u64>(
-    amounts: [u64; 2],
-) -> Result<Amounts<RESOURCES, MAX>, MessageFault> {
-    match Amounts::new(amounts) {
+    pair: [u64; 2],
+) -> Result<Amounts<RESOURCES, MAX>, MessageFault>
+    ensures { IfOk result (λ v. shown_amounts amounts_spelled v ≡ v) }
+{
+    let [memory, vcores] = pair;
+    match Amounts::new([memory, vcores, 0]) {
         Some(amounts) => Ok(amounts),
         None => Err(MessageFault::Bad),
     }

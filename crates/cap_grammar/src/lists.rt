@@ -1,16 +1,16 @@
-//! Lists of asks and of container numbers at the front of bytes, each with its length before it.
+//! Lists at the front of bytes, each with its length before it: asks, container numbers, and the bytes of property lines.
 ghost use Rattle.std.specs.Prelude.{◌≡◌, ◌≤◌, nat_le, IfOk, IsErrOf};
-ghost use Rattle.std.specs.Int.{w16, w64};
-ghost use Rattle.cap_grammar.specs.Fields.{Gives, counted_at, number_at, passing_at};
-ghost use Rattle.cap_grammar.specs.Bodies.{HasItemsAt, ask_at};
+ghost use Rattle.std.specs.Int.{w16, w32, w64};
+ghost use Rattle.cap_grammar.specs.Fields.{Gives, counted_at, byte_at, number_at, passing_at};
+ghost use Rattle.cap_grammar.specs.Bodies.{HasItemsAt, ask_at, lines_at};
 ghost use Rattle.cap_grammar.specs.Reading.{GivesInMemory};
-ghost use Rattle.cap_base.specs.Limits.{asks_max, numbers_max};
+ghost use Rattle.cap_base.specs.Limits.{asks_max, numbers_max, text_max};
 
 use crate::fault::MessageFault;
 use crate::fields::{amounts_of, text_of, u16_of, u32_of, u64_of};
 use crate::texts::place_from;
 use cap_base::RESOURCES;
-use cap_model::{Ask, Asks, Key, List, Numbers};
+use cap_model::{Ask, Asks, Key, List, Numbers, SettingsText};
 use cap_vector::Resource;
 use std::alloc::Global;
 
@@ -19,6 +19,9 @@ const ASKS_MAX: u16 = 256;
 
 /// The most releases, or ended containers, of one request.
 const NUMBERS_MAX: u16 = 1024;
+
+/// The most bytes of property lines of one request.
+const TEXT_MAX: u32 = 65_526;
 
 // The length of a list, at most so long.
 fn length_of(most: u16, bytes: &[u8]) -> Result<(u16, &[u8]), MessageFault>
@@ -36,8 +39,8 @@ fn length_of(most: u16, bytes: &[u8]) -> Result<(u16, &[u8]), MessageFault>
 // Container numbers.
 pub(crate) fn numbers_of(alloc: Global, bytes: &[u8]) -> Result<(Numbers, &[u8]), MessageFault>
     ensures gives { GivesInMemory (λ x. (x.0, x.1.now))
-        result (counted_at numbers_max (number_at w64) bytes.now) }
-    ensures memory { IsErrOf result MessageFault.NoMemory → HasItemsAt 0 bytes.now }
+        result (counted_at w16 numbers_max (number_at w64) bytes.now) }
+    ensures memory { IsErrOf result MessageFault.NoMemory → HasItemsAt w16 0 bytes.now }
 {
     let Ok((length, mut rest)) = length_of(NUMBERS_MAX, bytes) else {
         return Err(MessageFault::Bad);
@@ -63,8 +66,8 @@ pub(crate) fn numbers_of(alloc: Global, bytes: &[u8]) -> Result<(Numbers, &[u8])
 // Asks.
 pub(crate) fn asks_of(alloc: Global, bytes: &[u8]) -> Result<(Asks<RESOURCES>, &[u8]), MessageFault>
     ensures gives { GivesInMemory (λ x. (x.0, x.1.now))
-        result (counted_at asks_max ask_at bytes.now) }
-    ensures memory { IsErrOf result MessageFault.NoMemory → HasItemsAt 0 bytes.now }
+        result (counted_at w16 asks_max ask_at bytes.now) }
+    ensures memory { IsErrOf result MessageFault.NoMemory → HasItemsAt w16 0 bytes.now }
 {
     let Ok((length, mut rest)) = length_of(ASKS_MAX, bytes) else {
         return Err(MessageFault::Bad);
@@ -85,6 +88,42 @@ pub(crate) fn asks_of(alloc: Global, bytes: &[u8]) -> Result<(Asks<RESOURCES>, &
         rest = read.1;
     }
     Ok((List::of(asks), rest))
+}
+
+// How many bytes of property lines there are, at most so many.
+fn size_of(bytes: &[u8]) -> Result<(u32, &[u8]), MessageFault>
+    ensures gives { Gives (λ x. (x.0, x.1.now)) result
+        (passing_at (λ n. nat_le n text_max) (number_at w32) bytes.now) }
+    ensures few { IfOk result (λ x. x.0 ≤ text_max) }
+{
+    let (size, rest) = u32_of(bytes)?;
+    if size > TEXT_MAX {
+        return Err(MessageFault::Bad);
+    }
+    Ok((size, rest))
+}
+
+// Property lines.
+pub(crate) fn lines_of(alloc: Global, bytes: &[u8]) -> Result<(SettingsText, &[u8]), MessageFault>
+    ensures gives { GivesInMemory (λ x. (x.0, x.1.now)) result (lines_at bytes.now) }
+    ensures memory { IsErrOf result MessageFault.NoMemory → HasItemsAt w32 0 bytes.now }
+{
+    let Ok((size, rest)) = size_of(bytes) else {
+        return Err(MessageFault::Bad);
+    };
+    let size = size as usize;
+    if rest.len() < size {
+        return Err(MessageFault::Bad);
+    }
+    let (lines, rest) = rest.split_at(size);
+    let mut text = Vec::new(alloc);
+    if size == 0 {
+        return Ok((List::of(text), rest));
+    }
+    let Ok(()) = text.extend_from_slice(lines) else {
+        return Err(MessageFault::NoMemory);
+    };
+    Ok((List::of(text), rest))
 }
 
 // One ask: priority, request id, count, resource and place.

@@ -1,7 +1,9 @@
 //! What an Allocate, with its grants and ends, and a Heartbeat give, written as bytes and read from them.
-ghost use Rattle.std.specs.Prelude.{◌≡◌, ◌≤◌, ◌+◌, ◌*◌, ◌++◌, length, IfOk};
+ghost use Rattle.std.specs.Prelude.{◌≡◌, ◌≤◌, ◌+◌, ◌*◌, ◌++◌, length, map, IfOk};
 ghost use Rattle.std.specs.List.{flat_map, AllByRecursion};
-ghost use Rattle.cap_grammar.specs.Spelling.{grant, end, counted_list, allocate_bytes, beat, FitsGrant, FitsEnd, FitsAllocated, FitsBeat, IsOfKind};
+ghost use Rattle.cap_grammar.specs.Spelling.{grant, end, counted_list, allocate_bytes, beat, FitsGrant, FitsEnd, FitsAllocated, FitsBeat};
+ghost use Rattle.cap_grammar.specs.Shown.{amounts_spelled, shown_grant};
+ghost use Rattle.cap_grammar.specs.Answers.{IsReadAs};
 
 use crate::fault::MessageFault;
 use crate::fields::{amounts_in, byte_of, pair_of, text_of, u16_of, u32_of, u64_of};
@@ -108,7 +110,9 @@ pub(crate) fn put_beat(reply: &HeartbeatReply, out: &mut Out)
 }
 
 // Grants, with their number before them.
-fn grants_of(alloc: Global, bytes: &[u8]) -> Result<(Vec<Grant<RESOURCES>>, &[u8]), MessageFault> {
+fn grants_of(alloc: Global, bytes: &[u8]) -> Result<(Vec<Grant<RESOURCES>>, &[u8]), MessageFault>
+    ensures { IfOk result (λ x. map (shown_grant amounts_spelled) x.0.items ≡ x.0.items) }
+{
     let (length, mut rest) = byte_of(bytes)?;
     let Ok(mut grants) = Vec::with_capacity(alloc, length as usize) else {
         return Err(MessageFault::NoMemory);
@@ -126,7 +130,9 @@ fn grants_of(alloc: Global, bytes: &[u8]) -> Result<(Vec<Grant<RESOURCES>>, &[u8
 }
 
 // One grant, read.
-fn grant_of(bytes: &[u8]) -> Result<(Grant<RESOURCES>, &[u8]), MessageFault> {
+fn grant_of(bytes: &[u8]) -> Result<(Grant<RESOURCES>, &[u8]), MessageFault>
+    ensures { IfOk result (λ x. shown_grant amounts_spelled x.0 ≡ x.0) }
+{
     let (container, rest) = u64_of(bytes)?;
     let (priority, rest) = u32_of(rest)?;
     let (request, rest) = u64_of(rest)?;
@@ -172,7 +178,7 @@ fn end_of(bytes: &[u8]) -> Result<(End, &[u8]), MessageFault> {
 
 // What an Allocate gives, read.
 pub(crate) fn allocated(alloc: Global, bytes: &[u8]) -> Result<OwnedReply<RESOURCES>, MessageFault>
-    ensures { IfOk result (λ reply. IsOfKind 3 reply) }
+    ensures { IfOk result (λ reply. IsReadAs 3 reply) }
 {
     let (response, rest) = u32_of(bytes)?;
     let (ignored, rest) = u16_of(rest)?;
@@ -193,7 +199,7 @@ pub(crate) fn allocated(alloc: Global, bytes: &[u8]) -> Result<OwnedReply<RESOUR
 
 // What a Heartbeat gives, read.
 pub(crate) fn beaten(bytes: &[u8]) -> Result<OwnedReply<RESOURCES>, MessageFault>
-    ensures { IfOk result (λ reply. IsOfKind 6 reply) }
+    ensures { IfOk result (λ reply. IsReadAs 6 reply) }
 {
     let (response, rest) = u32_of(bytes)?;
     let (ignored, rest) = u16_of(rest)?;

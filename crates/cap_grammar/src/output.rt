@@ -2,6 +2,7 @@
 ghost use Rattle.std.specs.Prelude.{◌≡◌, ◌≤◌, ◌+◌, ◌++◌, length};
 ghost use Rattle.cap_base.specs.Limits.{resources};
 ghost use Rattle.cap_vector.specs.Vector.{IsVector};
+ghost use Rattle.cap_grammar.specs.Shown.{amounts_spelled};
 ghost use Rattle.cap_grammar.specs.Spelling.{resource};
 
 use bytes::BytesMut;
@@ -19,15 +20,16 @@ pub const FAULT_ROOM: usize = 7;
 
 const _: () = prove!(REPLY_ROOM == 7_571 && FAULT_ROOM == 7);
 
+// The amounts of a vector that messages spell: memory and vcores.
 #[tactic(auto, unfolding(crate::specs::Spelling::resource))]
 pub(crate) fn put_amounts<const MAX: u64>(amounts: &Amounts<RESOURCES, MAX>, out: &mut Out)
     requires { 16 ≤ out.old.spare }
-    ensures appends { out.new.items ≡ out.old.items ++ resource amounts.now }
+    ensures appends { out.new.items ≡ out.old.items ++ resource amounts_spelled amounts.now }
     ensures spare { out.new.spare + 16 ≡ out.old.spare }
-    ensures len { length (resource amounts.now) ≡ 16 }
+    ensures len { length (resource amounts_spelled amounts.now) ≡ 16 }
     ensures vector { IsVector resources MAX amounts.now }
 {
-    let [memory, vcores] = amounts.amounts();
+    let [memory, vcores, _] = amounts.amounts();
     out.extend_reserved(&memory.to_be_bytes());
     out.extend_reserved(&vcores.to_be_bytes());
 }

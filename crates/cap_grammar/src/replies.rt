@@ -1,7 +1,8 @@
 //! Replies of each kind written as bytes (`write_reply`, `write_fault`), and read from them by kind and status.
 ghost use Rattle.std.specs.Prelude.{◌≡◌, ◌≤◌, ◌<◌, ◌+◌, ◌++◌, ◌∷◌, length, IfOk};
 ghost use Rattle.std.specs.Int.{w32, w64, to_be_bytes};
-ghost use Rattle.cap_grammar.specs.Spelling.{IsKind, IsOfKind, FitsReply, IsReply, reply_bytes, reply_body, fault_reply};
+ghost use Rattle.cap_grammar.specs.Spelling.{IsKind, IsOfKind, FitsRefusal, FitsReply, IsReply, refusal_bytes, reply_bytes, reply_body, fault_reply};
+ghost use Rattle.cap_grammar.specs.Answers.{IsReadAs};
 
 use crate::fault::MessageFault;
 use crate::fields::{amounts_in, pair_of, u32_of, u64_of};
@@ -10,10 +11,10 @@ use crate::output::{FAULT_ROOM, Out, REPLY_ROOM, put_amounts};
 use crate::reports::{cluster_shown, put_cluster_report, put_queue_report, queue_shown};
 use crate::requests::{
     ALLOCATE, CLUSTER_INFO, FINISH_MASTER, HEARTBEAT, LAST_KIND, NODE_GONE, QUEUE_INFO,
-    REGISTER_MASTER, REGISTER_NODE, SET_QUEUE_STATE, SUBMIT,
+    REFRESH, REGISTER_MASTER, REGISTER_NODE, SET_QUEUE_STATE, SUBMIT,
 };
 use cap_base::RESOURCES;
-use cap_model::{OwnedReply, ReplyView, ReplyWith};
+use cap_model::{OwnedReply, Refusal, ReplyView, ReplyWith};
 use std::alloc::Global;
 
 /// The status of the reply to a length that no frame has.
@@ -31,7 +32,7 @@ fn put_reply_body(reply: &ReplyView<'_, RESOURCES>, out: &mut Out)
     ensures fits { FitsReply reply.now }
 {
     match reply {
-        ReplyWith::Refused(refusal) => out.extend_reserved(&[refusal.status()]),
+        ReplyWith::Refused(refusal) => put_refusal(refusal, out),
         ReplyWith::Submit { app } => put_number(*app, out),
         ReplyWith::RegisterMaster { minimum, maximum } => {
             out.extend_reserved(&[0]);
@@ -53,11 +54,26 @@ fn put_reply_body(reply: &ReplyView<'_, RESOURCES>, out: &mut Out)
             out.extend_reserved(&[0]);
             put_queue_report(report, out);
         }
-        ReplyWith::SetQueueState => out.extend_reserved(&[0]),
+        ReplyWith::SetQueueState | ReplyWith::Refresh => out.extend_reserved(&[0]),
         ReplyWith::ClusterInfo { report } => {
             out.extend_reserved(&[0]);
             put_cluster_report(report, out);
         }
+    }
+}
+
+// The status of a refusal, and what follows it.
+fn put_refusal(refusal: &Refusal, out: &mut Out)
+    requires { 6 ≤ out.old.spare }
+    ensures appends { out.new.items ≡ out.old.items ++ refusal_bytes refusal.now }
+    ensures spare { out.new.spare + length (refusal_bytes refusal.now) ≡ out.old.spare }
+    ensures len { length (refusal_bytes refusal.now) ≤ 6 }
+    ensures fits { FitsRefusal refusal.now }
+{
+    out.extend_reserved(&[refusal.status()]);
+    if let Refusal::BadSettings { line, number } = refusal {
+        out.extend_reserved(&line.to_be_bytes());
+        out.extend_reserved(&[*number]);
     }
 }
 
@@ -82,7 +98,8 @@ fn put_count(count: u32, out: &mut Out)
 }
 
 /// Appends the one spelling of a reply to a request of this call id and kind: the kind is one that `kind` gives, the reply
-/// is a refusal or one of the kind, and `REPLY_ROOM` bytes of `out` are free. It takes no memory and cannot fail; what `out` held stays.
+/// is a refusal or one of the kind, and `REPLY_ROOM` bytes of `out` are free. Of each vector version 1 spells memory and vcores
+/// alone. It takes no memory and cannot fail; what `out` held stays.
 pub fn write_reply(call_id: u32, kind: u8, reply: &ReplyView<'_, RESOURCES>, out: &mut Out)
     requires table { IsKind kind }
     requires kind { IsOfKind kind reply.now }
@@ -126,7 +143,7 @@ pub(crate) fn granted_of(
     kind: u8,
     bytes: &[u8],
 ) -> Result<OwnedReply<RESOURCES>, MessageFault>
-    ensures { IfOk result (λ reply. IsOfKind kind reply) }
+    ensures { IfOk result (λ reply. IsReadAs kind reply) }
 {
     match kind {
         SUBMIT => Ok(ReplyWith::Submit {
@@ -147,13 +164,14 @@ pub(crate) fn granted_of(
         QUEUE_INFO => queue_shown(bytes),
         SET_QUEUE_STATE => Ok(ReplyWith::SetQueueState),
         CLUSTER_INFO => cluster_shown(bytes),
+        REFRESH => Ok(ReplyWith::Refresh),
         _ => Err(MessageFault::Bad),
     }
 }
 
 /// What a RegisterMaster gives.
 fn registered(bytes: &[u8]) -> Result<OwnedReply<RESOURCES>, MessageFault>
-    ensures { IfOk result (λ reply. IsOfKind 2 reply) }
+    ensures { IfOk result (λ reply. IsReadAs 2 reply) }
 {
     let (minimum, rest) = pair_of(bytes)?;
     let (maximum, _) = pair_of(rest)?;

@@ -2,7 +2,8 @@
 ghost use Rattle.std.specs.Prelude.{◌≡◌, ◌≤◌, ◌+◌, ◌++◌, length, IfOk, IfSome};
 ghost use Rattle.cap_base.specs.Limits.{resources};
 ghost use Rattle.cap_vector.specs.Vector.{IsResource};
-ghost use Rattle.cap_grammar.specs.Spelling.{limit, queue_report, FitsQueueReport, cluster_report, FitsClusterReport, IsOfKind};
+ghost use Rattle.cap_grammar.specs.Spelling.{limit, queue_report, FitsQueueReport, cluster_report, FitsClusterReport};
+ghost use Rattle.cap_grammar.specs.Answers.{IsReadAs};
 
 use crate::fault::MessageFault;
 use crate::fields::{amounts_in, flag_of, pair_of, u32_of};
@@ -65,7 +66,7 @@ pub(crate) fn put_cluster_report(report: &ClusterReport<RESOURCES>, out: &mut Ou
 
 // What a QueueInfo gives, read.
 pub(crate) fn queue_shown(bytes: &[u8]) -> Result<OwnedReply<RESOURCES>, MessageFault>
-    ensures { IfOk result (λ reply. IsOfKind 8 reply) }
+    ensures { IfOk result (λ reply. IsReadAs 8 reply) }
 {
     let (running, rest) = flag_of(bytes)?;
     let (leaf, rest) = flag_of(rest)?;
@@ -89,7 +90,7 @@ pub(crate) fn queue_shown(bytes: &[u8]) -> Result<OwnedReply<RESOURCES>, Message
 
 // What a ClusterInfo gives, read.
 pub(crate) fn cluster_shown(bytes: &[u8]) -> Result<OwnedReply<RESOURCES>, MessageFault>
-    ensures { IfOk result (λ reply. IsOfKind 10 reply) }
+    ensures { IfOk result (λ reply. IsReadAs 10 reply) }
 {
     let (nodes, rest) = u32_of(bytes)?;
     let (apps, rest) = u32_of(rest)?;

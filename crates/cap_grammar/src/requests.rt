@@ -1,15 +1,16 @@
-//! Requests: the numbers of the ten kinds (`kind`), and a payload read as a request of one of them (`read_request`).
+//! Requests: the numbers of the eleven kinds (`kind`), and a payload read as a request of one of them (`read_request`).
 ghost use Rattle.std.specs.Prelude.{◌≡◌, ◌⊎◌, ℕ, IfOk, IsErrOf};
+ghost use Rattle.std.specs.Int.{w16, w32};
 ghost use Rattle.cap_base.specs.Limits.{resources};
 ghost use Rattle.cap_model.specs.declared.request.Request.{Request};
 ghost use Rattle.cap_grammar.specs.Spelling.{IsRequest, IsNoRequest, kind_of};
 ghost use Rattle.cap_grammar.specs.Fields.{Gives};
-ghost use Rattle.cap_grammar.specs.Bodies.{submit_at, register_master_at, allocate_at, finish_master_at, register_node_at, heartbeat_at, node_gone_at, queue_info_at, set_queue_state_at, cluster_info_at, body_at, HasItemsAt, ListsItems};
+ghost use Rattle.cap_grammar.specs.Bodies.{submit_at, register_master_at, allocate_at, finish_master_at, register_node_at, heartbeat_at, node_gone_at, queue_info_at, set_queue_state_at, cluster_info_at, refresh_at, body_at, HasItemsAt, ListsItems};
 ghost use Rattle.cap_grammar.specs.Reading.{GivesInMemory, CarriesItems, head_at, request_at};
 
 use crate::fault::MessageFault;
 use crate::fields::{amounts_of, byte_of, flag_of, text_of, u32_of, u64_of};
-use crate::lists::{asks_of, numbers_of};
+use crate::lists::{asks_of, lines_of, numbers_of};
 use crate::texts::{host_from, path_from, rack_from, user_from};
 use cap_base::RESOURCES;
 use cap_model::Request;
@@ -36,12 +37,14 @@ pub(crate) const SET_QUEUE_STATE: u8 = 9;
 
 pub(crate) const CLUSTER_INFO: u8 = 10;
 
+pub(crate) const REFRESH: u8 = 11;
+
 /// The last of the kinds.
-pub(crate) const LAST_KIND: u8 = CLUSTER_INFO;
+pub(crate) const LAST_KIND: u8 = REFRESH;
 
 /// The number of the request's kind, which its reply repeats: 1 for Submit, 2 for RegisterMaster, 3 for Allocate,
 /// 4 for FinishMaster, 5 for RegisterNode, 6 for Heartbeat, 7 for NodeGone, 8 for QueueInfo, 9 for SetQueueState,
-/// 10 for ClusterInfo.
+/// 10 for ClusterInfo, 11 for Refresh.
 pub fn kind(request: &Request<RESOURCES>) -> u8
     ensures { result ≡ kind_of request.now }
 {
@@ -56,6 +59,7 @@ pub fn kind(request: &Request<RESOURCES>) -> u8
         Request::QueueInfo { .. } => QUEUE_INFO,
         Request::SetQueueState { .. } => SET_QUEUE_STATE,
         Request::ClusterInfo => CLUSTER_INFO,
+        Request::Refresh { .. } => REFRESH,
     }
 }
 
@@ -91,7 +95,7 @@ fn register_master_of(bytes: &[u8]) -> Result<Request<RESOURCES>, MessageFault>
 fn allocate_of(alloc: Global, bytes: &[u8]) -> Result<Request<RESOURCES>, MessageFault>
     ensures gives { GivesInMemory (λ x. x) result (allocate_at bytes.now) }
     ensures memory { IsErrOf result MessageFault.NoMemory
-        → HasItemsAt 12 bytes.now ⊎ HasItemsAt 14 bytes.now }
+        → HasItemsAt w16 12 bytes.now ⊎ HasItemsAt w16 14 bytes.now }
 {
     let (app, rest) = u64_of(bytes)?;
     let (response, rest) = u32_of(rest)?;
@@ -143,7 +147,7 @@ fn register_node_of(bytes: &[u8]) -> Result<Request<RESOURCES>, MessageFault>
 #[tactic(auto, unfolding(crate::specs::Bodies::heartbeat_at))]
 fn heartbeat_of(alloc: Global, bytes: &[u8]) -> Result<Request<RESOURCES>, MessageFault>
     ensures gives { GivesInMemory (λ x. x) result (heartbeat_at bytes.now) }
-    ensures memory { IsErrOf result MessageFault.NoMemory → HasItemsAt 12 bytes.now }
+    ensures memory { IsErrOf result MessageFault.NoMemory → HasItemsAt w16 12 bytes.now }
 {
     let (node, rest) = u64_of(bytes)?;
     let (response, rest) = u32_of(rest)?;
@@ -208,6 +212,19 @@ fn cluster_info_of(bytes: &[u8]) -> Result<Request<RESOURCES>, MessageFault>
     Ok(Request::ClusterInfo)
 }
 
+// The body of a Refresh, all of the bytes.
+#[tactic(auto, unfolding(crate::specs::Bodies::refresh_at))]
+fn refresh_of(alloc: Global, bytes: &[u8]) -> Result<Request<RESOURCES>, MessageFault>
+    ensures gives { GivesInMemory (λ x. x) result (refresh_at bytes.now) }
+    ensures memory { IsErrOf result MessageFault.NoMemory → HasItemsAt w32 0 bytes.now }
+{
+    let (text, rest) = lines_of(alloc, bytes)?;
+    if !rest.is_empty() {
+        return Err(MessageFault::Bad);
+    }
+    Ok(Request::Refresh { text })
+}
+
 // Version, kind and call id.
 #[tactic(auto, unfolding(crate::specs::Reading::head_at))]
 pub(crate) fn head_of(bytes: &[u8]) -> Result<((u8, u8, u32), &[u8]), MessageFault>
@@ -235,6 +252,7 @@ fn body_of(alloc: Global, kind: u8, bytes: &[u8]) -> Result<Request<RESOURCES>, 
         QUEUE_INFO => queue_info_of(bytes),
         SET_QUEUE_STATE => set_queue_state_of(bytes),
         CLUSTER_INFO => cluster_info_of(bytes),
+        REFRESH => refresh_of(alloc, bytes),
         _ => Err(MessageFault::Bad),
     }
 }
@@ -255,8 +273,8 @@ fn request_of(alloc: Global, bytes: &[u8]) -> Result<(u32, Request<RESOURCES>), 
 /// The call id and the request that a payload spells, with all of its bytes. `Bad` exactly where it spells none: a
 /// version other than 1, another kind, a text, a list or an amount over its bound, a text with length 0 or another byte, a host
 /// that is `*` or begins with `/`, a rack that does not, a state other than 0 and 1, bytes missing or left over. `NoMemory` if an
-/// allocation fails, which only a payload of version 1 with a list that is not empty can meet. Amounts are in MiB of memory and in
-/// vcores.
+/// allocation fails, which only a payload of version 1 with a list or property lines that are not empty can meet. Amounts are in
+/// MiB of memory and in vcores; of `yarn.io/gpu`, which version 1 does not spell, each vector has 0.
 pub fn read_request(alloc: Global, bytes: &[u8]) -> Result<(u32, Request<RESOURCES>), MessageFault>
     // What is read is spelled so.
     ensures found { IfOk result (λ x. IsRequest bytes.now x.0 x.1) }

@@ -1,6 +1,6 @@
 use Rattle.std.proofs.Common.{refl, arith}
 use Rattle.cap_grammar.specs.Spelling.{reply_bytes}
-use Rattle.cap_grammar.proofs.ReplyLaws.{one_reply, no_fault, one_answer, reply_is_bytes}
+use Rattle.cap_grammar.proofs.ReplyLaws.{one_reply, alike, no_fault, one_answer, reply_is_bytes}
 use Rattle.cap_grammar.proofs.laws.replies_have_one_spelling.Goals as goal
 
 pub returns-clause-some : goal.returns-clause-some
@@ -12,6 +12,9 @@ returns-clause-some c = λ id kind reply id_fits is_kind of_kind fits. (
 
 pub returns-clause-apart : goal.returns-clause-apart
 returns-clause-apart c = one_reply
+
+pub returns-clause-alike : goal.returns-clause-alike
+returns-clause-alike c = alike
 
 pub returns-clause-fault : goal.returns-clause-fault
 returns-clause-fault c = no_fault

@@ -1,4 +1,5 @@
 use Rattle.std.proofs.Common.{◌≡◌, ◌-◌, length}
+use Rattle.std.specs.Int.{w16}
 use Rattle.cap_grammar.specs.Fields.{counted_at}
 use Rattle.cap_grammar.specs.Bodies.{ask_at}
 use Rattle.cap_base.specs.Limits.{asks_max}
@@ -8,6 +9,6 @@ use Rattle.cap_grammar.proofs.lists.asks_of.Given as goal
 -- what the rest gives is what the whole gives, and one was read in each turn
 abbrev pub invariant-loop-i : goal.invariant-loop-i
 invariant-loop-i l = record {
-  rest : counted_at asks_max (ask_at) l.bytes ≡ more_at l.asks.items (l.length - l.i) (ask_at) l.rest;
+  rest : counted_at w16 asks_max (ask_at) l.bytes ≡ more_at l.asks.items (l.length - l.i) (ask_at) l.rest;
   count : length l.asks.items ≡ l.i;
 }
