@@ -1,4 +1,4 @@
-//! The ten requests as a client means them (`Call`), spelled into frames by hand (`frame`).
+//! The eleven requests as a client means them (`Call`), spelled into frames by hand (`frame`).
 
 use std::alloc::{AllocError, Global};
 
@@ -25,6 +25,7 @@ pub enum Call<'a> {
     QueueInfo(&'a [u8]),
     SetQueueState(&'a [u8], bool),
     ClusterInfo,
+    Refresh(&'a [u8]),
 }
 
 /// The frame of a call with this call id: its length in four bytes, then version 1, the kind, the call id and what the call holds.
@@ -59,6 +60,7 @@ fn kind_of(call: &Call<'_>) -> u8 {
         Call::QueueInfo(_) => 8,
         Call::SetQueueState(..) => 9,
         Call::ClusterInfo => 10,
+        Call::Refresh(_) => 11,
     }
 }
 
@@ -93,6 +95,11 @@ fn put_body(body: &mut Vec<u8>, call: &Call<'_>) -> Result<(), AllocError> {
             body.extend_from_slice(&[*running as u8])
         }
         Call::ClusterInfo => Ok(()),
+        Call::Refresh(text) => {
+            let size = u32::try_from(text.len()).unwrap_or(u32::MAX);
+            body.extend_from_slice(&size.to_be_bytes())?;
+            body.extend_from_slice(text)
+        }
     }
 }
 

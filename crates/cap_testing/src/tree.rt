@@ -20,9 +20,9 @@ pub enum Change {
     /// One less.
     Leave,
     /// The user gives so much back.
-    GiveBack([u64; 2]),
+    GiveBack([u64; RESOURCES]),
     /// The user's use changes from the first amounts to the second.
-    Apply([u64; 2], [u64; 2]),
+    Apply([u64; RESOURCES], [u64; RESOURCES]),
 }
 
 /// A change at the queue of a path, for a user.
@@ -49,7 +49,7 @@ fn leave(tree: &mut Tree, position: &Path<Global>, user: &ShortText) -> Option<(
     Some(())
 }
 
-fn give_back(tree: &mut Tree, position: &Path<Global>, user: &ShortText, r: [u64; 2]) -> Option<()>
+fn give_back(tree: &mut Tree, position: &Path<Global>, user: &ShortText, r: [u64; RESOURCES]) -> Option<()>
     requires { IsPosition tree.old position.now.items }
 {
     let r = Resource::new(r)?;
@@ -66,8 +66,8 @@ fn apply(
     tree: &mut Tree,
     position: &Path<Global>,
     user: &ShortText,
-    old: [u64; 2],
-    new: [u64; 2],
+    old: [u64; RESOURCES],
+    new: [u64; RESOURCES],
 ) -> Option<()>
     requires { IsPosition tree.old position.now.items }
 {

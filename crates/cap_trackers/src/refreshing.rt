@@ -8,7 +8,7 @@ ghost use Rattle.cap_trackers.specs.Refreshing.{fault_refusal};
 use cap_base::RESOURCES;
 use cap_base::properties::{ConfigFault, ConfigFaultKind};
 use cap_commit::Cluster;
-use cap_config::laws::{faults_are_in_lines, settings_have_amounts};
+use cap_config::laws::{faults_are_of_the_text, settings_have_each_amount};
 use cap_config::read_config;
 use cap_model::{Refusal, Reply, SettingsText};
 use std::alloc::Global;
@@ -28,8 +28,8 @@ pub fn refresh(
     ensures numbers { HasNumbers cluster.new.flat result }
 {
     let text = text.as_slice();
-    faults_are_in_lines();
-    settings_have_amounts();
+    faults_are_of_the_text();
+    settings_have_each_amount();
     let config = match read_config(alloc, text) {
         Ok(config) => config,
         Err(fault) => return Reply::Refused(refusal(fault)),

@@ -61,7 +61,7 @@ fn proposed(alloc: Global, cluster: &Cluster<RESOURCES>) -> Option<Proposal<RESO
     propose(&snapshot, 0)
 }
 
-fn use_of(tree: &QueueTree<RESOURCES, Global>, path: &str) -> Option<[u64; 2]> {
+fn use_of(tree: &QueueTree<RESOURCES, Global>, path: &str) -> Option<[u64; RESOURCES]> {
     match tree.find(path.as_bytes()) {
         Found::Leaf(position) | Found::Parent(position) => {
             Some(tree.use_of(&position).amounts())
@@ -71,7 +71,7 @@ fn use_of(tree: &QueueTree<RESOURCES, Global>, path: &str) -> Option<[u64; 2]> {
 }
 
 /// What is used in `root.g.q` and in `root.g.p`.
-fn uses(tree: &QueueTree<RESOURCES, Global>) -> Option<[[u64; 2]; 2]> {
+fn uses(tree: &QueueTree<RESOURCES, Global>) -> Option<[[u64; RESOURCES]; 2]> {
     Some([use_of(tree, "root.g.q")?, use_of(tree, "root.g.p")?])
 }
 
@@ -79,7 +79,7 @@ fn uses(tree: &QueueTree<RESOURCES, Global>) -> Option<[[u64; 2]; 2]> {
 fn uses_of_both(
     tree: &QueueTree<RESOURCES, Global>,
     other: &QueueTree<RESOURCES, Global>,
-) -> Option<[[[u64; 2]; 2]; 2]> {
+) -> Option<[[[u64; RESOURCES]; 2]; 2]> {
     Some([uses(tree)?, uses(other)?])
 }
 
@@ -100,7 +100,7 @@ fn copied_in(
     alloc: Global,
     arena: &Bump,
     tree: &QueueTree<RESOURCES, Global>,
-) -> Option<[[[u64; 2]; 2]; 2]> {
+) -> Option<[[[u64; RESOURCES]; 2]; 2]> {
     match copied_through(alloc, arena, tree) {
         Some(copy) => uses_of_both(tree, &copy),
         None => None,
@@ -108,7 +108,7 @@ fn copied_in(
 }
 
 /// The same of the tree of the cluster after so many turns.
-fn copied(alloc: Global, turns: usize) -> Option<[[[u64; 2]; 2]; 2]> {
+fn copied(alloc: Global, turns: usize) -> Option<[[[u64; RESOURCES]; 2]; 2]> {
     let cluster = after_turns(alloc, turns)?;
     let arena = Bump::new(alloc);
     copied_in(alloc, &arena, cluster.tree())
@@ -116,7 +116,7 @@ fn copied(alloc: Global, turns: usize) -> Option<[[[u64; 2]; 2]; 2]> {
 
 #[test]
 fn a_tree_is_copied_into_an_arena_and_out_of_it(rt: HostRuntime) {
-    for &(turns, shown) in &[(0, [[0, 0], [0, 0]]), (2, [[2048, 2], [0, 0]])] {
+    for &(turns, shown) in &[(0, [[0, 0, 0], [0, 0, 0]]), (2, [[2048, 2, 0], [0, 0, 0]])] {
         assert!(rt; copied(rt.alloc(), turns) == Some([shown, shown]));
     }
 }
@@ -136,7 +136,7 @@ fn proposed_in(
     arena: &Bump,
     cluster: &Cluster<RESOURCES>,
     start: u32,
-) -> Option<(bool, u64, u64, [u64; 2])> {
+) -> Option<(bool, u64, u64, [u64; RESOURCES])> {
     let proposal = proposal_in(arena, cluster, start)?;
     let resource = proposal.resource().amounts();
     Some((
@@ -151,7 +151,7 @@ fn proposed_in(
 fn proposed_twice_in(
     arena: &mut Bump,
     cluster: &Cluster<RESOURCES>,
-) -> Option<[Option<(bool, u64, u64, [u64; 2])>; 2]> {
+) -> Option<[Option<(bool, u64, u64, [u64; RESOURCES])>; 2]> {
     let first = proposed_in(arena, cluster, 0);
     arena.reset().ok()?;
     let second = proposed_in(arena, cluster, 5);
@@ -159,7 +159,7 @@ fn proposed_twice_in(
 }
 
 /// The same in the cluster after so many turns.
-fn proposed_twice(alloc: Global, turns: usize) -> Option<[Option<(bool, u64, u64, [u64; 2])>; 2]> {
+fn proposed_twice(alloc: Global, turns: usize) -> Option<[Option<(bool, u64, u64, [u64; RESOURCES])>; 2]> {
     let cluster = after_turns(alloc, turns)?;
     let mut arena = Bump::new(alloc);
     proposed_twice_in(&mut arena, &cluster)
@@ -167,8 +167,8 @@ fn proposed_twice(alloc: Global, turns: usize) -> Option<[Option<(bool, u64, u64
 
 #[test]
 fn an_arena_holds_one_snapshot_after_the_other(rt: HostRuntime) {
-    let on_first = Some((true, 1, 1, [1024, 1]));
-    let on_second = Some((true, 1, 2, [1024, 1]));
+    let on_first = Some((true, 1, 1, [1024, 1, 0]));
+    let on_second = Some((true, 1, 2, [1024, 1, 0]));
     for &(turns, answer) in &[
         (0, [on_first, on_second]),
         (2, [on_first, on_second]),

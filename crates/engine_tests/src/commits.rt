@@ -66,7 +66,7 @@ const CALLS: [Call<'static>; 9] = [
 fn proposal(
     kind: ProposalKind,
     of: (u64, u32, u64),
-    resource: [u64; 2],
+    resource: [u64; RESOURCES],
 ) -> Option<Proposal<RESOURCES>> {
     let (app, priority, node) = of;
     Some(Proposal {
@@ -86,7 +86,7 @@ fn reason(
     alloc: Global,
     kind: ProposalKind,
     of: (u64, u32, u64),
-    resource: [u64; 2],
+    resource: [u64; RESOURCES],
 ) -> Option<Option<Reason>> {
     let proposal = proposal(kind, of, resource)?;
     let cluster = cluster_after(alloc, SMALL_QUEUES, &CALLS)?;
@@ -98,36 +98,36 @@ const GRANT: ProposalKind = ProposalKind::Grant;
 const RESERVE: ProposalKind = ProposalKind::Reserve;
 
 /// A proposal for the ask of an application and priority on a node, and why it is rejected, if it is.
-const REASONS: [(ProposalKind, (u64, u32, u64), [u64; 2], Option<Reason>); 19] = [
-    (GRANT, (1, 1, 1), [1024, 1], None),
-    (GRANT, (1, 1, 2), [1024, 1], None),
-    (GRANT, (1, 3, 2), [1024, 1], None),
-    (GRANT, (3, 1, 1), [1024, 1], Some(Reason::NoApp)),
-    (GRANT, (9, 9, 9), [1, 1], Some(Reason::NoApp)),
-    (GRANT, (1, 9, 9), [1, 1], Some(Reason::NoAsk)),
-    (GRANT, (1, 1, 9), [2048, 1], Some(Reason::OtherAsk)),
-    (GRANT, (1, 1, 3), [1024, 1], Some(Reason::NoNode)),
-    (GRANT, (1, 3, 9), [1024, 1], Some(Reason::NoNode)),
-    (GRANT, (1, 3, 1), [1024, 1], Some(Reason::WrongPlace)),
-    (GRANT, (2, 2, 1), [2048, 1], Some(Reason::WrongPlace)),
-    (GRANT, (2, 2, 2), [2048, 1], Some(Reason::NoRoom)),
-    (GRANT, (1, 2, 2), [3072, 1], Some(Reason::NoRoom)),
+const REASONS: [(ProposalKind, (u64, u32, u64), [u64; RESOURCES], Option<Reason>); 19] = [
+    (GRANT, (1, 1, 1), [1024, 1, 0], None),
+    (GRANT, (1, 1, 2), [1024, 1, 0], None),
+    (GRANT, (1, 3, 2), [1024, 1, 0], None),
+    (GRANT, (3, 1, 1), [1024, 1, 0], Some(Reason::NoApp)),
+    (GRANT, (9, 9, 9), [1, 1, 0], Some(Reason::NoApp)),
+    (GRANT, (1, 9, 9), [1, 1, 0], Some(Reason::NoAsk)),
+    (GRANT, (1, 1, 9), [2048, 1, 0], Some(Reason::OtherAsk)),
+    (GRANT, (1, 1, 3), [1024, 1, 0], Some(Reason::NoNode)),
+    (GRANT, (1, 3, 9), [1024, 1, 0], Some(Reason::NoNode)),
+    (GRANT, (1, 3, 1), [1024, 1, 0], Some(Reason::WrongPlace)),
+    (GRANT, (2, 2, 1), [2048, 1, 0], Some(Reason::WrongPlace)),
+    (GRANT, (2, 2, 2), [2048, 1, 0], Some(Reason::NoRoom)),
+    (GRANT, (1, 2, 2), [3072, 1, 0], Some(Reason::NoRoom)),
     (
         GRANT,
         (1, 2, 1),
-        [3072, 1],
+        [3072, 1, 0],
         Some(Reason::OverMaximum { level: 1 }),
     ),
-    (GRANT, (2, 1, 1), [3072, 1], Some(Reason::OverUser)),
+    (GRANT, (2, 1, 1), [3072, 1, 0], Some(Reason::OverUser)),
     (
         RESERVE,
         (1, 2, 1),
-        [3072, 1],
+        [3072, 1, 0],
         Some(Reason::OverMaximum { level: 1 }),
     ),
-    (RESERVE, (2, 1, 1), [3072, 1], Some(Reason::OverUser)),
-    (RESERVE, (1, 1, 1), [1024, 1], Some(Reason::FitsNow)),
-    (RESERVE, (2, 2, 2), [2048, 1], Some(Reason::NeverFits)),
+    (RESERVE, (2, 1, 1), [3072, 1, 0], Some(Reason::OverUser)),
+    (RESERVE, (1, 1, 1), [1024, 1, 0], Some(Reason::FitsNow)),
+    (RESERVE, (2, 2, 2), [2048, 1, 0], Some(Reason::NeverFits)),
 ];
 
 #[test]
@@ -141,8 +141,8 @@ fn proposals_are_rejected_for_the_first_reason(rt: HostRuntime) {
 /// What is done to the cluster: a proposal of a kind for an ask of application and priority on a node, or a call.
 #[derive(Clone, Copy)]
 enum Change {
-    Grant(u64, u32, u64, [u64; 2]),
-    Reserve(u64, u32, u64, [u64; 2]),
+    Grant(u64, u32, u64, [u64; RESOURCES]),
+    Reserve(u64, u32, u64, [u64; RESOURCES]),
     Call(Call<'static>),
 }
 
@@ -174,7 +174,7 @@ fn make(alloc: Global, cluster: &mut Cluster<RESOURCES>, change: Change) -> Opti
 }
 
 /// Why the last change was rejected, if it was; how many containers are live and how many reservations there are; and what `root.a` uses.
-type After = (Option<Reason>, usize, usize, [u64; 2]);
+type After = (Option<Reason>, usize, usize, [u64; RESOURCES]);
 
 /// After these changes.
 fn after(alloc: Global, changes: &[Change]) -> Option<After> {
@@ -192,44 +192,44 @@ fn after_in(alloc: Global, cluster: &mut Cluster<RESOURCES>, changes: &[Change])
     Some((last, nodes.live_count(), nodes.reservation_count(), used))
 }
 
-const FIRST: Change = Change::Grant(1, 1, 2, [1024, 1]);
+const FIRST: Change = Change::Grant(1, 1, 2, [1024, 1, 0]);
 
-const KEPT: Change = Change::Reserve(1, 3, 2, [1024, 1]);
+const KEPT: Change = Change::Reserve(1, 3, 2, [1024, 1, 0]);
 
 const RELEASE: Change = Change::Call(Call::Allocate(1, 1, &[], &[1]));
 
-const CONVERTED: Change = Change::Grant(1, 3, 2, [1024, 1]);
+const CONVERTED: Change = Change::Grant(1, 3, 2, [1024, 1, 0]);
 
-const OTHER: Change = Change::Grant(2, 2, 2, [2048, 1]);
+const OTHER: Change = Change::Grant(2, 2, 2, [2048, 1, 0]);
 
-const MISPLACED: Change = Change::Grant(2, 3, 2, [1024, 1]);
+const MISPLACED: Change = Change::Grant(2, 3, 2, [1024, 1, 0]);
 
-const SECOND: Change = Change::Reserve(1, 2, 2, [3072, 1]);
+const SECOND: Change = Change::Reserve(1, 2, 2, [3072, 1, 0]);
 
 /// Changes, and what is so after them.
 const CHANGES: [(&[Change], After); 10] = [
-    (&[FIRST], (None, 1, 0, [1024, 1])),
-    (&[FIRST, FIRST], (Some(Reason::NoAsk), 1, 0, [1024, 1])),
-    (&[FIRST, KEPT], (None, 1, 1, [2048, 2])),
-    (&[FIRST, KEPT, KEPT], (Some(Reason::NoAsk), 1, 1, [2048, 2])),
+    (&[FIRST], (None, 1, 0, [1024, 1, 0])),
+    (&[FIRST, FIRST], (Some(Reason::NoAsk), 1, 0, [1024, 1, 0])),
+    (&[FIRST, KEPT], (None, 1, 1, [2048, 2, 0])),
+    (&[FIRST, KEPT, KEPT], (Some(Reason::NoAsk), 1, 1, [2048, 2, 0])),
     (
         &[FIRST, KEPT, CONVERTED],
-        (Some(Reason::NoRoom), 1, 1, [2048, 2]),
+        (Some(Reason::NoRoom), 1, 1, [2048, 2, 0]),
     ),
     (
         &[FIRST, KEPT, OTHER],
-        (Some(Reason::ReservedByOther), 1, 1, [2048, 2]),
+        (Some(Reason::ReservedByOther), 1, 1, [2048, 2, 0]),
     ),
     (
         &[FIRST, KEPT, MISPLACED],
-        (Some(Reason::WrongPlace), 1, 1, [2048, 2]),
+        (Some(Reason::WrongPlace), 1, 1, [2048, 2, 0]),
     ),
     (
         &[FIRST, KEPT, SECOND],
-        (Some(Reason::ReservedByOther), 1, 1, [2048, 2]),
+        (Some(Reason::ReservedByOther), 1, 1, [2048, 2, 0]),
     ),
-    (&[FIRST, KEPT, RELEASE], (None, 0, 1, [1024, 1])),
-    (&[FIRST, KEPT, RELEASE, CONVERTED], (None, 1, 0, [1024, 1])),
+    (&[FIRST, KEPT, RELEASE], (None, 0, 1, [1024, 1, 0])),
+    (&[FIRST, KEPT, RELEASE, CONVERTED], (None, 1, 0, [1024, 1, 0])),
 ];
 
 #[test]

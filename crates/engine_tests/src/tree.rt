@@ -17,12 +17,12 @@ struct Seen {
     is_leaf: bool,
     /// The child index on the way to it at each level, as the digits of a number after a 1.
     at: u32,
-    capacity: [u64; 2],
+    capacity: [u64; RESOURCES],
     runs: bool,
     active: u64,
-    used: [u64; 2],
+    used: [u64; RESOURCES],
     user_active: u64,
-    user_used: [u64; 2],
+    user_used: [u64; RESOURCES],
 }
 
 fn digits(steps: &[u32]) -> u32 {
@@ -76,17 +76,17 @@ fn seen_after(
 const ROOT: Seen = Seen {
     is_leaf: false,
     at: 1,
-    capacity: [0, 0],
+    capacity: [0, 0, 0],
     runs: true,
     active: 0,
-    used: [0, 0],
+    used: [0, 0, 0],
     user_active: 0,
-    user_used: [0, 0],
+    user_used: [0, 0, 0],
 };
 
 const A: Seen = Seen {
     at: 10,
-    capacity: [4096, 4],
+    capacity: [4096, 4, 0],
     ..ROOT
 };
 
@@ -104,7 +104,7 @@ const STOPPED_Y: Seen = Seen { runs: false, ..Y };
 
 const B: Seen = Seen {
     at: 11,
-    capacity: [2048, 8],
+    capacity: [2048, 8, 0],
     ..X
 };
 
@@ -195,7 +195,7 @@ fn nothing_given_back_is_no_change(rt: HostRuntime) {
     let steps = [
         ("root.a.x", "ann", Change::Enter),
         ("root.a.x", "ann", Change::Enter),
-        ("root.a.x", "ann", Change::GiveBack([0, 0])),
+        ("root.a.x", "ann", Change::GiveBack([0, 0, 0])),
     ];
     for &(path, queue, user_active) in &[("root", ROOT, 0), ("root.a", A, 0), ("root.a.x", X, 2)] {
         let given = seen_after(rt.alloc(), NESTED_QUEUES, &steps, path, "ann");
@@ -220,9 +220,9 @@ fn only_a_user_with_applications_leaves_and_gives_back(rt: HostRuntime) {
         (3, "bob", Change::Leave, false),
         (3, "ann", Change::Leave, true),
         (5, "ann", Change::Leave, false),
-        (3, "ann", Change::GiveBack([0, 0]), true),
-        (3, "ann", Change::GiveBack([1, 0]), false),
-        (3, "bob", Change::GiveBack([0, 0]), false),
+        (3, "ann", Change::GiveBack([0, 0, 0]), true),
+        (3, "ann", Change::GiveBack([1, 0, 0]), false),
+        (3, "bob", Change::GiveBack([0, 0, 0]), false),
     ] {
         let given = can(rt.alloc(), made, ("root.a.x", user, change));
         assert!(rt; given == Some(answer), "{made} {user}");
@@ -246,12 +246,12 @@ yarn.scheduler.capacity.root.g.r.user-limit-factor=9
 const CONTAINERS: [ChangeAt; 8] = [
     ("root.g.q", "ann", Change::Enter),
     ("root.b", "ann", Change::Enter),
-    ("root.g.q", "ann", Change::Apply([0, 0], [1024, 1])),
-    ("root.g.q", "ann", Change::Apply([0, 0], [1024, 1])),
-    ("root.b", "ann", Change::Apply([0, 0], [1024, 1])),
-    ("root.b", "ann", Change::Apply([0, 0], [1024, 1])),
-    ("root.g.q", "ann", Change::Apply([1024, 1], [2048, 1])),
-    ("root.g.q", "ann", Change::GiveBack([2048, 1])),
+    ("root.g.q", "ann", Change::Apply([0, 0, 0], [1024, 1, 0])),
+    ("root.g.q", "ann", Change::Apply([0, 0, 0], [1024, 1, 0])),
+    ("root.b", "ann", Change::Apply([0, 0, 0], [1024, 1, 0])),
+    ("root.b", "ann", Change::Apply([0, 0, 0], [1024, 1, 0])),
+    ("root.g.q", "ann", Change::Apply([1024, 1, 0], [2048, 1, 0])),
+    ("root.g.q", "ann", Change::GiveBack([2048, 1, 0])),
 ];
 
 /// The limited queues, each with the applications of `ann`.
@@ -259,14 +259,14 @@ const ALL: Seen = Seen { active: 2, ..ROOT };
 
 const G: Seen = Seen {
     at: 11,
-    capacity: [3072, 3],
+    capacity: [3072, 3, 0],
     active: 1,
     ..ROOT
 };
 
 const Q: Seen = Seen {
     at: 110,
-    capacity: [1024, 1],
+    capacity: [1024, 1, 0],
     active: 1,
     user_active: 1,
     ..X
@@ -274,33 +274,33 @@ const Q: Seen = Seen {
 
 const R: Seen = Seen {
     at: 111,
-    capacity: [512, 1],
+    capacity: [512, 1, 0],
     ..X
 };
 
 const WITHOUT_MAXIMUM: Seen = Seen {
     at: 10,
-    capacity: [2048, 8],
+    capacity: [2048, 8, 0],
     active: 1,
     user_active: 1,
     ..X
 };
 
 /// How many of these are made and a queue; what is seen of the queue without containers; and what is used, and by `ann`.
-const USED: [(usize, &str, Seen, [u64; 2], [u64; 2]); 13] = [
-    (2, "root", ALL, [0, 0], [0, 0]),
-    (6, "root", ALL, [4096, 4], [0, 0]),
-    (6, "root.g", G, [2048, 2], [0, 0]),
-    (6, "root.g.q", Q, [2048, 2], [2048, 2]),
-    (6, "root.g.r", R, [0, 0], [0, 0]),
-    (6, "root.b", WITHOUT_MAXIMUM, [2048, 2], [2048, 2]),
-    (7, "root", ALL, [5120, 4], [0, 0]),
-    (7, "root.g", G, [3072, 2], [0, 0]),
-    (7, "root.g.q", Q, [3072, 2], [3072, 2]),
-    (8, "root", ALL, [3072, 3], [0, 0]),
-    (8, "root.g", G, [1024, 1], [0, 0]),
-    (8, "root.g.q", Q, [1024, 1], [1024, 1]),
-    (8, "root.b", WITHOUT_MAXIMUM, [2048, 2], [2048, 2]),
+const USED: [(usize, &str, Seen, [u64; RESOURCES], [u64; RESOURCES]); 13] = [
+    (2, "root", ALL, [0, 0, 0], [0, 0, 0]),
+    (6, "root", ALL, [4096, 4, 0], [0, 0, 0]),
+    (6, "root.g", G, [2048, 2, 0], [0, 0, 0]),
+    (6, "root.g.q", Q, [2048, 2, 0], [2048, 2, 0]),
+    (6, "root.g.r", R, [0, 0, 0], [0, 0, 0]),
+    (6, "root.b", WITHOUT_MAXIMUM, [2048, 2, 0], [2048, 2, 0]),
+    (7, "root", ALL, [5120, 4, 0], [0, 0, 0]),
+    (7, "root.g", G, [3072, 2, 0], [0, 0, 0]),
+    (7, "root.g.q", Q, [3072, 2, 0], [3072, 2, 0]),
+    (8, "root", ALL, [3072, 3, 0], [0, 0, 0]),
+    (8, "root.g", G, [1024, 1, 0], [0, 0, 0]),
+    (8, "root.g.q", Q, [1024, 1, 0], [1024, 1, 0]),
+    (8, "root.b", WITHOUT_MAXIMUM, [2048, 2, 0], [2048, 2, 0]),
 ];
 
 #[test]
@@ -318,7 +318,7 @@ fn containers_count_along_the_way_and_for_their_user(rt: HostRuntime) {
 }
 
 /// Whether `ann` may change a use in a leaf, and the limit that it would pass.
-fn accepts(tree: &Tree, path: &str, old: [u64; 2], new: [u64; 2]) -> Option<Result<(), OverLimit>> {
+fn accepts(tree: &Tree, path: &str, old: [u64; RESOURCES], new: [u64; RESOURCES]) -> Option<Result<(), OverLimit>> {
     let user = ShortText::new(b"ann")?;
     let (old, new) = (Resource::new(old)?, Resource::new(new)?);
     match tree.find(path.as_bytes()) {
@@ -374,7 +374,7 @@ fn paths_are_the_same_in_any_order(rt: HostRuntime) {
 const OVER: [ChangeAt; 3] = [
     ("root.b", "bob", Change::Enter),
     ("root.a.x", "ann", Change::Enter),
-    ("root.a.x", "ann", Change::Apply([0, 0], [4096, 4])),
+    ("root.a.x", "ann", Change::Apply([0, 0, 0], [4096, 4, 0])),
 ];
 
 /// Sets the limits, where the paths are the same.
@@ -390,15 +390,15 @@ fn with_limits(mut tree: Tree, config: &Config<RESOURCES>) -> Option<Tree> {
 fn seen_in_limits(alloc: Global, path: &str) -> Option<(Seen, Result<(), OverLimit>)> {
     let config = read_config(alloc, OTHER_LIMITS).ok()?;
     let tree = with_limits(tree_after(alloc, NESTED_QUEUES, &OVER)?, &config)?;
-    let more = accepts(&tree, "root.a.x", [0, 0], [1, 0])?;
+    let more = accepts(&tree, "root.a.x", [0, 0, 0], [1, 0, 0])?;
     Some((shown(&tree, path, "ann")?, more))
 }
 
 #[test]
 fn limits_are_set_and_what_is_counted_stays(rt: HostRuntime) {
-    let used = [4096, 4];
+    let used = [4096, 4, 0];
     let a = Seen {
-        capacity: [1024, 2],
+        capacity: [1024, 2, 0],
         active: 1,
         used,
         ..A
@@ -411,7 +411,7 @@ fn limits_are_set_and_what_is_counted_stays(rt: HostRuntime) {
         ..X
     };
     let b = Seen {
-        capacity: [512, 1],
+        capacity: [512, 1, 0],
         runs: false,
         active: 1,
         ..B
@@ -444,23 +444,23 @@ const OVER_2: Result<(), OverLimit> = Err(OverLimit::Maximum { level: 2 });
 const OVER_USER: Result<(), OverLimit> = Err(OverLimit::User);
 
 /// A leaf, a change of a use there, and whether it is accepted.
-const CHANGES: [(&str, [u64; 2], [u64; 2], Result<(), OverLimit>); 13] = [
+const CHANGES: [(&str, [u64; RESOURCES], [u64; RESOURCES], Result<(), OverLimit>); 13] = [
     // A third container of (1024, 1) fills `root.g`, and a larger one does not fit.
-    ("root.g.q", [0, 0], [1024, 1], Ok(())),
-    ("root.g.q", [0, 0], [1025, 1], OVER_1),
-    ("root.g.q", [0, 0], [1024, 2], OVER_1),
-    ("root.g.q", [1024, 1], [2048, 2], Ok(())),
-    ("root.g.q", [1024, 1], [2049, 1], OVER_1),
+    ("root.g.q", [0, 0, 0], [1024, 1, 0], Ok(())),
+    ("root.g.q", [0, 0, 0], [1025, 1, 0], OVER_1),
+    ("root.g.q", [0, 0, 0], [1024, 2, 0], OVER_1),
+    ("root.g.q", [1024, 1, 0], [2048, 2, 0], Ok(())),
+    ("root.g.q", [1024, 1, 0], [2049, 1, 0], OVER_1),
     // The maximum of the leaf `r` is at level 2. The one above it is named first.
-    ("root.g.r", [0, 0], [512, 1], Ok(())),
-    ("root.g.r", [0, 0], [513, 1], OVER_2),
-    ("root.g.r", [0, 0], [513, 2], OVER_1),
+    ("root.g.r", [0, 0, 0], [512, 1, 0], Ok(())),
+    ("root.g.r", [0, 0, 0], [513, 1, 0], OVER_2),
+    ("root.g.r", [0, 0, 0], [513, 2, 0], OVER_1),
     // In `root.b` the user limit alone bounds a user.
-    ("root.b", [0, 0], [0, 1], Ok(())),
-    ("root.b", [0, 0], [1024, 1], OVER_USER),
-    ("root.b", [1024, 1], [1024, 7], Ok(())),
-    ("root.b", [1024, 1], [1024, 8], OVER_USER),
-    ("root.b", [0, 0], [MOST, MOST], OVER_USER),
+    ("root.b", [0, 0, 0], [0, 1, 0], Ok(())),
+    ("root.b", [0, 0, 0], [1024, 1, 0], OVER_USER),
+    ("root.b", [1024, 1, 0], [1024, 7, 0], Ok(())),
+    ("root.b", [1024, 1, 0], [1024, 8, 0], OVER_USER),
+    ("root.b", [0, 0, 0], [MOST, MOST], OVER_USER),
 ];
 
 #[test]

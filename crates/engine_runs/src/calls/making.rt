@@ -89,7 +89,7 @@ fn request(alloc: Global, kind: Kind, app: u64, index: u32) -> Option<Request<RE
 
 /// Twenty asks for two containers of (1024, 1) each, anywhere.
 fn asks(alloc: Global) -> Option<Asks<RESOURCES>> {
-    let resource = Resource::new([1024, 1])?;
+    let resource = Resource::new([1024, 1, 0])?;
     let mut asks = Vec::with_capacity(alloc, 20).ok()?;
     for request in 1..=20u64 {
         let key = Key {

@@ -119,7 +119,7 @@ fn is_grant(proposal: &Proposal<RESOURCES>) -> bool {
     proposal.is_grant()
         && (proposal.app(), proposal.node()) == (1, 1)
         && (key.priority, key.request) == (1, 0)
-        && proposal.resource().amounts() == [1024, 1]
+        && proposal.resource().amounts() == [1024, 1, 0]
 }
 
 fn end_of_commit(verdict: &Verdict<RESOURCES>) -> ActEnd {

@@ -1,6 +1,6 @@
 //! Tests of calls and commits whose memory is refused: they say so, change nothing, and are made once it is there.
 use crate::refusals::fixture::{Answered, Row, Step, came};
-use crate::refusals::table::{Before, GRANT, NODE, ONE, RESERVE, SUBMIT};
+use crate::refusals::table::{Before, GRANT, NODE, ONE, OTHER_LIMITS, RESERVE, SUBMIT};
 use cap_testing::Call;
 use memory_testing::{Turns, refuse_in_turn};
 use std::alloc::Global;
@@ -18,8 +18,9 @@ fn unlike(alloc: Global, rows: &[Row]) -> Option<(usize, Turns)> {
 }
 
 /// A Submit; an Allocate of one ask and a release of a container that is not live; one of eight more asks where two grants and an end are to be
-/// reported; a node that registers; a grant; and a reservation where six containers leave (2048, 2).
-static REFUSED: [Row; 6] = [
+/// reported; a node that registers; a grant; a reservation where six containers leave (2048, 2); and a Refresh: one that sets a maximum below
+/// what is used, one with a bad line, and one of other queues.
+static REFUSED: [Row; 9] = [
     (Before::Nothing, SUBMIT, Answered::Numbers([1, 0, 0, 0])),
     (
         Before::Registered,
@@ -34,6 +35,21 @@ static REFUSED: [Row; 6] = [
     (Before::Nothing, NODE, Answered::Numbers([1, 0, 0, 0])),
     (Before::Asking, GRANT, Answered::Numbers([1, 1024, 1, 0])),
     (Before::SixLive, RESERVE, Answered::Numbers([0, 9216, 7, 0])),
+    (
+        Before::SixLive,
+        Step::Call(Call::Refresh(OTHER_LIMITS)),
+        Answered::Numbers([0, 0, 0, 0]),
+    ),
+    (
+        Before::SixLive,
+        Step::Call(Call::Refresh(b"yarn.scheduler.capacity.root.queues=a,b\nx")),
+        Answered::Status(17),
+    ),
+    (
+        Before::SixLive,
+        Step::Call(Call::Refresh(b"yarn.scheduler.capacity.root.queues=a")),
+        Answered::Status(18),
+    ),
 ];
 
 #[test]

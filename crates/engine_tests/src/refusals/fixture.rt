@@ -2,9 +2,10 @@
 use crate::refusals::table::{Before, done};
 use cap_base::RESOURCES;
 use cap_commit::Cluster;
+use cap_config::read_config;
 use cap_messages::{dispatch, read_request};
 use cap_model::{
-    Event, Key, Proposal, ProposalKind, Reason, Refusal, Reply, ReplyWith, Request, Verdict,
+    Config, Event, Key, Proposal, ProposalKind, Reason, Refusal, Reply, ReplyWith, Request, Verdict,
 };
 use cap_testing::{Call, WantedContainers, cluster, frame, make_call};
 use cap_vector::Resource;
@@ -21,12 +22,14 @@ pub enum Step {
     AskForKeys(u64, u32, u64),
     /// So many registrations, each of a node of (1, 1) with a host of its own.
     Nodes(u32),
+    /// The settings of these property lines are set, where their queues are the cluster's.
+    Settings(&'static [u8]),
 }
 
 /// What a step is answered: a status, why a proposal is rejected, or numbers. These are the new application or node; the least and the
 /// most that a container may have; response id, ignored, grants and ends of an Allocate; response id, ignored and live of a Heartbeat; how
 /// many containers ended; whether a queue runs, whether it is a leaf and what it uses; nodes, applications, containers and MiB used of a
-/// cluster; or the new container, 0 for a reservation, and what is used then.
+/// cluster; the new container, 0 for a reservation, and what is used then; or whether settings were set, and how many applications may be active.
 #[derive(Clone, Copy, PartialEq, Eq)]
 pub enum Answered {
     Status(u8),
@@ -43,6 +46,7 @@ pub type Row = (Before, Step, Answered);
 enum Given {
     Request(Request<RESOURCES>),
     Proposal(Proposal<RESOURCES>),
+    Settings(Config<RESOURCES>),
 }
 
 /// A proposal for an application, a key and a node.
@@ -52,12 +56,13 @@ pub fn proposal(
     resource: [u64; 2],
 ) -> Option<Proposal<RESOURCES>> {
     let (app, (priority, request), node) = of;
+    let [memory, vcores] = resource;
     Some(Proposal {
         kind,
         app,
         key: Key { priority, request },
         node,
-        resource: Resource::new(resource)?,
+        resource: Resource::new([memory, vcores, 0])?,
     })
 }
 
@@ -88,6 +93,7 @@ fn prepared(alloc: Global, step: Step) -> Option<Given> {
         Step::Call(call) => request(alloc, &call),
         Step::AskForKeys(app, response, count) => ask_for_keys(alloc, app, response, count),
         Step::Nodes(_) => None,
+        Step::Settings(lines) => return Some(Given::Settings(read_config(alloc, lines).ok()?)),
         Step::Grant(app, key, node, resource) => {
             let grant = proposal(ProposalKind::Grant, (app, key, node), resource)?;
             return Some(Given::Proposal(grant));
@@ -109,7 +115,7 @@ fn answer_of(reply: &Reply<RESOURCES>) -> Answered {
         ReplyWith::Refused(refusal) => return Answered::Status(refusal.status()),
         ReplyWith::Submit { app } => [*app, 0, 0, 0],
         ReplyWith::RegisterMaster { minimum, maximum } => {
-            let ([least, few], [most, many]) = (minimum.amounts(), maximum.amounts());
+            let ([least, few, _], [most, many, _]) = (minimum.amounts(), maximum.amounts());
             [least, few, most, many]
         }
         ReplyWith::Allocate { reply } => {
@@ -132,12 +138,12 @@ fn answer_of(reply: &Reply<RESOURCES>) -> Answered {
             [u64::from(*ended), 0, 0, 0]
         }
         ReplyWith::QueueInfo { report } => {
-            let [memory, vcores] = report.used.amounts();
+            let [memory, vcores, _] = report.used.amounts();
             [report.running as u64, report.leaf as u64, memory, vcores]
         }
-        ReplyWith::SetQueueState => [0, 0, 0, 0],
+        ReplyWith::SetQueueState | ReplyWith::Refresh => [0, 0, 0, 0],
         ReplyWith::ClusterInfo { report } => {
-            let [memory, _] = report.used.amounts();
+            let [memory, ..] = report.used.amounts();
             [
                 u64::from(report.nodes),
                 u64::from(report.apps),
@@ -157,26 +163,37 @@ fn tried(cluster: &mut Cluster<RESOURCES>, proposal: Proposal<RESOURCES>) -> Ans
         Verdict::Done(Event::Grant { container }) => container.number,
         Verdict::Done(_) => 0,
     };
-    let [memory, vcores] = cluster.root_use().amounts();
+    let [memory, vcores, _] = cluster.root_use().amounts();
     Answered::Numbers([number, memory, vcores, 0])
+}
+
+/// Sets settings, where their queues are the cluster's.
+fn set(cluster: &mut Cluster<RESOURCES>, config: &Config<RESOURCES>) -> Answered {
+    let is_same = cluster.tree().same_paths(config);
+    if is_same {
+        cluster.set_settings(config);
+    }
+    let limit = cluster.settings().application_limit;
+    Answered::Numbers([is_same as u64, limit, 0, 0])
 }
 
 fn made(alloc: Global, cluster: &mut Cluster<RESOURCES>, given: &Given) -> Answered {
     match given {
         Given::Request(request) => answer_of(&dispatch(alloc, cluster, request)),
         Given::Proposal(proposal) => tried(cluster, *proposal),
+        Given::Settings(config) => set(cluster, config),
     }
 }
 
-/// What the cluster shows: nodes, applications, containers, reservations, the next numbers and what is used; and of application 1 the asks
-/// and the last response id.
-pub fn seen(cluster: &Cluster<RESOURCES>) -> ([usize; 5], [u64; 6]) {
+/// What the cluster shows: nodes, applications, containers, reservations, the next numbers, what is used and how many applications may be
+/// active; and of application 1 the asks and the last response id.
+pub fn seen(cluster: &Cluster<RESOURCES>) -> ([usize; 5], [u64; 7]) {
     let (nodes, apps) = (cluster.nodes(), cluster.apps());
     let (asks, response) = match apps.app(1) {
         Some(app) => (app.asks().len(), app.response()),
         None => (0, 0),
     };
-    let [memory, vcores] = cluster.root_use().amounts();
+    let [memory, vcores, _] = cluster.root_use().amounts();
     let counts = [
         nodes.count(),
         apps.count(),
@@ -191,6 +208,7 @@ pub fn seen(cluster: &Cluster<RESOURCES>) -> ([usize; 5], [u64; 6]) {
         memory,
         vcores,
         u64::from(response),
+        cluster.settings().application_limit,
     ];
     (counts, numbers)
 }

@@ -2,7 +2,7 @@
 //! A call that is refused, repeated or rejected is among them. No test reaches the last number of an application, a node or a container,
 //! nor 65,536 live containers.
 use crate::refusals::fixture::{Answered, Row, Step, takes_none};
-use crate::refusals::table::{ALLOCATE, BEAT, Before, MASTER, NODE, ONE};
+use crate::refusals::table::{ALLOCATE, BEAT, Before, MASTER, NODE, ONE, OTHER_LIMITS};
 use cap_model::Reason;
 use cap_testing::{Call, WantedContainers};
 use memory_testing::Hoard;
@@ -44,7 +44,7 @@ const NODE_TOO_LARGE: Step = Step::Call(Call::RegisterNode(b"n2", b"/r1", [1 << 
 
 const NODE_OF_NOTHING: Step = Step::Call(Call::RegisterNode(b"n1", b"/r1", [0, 0]));
 
-static ROWS: [Row; 47] = [
+static ROWS: [Row; 48] = [
     // A call, and the status that refuses it.
     (
         Before::Nothing,
@@ -172,6 +172,12 @@ static ROWS: [Row; 47] = [
         Before::Reserved,
         Step::Grant(1, (1, 1), 1, [3072, 1]),
         Answered::Numbers([7, 8192, 6, 0]),
+    ),
+    // Settings of the same queues, in another order.
+    (
+        Before::Reserved,
+        Step::Settings(OTHER_LIMITS),
+        Answered::Numbers([1, 7, 0, 0]),
     ),
     // A proposal, and why it is rejected.
     (

@@ -32,6 +32,12 @@ pub enum Before {
     Kept,
 }
 
+/// Other settings of the two queues, the second first.
+pub const OTHER_LIMITS: &[u8] = b"yarn.scheduler.capacity.root.queues=b,a
+yarn.scheduler.capacity.root.a.maximum-capacity=[memory=1024,vcores=1]
+yarn.scheduler.capacity.maximum-applications=7
+";
+
 /// One container wanted anywhere.
 pub const ONE: WantedContainers<'static> = WantedContainers {
     priority: 1,

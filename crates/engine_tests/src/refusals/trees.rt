@@ -25,8 +25,8 @@ type Tree = QueueTree<RESOURCES, Global>;
 struct Seen {
     runs: bool,
     active: u64,
-    used: [u64; 2],
-    user_used: [u64; 2],
+    used: [u64; RESOURCES],
+    user_used: [u64; RESOURCES],
     accepted: [Result<(), OverLimit>; 2],
 }
 
@@ -37,7 +37,7 @@ fn shown_at(tree: &Tree, leaf: &Path<Global>) -> Option<Seen>
     requires { IsPosition tree.now leaf.now.items }
 {
     let user = ShortText::new(b"ann")?;
-    let (small, large) = (Resource::new([1024, 1])?, Resource::new([16_384, 16])?);
+    let (small, large) = (Resource::new([1024, 1, 0])?, Resource::new([16_384, 16, 0])?);
     Some(Seen {
         runs: tree.running(leaf),
         active: tree.row(leaf).active(),
@@ -67,14 +67,14 @@ fn first_child(tree: &Tree) -> Option<u32> {
 
 /// A container of `ann` comes and grows.
 static GROWN: [ChangeAt; 2] = [
-    ("root.a", "ann", Change::Apply([0, 0], [1024, 1])),
-    ("root.a", "ann", Change::Apply([1024, 1], [2048, 2])),
+    ("root.a", "ann", Change::Apply([0, 0, 0], [1024, 1, 0])),
+    ("root.a", "ann", Change::Apply([1024, 1, 0], [2048, 2, 0])),
 ];
 
 /// The queue is stopped, and the container and the application end.
 static ENDED: [ChangeAt; 3] = [
     ("root.a", "ann", Change::State(false)),
-    ("root.a", "ann", Change::GiveBack([2048, 2])),
+    ("root.a", "ann", Change::GiveBack([2048, 2, 0])),
     ("root.a", "ann", Change::Leave),
 ];
 
@@ -120,15 +120,15 @@ fn trees_take_no_memory(rt: HostRuntime) {
     let grown = Seen {
         runs: true,
         active: 1,
-        used: [2048, 2],
-        user_used: [2048, 2],
+        used: [2048, 2, 0],
+        user_used: [2048, 2, 0],
         accepted: [Ok(()), Err(OverLimit::Maximum { level: 1 })],
     };
     let ended = Seen {
         runs: false,
         active: 0,
-        used: [0, 0],
-        user_used: [0, 0],
+        used: [0, 0, 0],
+        user_used: [0, 0, 0],
         accepted: [Ok(()), Ok(())],
     };
     // `b` uses nothing of its capacity, and `a` half of it.
@@ -146,7 +146,7 @@ fn proposed(
     let proposal = propose(snapshot, 0);
     hoard.give();
     let proposal = proposal?;
-    let [memory, _] = proposal.resource().amounts();
+    let [memory, ..] = proposal.resource().amounts();
     Some((proposal.node(), memory))
 }
 

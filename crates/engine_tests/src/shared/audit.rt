@@ -92,7 +92,8 @@ pub fn is_same(a: &ReplyView<'_, RESOURCES>, b: &ReplyView<'_, RESOURCES>) -> bo
         (ReplyWith::RegisterNode { node: a }, ReplyWith::RegisterNode { node: b }) => a == b,
         (ReplyWith::Heartbeat { reply: a }, ReplyWith::Heartbeat { reply: b }) => a == b,
         (ReplyWith::NodeGone { ended: a }, ReplyWith::NodeGone { ended: b }) => a == b,
-        (ReplyWith::SetQueueState, ReplyWith::SetQueueState) => true,
+        (ReplyWith::SetQueueState, ReplyWith::SetQueueState)
+        | (ReplyWith::Refresh, ReplyWith::Refresh) => true,
         _ => is_same_report(a, b),
     }
 }

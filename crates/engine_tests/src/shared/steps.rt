@@ -231,7 +231,7 @@ fn request_of(alloc: Global, step: Step<'_>) -> Option<Request<RESOURCES>> {
         Step::RegisterNode(host) => Request::RegisterNode {
             host: ShortText::new(host)?,
             rack: ShortText::new(b"rack")?,
-            total: Resource::new([16_384, 16])?,
+            total: Resource::new([16_384, 16, 0])?,
         },
         Step::Commit(_) => return None,
     })
@@ -243,7 +243,7 @@ fn asks(alloc: Global) -> Option<Asks<RESOURCES>> {
         priority: 1,
         request: 1,
     };
-    let resource = Resource::new([512, 1])?;
+    let resource = Resource::new([512, 1, 0])?;
     let mut asks = Vec::new(alloc);
     asks.push(Ask::new(&key, 2, &resource, &ShortText::any()))
         .ok()?;
