@@ -1,3 +1,4 @@
 pub mod Answering
 pub mod Beating
 pub mod Refusing
+pub mod Refreshing
