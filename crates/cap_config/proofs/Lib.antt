@@ -27,3 +27,5 @@ pub mod Fitting
 pub mod Fitted
 pub mod LineSteps
 pub mod Missing
+pub mod RowAmounts
+pub mod FaultLines

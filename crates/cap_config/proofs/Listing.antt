@@ -85,7 +85,7 @@ levels_few entries all none = λ k d h.
     few_dots path (queue_level entries none path (sym (queue_rows entries all none path) ∙ own_path (rows_under 16 entries root) k d h))
 
 -- their factors
-all_small : (P : QueueRow → Type 0) (f : List ℕ → List QueueRow) → ((name : List ℕ) → All P (f name)) → (names : List (List ℕ)) → All P (flat_map f names)
+pub all_small : (P : QueueRow → Type 0) (f : List ℕ → List QueueRow) → ((name : List ℕ) → All P (f name)) → (names : List (List ℕ)) → All P (flat_map f names)
 all_small P f each [] = All-nil P
 all_small P f each (name ∷ names) = All-append P (f name) (flat_map f names) (each name) (all_small P f each names)
 

@@ -1,8 +1,13 @@
 -- Laws of the definitions: what they say of every text.
-use Rattle.std.specs.Prelude.{◌≡◌, ◌↔◌, ◌≤◌, ℕ, List, None, Some, Ok, Bool, true, false, IsSome, count_by, length, if◌then◌else◌}
+use Rattle.std.specs.Prelude.{◌≡◌, ◌≢◌, ◌↔◌, ◌≤◌, ℕ, List, None, Some, Ok, Bool, true, false, IfSome, IsSome, count_by, length, if◌then◌else◌}
+use Rattle.std.specs.List.{All}
 use Rattle.std.specs.Str.{bytes_eq}
 use Rattle.std.specs.Str.Lines.{lines}
+use Rattle.cap_base.specs.Limits.{resources}
+use Rattle.cap_base.specs.Settings.{QueueRow, Settings}
 use Rattle.cap_base.specs.declared.properties.entry.Entry.{Entry}
+use Rattle.cap_base.specs.declared.properties.fault.ConfigFault.{ConfigFault}
+use Rattle.cap_base.specs.declared.properties.fault.ConfigFaultKind.TheVariants.{NoMemory}
 use Rattle.cap_base.specs.properties.Keys.{root}
 use Rattle.cap_base.specs.properties.Seen.{contains_bytes}
 use Rattle.cap_base.specs.properties.Queues.{is_queue, names_below, child, guaranteed, maximum}
@@ -57,3 +62,30 @@ abbrev pub ChildrenFitParent : Type 0
 ChildrenFitParent =
     (text : List ℕ) (entries : List Entry) → read_lines (lines text) ≡ Ok entries → whole_fault entries ≡ None →
     (path : List ℕ) → bytes_eq path root ≡ false → exceeds (guaranteed_below entries path (names_below entries path)) (guaranteed entries path) ≡ false
+
+-- the line of a first fault is 0 or one of the text's lines
+abbrev pub FaultsAreInLines : Type 0
+FaultsAreInLines = (text : List ℕ) (fault : ConfigFault) → first_fault text ≡ Some fault → fault.line ≤ length (lines text)
+
+-- a text has at most as many lines as bytes
+abbrev pub LinesAreFew : Type 0
+LinesAreFew = (text : List ℕ) → length (lines text) ≤ length text
+
+-- a first fault is one of the text: it is never want of memory
+abbrev pub FaultsAreOfText : Type 0
+FaultsAreOfText = (text : List ℕ) (fault : ConfigFault) → first_fault text ≡ Some fault → fault.kind ≢ NoMemory
+
+-- the vectors of a queue have so many amounts: its guarantee, and its maximum where it has one
+pub record QueueHasAmounts (k : ℕ) (q : QueueRow) : Type 0 where
+  pub guaranteed : length q.guaranteed ≡ k
+  pub maximum : IfSome q.maximum (λ most. length most ≡ k)
+
+-- the vectors of settings have so many amounts: those of each queue, and the bounds of a container
+pub record HasAmounts (k : ℕ) (settings : Settings) : Type 0 where
+  pub queues : All (QueueHasAmounts k) settings.queues
+  pub minimum_allocation : length settings.minimum_allocation ≡ k
+  pub maximum_allocation : length settings.maximum_allocation ≡ k
+
+-- the settings of a text have an amount of each resource
+abbrev pub SettingsHaveAmounts : Type 0
+SettingsHaveAmounts = (text : List ℕ) (settings : Settings) → settings_in text ≡ Some settings → HasAmounts resources settings

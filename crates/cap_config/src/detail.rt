@@ -319,7 +319,8 @@ fn added_below(
     let mut sums = [0; RESOURCES];
     for name in names {
         let child = child_bytes(alloc, path, name.as_bytes())?;
-        sums = added(sums, guaranteed(index, &child).amounts());
+        let more = added(sums, guaranteed(index, &child).amounts());
+        sums = more;
     }
     Ok(sums)
 }

@@ -145,7 +145,8 @@ fn overspends(
         if exceeds(guarantee, left) {
             return Ok(true);
         }
-        left = less(left, guarantee);
+        let rest = less(left, guarantee);
+        left = rest;
     }
     Ok(false)
 }

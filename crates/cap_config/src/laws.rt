@@ -1,5 +1,5 @@
 //! Laws of the definitions in `specs/`, for callers to cite. The functions do nothing.
-ghost use Rattle.cap_config.specs.Laws.{HasOneAnswer, QueuesAreLeast, QueuesAreNotTooDeep, RowsAreQueues, RowsAreFew, GuaranteeFitsMaximum, MaximumFitsParent, ChildrenFitParent};
+ghost use Rattle.cap_config.specs.Laws.{HasOneAnswer, QueuesAreLeast, QueuesAreNotTooDeep, RowsAreQueues, RowsAreFew, GuaranteeFitsMaximum, MaximumFitsParent, ChildrenFitParent, FaultsAreInLines, LinesAreFew, FaultsAreOfText, SettingsHaveAmounts};
 ghost use Rattle.cap_config.specs.TreeLaws.{SettingsAreListed};
 
 /// A text has a first fault or settings, and never both.
@@ -32,4 +32,18 @@ pub fn capacities_fit()
 /// its beginnings before a dot, and each queue before those under it.
 pub fn settings_are_listed()
     ensures { SettingsAreListed }
+{}
+
+/// The line of a first fault is at most the number of the text's lines, and so at most that of its bytes. A first fault is never
+/// want of memory.
+pub fn faults_are_of_the_text()
+    ensures lines { FaultsAreInLines }
+    ensures few { LinesAreFew }
+    ensures kinds { FaultsAreOfText }
+{}
+
+/// In the settings of a text each guarantee, each maximum that is there and both bounds of a container have an amount of each
+/// resource.
+pub fn settings_have_each_amount()
+    ensures { SettingsHaveAmounts }
 {}

@@ -1,6 +1,6 @@
-use Rattle.std.proofs.Common.{◌≡◌, ◌∷◌, ◌+◌, [], List, ℕ, sym, ◌∙◌, ap, arith, drop}
+use Rattle.std.proofs.Common.{◌≡◌, ◌+◌, List, ℕ, sym, ◌∙◌, ap, arith, drop}
 use Rattle.cap_base.specs.properties.Queues.{guaranteed, child}
-use Rattle.cap_config.proofs.Spending.{left_of, overspends, spend_here, spend_later, spend_none, two_are}
+use Rattle.cap_config.proofs.Spending.{overspends, spend_here, spend_later, spend_none}
 use Rattle.cap_config.proofs.guarantees.overspends.Goals as goal
 
 pub returns : goal.returns
@@ -28,8 +28,6 @@ loop-name-preserved c =
     c.amounts-guarantee.ensures.value
     ∙ c.guaranteed.ensures
     ∙ ap (guaranteed entries) (c.deref.ensures.value ∙ c.in_ok-child.ensures ∙ ap (child path) c.as_bytes.ensures.value) in
-    let less : left_of left guarantee ≡ c.saturating_sub.result ∷ c.saturating_sub-in-loop-name.result ∷ [] =
-    two_are _ _ _ _ c.saturating_sub.ensures c.saturating_sub-in-loop-name.ensures in
     c.loop-name.invariant
     ∙ spend_later entries path left c.args.names.now c.loop-name.name-index c.name-item.result guarantee c.loop-name-test.true c.name-item.is g (sym c.exceeds.ensures ∙ c.if-exceeds.false)
-    ∙ ap (λ (l : List ℕ). overspends entries path l (drop (c.loop-name.name-index + 1) c.args.names.now)) less
+    ∙ ap (λ (l : List ℕ). overspends entries path l (drop (c.loop-name.name-index + 1) c.args.names.now)) (sym c.less-rest.ensures)

@@ -1,0 +1,207 @@
+-- The line and the kind of a first fault.
+use Rattle.std.proofs.Common.{◌≡◌, ℕ, suc, ◌+◌, ◌≤◌, List, [], ◌∷◌, ◌++◌, length, Bool, true, false, cond, leb, max, min, Option, Some, None, Result, Ok, Err, refl, sym, subst, ap, ◌∙◌, arith, add-one}
+use Rattle.std.specs.Prelude.{◌≢◌, ◌==◌, find, is_none, IfSome}
+use Rattle.std.specs.List.{list_all, slice_split, onto_first}
+use Rattle.std.specs.Option.{option_map}
+use Rattle.std.specs.Str.Lines.{lines, lines_of_parts}
+use Rattle.std.proofs.lemmas.Bool.Decides.{nat_tests}
+use Rattle.std.proofs.lemmas.List.Folds.{list_all-append}
+use Rattle.std.proofs.lemmas.List.Splits.{length-slice_split}
+use Rattle.cap_base.specs.declared.properties.entry.Entry.{Entry}
+use Rattle.cap_base.specs.declared.properties.key.Key.{Key}
+use Rattle.cap_base.specs.declared.properties.value.Value.{Value}
+use Rattle.cap_base.specs.declared.properties.setting.Setting.{Setting}
+use Rattle.cap_base.specs.declared.properties.setting.Setting.TheVariants.{Queues, MinimumMemory, MinimumVcores, MinimumGpu, MaximumMemory, MaximumVcores, MaximumGpu}
+use Rattle.cap_vector.specs.Vector.{amount_max}
+use Rattle.cap_base.specs.declared.properties.fault.ConfigFault.{ConfigFault}
+use Rattle.cap_base.specs.declared.properties.fault.ConfigFaultKind.{ConfigFaultKind}
+use Rattle.cap_base.specs.declared.properties.fault.ConfigFaultKind.TheVariants.{BadLine, UnknownKey, Repeated, BadValue, NoSuchQueue, OverParent, GuaranteeOverMaximum, TooManyQueues, TooDeep, NoChild, NoMemory}
+use Rattle.cap_base.specs.properties.Fault.{fault_at}
+use Rattle.cap_base.specs.properties.Keys.{key_of, root}
+use Rattle.cap_base.specs.properties.Seen.{contains_bytes}
+use Rattle.cap_base.specs.properties.Values.{value_of}
+use Rattle.cap_base.specs.properties.Queues.{entry_for, same_setting}
+use Rattle.cap_base.specs.properties.Entries.{entry_of, with_value, with_key, with_parts, line_parts, read_after, read_lines, and_then, is_passed_over, key_text}
+use Rattle.cap_base.specs.properties.Tests.{line_where, cluster_entry, number_or, line_or_zero, pair_line, lesser, allocation_line, lists_none, no_child_line, is_astray, no_such_queue_line, lists_deep, too_deep_line, listed_by, line_past, too_many_line, is_over_maximum, over_maximum_line, is_over_parent, over_parent_line, or_else, or_fault, shape_fault, whole_fault}
+use Rattle.cap_base.specs.properties.First.{first_fault, fault_after}
+use Rattle.cap_config.specs.Laws.{FaultsAreInLines, LinesAreFew, FaultsAreOfText}
+use Rattle.cap_config.proofs.Found.{both, found_has}
+
+-- the entries are of the first n lines
+abbrev are_within : ℕ → List Entry → Bool
+are_within n entries = list_all (λ e. leb e.line n) entries
+
+abbrev IsAt : ℕ → Option ℕ → Type 0
+IsAt n line = IfSome line (λ l. l ≤ n)
+
+-- a fault at one of the first n lines or at none, of a kind that a text has
+pub record IsOfText (n : ℕ) (fault : ConfigFault) : Type 0 where
+  pub line : fault.line ≤ n
+  pub kind : fault.kind ≢ NoMemory
+
+small : (a n : ℕ) → leb a n ≡ true → a ≤ n
+small a n h = grind (arith, nat_tests)
+
+found_line : (n : ℕ) (test : Entry → Bool) (entries : List Entry) (o : Option Entry) → find test entries ≡ o → are_within n entries ≡ true → line_or_zero o ≤ n
+found_line n test entries (Some e) is all = small e.line n (found_has test (λ x. leb x.line n) entries e is all).1
+found_line n test entries None is all = omega arith
+
+line_of : (n : ℕ) (o : Option Entry) → line_or_zero o ≤ n → IsAt n (option_map (λ e. e.line) o)
+line_of n (Some e) h = h
+line_of n None h = tt
+
+where_is : (n : ℕ) (test : Entry → Bool) (entries : List Entry) → are_within n entries ≡ true → IsAt n (line_where test entries)
+unfolding line_where
+where_is n test entries all = line_of n (find test entries) (found_line n test entries (find test entries) refl all)
+
+later_of : (n a b : ℕ) → a ≤ n → b ≤ n → max a b ≤ n
+later_of n a b ha hb = grind (arith, nat_tests)
+
+lesser_of : (n a b : ℕ) → a ≤ n → b ≤ n → min a b ≤ n
+lesser_of n a b ha hb = grind (arith, nat_tests)
+
+pair_by : (n : ℕ) (over : Bool) (a b : ℕ) → a ≤ n → b ≤ n → IsAt n (cond over (Some (max a b)) None)
+pair_by n true a b ha hb = later_of n a b ha hb
+pair_by n false a b ha hb = tt
+
+pair_is : (n : ℕ) (entries : List Entry) (least most : Setting) (d e : ℕ) → are_within n entries ≡ true → IsAt n (pair_line (cluster_entry entries least) d (cluster_entry entries most) e)
+pair_is n entries least most d e all =
+    pair_by n _ (line_or_zero (cluster_entry entries least)) (line_or_zero (cluster_entry entries most))
+    (found_line n (λ x. same_setting x.setting least) entries (cluster_entry entries least) refl all)
+    (found_line n (λ x. same_setting x.setting most) entries (cluster_entry entries most) refl all)
+
+lesser_is : (n : ℕ) (a b : Option ℕ) → IsAt n a → IsAt n b → IsAt n (lesser a b)
+lesser_is n (Some a) (Some b) ha hb = lesser_of n a b ha hb
+lesser_is n (Some a) None ha hb = ha
+lesser_is n None b ha hb = hb
+
+allocation_is : (n : ℕ) (entries : List Entry) → are_within n entries ≡ true → IsAt n (allocation_line entries)
+unfolding allocation_line
+allocation_is n entries all =
+    lesser_is n _ _ (pair_is n entries MinimumMemory MaximumMemory 1024 8192 all)
+    (lesser_is n _ _ (pair_is n entries MinimumVcores MaximumVcores 1 4 all) (pair_is n entries MinimumGpu MaximumGpu 0 amount_max all))
+
+childless_by : (n : ℕ) (none : Bool) (line : Option ℕ) → IsAt n line → IsAt n (cond none (Some 0) line)
+childless_by n true line h = omega arith
+childless_by n false line h = h
+
+childless_is : (n : ℕ) (entries : List Entry) → are_within n entries ≡ true → IsAt n (no_child_line entries)
+unfolding no_child_line
+childless_is n entries all = childless_by n (is_none (entry_for entries Queues root)) (line_where lists_none entries) (where_is n lists_none entries all)
+
+past_by : (n : ℕ) (over : Bool) (line : ℕ) (later : Option ℕ) → line ≤ n → IsAt n later → IsAt n (cond over (Some line) later)
+past_by n true line later h rest = h
+past_by n false line later h rest = rest
+
+past_is : (n count : ℕ) (entries : List Entry) → are_within n entries ≡ true → IsAt n (line_past count entries)
+unfolding line_past
+past_is n count [] all = tt
+past_is n count (e ∷ entries) all =
+    let parts = both (leb e.line n) (are_within n entries) all in
+    past_by n _ e.line _ (small e.line n parts.0) (past_is n (count + listed_by e.value) entries parts.1)
+
+or_is : (n : ℕ) (line : Option ℕ) (kind : ConfigFaultKind) (other : Option ConfigFault) → IsAt n line → kind ≢ NoMemory → IfSome other (IsOfText n) → IfSome (or_else line kind other) (IsOfText n)
+or_is n (Some line) kind other at of rest = record { line = at; kind = of }
+or_is n None kind other at of rest = rest
+
+shape_is : (n : ℕ) (entries : List Entry) → are_within n entries ≡ true → IfSome (shape_fault entries) (IsOfText n)
+unfolding shape_fault
+shape_is n entries all =
+    or_is n _ BadValue _ (allocation_is n entries all) (λ e. absurd (cc e))
+    (or_is n _ NoChild _ (childless_is n entries all) (λ e. absurd (cc e))
+    (or_is n _ NoSuchQueue _ (where_is n (is_astray entries) entries all) (λ e. absurd (cc e))
+    (or_is n _ TooDeep _ (where_is n lists_deep entries all) (λ e. absurd (cc e))
+    (or_is n _ TooManyQueues _ (past_is n 1 entries all) (λ e. absurd (cc e))
+    (or_is n _ GuaranteeOverMaximum None (where_is n (is_over_maximum entries) entries all) (λ e. absurd (cc e)) tt)))))
+
+or_fault_is : (n : ℕ) (a b : Option ConfigFault) → IfSome a (IsOfText n) → IfSome b (IsOfText n) → IfSome (or_fault a b) (IsOfText n)
+or_fault_is n (Some fault) b ha hb = ha
+or_fault_is n None b ha hb = hb
+
+whole_is : (n : ℕ) (entries : List Entry) → are_within n entries ≡ true → IfSome (whole_fault entries) (IsOfText n)
+unfolding whole_fault
+whole_is n entries all =
+    or_fault_is n (shape_fault entries) _ (shape_is n entries all) (or_is n _ OverParent None (where_is n (is_over_parent entries) entries all) (λ e. absurd (cc e)) tt)
+
+-- what line n sets, or its fault
+abbrev IsOfLine : ℕ → Result Entry ConfigFault → Type 0
+IsOfLine n (Ok entry) = entry.line ≡ n
+IsOfLine n (Err fault) = IsOfText n fault
+
+value_is : (n : ℕ) (key : Key) (o : Option Value) → IsOfLine n (with_value n key o)
+value_is n key (Some value) = refl
+value_is n key None = record { line = omega arith; kind = λ e. absurd (cc e) }
+
+unless_is : (n : ℕ) (stood : Bool) (here : Result Entry ConfigFault) → IsOfLine n here → IsOfLine n (cond stood (Err (fault_at n Repeated)) here)
+unless_is n true here h = record { line = omega arith; kind = λ e. absurd (cc e) }
+unless_is n false here h = h
+
+key_is : (keys : List (List ℕ)) (n : ℕ) (name bytes : List ℕ) (o : Option Key) → IsOfLine n (with_key keys n name bytes o)
+key_is keys n name bytes (Some key) = unless_is n (contains_bytes keys name) _ (value_is n key (value_of key bytes))
+key_is keys n name bytes None = record { line = omega arith; kind = λ e. absurd (cc e) }
+
+parts_is : (keys : List (List ℕ)) (n : ℕ) (o : Option (List ℕ × List ℕ)) → IsOfLine n (with_parts keys n o)
+parts_is keys n (Some parts) = key_is keys n parts.0 parts.1 (key_of parts.0)
+parts_is keys n None = record { line = omega arith; kind = λ e. absurd (cc e) }
+
+entry_is : (keys : List (List ℕ)) (n : ℕ) (line : List ℕ) → IsOfLine n (entry_of keys n line)
+unfolding entry_of
+entry_is keys n line = parts_is keys n (line_parts line)
+
+-- what n lines set, or the first fault of one of them
+abbrev IsOfLines : ℕ → Result (List Entry) ConfigFault → Type 0
+IsOfLines n (Ok entries) = are_within n entries ≡ true
+IsOfLines n (Err fault) = IsOfText n fault
+
+weaker : (n m : ℕ) (fault : ConfigFault) → n ≤ m → IsOfText n fault → IsOfText m fault
+weaker n m fault h is = let l = is.line in record { line = omega (arith, l, h); kind = is.kind }
+
+by_line : (n m : ℕ) (passed : Bool) (later : Result (List Entry) ConfigFault) (here : Result Entry ConfigFault) (next : Entry → Result (List Entry) ConfigFault) → n ≤ m →
+    IsOfLines m later → IsOfLine n here → ((entry : Entry) → entry.line ≡ n → IsOfLines m (next entry)) → IsOfLines m (cond passed later (and_then here next))
+by_line n m true later here next h rest is more = rest
+by_line n m false later (Ok entry) next h rest is more = more entry is
+by_line n m false later (Err fault) next h rest is more = weaker n m fault h is
+
+within_push : (m : ℕ) (entries : List Entry) (entry : Entry) → are_within m entries ≡ true → entry.line ≤ m → are_within m (entries ++ entry ∷ []) ≡ true
+within_push m entries entry all one =
+    let this : leb entry.line m ≡ true = grind (arith, nat_tests) in
+    rw (list_all-append (λ (e : Entry). leb e.line m) entries (entry ∷ []), all, this) refl
+
+read_is : (lines : List (List ℕ)) (n m : ℕ) (keys : List (List ℕ)) (entries : List Entry) → n + length lines ≡ m → are_within m entries ≡ true → IsOfLines m (read_after n keys entries lines)
+unfolding read_after
+read_is [] n m keys entries e all = all
+read_is (line ∷ lines) n m keys entries e all =
+    by_line (n + 1) m (is_passed_over line) _ (entry_of keys (n + 1) line) _ (omega (arith, e))
+    (read_is lines (n + 1) m keys entries (omega (arith, e)) all)
+    (entry_is keys (n + 1) line)
+    (λ entry is. read_is lines (n + 1) m (keys ++ key_text line ∷ []) (entries ++ entry ∷ []) (omega (arith, e)) (within_push m entries entry all (omega (arith, e, is))))
+
+fault_is : (n : ℕ) (r : Result (List Entry) ConfigFault) → IsOfLines n r → IfSome (fault_after r) (IsOfText n)
+fault_is n (Ok entries) all = whole_is n entries all
+fault_is n (Err fault) is = is
+
+first_is : (text : List ℕ) → IfSome (first_fault text) (IsOfText (length (lines text)))
+unfolding first_fault
+first_is text = fault_is (length (lines text)) (read_lines (lines text)) (read_is (lines text) 0 (length (lines text)) [] [] refl refl)
+
+its_fault : (n : ℕ) (r : Option ConfigFault) (fault : ConfigFault) → r ≡ Some fault → IfSome r (IsOfText n) → IsOfText n fault
+its_fault n r fault e is = subst (λ (o : Option ConfigFault). IfSome o (IsOfText n)) e is
+
+pub faults_in_lines : FaultsAreInLines
+faults_in_lines text fault e = (its_fault (length (lines text)) (first_fault text) fault e (first_is text)).line
+
+pub faults_of_text : FaultsAreOfText
+faults_of_text text fault e = (its_fault (length (lines text)) (first_fault text) fault e (first_is text)).kind
+
+-- one more byte makes at most one line more
+more_lines : (feed : Bool) (b n : ℕ) (parts : List (List ℕ)) → 1 ≤ length parts → length (lines_of_parts parts) ≤ n → length (lines_of_parts (cond feed ([] ∷ parts) (onto_first b parts))) ≤ suc n
+more_lines feed b n [] some h = absurd (omega (arith, some))
+more_lines true b n (part ∷ []) some h = omega (arith, h)
+more_lines true b n (part ∷ next ∷ parts) some h = omega (arith, h)
+more_lines false b n (part ∷ []) some h = omega arith
+more_lines false b n (part ∷ next ∷ parts) some h = omega (arith, h)
+
+pub lines_few : LinesAreFew
+lines_few [] = omega arith
+lines_few (b ∷ text) =
+    more_lines _ b (length text) (slice_split (λ c. c == 10) text) (omega (arith, length-slice_split (λ c. c == 10) text)) (lines_few text)
