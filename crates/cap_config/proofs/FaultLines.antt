@@ -182,7 +182,7 @@ fault_is n (Err fault) is = is
 
 first_is : (text : List ℕ) → IfSome (first_fault text) (IsOfText (length (lines text)))
 unfolding first_fault
-first_is text = fault_is (length (lines text)) (read_lines (lines text)) (read_is (lines text) 0 (length (lines text)) [] [] refl refl)
+first_is text = fault_is (length (lines text)) (read_lines (lines text)) (read_is (lines text) 0 (length (lines text)) [] [] (omega arith) refl)
 
 its_fault : (n : ℕ) (r : Option ConfigFault) (fault : ConfigFault) → r ≡ Some fault → IfSome r (IsOfText n) → IsOfText n fault
 its_fault n r fault e is = subst (λ (o : Option ConfigFault). IfSome o (IsOfText n)) e is
@@ -193,12 +193,16 @@ faults_in_lines text fault e = (its_fault (length (lines text)) (first_fault tex
 pub faults_of_text : FaultsAreOfText
 faults_of_text text fault e = (its_fault (length (lines text)) (first_fault text) fault e (first_is text)).kind
 
+one_line : (none : Bool) (line : List ℕ) (n : ℕ) → length (cond none [] (line ∷ [])) ≤ suc n
+one_line true line n = omega arith
+one_line false line n = omega arith
+
 -- one more byte makes at most one line more
 more_lines : (feed : Bool) (b n : ℕ) (parts : List (List ℕ)) → 1 ≤ length parts → length (lines_of_parts parts) ≤ n → length (lines_of_parts (cond feed ([] ∷ parts) (onto_first b parts))) ≤ suc n
 more_lines feed b n [] some h = absurd (omega (arith, some))
 more_lines true b n (part ∷ []) some h = omega (arith, h)
 more_lines true b n (part ∷ next ∷ parts) some h = omega (arith, h)
-more_lines false b n (part ∷ []) some h = omega arith
+more_lines false b n (part ∷ []) some h = one_line (length (b ∷ part) == 0) (b ∷ part) n
 more_lines false b n (part ∷ next ∷ parts) some h = omega (arith, h)
 
 pub lines_few : LinesAreFew

@@ -1,9 +1,15 @@
 -- How amounts are written.
-use Rattle.std.specs.Prelude.{ℕ, List, [], ◌++◌, codes, decimal, nat_lt, slice_index, if◌then◌else◌}
+use Rattle.std.specs.Prelude.{ℕ, List, [], ◌++◌, ◌==◌, codes, decimal, nat_lt, if◌then◌else◌}
+use Rattle.cap_vector.specs.Vector.{amount}
 
--- MiB and vcores, as property lines have them
-abbrev pub amounts_words : List ℕ → List ℕ
-amounts_words amounts = codes "memory=" ++ decimal (slice_index amounts 0) ++ codes ",vcores=" ++ decimal (slice_index amounts 1)
+-- GPUs, where they are not as many as go without saying
+abbrev pub gpus_words : ℕ → ℕ → List ℕ
+gpus_words unsaid gpus = if gpus == unsaid then [] else codes ",yarn.io/gpu=" ++ decimal gpus
+
+-- MiB, vcores and GPUs, as property lines have them
+abbrev pub amounts_words : ℕ → List ℕ → List ℕ
+amounts_words unsaid amounts =
+    codes "memory=" ++ decimal (amount amounts 0) ++ codes ",vcores=" ++ decimal (amount amounts 1) ++ gpus_words unsaid (amount amounts 2)
 
 -- an amount of a resource that is over its limit
 abbrev pub over_words : List ℕ → ℕ → ℕ → List ℕ

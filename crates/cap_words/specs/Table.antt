@@ -1,6 +1,7 @@
 -- The table of the queues of settings, and the limits below it.
 use Rattle.std.specs.Prelude.{ℕ, ◌-◌, List, [], ◌∷◌, ◌++◌, length, replicate, Option, Some, None, Bool, true, false, codes, decimal, max}
 use Rattle.std.specs.List.{flat_map}
+use Rattle.cap_vector.specs.Vector.{amount_max}
 use Rattle.cap_base.specs.Settings.{QueueRow, Settings}
 use Rattle.cap_words.specs.declared.table.Column.{Column}
 use Rattle.cap_words.specs.declared.table.Column.TheVariants.{Path, Guarantee, Maximum, Factor}
@@ -15,13 +16,13 @@ title Maximum = codes "maximum"
 title Factor = codes "user-limit-factor"
 
 abbrev pub maximum_words : Option (List ℕ) → List ℕ
-maximum_words (Some most) = amounts_words most
+maximum_words (Some most) = amounts_words 0 most
 maximum_words None = codes "-"
 
 -- what a queue has in a column
 abbrev pub cell_words : Column → QueueRow → List ℕ
 cell_words Path row = row.path
-cell_words Guarantee row = amounts_words row.guaranteed
+cell_words Guarantee row = amounts_words 0 row.guaranteed
 cell_words Maximum row = maximum_words row.maximum
 cell_words Factor row = decimal row.factor
 
@@ -62,17 +63,17 @@ row_words widths row =
     ++ padded widths.factor (cell_words Factor row)
     ++ state_words row.running
 
--- the lines of the limits
-unfoldable pub allocation_line : List ℕ → List ℕ → List ℕ
-allocation_line name amounts = name ++ amounts_words amounts ++ codes "\n"
+-- the lines of the limits. A minimum allocation of 0 GPUs goes without saying, and a maximum allocation of the most that there may be
+unfoldable pub allocation_line : List ℕ → ℕ → List ℕ → List ℕ
+allocation_line name unsaid amounts = name ++ amounts_words unsaid amounts ++ codes "\n"
 
 unfoldable pub applications_line : ℕ → List ℕ
 applications_line limit = codes "maximum applications: " ++ decimal limit ++ codes "\n"
 
 abbrev pub limits_words : Settings → List ℕ
 limits_words settings =
-    allocation_line (codes "minimum allocation: ") settings.minimum_allocation
-    ++ allocation_line (codes "maximum allocation: ") settings.maximum_allocation
+    allocation_line (codes "minimum allocation: ") 0 settings.minimum_allocation
+    ++ allocation_line (codes "maximum allocation: ") amount_max settings.maximum_allocation
     ++ applications_line settings.application_limit
 
 -- a header, a line for each queue, and the limits

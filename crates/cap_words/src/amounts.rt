@@ -1,7 +1,8 @@
 //! Numbers and amounts in words, also those over a limit.
 ghost use Rattle.std.specs.Prelude.{◌≡◌, ◌++◌, OnOk, string_bytes};
-ghost use Rattle.cap_words.specs.Amounts.{amounts_words, over_words};
+ghost use Rattle.cap_words.specs.Amounts.{amounts_words, gpus_words, over_words};
 
+use cap_base::RESOURCES;
 use itoa::{Buffer, Integer};
 use std::alloc::AllocError;
 
@@ -13,15 +14,31 @@ pub(crate) fn put_number<I: Integer>(words: &mut String, number: I) -> Result<()
     words.push_str(buffer.format(number))
 }
 
-/// Adds amounts in MiB and vcores as property lines have them, without the brackets.
-pub(crate) fn put_amounts(words: &mut String, amounts: [u64; 2]) -> Result<(), AllocError>
+/// Adds amounts in MiB, vcores and GPUs as property lines have them, without the brackets. So many GPUs go without saying.
+pub(crate) fn put_amounts(
+    words: &mut String,
+    unsaid: u64,
+    amounts: [u64; RESOURCES],
+) -> Result<(), AllocError>
     ensures { OnOk result (string_bytes words.new
-        ≡ string_bytes words.old ++ amounts_words amounts) }
+        ≡ string_bytes words.old ++ amounts_words unsaid amounts) }
 {
     words.push_str("memory=")?;
     put_number(words, amounts[0])?;
     words.push_str(",vcores=")?;
-    put_number(words, amounts[1])
+    put_number(words, amounts[1])?;
+    put_gpus(words, unsaid, amounts[2])
+}
+
+fn put_gpus(words: &mut String, unsaid: u64, gpus: u64) -> Result<(), AllocError>
+    ensures { OnOk result (string_bytes words.new
+        ≡ string_bytes words.old ++ gpus_words unsaid gpus) }
+{
+    if gpus == unsaid {
+        return Ok(());
+    }
+    words.push_str(",yarn.io/gpu=")?;
+    put_number(words, gpus)
 }
 
 /// Adds an amount of a resource and the limit that it is over. Nothing where it is not.

@@ -1,17 +1,17 @@
 //! One line of words for the first fault of property lines: its line, its key, and what is wrong (`describe`).
 ghost use Rattle.std.specs.Prelude.{◌≡◌, ◌++◌, IfOk, OnOk, string_bytes};
 ghost use Rattle.std.specs.Option.{option_map};
-ghost use Rattle.cap_words.specs.Faults.{Describes, heading, line_words, key_words, form_words, limit_words, both_over, detail_words};
+ghost use Rattle.cap_words.specs.Faults.{Describes, heading, line_words, key_words, form_words, limit_words, each_over, detail_words};
 ghost use Rattle.cap_config.specs.LineKeys.{line_key};
 
 use crate::amounts::{put_number, put_over};
 use crate::text::text_of;
-use cap_base::NoMemory;
+use cap_base::{NoMemory, RESOURCES};
 use cap_config::{ConfigFault, Detail, Limit, Setting, detail_of, line_key};
 use std::alloc::{AllocError, Global};
 
 /// One line of words for the first fault of these property lines, without a line feed: the number of its line, the key
-/// there, and what is wrong. Where amounts are over a limit, it has each in MiB or vcores and the limit.
+/// there, and what is wrong. Where amounts are over a limit, it has each in MiB, vcores or GPUs and the limit.
 ///
 /// A fault without a line has no number, and a line whose key is missing or not printable has no key. Any fault has words,
 /// also one of another text. `NoMemory` if an allocation fails.
@@ -93,7 +93,7 @@ fn put_detail(words: &mut String, general: &str, detail: &Detail) -> Result<(), 
             most,
         } => {
             words.push_str(limit_words(*limit))?;
-            put_both_over(words, *amounts, *most)
+            put_each_over(words, *amounts, *most)
         }
     }
 }
@@ -108,7 +108,7 @@ fn form_words(setting: Setting) -> &'static str
             "the value must be names with commas between them, each of 1 to 64 letters, digits, _ or -, none of them twice, and no queue's path over 255 bytes"
         }
         Setting::Capacity | Setting::MaximumCapacity => {
-            "the value must be [memory=N,vcores=N], each N a number from 0 to 1099511627776"
+            "the value must be [memory=N,vcores=N] or [memory=N,vcores=N,yarn.io/gpu=N], each N a number from 0 to 1099511627776"
         }
         Setting::UserLimitFactor => "the value must be a number from 1 to 1000",
         Setting::State => "the value must be RUNNING or STOPPED",
@@ -117,6 +117,9 @@ fn form_words(setting: Setting) -> &'static str
         | Setting::MinimumVcores
         | Setting::MaximumMemory
         | Setting::MaximumVcores => "the value must be a number from 1 to 1099511627776",
+        Setting::MinimumGpu | Setting::MaximumGpu => {
+            "the value must be a number from 0 to 1099511627776"
+        }
     }
 }
 
@@ -136,10 +139,16 @@ fn limit_words(limit: Limit) -> &'static str
     }
 }
 
-fn put_both_over(words: &mut String, amounts: [u64; 2], most: [u64; 2]) -> Result<(), AllocError>
+/// Adds each amount that is over, and its limit.
+fn put_each_over(
+    words: &mut String,
+    amounts: [u64; RESOURCES],
+    most: [u64; RESOURCES],
+) -> Result<(), AllocError>
     ensures { OnOk result (string_bytes words.new
-        ≡ string_bytes words.old ++ both_over amounts most) }
+        ≡ string_bytes words.old ++ each_over amounts most) }
 {
     put_over(words, ", memory ", amounts[0], most[0])?;
-    put_over(words, ", vcores ", amounts[1], most[1])
+    put_over(words, ", vcores ", amounts[1], most[1])?;
+    put_over(words, ", yarn.io/gpu ", amounts[2], most[2])
 }

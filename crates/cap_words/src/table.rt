@@ -7,6 +7,7 @@ use crate::amounts::{put_amounts, put_number};
 use crate::text::text_of;
 use cap_base::{NoMemory, RESOURCES};
 use cap_config::{Config, QueueRow};
+use cap_vector::AMOUNT_MAX;
 use std::alloc::{AllocError, Global};
 
 /// A column whose cells have blanks up to its width. The state of a queue follows them, at the end of its line.
@@ -30,9 +31,10 @@ pub struct Widths {
 /// A table of the queues of these settings, and their limits in three more lines. Each line ends with a line feed.
 ///
 /// After a header there is a line for each queue, in the order of the settings, with columns under one another: its path; its
-/// guarantee, and the maximum capacity that it has of its own or from a queue above, in MiB and vcores, or `-` where there is
-/// none; its user limit factor; and its own state, RUNNING or STOPPED. The limits are the minimum and the maximum allocation of a container, in
-/// MiB and vcores, and how many applications may be active at once. `NoMemory` if an allocation fails.
+/// guarantee, and the maximum capacity that it has of its own or from a queue above, in MiB, vcores and GPUs, or `-` where there
+/// is none; its user limit factor; and its own state, RUNNING or STOPPED. The limits are the minimum and the maximum allocation
+/// of a container, in MiB, vcores and GPUs, and how many applications may be active at once. GPUs are not named where they are 0,
+/// nor in a maximum allocation of the most that there may be. `NoMemory` if an allocation fails.
 pub fn queue_table(alloc: Global, config: &Config<RESOURCES>) -> Result<String, NoMemory>
     ensures { IfOk result (λ words. string_bytes words ≡ table config.now) }
 {
@@ -100,7 +102,7 @@ fn cell(alloc: Global, column: Column, row: &QueueRow<RESOURCES>) -> Result<Stri
     let mut cell = String::new(alloc);
     match column {
         Column::Path => cell.push_str(text_of(&row.path()))?,
-        Column::Guarantee => put_amounts(&mut cell, row.guaranteed().amounts())?,
+        Column::Guarantee => put_amounts(&mut cell, 0, row.guaranteed().amounts())?,
         Column::Maximum => put_maximum(&mut cell, row)?,
         Column::Factor => put_number(&mut cell, row.factor())?,
     }
@@ -112,7 +114,7 @@ fn put_maximum(cell: &mut String, row: &QueueRow<RESOURCES>) -> Result<(), Alloc
         ≡ string_bytes cell.old ++ maximum_words row.now.maximum) }
 {
     match row.maximum() {
-        Some(most) => put_amounts(cell, most.amounts()),
+        Some(most) => put_amounts(cell, 0, most.amounts()),
         None => cell.push_str("-"),
     }
 }
@@ -210,19 +212,24 @@ fn put_limits(words: &mut String, config: &Config<RESOURCES>) -> Result<(), Allo
 {
     let least = config.minimum_allocation().amounts();
     let most = config.maximum_allocation().amounts();
-    put_allocation(words, "minimum allocation: ", least)?;
-    put_allocation(words, "maximum allocation: ", most)?;
+    put_allocation(words, "minimum allocation: ", 0, least)?;
+    put_allocation(words, "maximum allocation: ", AMOUNT_MAX, most)?;
     put_applications(words, config.application_limit())
 }
 
-/// Adds the line of a bound of one container, after its name.
+/// Adds the line of a bound of one container, after its name. So many GPUs go without saying.
 #[tactic(auto, unfolding(crate::specs::Table::allocation_line))]
-fn put_allocation(words: &mut String, name: &str, amounts: [u64; 2]) -> Result<(), AllocError>
+fn put_allocation(
+    words: &mut String,
+    name: &str,
+    unsaid: u64,
+    amounts: [u64; RESOURCES],
+) -> Result<(), AllocError>
     ensures { OnOk result (string_bytes words.new
-        ≡ string_bytes words.old ++ allocation_line name.now amounts) }
+        ≡ string_bytes words.old ++ allocation_line name.now unsaid amounts) }
 {
     words.push_str(name)?;
-    put_amounts(words, amounts)?;
+    put_amounts(words, unsaid, amounts)?;
     words.push_str("\n")
 }
 
