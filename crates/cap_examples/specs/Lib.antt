@@ -2,3 +2,4 @@ pub mod ExampleClusters
 pub mod ExampleShares
 pub mod ExampleProposals
 pub mod ExampleCalls
+pub mod ExampleRefresh

@@ -3,6 +3,7 @@
 ghost use Rattle.cap_examples.specs.ExampleShares.{DominantShares, ShareOfNothing, ThreeShares, LessFullQueueFirst, EqualQueuesByName, AsksByPriority, AsksAreRounded};
 ghost use Rattle.cap_examples.specs.ExampleProposals.{MiddleMaximum, RoomIsReserved, ReservationKeepsOthersOut, ReservationIsConverted, SmallerAskDropsNewest, ChangedAskDropsAll, UserLimit, SecondProposalRejected, ReplacedAskRejected, ReturnedNodeIsAnother, NodeFillsUp, OtherReasons, RingFromTheStart, ExamplesAreTrees};
 ghost use Rattle.cap_examples.specs.ExampleCalls.{SubmitRefusals, SubmitStatuses, MasterComesAndGoes, GrantIsTold, HeartbeatEnds, ReleasedOnce, ResponseIds, ResponseIdsWrap, NewsInTwoReplies, LargeAsks, KeptAsks, TotalsStayBounded, NodeRefusals, OperatorSees};
+ghost use Rattle.cap_examples.specs.ExampleRefresh.{MaximumIsLowered, RoomUnderLoweredMaximum};
 
 /// Fullness compares the greatest share first, and then the next greatest.
 pub fn shares_compare_as_in_the_examples()
@@ -113,4 +114,10 @@ pub fn nodes_are_refused_as_in_the_examples()
 /// What QueueInfo and ClusterInfo answer.
 pub fn operators_see_as_in_the_examples()
     ensures { OperatorSees }
+{}
+
+/// A Refresh that lowers a maximum below what is used ends nothing, and nothing is granted until the use is below it.
+pub fn maximum_is_lowered_as_in_the_examples()
+    ensures lowered { MaximumIsLowered }
+    ensures room { RoomUnderLoweredMaximum }
 {}
