@@ -1,5 +1,6 @@
 -- Laws of worlds: what else holds of every run of them.
 use Rattle.std.specs.Prelude.{◌≡◌, ℕ, ◌≤◌, ◌==◌, Bool, List, Some, IsSome, ◌++◌, count_by, filter, not}
+use Rattle.std.specs.List.{All}
 use Rattle.cap_base.specs.Limits.{resources}
 use Rattle.cap_model.specs.declared.event.Event.{Event}
 use Rattle.cap_model.specs.declared.news.End.{End}
@@ -7,7 +8,8 @@ use Rattle.cap_model.specs.News.{Grant}
 use Rattle.cap_base.specs.Settings.{Settings}
 use Rattle.cap_model.specs.Ending.{is_among}
 use Rattle.cap_model.specs.Flat.{Flat, app_at, opened_cluster}
-use Rattle.cap_model.specs.Bounds.{IsBounded}
+use Rattle.cap_model.specs.Bounds.{IsBounded, IsQueueBounded}
+use Rattle.cap_model.specs.Risen.{LimitsAreMetOrNotRisen}
 use Rattle.cap_base.specs.Members.{IsRising}
 use Rattle.cap_model.specs.Events.{ever_granted, ever_ended, Run}
 use Rattle.cap_laws.specs.EngineLaws.{container_numbers}
@@ -22,11 +24,13 @@ OfWorlds Holds =
     (opening : Flat resources) (steps : List Step) (done : ℕ) (events : List (Event resources)) (closing : Flat resources) (output : ℕ → List ℕ) (is_open : ℕ → Bool) → IsBounded opening →
     IsHeadline opening steps done events closing output is_open → Holds opening events closing
 
--- Where the opening cluster is bounded, so is every state of the run: after each beginning of the events, and at its close.
+-- Where the opening cluster is bounded, so is every state of the run: after each beginning of the events, and at its close. And there each
+-- queue's use is within its maximum and each user's within the user limit, or not risen since it was.
 abbrev pub WorldsStayBounded : Type 0
 WorldsStayBounded =
     OfWorlds (λ opening events closing. (first rest : List (Event resources)) → events ≡ first ++ rest →
-    (mid : Flat resources) × Run opening first mid × Run mid rest closing × IsBounded mid × IsBounded closing)
+    (mid : Flat resources) × Run opening first mid × Run mid rest closing × IsBounded mid × LimitsAreMetOrNotRisen opening first mid
+    × IsBounded closing × LimitsAreMetOrNotRisen opening events closing)
 
 -- From a bounded opening no container is granted twice: their numbers rise, from the first that was free. And none ends twice.
 abbrev pub ContainersAreUsedOnce : Type 0
@@ -53,6 +57,8 @@ EndsAreReportedOnce =
     × (ever_told_ends opening n events ++ left ≡ untold_ends opening n ++ ever_new_ends opening n events)
     × (IsSome (app_at closing n) → left ≡ untold_ends closing n))
 
--- The cluster that the settings of a text open is bounded.
+-- The cluster that the settings of a text open is bounded, each queue within its maximum and each user within the user limit.
 abbrev pub OpeningsAreBounded : Type 0
-OpeningsAreBounded = (text : List ℕ) (settings : Settings) → settings_in text ≡ Some settings → IsBounded (opened_cluster {K = resources} settings)
+OpeningsAreBounded =
+    (text : List ℕ) (settings : Settings) → settings_in text ≡ Some settings →
+    IsBounded (opened_cluster {K = resources} settings) × All (IsQueueBounded (opened_cluster {K = resources} settings)) settings.queues

@@ -9,9 +9,10 @@ pub fn made_steps_have_the_headline()
     ensures { MadeStepsHaveTheHeadline }
 {}
 
-/// Whatever the steps, every state of the cluster is bounded, where the opening is: each queue's use is the sum under it and
-/// within its maximum, each user's within the user limit, and no node is over its total. The cluster that the settings of a
-/// text open is bounded.
+/// Whatever the steps, every state of the cluster is bounded, where the opening is: always each queue's use is the sum under it and
+/// within its maximum, or not risen since the lowering that put it over (since the opening, where it was over then), each user's the
+/// same of the user limit, and no node is over its total. The cluster that the settings of a text open is bounded, and within its
+/// limits.
 pub fn worlds_stay_bounded()
     ensures runs { WorldsStayBounded }
     ensures opening { OpeningsAreBounded }

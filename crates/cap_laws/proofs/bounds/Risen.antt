@@ -17,12 +17,13 @@ use Rattle.cap_model.specs.Sight.{sight_of}
 use Rattle.cap_model.specs.Admission.{NodeProposal, IsWithinLimits}
 use Rattle.cap_model.specs.declared.event.Event.{Event}
 use Rattle.cap_model.specs.Events.{Step, Run, after_grant, after_reserve, grant_proposal, reserve_proposal}
-use Rattle.cap_model.specs.Bounds.{FitsMaximum, IsQueueBounded, IsWellFormed}
+use Rattle.cap_model.specs.Bounds.{FitsMaximum, IsQueueBounded, IsWellFormed, IsBounded}
 use Rattle.cap_model.specs.Risen.{in_queue, of_user, raises, QuietRun, NotRisen, MeetsMaximum, MeetsUserLimit, LimitsAreMetOrNotRisen}
 use Rattle.cap_model.proofs.uses.Measures.{counts}
 use Rattle.cap_laws.specs.BoundLaws.{refreshes, LimitsStayMet, QueuesStayBounded, QuietRunsRaiseNothing, LimitsOverRuns}
 use Rattle.cap_laws.proofs.calls.Lessening.{lessened}
 use Rattle.cap_laws.proofs.choice.Proposers.{found_by_path}
+use Rattle.cap_laws.proofs.bounds.BoundedRuns.{runs_are_bounded}
 use Rattle.cap_laws.proofs.bounds.CallBounds.{use_falls}
 use Rattle.cap_laws.proofs.bounds.Formed.{HasSameQueues, same_queues, call_queues, find_kept, places_of, after_call, step_formed}
 use Rattle.cap_laws.proofs.bounds.Growing.{IsGrown, grant_grows, reserve_grows, not_grown, maximum_met, limit_met}
@@ -174,9 +175,10 @@ module _ {K : ℕ} where
   quiet_more test [] old mid new event q s r = subst (λ x. QuietRun test x (event ∷ []) new) (sym q) (new, s, r, refl)
   quiet_more test (e ∷ events) old mid new event (next, step, quiet, q) s r = (next, step, quiet, quiet_more test events next mid new event q s r)
 
-  run_more : (events : List (Event K)) (old mid new : Flat K) (event : Event K) → Run old events mid → Step mid event new → Run old (events ++ event ∷ []) new
-  run_more [] old mid new event run s = subst (λ x. Run x (event ∷ []) new) (sym run) (new, s, refl)
-  run_more (e ∷ events) old mid new event (next, step, run) s = (next, step, run_more events next mid new event run s)
+  -- two runs in a row
+  pub run_on : (first rest : List (Event K)) (old mid new : Flat K) → Run old first mid → Run mid rest new → Run old (first ++ rest) new
+  run_on [] rest old mid new run on = subst (λ x. Run x rest new) (sym run) on
+  run_on (event ∷ first) rest old mid new (next, step, run) on = (next, step, run_on first rest next mid new run on)
 
   one_more : (IsMet : Flat K → Type 0) (test : List ℕ → List ℕ → Bool) (opening mid new : Flat K) (events : List (Event K)) (event : Event K) → Run opening events mid → Step mid event new →
       (raises test mid event ≡ true → IsMet new) → IsMet mid ⊎ NotRisen IsMet test opening events mid → IsMet new ⊎ NotRisen IsMet test opening (events ++ event ∷ []) new
@@ -210,7 +212,7 @@ module _ {K : ℕ} where
   go_on done [] opening old new w run l r = subst (LimitsAreMetOrNotRisen opening (done ++ [])) r (subst (λ xs. LimitsAreMetOrNotRisen opening xs old) (sym (append-nil done)) l)
   go_on done (event ∷ events) opening old new w run l (next, step, r) =
       subst (λ xs. LimitsAreMetOrNotRisen opening xs new) (append_assoc done (event ∷ []) events)
-      (go_on (done ++ event ∷ []) events opening next new (step_formed old next event w step) (run_more done opening old next event run step) (step_met opening old next done event w run step l) r)
+      (go_on (done ++ event ∷ []) events opening next new (step_formed old next event w step) (run_on done (event ∷ []) opening old next run (next, step, refl)) (step_met opening old next done event w run step l) r)
 
 pub limits_stay_met : LimitsStayMet
 limits_stay_met K old new event w e s = ((λ path. maximum_stays_met old new event path w e s), (λ path user. limit_stays_met old new event path user w e s))
@@ -230,3 +232,10 @@ quiet_runs_raise_nothing K events old new w = (
 pub limits_over_runs : LimitsOverRuns
 limits_over_runs K events old new w run =
     go_on [] events old old new w refl (record { maxima = λ path. inr (nothing_yet (MeetsMaximum path) (in_queue path) old); users = λ path user. inr (nothing_yet (MeetsUserLimit path user) (of_user path user) old) }) run
+
+-- every state of a run from a bounded cluster: its bounds, and its limits
+pub states_of_runs : (K : ℕ) (first rest : List (Event K)) (old new : Flat K) → IsBounded old → Run old (first ++ rest) new →
+    (mid : Flat K) × Run old first mid × Run mid rest new × IsBounded mid × LimitsAreMetOrNotRisen old first mid × IsBounded new × LimitsAreMetOrNotRisen old (first ++ rest) new
+states_of_runs K first rest old new b run =
+    let r = runs_are_bounded K first rest old new b run in
+    (r.0, r.1, r.2, r.3, limits_over_runs K first old r.0 b.formed r.1, r.4, limits_over_runs K (first ++ rest) old new b.formed run)

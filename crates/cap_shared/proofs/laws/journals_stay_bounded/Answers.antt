@@ -1,18 +1,22 @@
-use Rattle.std.proofs.Common.{List, subst}
+use Rattle.std.proofs.Common.{List, ◌++◌, subst, sym}
 use Rattle.std.proofs.lemmas.List.{map-append}
 use Rattle.cap_base.specs.Limits.{resources}
 use Rattle.cap_model.specs.Flat.{opened_cluster}
 use Rattle.cap_model.specs.declared.event.Event.{Event}
 use Rattle.cap_model.specs.Events.{Run}
-use Rattle.cap_laws.proofs.bounds.BoundedRuns.{opened_is_bounded, runs_are_bounded}
+use Rattle.cap_model.specs.Risen.{LimitsAreMetOrNotRisen}
+use Rattle.cap_laws.proofs.bounds.BoundedRuns.{opened_is_bounded}
+use Rattle.cap_laws.proofs.bounds.Risen.{states_of_runs}
 use Rattle.cap_shared.specs.declared.entry.Entry.{Entry}
 use Rattle.cap_shared.specs.Journal.{events_in}
 use Rattle.cap_shared.specs.Laws.{JournalsStayBounded}
 use Rattle.cap_shared.proofs.laws.journals_stay_bounded.Goals as goal
 
 bounded_journals : JournalsStayBounded
-bounded_journals = λ opening closing first rest bounded run. runs_are_bounded resources (events_in first) (events_in rest) opening closing bounded
-    (subst (λ (events : List (Event resources)). Run opening events closing) (map-append (λ (e : Entry). e.event) first rest) run)
+bounded_journals = λ opening closing first rest bounded run.
+    let parts = map-append (λ (e : Entry). e.event) first rest in
+    let r = states_of_runs resources (events_in first) (events_in rest) opening closing bounded (subst (λ (events : List (Event resources)). Run opening events closing) parts run) in
+    (r.0, r.1, r.2, r.3, r.4, r.5, subst (λ (events : List (Event resources)). LimitsAreMetOrNotRisen opening events closing) (sym parts) r.6)
 
 pub returns-clause-further : goal.returns-clause-further
 returns-clause-further c = bounded_journals
