@@ -1,9 +1,9 @@
 -- Fields that are read one after the other.
-use Rattle.std.proofs.Common.{◌≡◌, ℕ, zero, suc, ◌+◌, ◌-◌, ◌<◌, ◌≤◌, List, [], ◌∷◌, ◌++◌, Option, Some, None, refl, sym, ap, ◌∙◌, append_assoc, arith}
+use Rattle.std.proofs.Common.{◌≡◌, ℕ, zero, suc, ◌+◌, ◌-◌, ◌<◌, ◌≤◌, List, [], ◌∷◌, ◌++◌, length, take, drop, Option, Some, None, refl, sym, ap, ◌∙◌, append_assoc, arith}
 use Rattle.std.specs.Prelude.{nat_le}
 use Rattle.std.specs.Int.{Width}
 use Rattle.std.proofs.lemmas.List.{append-nil}
-use Rattle.cap_grammar.specs.Fields.{◌>>=◌, number_at, passing_at, times_at, counted_at}
+use Rattle.cap_grammar.specs.Fields.{◌>>=◌, byte_at, number_at, passing_at, times_at, counted_at}
 
 -- what n more fields give after those that were read
 abbrev pub more_at : {A : Type 0} → List A → ℕ → (List ℕ → Option (A × List ℕ)) → List ℕ → Option (List A × List ℕ)
@@ -74,3 +74,26 @@ module _ {A : Type 0} (field : List ℕ → Option (A × List ℕ)) where
 
   pub more_ends : (all : Option (List A × List ℕ)) (done : List A) (length i : ℕ) (bytes : List ℕ) → all ≡ more_at done (length - i) field bytes → length ≤ i → all ≡ Some (done, bytes)
   more_ends all done length i bytes so_far less = so_far ∙ ends done (length - i) bytes (omega (arith, less))
+
+-- bytes that are read one after the other are read at once
+bytes_at_once : (n : ℕ) (bytes : List ℕ) → n ≤ length bytes → times_at n byte_at bytes ≡ Some (take n bytes, drop n bytes)
+bytes_at_once zero bytes long = refl
+bytes_at_once (suc n) [] long = absurd (omega (arith, long))
+bytes_at_once (suc n) (b ∷ bytes) long = ap (λ (o : Option (List ℕ × List ℕ)). o >>= λ x. Some (b ∷ x.0, x.1)) (bytes_at_once n bytes (omega (arith, long)))
+
+bytes_missing : (n : ℕ) (bytes : List ℕ) → length bytes < n → times_at n byte_at bytes ≡ None
+bytes_missing zero bytes short = absurd (omega (arith, short))
+bytes_missing (suc n) [] short = refl
+bytes_missing (suc n) (b ∷ bytes) short = ap (λ (o : Option (List ℕ × List ℕ)). o >>= λ x. Some (b ∷ x.0, x.1)) (bytes_missing n bytes (omega (arith, short)))
+
+-- bytes after their length
+abbrev SizeAt : Width → ℕ → List ℕ → ℕ → List ℕ → Type 0
+SizeAt w most bytes n rest = passing_at (λ n. nat_le n most) (number_at w) bytes ≡ Some (n, rest)
+
+pub counted_bytes : (w : Width) (most : ℕ) (bytes : List ℕ) (n : ℕ) (rest : List ℕ) → SizeAt w most bytes n rest → n ≤ length rest → counted_at w most byte_at bytes ≡ Some (take n rest, drop n rest)
+unfolding counted_at
+counted_bytes w most bytes n rest size long = ap (λ (o : Option (ℕ × List ℕ)). o >>= λ x. times_at x.0 byte_at x.1) size ∙ bytes_at_once n rest long
+
+pub counted_missing : (w : Width) (most : ℕ) (bytes : List ℕ) (n : ℕ) (rest : List ℕ) → SizeAt w most bytes n rest → length rest < n → counted_at w most byte_at bytes ≡ None
+unfolding counted_at
+counted_missing w most bytes n rest size short = ap (λ (o : Option (ℕ × List ℕ)). o >>= λ x. times_at x.0 byte_at x.1) size ∙ bytes_missing n rest short
