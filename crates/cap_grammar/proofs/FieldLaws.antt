@@ -335,11 +335,13 @@ Few n bound v = (length v ≡ n) × AllByRecursion (FitsAmount bound) v
 -- the first n of a vector
 few_of : (k n bound : ℕ) → n ≤ k → bound < 2 ^ 64 → (v : List ℕ) → IsVector k bound v → Few n bound (take n v)
 few_of k n bound le small v is =
-    let count = is.count in
-    (omega (arith, length-take n v, count, le), each_within bound small (take n v) (λ i. elim (cases_lt i n) [
-      | inl lt ↦ rw (get_or-take n v i 0 lt) (is.within i)
-      | inr past ↦ rw (get_or_past (take n v) i 0 (omega (arith, length-take n v, past))) (omega arith)
-    ]))
+    let count = is.count in (
+      omega (arith, length-take n v, count, le),
+      each_within bound small (take n v) (λ i. elim (cases_lt i n) [
+        | inl lt ↦ rw (get_or-take n v i 0 lt) (is.within i)
+        | inr past ↦ rw (get_or_past (take n v) i 0 (omega (arith, length-take n v, past))) (omega arith)
+      ]),
+    )
 
 pub zeros_within : (bound m i : ℕ) → get_or (zeros m) i 0 ≤ bound
 zeros_within bound zero i = omega arith

@@ -20,7 +20,7 @@ use Rattle.cap_grammar.specs.Fields.{◌>>=◌, number_at, byte_at, all_at}
 use Rattle.cap_grammar.specs.Bodies.{submission_at, submit_at, register_master_at, finish_master_at, wishes_at, allocate_at, report_at, heartbeat_at, node_gone_at, registration_at, register_node_at, path_text_at, queue_info_at, queue_state_at, set_queue_state_at, cluster_info_at, lines_at, refresh_at, body_at}
 use Rattle.cap_grammar.proofs.FieldLaws.{AreBytes, bind_some, guard_then, chosen, IsField, all_takes, all_again, is_u32, is_u64}
 use Rattle.cap_grammar.proofs.RequestFields.{Submission, FitsSubmission, submission, is_submission, Wishes, FitsWishes, wishes, is_wishes, NodeReport, FitsNodeReport, node_report, is_node_report, Registration, FitsRegistration, registration, is_registration, FitsPath, is_path_field, State, FitsState, state, is_state, FitsLines, is_lines}
-use Rattle.cap_grammar.proofs.ReplyFields.{lines_fault_at, is_lines_fault, refusal_at, shown_resource, shown_sum, grants_fit, limit_to, maximum_of, maximum_again, limit_fits, Report, FitsReport, report_of, queue_report_at, is_report, Bounds, bounds_at, bounds_of, FitsBounds, is_bounds, Allocated, allocated_at, allocated_again, Beat, beat_at, beat_of, FitsBeatParts, is_beat, Info, FitsInfo, info_of, info_at, is_info}
+use Rattle.cap_grammar.proofs.ReplyFields.{is_lines_fault, refusal_at, shown_resource, shown_sum, grants_fit, limit_to, maximum_of, maximum_again, limit_fits, Report, FitsReport, report_of, queue_report_at, is_report, Bounds, bounds_at, bounds_of, FitsBounds, is_bounds, Allocated, allocated_at, allocated_again, Beat, beat_at, beat_of, FitsBeatParts, is_beat, Info, FitsInfo, info_of, info_at, is_info}
 use Rattle.cap_grammar.proofs.ShownLaws.{body_shown}
 use Rattle.cap_grammar.proofs.SpelledBytes.{Small, one, both, two, word, long, a_text, host_is_text, rack_is_text, amounts, a_flag, a_queue, a_cluster, a_list, an_ask, an_allocated, a_beat}
 

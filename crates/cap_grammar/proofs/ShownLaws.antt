@@ -1,13 +1,13 @@
 -- What a reply shows of vectors is spelled as the whole reply is, and is within its bounds where the reply is.
 use Rattle.std.proofs.Common.{◌≡◌, ℕ, zero, suc, ◌-◌, List, [], ◌∷◌, ◌++◌, length, map, take, Option, Some, None, refl, ap, arith}
-use Rattle.std.specs.Prelude.{option_map, IfSome}
-use Rattle.std.specs.List.{flat_map, AllByRecursion}
+use Rattle.std.specs.Prelude.{option_map}
+use Rattle.std.specs.List.{flat_map}
 use Rattle.std.specs.Int.{w64, to_be_bytes}
 use Rattle.cap_vector.specs.Vector.{zeros}
-use Rattle.cap_base.specs.Limits.{resources, news_max}
+use Rattle.cap_base.specs.Limits.{resources}
 use Rattle.cap_model.specs.News.{Grant, AllocateReply, Reply}
 use Rattle.cap_model.specs.declared.reply.ReplyWith.TheVariants as Reply
-use Rattle.cap_grammar.specs.Shown.{amounts_spelled, shown_amounts, shown_grant, shown_news, shown_queue, shown_cluster, shown}
+use Rattle.cap_grammar.specs.Shown.{amounts_spelled, shown_amounts, shown_grant, shown_news, shown}
 use Rattle.cap_grammar.specs.Spelling.{resource, limit, grant, allocate_bytes, queue_report, cluster_report, reply_body, IsOfKind}
 
 -- the first n amounts are those of the vector

@@ -10,8 +10,8 @@ use crate::news::{allocated, beaten, put_allocated, put_beat};
 use crate::output::{FAULT_ROOM, Out, REPLY_ROOM, put_amounts};
 use crate::reports::{cluster_shown, put_cluster_report, put_queue_report, queue_shown};
 use crate::requests::{
-    ALLOCATE, CLUSTER_INFO, FINISH_MASTER, HEARTBEAT, LAST_KIND, NODE_GONE, QUEUE_INFO,
-    REFRESH, REGISTER_MASTER, REGISTER_NODE, SET_QUEUE_STATE, SUBMIT,
+    ALLOCATE, CLUSTER_INFO, FINISH_MASTER, HEARTBEAT, LAST_KIND, NODE_GONE, QUEUE_INFO, REFRESH,
+    REGISTER_MASTER, REGISTER_NODE, SET_QUEUE_STATE, SUBMIT,
 };
 use cap_base::RESOURCES;
 use cap_model::{OwnedReply, Refusal, ReplyView, ReplyWith};
