@@ -49,7 +49,12 @@ fn leave(tree: &mut Tree, position: &Path<Global>, user: &ShortText) -> Option<(
     Some(())
 }
 
-fn give_back(tree: &mut Tree, position: &Path<Global>, user: &ShortText, r: [u64; RESOURCES]) -> Option<()>
+fn give_back(
+    tree: &mut Tree,
+    position: &Path<Global>,
+    user: &ShortText,
+    r: [u64; RESOURCES],
+) -> Option<()>
     requires { IsPosition tree.old position.now.items }
 {
     let r = Resource::new(r)?;

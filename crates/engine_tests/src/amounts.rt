@@ -83,8 +83,18 @@ fn used(a: [u64; RESOURCES], b: [u64; RESOURCES]) -> Option<[u64; RESOURCES]> {
 #[test]
 fn amounts_add_up_to_their_bound(rt: HostRuntime) {
     for &(a, b, alone, more) in &[
-        ([8192, 8, 0], [3072, 1, 0], Some([11264, 9, 0]), Some([11264, 9, 0])),
-        ([MOST, 0, 0], [3072, 1, 0], None, Some([1_099_511_630_848, 1, 0])),
+        (
+            [8192, 8, 0],
+            [3072, 1, 0],
+            Some([11264, 9, 0]),
+            Some([11264, 9, 0]),
+        ),
+        (
+            [MOST, 0, 0],
+            [3072, 1, 0],
+            None,
+            Some([1_099_511_630_848, 1, 0]),
+        ),
         ([MOST, 6, 0], [MOST, 0, 0], None, Some([TWICE, 6, 0])),
     ] {
         assert!(rt; added(a, b) == alone && used(a, b) == more, "{a:?}");
@@ -109,7 +119,11 @@ fn what_fits_is_taken_away(rt: HostRuntime) {
 }
 
 /// What a use is where a part of it falls to another.
-fn changed(used: [u64; RESOURCES], old: [u64; RESOURCES], new: [u64; RESOURCES]) -> Option<[u64; RESOURCES]> {
+fn changed(
+    used: [u64; RESOURCES],
+    old: [u64; RESOURCES],
+    new: [u64; RESOURCES],
+) -> Option<[u64; RESOURCES]> {
     let (used, old, new) = (sum(used), resource(old), resource(new));
     if fits(&old, &used) && fits(&new, &old) {
         Some(exchanged(&used, &old, &new).amounts())
@@ -122,7 +136,12 @@ fn changed(used: [u64; RESOURCES], old: [u64; RESOURCES], new: [u64; RESOURCES])
 fn amounts_are_exchanged(rt: HostRuntime) {
     for &(used, old, new, answer) in &[
         ([8192, 8, 0], [3072, 2, 0], [1024, 1, 0], Some([6144, 7, 0])),
-        ([TWICE, 8, 0], [MOST, 8, 0], [MOST, 0, 0], Some([TWICE, 0, 0])),
+        (
+            [TWICE, 8, 0],
+            [MOST, 8, 0],
+            [MOST, 0, 0],
+            Some([TWICE, 0, 0]),
+        ),
         ([3072, 1, 0], [3072, 2, 0], [1024, 1, 0], None),
     ] {
         assert!(rt; changed(used, old, new) == answer, "{used:?}");
@@ -130,7 +149,13 @@ fn amounts_are_exchanged(rt: HostRuntime) {
 }
 
 /// Whether a use fits so many times a vector of amounts, with a part of it taken away and another added.
-fn fits_times(used: [u64; RESOURCES], old: u64, new: u64, factor: u64, most: [u64; RESOURCES]) -> bool {
+fn fits_times(
+    used: [u64; RESOURCES],
+    old: u64,
+    new: u64,
+    factor: u64,
+    most: [u64; RESOURCES],
+) -> bool {
     let (old, new) = (resource([old, 0, 0]), resource([new, 0, 0]));
     fits_exchanged(&sum(used), &old, &new, factor, &resource(most))
 }
@@ -159,7 +184,12 @@ fn amounts_fit_so_many_times_others(rt: HostRuntime) {
 }
 
 /// What is asked for, the step, the most, and what it is rounded up to.
-const ROUNDED: [([u64; RESOURCES], [u64; RESOURCES], [u64; RESOURCES], [u64; RESOURCES]); 5] = [
+const ROUNDED: [(
+    [u64; RESOURCES],
+    [u64; RESOURCES],
+    [u64; RESOURCES],
+    [u64; RESOURCES],
+); 5] = [
     ([1500, 1, 0], [1024, 1, 0], [8192, 4, 0], [2048, 1, 0]),
     ([7900, 1, 0], [1024, 1, 0], [8000, 4, 0], [8000, 1, 0]),
     ([8192, 4, 0], [1024, 1, 0], [8192, 4, 0], [8192, 4, 0]),
@@ -176,17 +206,40 @@ fn amounts_round_up(rt: HostRuntime) {
 }
 
 /// Which of two uses is less full, each of its own guarantee.
-fn compared(a: [u64; RESOURCES], of_a: [u64; RESOURCES], b: [u64; RESOURCES], of_b: [u64; RESOURCES]) -> Ordering {
+fn compared(
+    a: [u64; RESOURCES],
+    of_a: [u64; RESOURCES],
+    b: [u64; RESOURCES],
+    of_b: [u64; RESOURCES],
+) -> Ordering {
     let a = Shares::of(&sum(a), &resource(of_a));
     let b = Shares::of(&sum(b), &resource(of_b));
     cmp_shares(&a, &b)
 }
 
 /// Two uses, each with its guarantee, and how they are ordered.
-const COMPARED: [([u64; RESOURCES], [u64; RESOURCES], [u64; RESOURCES], [u64; RESOURCES], Ordering); 9] = [
+const COMPARED: [(
+    [u64; RESOURCES],
+    [u64; RESOURCES],
+    [u64; RESOURCES],
+    [u64; RESOURCES],
+    Ordering,
+); 9] = [
     // Shares of 1/2, 1/8 and 0, and of 1/2, 1/4 and 1/4.
-    ([1024, 1, 0], [2048, 8, 0], [1024, 1, 1], [4096, 4, 2], Ordering::Less),
-    ([1024, 1, 0], [2048, 8, 0], [1024, 2, 0], [4096, 4, 0], Ordering::Less),
+    (
+        [1024, 1, 0],
+        [2048, 8, 0],
+        [1024, 1, 1],
+        [4096, 4, 2],
+        Ordering::Less,
+    ),
+    (
+        [1024, 1, 0],
+        [2048, 8, 0],
+        [1024, 2, 0],
+        [4096, 4, 0],
+        Ordering::Less,
+    ),
     (
         [1024, 4, 0],
         [4096, 4, 0],
@@ -195,9 +248,27 @@ const COMPARED: [([u64; RESOURCES], [u64; RESOURCES], [u64; RESOURCES], [u64; RE
         Ordering::Greater,
     ),
     ([1, 0, 0], [3, 1, 0], [1, 0, 0], [2, 1, 0], Ordering::Less),
-    ([1024, 1, 0], [2048, 2, 0], [2, 2048, 0], [4, 4096, 0], Ordering::Equal),
-    ([0, 0, 0], [1024, 0, 0], [0, 1, 0], [1024, 0, 0], Ordering::Less),
-    ([TWICE, 0, 0], [0, 0, 0], [TWICE, 0, 0], [1, 0, 0], Ordering::Equal),
+    (
+        [1024, 1, 0],
+        [2048, 2, 0],
+        [2, 2048, 0],
+        [4, 4096, 0],
+        Ordering::Equal,
+    ),
+    (
+        [0, 0, 0],
+        [1024, 0, 0],
+        [0, 1, 0],
+        [1024, 0, 0],
+        Ordering::Less,
+    ),
+    (
+        [TWICE, 0, 0],
+        [0, 0, 0],
+        [TWICE, 0, 0],
+        [1, 0, 0],
+        Ordering::Equal,
+    ),
     (
         [2_199_023_255_551, 0, 0],
         [MOST, 0, 0],

@@ -159,7 +159,10 @@ fn proposed_twice_in(
 }
 
 /// The same in the cluster after so many turns.
-fn proposed_twice(alloc: Global, turns: usize) -> Option<[Option<(bool, u64, u64, [u64; RESOURCES])>; 2]> {
+fn proposed_twice(
+    alloc: Global,
+    turns: usize,
+) -> Option<[Option<(bool, u64, u64, [u64; RESOURCES])>; 2]> {
     let cluster = after_turns(alloc, turns)?;
     let mut arena = Bump::new(alloc);
     proposed_twice_in(&mut arena, &cluster)

@@ -98,7 +98,12 @@ const GRANT: ProposalKind = ProposalKind::Grant;
 const RESERVE: ProposalKind = ProposalKind::Reserve;
 
 /// A proposal for the ask of an application and priority on a node, and why it is rejected, if it is.
-const REASONS: [(ProposalKind, (u64, u32, u64), [u64; RESOURCES], Option<Reason>); 19] = [
+const REASONS: [(
+    ProposalKind,
+    (u64, u32, u64),
+    [u64; RESOURCES],
+    Option<Reason>,
+); 19] = [
     (GRANT, (1, 1, 1), [1024, 1, 0], None),
     (GRANT, (1, 1, 2), [1024, 1, 0], None),
     (GRANT, (1, 3, 2), [1024, 1, 0], None),
@@ -211,7 +216,10 @@ const CHANGES: [(&[Change], After); 10] = [
     (&[FIRST], (None, 1, 0, [1024, 1, 0])),
     (&[FIRST, FIRST], (Some(Reason::NoAsk), 1, 0, [1024, 1, 0])),
     (&[FIRST, KEPT], (None, 1, 1, [2048, 2, 0])),
-    (&[FIRST, KEPT, KEPT], (Some(Reason::NoAsk), 1, 1, [2048, 2, 0])),
+    (
+        &[FIRST, KEPT, KEPT],
+        (Some(Reason::NoAsk), 1, 1, [2048, 2, 0]),
+    ),
     (
         &[FIRST, KEPT, CONVERTED],
         (Some(Reason::NoRoom), 1, 1, [2048, 2, 0]),
@@ -229,7 +237,10 @@ const CHANGES: [(&[Change], After); 10] = [
         (Some(Reason::ReservedByOther), 1, 1, [2048, 2, 0]),
     ),
     (&[FIRST, KEPT, RELEASE], (None, 0, 1, [1024, 1, 0])),
-    (&[FIRST, KEPT, RELEASE, CONVERTED], (None, 1, 0, [1024, 1, 0])),
+    (
+        &[FIRST, KEPT, RELEASE, CONVERTED],
+        (None, 1, 0, [1024, 1, 0]),
+    ),
 ];
 
 #[test]

@@ -318,7 +318,12 @@ fn containers_count_along_the_way_and_for_their_user(rt: HostRuntime) {
 }
 
 /// Whether `ann` may change a use in a leaf, and the limit that it would pass.
-fn accepts(tree: &Tree, path: &str, old: [u64; RESOURCES], new: [u64; RESOURCES]) -> Option<Result<(), OverLimit>> {
+fn accepts(
+    tree: &Tree,
+    path: &str,
+    old: [u64; RESOURCES],
+    new: [u64; RESOURCES],
+) -> Option<Result<(), OverLimit>> {
     let user = ShortText::new(b"ann")?;
     let (old, new) = (Resource::new(old)?, Resource::new(new)?);
     match tree.find(path.as_bytes()) {
@@ -444,7 +449,12 @@ const OVER_2: Result<(), OverLimit> = Err(OverLimit::Maximum { level: 2 });
 const OVER_USER: Result<(), OverLimit> = Err(OverLimit::User);
 
 /// A leaf, a change of a use there, and whether it is accepted.
-const CHANGES: [(&str, [u64; RESOURCES], [u64; RESOURCES], Result<(), OverLimit>); 13] = [
+const CHANGES: [(
+    &str,
+    [u64; RESOURCES],
+    [u64; RESOURCES],
+    Result<(), OverLimit>,
+); 13] = [
     // A third container of (1024, 1) fills `root.g`, and a larger one does not fit.
     ("root.g.q", [0, 0, 0], [1024, 1, 0], Ok(())),
     ("root.g.q", [0, 0, 0], [1025, 1, 0], OVER_1),

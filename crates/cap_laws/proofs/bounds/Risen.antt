@@ -182,7 +182,7 @@ module _ {K : ℕ} where
 
   one_more : (IsMet : Flat K → Type 0) (test : List ℕ → List ℕ → Bool) (opening mid new : Flat K) (events : List (Event K)) (event : Event K) → Run opening events mid → Step mid event new →
       (raises test mid event ≡ true → IsMet new) → IsMet mid ⊎ NotRisen IsMet test opening events mid → IsMet new ⊎ NotRisen IsMet test opening (events ++ event ∷ []) new
-  one_more IsMet test opening mid new events event run s met h = elim (cases_Bool (raises test mid event)) [ | inl r ↦ inl (met r) | inr r ↦ inr (by r h) ]
+  one_more IsMet test opening mid new events event run s met h = elim (cases_Bool (raises test mid event)) [ inl r ↦ inl (met r) | inr r ↦ inr (by r h) ]
     where
       by : raises test mid event ≡ false → IsMet mid ⊎ NotRisen IsMet test opening events mid → NotRisen IsMet test opening (events ++ event ∷ []) new
       by r (inl m) = record { before = events; after = event ∷ []; since = mid; parts = refl; run = run; met = inr m; quiet = (new, s, r, refl) }

@@ -37,7 +37,10 @@ fn shown_at(tree: &Tree, leaf: &Path<Global>) -> Option<Seen>
     requires { IsPosition tree.now leaf.now.items }
 {
     let user = ShortText::new(b"ann")?;
-    let (small, large) = (Resource::new([1024, 1, 0])?, Resource::new([16_384, 16, 0])?);
+    let (small, large) = (
+        Resource::new([1024, 1, 0])?,
+        Resource::new([16_384, 16, 0])?,
+    );
     Some(Seen {
         runs: tree.running(leaf),
         active: tree.row(leaf).active(),
