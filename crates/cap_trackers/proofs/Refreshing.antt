@@ -31,13 +31,13 @@ by_kind _ fault answer h = inr ((λ e. absurd (cc e)), h)
 pub WhyRefused : Option ConfigFault → ConfigFault → Type 0
 WhyRefused first fault = ((fault.kind ≡ NoMemory) × (fault.line ≡ 0)) ⊎ ((fault.kind ≢ NoMemory) × (first ≡ Some fault))
 
-pub why_refused : {X : Type 0} (first : Option ConfigFault) (fault : ConfigFault) → AnswersFault {X} first (Err fault) → WhyRefused first fault
-why_refused {X} (Some given) fault a = of (by_kind fault.kind fault {X} (Err given) a)
+pub why_refused : {X : Type 0} (first : Option ConfigFault) (fault : ConfigFault) → AnswersFault {X = X} first (Err fault) → WhyRefused first fault
+why_refused {X} (Some given) fault a = of (by_kind fault.kind fault {Y = X} (Err given) a)
   where
     of : ((fault.kind ≡ NoMemory) × (fault.line ≡ 0)) ⊎ ((fault.kind ≢ NoMemory) × (Err {T = X} given ≡ Err fault)) → WhyRefused (Some given) fault
     of (inl h) = inl h
     of (inr h) = inr (h.0, cc (h.1))
-why_refused None fault a = of (by_kind fault.kind fault {Unit {0}} (Ok tt) a)
+why_refused None fault a = of (by_kind fault.kind fault {Y = Unit {0}} (Ok tt) a)
   where
     of : ((fault.kind ≡ NoMemory) × (fault.line ≡ 0)) ⊎ ((fault.kind ≢ NoMemory) × (Ok {E = ConfigFault} tt ≡ Err fault)) → WhyRefused None fault
     of (inl h) = inl h
