@@ -6,29 +6,20 @@ use Rattle.cap_commit.proofs.Sizes.{queue_fits, tree_fits}
 use Rattle.cap_commit.proofs.cluster.Cluster.from_config.Goals as goal
 
 pub from_config-requires : goal.from_config-requires
-from_config-requires g c = let k = c.application_limit-application_limit.ensures.resources in (omega (arith, k), (tree_fits _ k, record { path = omega (arith, k); queue = queue_fits _ k }))
-
-pub minimum_allocation-requires : goal.minimum_allocation-requires
-minimum_allocation-requires g c = let k = c.application_limit-application_limit.ensures.resources in (omega (arith, k), omega (arith, k))
-
-pub maximum_allocation-requires : goal.maximum_allocation-requires
-maximum_allocation-requires g c = let k = c.application_limit-application_limit.ensures.resources in (omega (arith, k), omega (arith, k))
+from_config-requires g c = let k = c.limits_of-limits.ensures.resources in (omega (arith, k), (tree_fits _ k, record { path = omega (arith, k); queue = queue_fits _ k }))
 
 pub invariant_of-result : goal.invariant_of-result
 invariant_of-result g c =
     let first = ap (λ (t : NodeTable). t.next_container) c.new-3.ensures in
     rw (c.in-Ok-new.ensures.ok)
     (held_opened _ (ap (λ (t : AppTable). t.active) c.new-2.ensures.table) c.new-2.ensures.accounts (ap (λ (t : NodeTable). t.live) c.new-3.ensures) (ap (λ (t : NodeTable). t.reserved) c.new-3.ensures) (omega (arith, first))
-    c.in-Ok.ensures.unused c.application_limit-application_limit.ensures.few c.application_limit-application_limit.ensures.resources)
+    c.in-Ok.ensures.unused c.limits_of-limits.ensures.few c.limits_of-limits.ensures.resources)
 
 pub new-requires-3 : goal.new-requires-3
 new-requires-3 g c = search nodes_in_cluster
 
-pub application_limit-application_limit-requires : goal.application_limit-application_limit-requires
-application_limit-application_limit-requires g c = search
-
 pub drop-requires-in_default-5-room-T-Destruct : goal.drop-requires-in_default-5-room-T-Destruct
-drop-requires-in_default-5-room-T-Destruct g c = λ κs. queue_fits _ c.application_limit-application_limit.ensures.resources
+drop-requires-in_default-5-room-T-Destruct g c = λ κs. queue_fits _ c.limits_of-limits.ensures.resources
 
 pub drop-requires-in_default-5-room-T-Destruct-2 : goal.drop-requires-in_default-5-room-T-Destruct-2
-drop-requires-in_default-5-room-T-Destruct-2 g c = λ κs. queue_fits _ c.application_limit-application_limit.ensures.resources
+drop-requires-in_default-5-room-T-Destruct-2 g c = λ κs. queue_fits _ c.limits_of-limits.ensures.resources
