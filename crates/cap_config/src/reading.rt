@@ -19,7 +19,7 @@ use std::alloc::Global;
 /// A line is `key=value`, a comment that begins with `#`, or empty. The keys are those of the Capacity Scheduler:
 /// `yarn.scheduler.capacity.<queue-path>` with `.queues`, `.capacity`, `.maximum-capacity`, `.user-limit-factor` or
 /// `.state`, `yarn.scheduler.capacity.maximum-applications`, and `yarn.scheduler.minimum-allocation-mb`, its `-vcores`,
-/// and the same of `maximum`.
+/// `yarn.resource-types.yarn.io/gpu.minimum-allocation`, and the same of `maximum`.
 pub fn read_config(alloc: Global, text: &[u8]) -> Result<Config<RESOURCES>, ConfigFault>
     ensures fault { AnswersFault (first_fault text.now) result }
     ensures settings { IfOk result (λ config. settings_in text.now ≡ Some config) }

@@ -107,7 +107,7 @@ fn queues_up_to_the_limit_have_a_line_each(rt: HostRuntime) {
 fn says(alloc: Global, words: &str) -> Option<bool> {
     let fault = read_config(alloc, b"x=1").err()?;
     let shown = format!(in alloc; "{fault}").ok()?;
-    let is_unknown = fault.kind as u8 == ConfigFaultKind::UnknownKey as u8;
+    let is_unknown = fault.kind == ConfigFaultKind::UnknownKey;
     Some(is_unknown && shown.as_str().starts_with(words))
 }
 
