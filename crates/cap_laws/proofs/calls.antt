@@ -2,3 +2,4 @@
 pub mod Lessening
 pub mod Moves
 pub mod Registering
+pub mod Refreshing

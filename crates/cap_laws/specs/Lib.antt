@@ -2,3 +2,4 @@ pub mod EngineLaws
 pub mod NewsLaws
 pub mod BoundLaws
 pub mod Reservations
+pub mod RefreshLaws

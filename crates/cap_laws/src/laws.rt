@@ -1,6 +1,7 @@
 //! Laws of the definitions in `specs/`, for callers to cite. The functions do nothing.
 ghost use Rattle.cap_laws.specs.EngineLaws.{RejectedExactly, NumbersStayDistinct, GrantedOnce, StepIsDetermined, RunLeadsToOneState, ContainersBalance, EndedOnce, LiveIsWhatWasNotEnded, OneOfEachRank, ChoiceIsComputed, ChoiceFromIsComputed, AppNumbersStayDistinct, ReasonsAreInOrder, PassedIsStep};
 ghost use Rattle.cap_laws.specs.NewsLaws.{GrantsAreToldInOrder, EndsAreToldInOrder, GrantsAreToldOverRuns, NewGrantsAreOfTheGranted, EndsAreToldOverRuns, NewEndsAreOfTheEnded};
+ghost use Rattle.cap_laws.specs.RefreshLaws.{RefreshSetsAll};
 ghost use Rattle.cap_laws.specs.BoundLaws.{ParentUsesChildren, StepStaysWellFormed, QueuesStayBounded, LimitsStayMet, QuietRunsRaiseNothing, LimitsOverRuns, NodesStayBounded, ReservationsStayApart, ReservationsStayBounded, TreesAddUp, StepStaysBounded, RunsStayBounded, OpenedIsBounded, OpenedMeetsLimits, WantedIsSeen, UsesAreSums, SizesStay, OpenedIsWithinSizes, NumbersAreNotUsedAgain, RunsStayWithinSizes, EndsStayBounded, AskStaysBounded, ReportStaysBounded};
 
 /// A proposal has no reason to be rejected exactly where it is admissible, and of several the one of the smallest number.
@@ -75,6 +76,12 @@ pub fn steps_keep_clusters_well_formed()
 pub fn steps_keep_queues_within_limits()
     ensures limits { LimitsStayMet }
     ensures queues { QueuesStayBounded }
+{}
+
+/// A Refresh that is not refused gives each queue the row of its path in the property lines, and sets the three limits; all else
+/// stays as it was.
+pub fn refresh_sets_all_settings()
+    ensures { RefreshSetsAll }
 {}
 
 /// In every state of a run each queue's use is within its maximum, or not risen since the lowering that put it over, and of

@@ -34,7 +34,7 @@ use Rattle.cap_laws.proofs.numbers.AppNumbers.{app_numbers_move}
 use Rattle.cap_laws.proofs.calls.Lessening.{HasPlaces, IsSite, lessened, asked, change_stands}
 use Rattle.cap_laws.proofs.bounds.CallBounds.{places_stay}
 use Rattle.cap_laws.proofs.choice.Proposers.{seen_is, node_seen}
-use Rattle.cap_base.proofs.lists.Filters.{find_mapped_at}
+use Rattle.cap_laws.proofs.calls.Refreshing.{find_kept, refreshed_path}
 
 -- a queue whose state changes, at most
 pub record KeepsQueue (f : QueueRow → QueueRow) : Type 0 where
@@ -64,11 +64,6 @@ order_kept f e (q ∷ qs) s = (
 some_mapped : {A B : Type 0} (f : A → B) (o : Option A) → IsSome o → IsSome (option_map f o)
 some_mapped f None h = absurd (cc h)
 some_mapped f (Some x) h = refl
-
--- a queue that keeps its path is found as before
-pub find_kept : (f : QueueRow → QueueRow) → ((q : QueueRow) → (f q).path ≡ q.path) → (path : List ℕ) (qs : List QueueRow) →
-    find (λ r. bytes_eq r.path path) (map f qs) ≡ option_map f (find (λ r. bytes_eq r.path path) qs)
-find_kept f e path qs = find_mapped_at f (λ (r : QueueRow). bytes_eq r.path path) qs ∙ (λ i. option_map f (find (λ r. bytes_eq (e r i) path) qs))
 
 found_kept : (f : QueueRow → QueueRow) → ((q : QueueRow) → (f q).path ≡ q.path) → (path : List ℕ) (qs : List QueueRow) → IsSome (find (λ r. bytes_eq r.path path) qs) → IsSome (find (λ r. bytes_eq r.path path) (map f qs))
 found_kept f e path qs h = subst (λ o. IsSome o) (sym (find_kept f e path qs)) (some_mapped f (find (λ r. bytes_eq r.path path) qs) h)
@@ -156,11 +151,7 @@ module _ {K : ℕ} where
       by None = same_paths old old refl
       by (Some settings) =
           let rows = (first_of_settings K settings).queues in
-          record { change = refreshed_queue rows; path = λ q. its_path (find (λ (r : QueueRow). bytes_eq r.path q.path) rows) q; queues = refl }
-        where
-          its_path : (o : Option QueueRow) (q : QueueRow) → (option_map_or (λ (row : QueueRow). record row { path = q.path }) o q).path ≡ q.path
-          its_path None q = refl
-          its_path (Some row) q = refl
+          record { change = refreshed_queue rows; path = refreshed_path rows; queues = refl }
 
   call_paths : (old : Flat K) (request : Request K) → HasSamePaths old (granted_cluster old request)
   call_paths old (Request.Refresh text) = refresh_paths old text

@@ -22,10 +22,11 @@ use Rattle.cap_model.specs.Risen.{in_queue, of_user, raises, QuietRun, NotRisen,
 use Rattle.cap_model.proofs.uses.Measures.{counts}
 use Rattle.cap_laws.specs.BoundLaws.{refreshes, LimitsStayMet, QueuesStayBounded, QuietRunsRaiseNothing, LimitsOverRuns}
 use Rattle.cap_laws.proofs.calls.Lessening.{lessened}
+use Rattle.cap_laws.proofs.calls.Refreshing.{find_kept}
 use Rattle.cap_laws.proofs.choice.Proposers.{found_by_path}
 use Rattle.cap_laws.proofs.bounds.BoundedRuns.{runs_are_bounded}
 use Rattle.cap_laws.proofs.bounds.CallBounds.{use_falls}
-use Rattle.cap_laws.proofs.bounds.Formed.{HasSameQueues, same_queues, call_queues, find_kept, places_of, after_call, step_formed}
+use Rattle.cap_laws.proofs.bounds.Formed.{HasSameQueues, same_queues, call_queues, places_of, after_call, step_formed}
 use Rattle.cap_laws.proofs.bounds.Growing.{IsGrown, grant_grows, reserve_grows, not_grown, maximum_met, limit_met}
 
 -- what is at most what fits, fits
