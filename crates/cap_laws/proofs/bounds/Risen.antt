@@ -26,22 +26,30 @@ use Rattle.cap_laws.proofs.calls.Refreshing.{find_kept}
 use Rattle.cap_laws.proofs.choice.Proposers.{found_by_path}
 use Rattle.cap_laws.proofs.bounds.BoundedRuns.{runs_are_bounded}
 use Rattle.cap_laws.proofs.bounds.CallBounds.{use_falls}
-use Rattle.cap_laws.proofs.bounds.Formed.{HasSameQueues, same_queues, call_queues, places_of, after_call, step_formed}
+use Rattle.cap_laws.proofs.bounds.Formed.{KeepsQueue, HasSameQueues, same_queues, call_queues, places_of, after_call, step_formed}
 use Rattle.cap_laws.proofs.bounds.Growing.{IsGrown, grant_grows, reserve_grows, not_grown, maximum_met, limit_met}
 
 -- what is at most what fits, fits
-less_fits : (less more most : List ℕ) → ((k : ℕ) → amount less k ≤ amount more k) → fits more most ≡ true → fits less most ≡ true
-less_fits less more most h f = amounts_fit less most (λ k. let a = h k in let b = fits_amounts more most f k in omega (arith, a, b))
-
 less_in_maximum : (less more : List ℕ) (most : Option (List ℕ)) → ((k : ℕ) → amount less k ≤ amount more k) → FitsMaximum more most → FitsMaximum less most
 less_in_maximum less more None h f = tt
-less_in_maximum less more (Some most) h f = less_fits less more most h f
+less_in_maximum less more (Some most) h f = amounts_fit less most (λ k. let a = h k in let b = fits_amounts more most f k in omega (arith, a, b))
+
+-- what is used by those that count
+abbrev used : {K : ℕ} → (List ℕ → List ℕ → Bool) → Flat K → List ℕ
+used test cluster = use_of cluster (λ a. test a.leaf a.user)
+
+-- A limit of the queue of a path, on what some use there: a grant or a reservation that counts leaves it met, and it is the same
+-- where a queue changes its state alone.
+record IsLimit (K : ℕ) (test : List ℕ → List ℕ → Bool) (most : QueueRow → Option (List ℕ)) (path : List ℕ) : Type 0 where
+  met : (old new : Flat K) (p : NodeProposal) → IsGrown old new p → IsWellFormed old → IsWithinLimits (sight_of old) p → (q : QueueRow) → IsIn q old.settings.queues → q.path ≡ path →
+      counts test (app_at old p.app) ≡ true → FitsMaximum (used test new) (most q)
+  same : (f : QueueRow → QueueRow) → KeepsQueue f → (q : QueueRow) → most (f q) ≡ most q
+
+-- what a user may use in a leaf queue
+abbrev user_limit : QueueRow → Option (List ℕ)
+user_limit q = Some (times q.factor q.guaranteed)
 
 module _ {K : ℕ} where
-  -- what is used by those that count
-  abbrev used : (List ℕ → List ℕ → Bool) → Flat K → List ℕ
-  used test cluster = use_of cluster (λ a. test a.leaf a.user)
-
   -- a use is no more than before
   abbrev IsNoMore : (List ℕ → List ℕ → Bool) → Flat K → Flat K → Type 0
   IsNoMore test old new = (k : ℕ) → amount (used test new) k ≤ amount (used test old) k
@@ -70,41 +78,21 @@ module _ {K : ℕ} where
       let f = found (λ (r : QueueRow). bytes_eq r.path path) cluster.settings.queues q e in
       (f.0, (bytes_eq-Decides q.path path).0 f.1)
 
-  -- a grant or a reservation leaves the limits that it counts for met, whatever they were before
-  module _ (old new : Flat K) (p : NodeProposal) (grown : IsGrown old new p) (w : IsWellFormed old) (within : IsWithinLimits (sight_of old) p) (same : new.settings ≡ old.settings) where
-    maximum_after : (path : List ℕ) → counts (in_queue path) (app_at old p.app) ≡ true → MeetsMaximum path new
-    maximum_after path e = subst (λ s. IfSome (find (λ q. bytes_eq q.path path) s.queues) (λ q. FitsMaximum (queue_use new path) q.maximum)) (sym same) (by (queue_at old path) refl)
-      where
-        by : (o : Option QueueRow) → queue_at old path ≡ o → IfSome o (λ q. FitsMaximum (queue_use new path) q.maximum)
-        by None g = tt
-        by (Some q) g =
-            let r = row_at old path q g in
-            subst (λ x. FitsMaximum (queue_use new x) q.maximum) r.1
-            (maximum_met old new p grown w within q r.0 (subst (λ x. counts (in_queue x) (app_at old p.app) ≡ true) (sym r.1) e))
+  its_maximum : (path : List ℕ) → IsLimit K (in_queue path) (λ q. q.maximum) path
+  its_maximum path = record {
+    met = λ old new p grown w within q m at e.
+        subst (λ x. FitsMaximum (queue_use new x) q.maximum) at
+        (maximum_met old new p grown w within q m (subst (λ x. counts (in_queue x) (app_at old p.app) ≡ true) (sym at) e));
+    same = λ f k. k.maximum;
+  }
 
-    limit_after : (path user : List ℕ) → counts (of_user path user) (app_at old p.app) ≡ true → MeetsUserLimit path user new
-    limit_after path user e = subst (λ s. IfSome (find (λ q. bytes_eq q.path path) s.queues) (λ q. fits (user_use new path user) (times q.factor q.guaranteed) ≡ true)) (sym same) (by (queue_at old path) refl)
-      where
-        by : (o : Option QueueRow) → queue_at old path ≡ o → IfSome o (λ q. fits (user_use new path user) (times q.factor q.guaranteed) ≡ true)
-        by None g = tt
-        by (Some q) g =
-            let r = row_at old path q g in
-            subst (λ x. fits (user_use new x user) (times q.factor q.guaranteed) ≡ true) r.1
-            (limit_met old new p grown w within q r.0 user (subst (λ x. counts (of_user x user) (app_at old p.app) ≡ true) (sym r.1) e))
-
-  raised_maximum : (old new : Flat K) (event : Event K) (path : List ℕ) → IsWellFormed old → Step old event new → raises (in_queue path) old event ≡ true → MeetsMaximum path new
-  raised_maximum old new (Event.Call by request reply) path w s r = absurd (cc r)
-  raised_maximum old new (Event.Grant c) path w (admissible, number, after) r =
-      subst (MeetsMaximum path) (sym after) (maximum_after old (after_grant old c) (grant_proposal c) (grant_grows old c) w (admissible.0) refl path r)
-  raised_maximum old new (Event.Reserve x) path w (admissible, after) r =
-      subst (MeetsMaximum path) (sym after) (maximum_after old (after_reserve old x) (reserve_proposal x) (reserve_grows old x) w (admissible.0) refl path r)
-
-  raised_limit : (old new : Flat K) (event : Event K) (path user : List ℕ) → IsWellFormed old → Step old event new → raises (of_user path user) old event ≡ true → MeetsUserLimit path user new
-  raised_limit old new (Event.Call by request reply) path user w s r = absurd (cc r)
-  raised_limit old new (Event.Grant c) path user w (admissible, number, after) r =
-      subst (MeetsUserLimit path user) (sym after) (limit_after old (after_grant old c) (grant_proposal c) (grant_grows old c) w (admissible.0) refl path user r)
-  raised_limit old new (Event.Reserve x) path user w (admissible, after) r =
-      subst (MeetsUserLimit path user) (sym after) (limit_after old (after_reserve old x) (reserve_proposal x) (reserve_grows old x) w (admissible.0) refl path user r)
+  its_user_limit : (path user : List ℕ) → IsLimit K (of_user path user) user_limit path
+  its_user_limit path user = record {
+    met = λ old new p grown w within q m at e.
+        subst (λ x. FitsMaximum (user_use new x user) (user_limit q)) at
+        (limit_met old new p grown w within q m user (subst (λ x. counts (of_user x user) (app_at old p.app) ≡ true) (sym at) e));
+    same = λ f k q i. Some (times (k.factor q i) (k.guaranteed q i));
+  }
 
   -- a step that is no Refresh keeps the limits themselves
   step_queues : (old new : Flat K) (event : Event K) → refreshes event ≡ false → Step old event new → HasSameQueues old new
@@ -112,54 +100,58 @@ module _ {K : ℕ} where
   step_queues old new (Event.Grant c) e (admissible, number, after) = subst (HasSameQueues old) (sym after) (same_queues old (after_grant old c) refl)
   step_queues old new (Event.Reserve r) e (admissible, after) = subst (HasSameQueues old) (sym after) (same_queues old (after_reserve old r) refl)
 
-  queue_after : (old new : Flat K) (s : HasSameQueues old new) (path : List ℕ) → queue_at new path ≡ option_map s.change (queue_at old path)
-  queue_after old new s path = ap (find (λ (q : QueueRow). bytes_eq q.path path)) s.queues ∙ find_kept s.change s.keeps.path path old.settings.queues
+  module _ (test : List ℕ → List ℕ → Bool) (most : QueueRow → Option (List ℕ)) (path : List ℕ) where
+    -- where there is a queue of that path, its limit is met
+    abbrev Meets : Flat K → Type 0
+    Meets cluster = IfSome (queue_at cluster path) (λ q. FitsMaximum (used test cluster) (most q))
 
-  kept_maximum : (old new : Flat K) (path : List ℕ) → HasSameQueues old new → IsNoMore (in_queue path) old new → MeetsMaximum path old → MeetsMaximum path new
-  kept_maximum old new path s less m = subst (λ o. IfSome o (λ q. FitsMaximum (queue_use new path) q.maximum)) (sym (queue_after old new s path)) (by (queue_at old path) m)
-    where
-      by : (o : Option QueueRow) → IfSome o (λ q. FitsMaximum (queue_use old path) q.maximum) → IfSome (option_map s.change o) (λ q. FitsMaximum (queue_use new path) q.maximum)
-      by None h = tt
-      by (Some q) h = subst (FitsMaximum (queue_use new path)) (sym (s.keeps.maximum q)) (less_in_maximum (queue_use new path) (queue_use old path) q.maximum less h)
+    meets : (cluster : Flat K) → ((q : QueueRow) → IsIn q cluster.settings.queues → q.path ≡ path → FitsMaximum (used test cluster) (most q)) → Meets cluster
+    meets cluster f = by (queue_at cluster path) refl
+      where
+        by : (o : Option QueueRow) → queue_at cluster path ≡ o → IfSome o (λ q. FitsMaximum (used test cluster) (most q))
+        by None g = tt
+        by (Some q) g = let r = row_at cluster path q g in f q r.0 r.1
 
-  kept_limit : (old new : Flat K) (path user : List ℕ) → HasSameQueues old new → IsNoMore (of_user path user) old new → MeetsUserLimit path user old → MeetsUserLimit path user new
-  kept_limit old new path user s less m =
-      subst (λ o. IfSome o (λ q. fits (user_use new path user) (times q.factor q.guaranteed) ≡ true)) (sym (queue_after old new s path)) (by (queue_at old path) m)
-    where
-      by : (o : Option QueueRow) → IfSome o (λ q. fits (user_use old path user) (times q.factor q.guaranteed) ≡ true) →
-          IfSome (option_map s.change o) (λ q. fits (user_use new path user) (times q.factor q.guaranteed) ≡ true)
-      by None h = tt
-      by (Some q) h =
-          (λ i. fits (user_use new path user) (times (s.keeps.factor q i) (s.keeps.guaranteed q i))) ∙ less_fits (user_use new path user) (user_use old path user) (times q.factor q.guaranteed) less h
+    kept : (old new : Flat K) → IsLimit K test most path → HasSameQueues old new → IsNoMore test old new → Meets old → Meets new
+    kept old new l s less m = subst (λ o. IfSome o (λ q. FitsMaximum (used test new) (most q))) (sym queue_after) (by (queue_at old path) m)
+      where
+        queue_after : queue_at new path ≡ option_map s.change (queue_at old path)
+        queue_after = ap (find (λ (q : QueueRow). bytes_eq q.path path)) s.queues ∙ find_kept s.change s.keeps.path path old.settings.queues
 
-  maximum_stays_met : (old new : Flat K) (event : Event K) (path : List ℕ) → IsWellFormed old → refreshes event ≡ false → Step old event new → MeetsMaximum path old → MeetsMaximum path new
-  maximum_stays_met old new event path w e s m = elim (cases_Bool (raises (in_queue path) old event)) [
-    | inl r ↦ raised_maximum old new event path w s r
-    | inr r ↦ kept_maximum old new path (step_queues old new event e s) (step_no_more (in_queue path) old new event w s r) m
-  ]
+        by : (o : Option QueueRow) → IfSome o (λ q. FitsMaximum (used test old) (most q)) → IfSome (option_map s.change o) (λ q. FitsMaximum (used test new) (most q))
+        by None h = tt
+        by (Some q) h = subst (FitsMaximum (used test new)) (sym (l.same s.change s.keeps q)) (less_in_maximum (used test new) (used test old) (most q) less h)
 
-  limit_stays_met : (old new : Flat K) (event : Event K) (path user : List ℕ) → IsWellFormed old → refreshes event ≡ false → Step old event new → MeetsUserLimit path user old → MeetsUserLimit path user new
-  limit_stays_met old new event path user w e s m = elim (cases_Bool (raises (of_user path user) old event)) [
-    | inl r ↦ raised_limit old new event path user w s r
-    | inr r ↦ kept_limit old new path user (step_queues old new event e s) (step_no_more (of_user path user) old new event w s r) m
-  ]
+    -- what counts leaves the limit met, whatever it was before
+    raised : (old new : Flat K) (event : Event K) → IsLimit K test most path → IsWellFormed old → Step old event new → raises test old event ≡ true → Meets new
+    raised old new (Event.Call by request reply) l w s r = absurd (cc r)
+    raised old new (Event.Grant c) l w (admissible, number, after) r =
+        subst Meets (sym after) (meets (after_grant old c) (λ q m at. l.met old (after_grant old c) (grant_proposal c) (grant_grows old c) w (admissible.0) q m at r))
+    raised old new (Event.Reserve x) l w (admissible, after) r =
+        subst Meets (sym after) (meets (after_reserve old x) (λ q m at. l.met old (after_reserve old x) (reserve_proposal x) (reserve_grows old x) w (admissible.0) q m at r))
+
+    stays_met : (old new : Flat K) (event : Event K) → IsLimit K test most path → IsWellFormed old → refreshes event ≡ false → Step old event new → Meets old → Meets new
+    stays_met old new event l w e s m = elim (cases_Bool (raises test old event)) [
+      | inl r ↦ raised old new event l w s r
+      | inr r ↦ kept old new l (step_queues old new event e s) (step_no_more test old new event w s r) m
+    ]
+
+  maximum_stays_met : (old new : Flat K) (event : Event K) → IsWellFormed old → refreshes event ≡ false → Step old event new → (path : List ℕ) → MeetsMaximum path old → MeetsMaximum path new
+  maximum_stays_met old new event w e s path = stays_met (in_queue path) (λ q. q.maximum) path old new event (its_maximum path) w e s
+
+  limit_stays_met : (old new : Flat K) (event : Event K) → IsWellFormed old → refreshes event ≡ false → Step old event new → (path user : List ℕ) → MeetsUserLimit path user old → MeetsUserLimit path user new
+  limit_stays_met old new event w e s path user = stays_met (of_user path user) user_limit path old new event (its_user_limit path user) w e s
 
   -- of all queues of a cluster, and of a queue of its
   maxima_met : (cluster : Flat K) → All (IsQueueBounded cluster) cluster.settings.queues → (path : List ℕ) → MeetsMaximum path cluster
-  maxima_met cluster b path = by (queue_at cluster path) refl
-    where
-      by : (o : Option QueueRow) → queue_at cluster path ≡ o → IfSome o (λ q. FitsMaximum (queue_use cluster path) q.maximum)
-      by None g = tt
-      by (Some q) g = let r = row_at cluster path q g in subst (λ x. FitsMaximum (queue_use cluster x) q.maximum) r.1 (each_of (IsQueueBounded cluster) cluster.settings.queues b q r.0).maximum
+  maxima_met cluster b path =
+      meets (in_queue path) (λ q. q.maximum) path cluster
+      (λ q m at. subst (λ x. FitsMaximum (queue_use cluster x) q.maximum) at (each_of (IsQueueBounded cluster) cluster.settings.queues b q m).maximum)
 
   limits_met : (cluster : Flat K) → All (IsQueueBounded cluster) cluster.settings.queues → (path user : List ℕ) → MeetsUserLimit path user cluster
-  limits_met cluster b path user = by (queue_at cluster path) refl
-    where
-      by : (o : Option QueueRow) → queue_at cluster path ≡ o → IfSome o (λ q. fits (user_use cluster path user) (times q.factor q.guaranteed) ≡ true)
-      by None g = tt
-      by (Some q) g =
-          let r = row_at cluster path q g in
-          subst (λ x. fits (user_use cluster x user) (times q.factor q.guaranteed) ≡ true) r.1 ((each_of (IsQueueBounded cluster) cluster.settings.queues b q r.0).users user)
+  limits_met cluster b path user =
+      meets (of_user path user) user_limit path cluster
+      (λ q m at. subst (λ x. FitsMaximum (user_use cluster x user) (user_limit q)) at ((each_of (IsQueueBounded cluster) cluster.settings.queues b q m).users user))
 
   all_met : (cluster : Flat K) → IsWellFormed cluster → ((path : List ℕ) → MeetsMaximum path cluster) → ((path user : List ℕ) → MeetsUserLimit path user cluster) → All (IsQueueBounded cluster) cluster.settings.queues
   all_met cluster w maxima users =
@@ -203,8 +195,8 @@ module _ {K : ℕ} where
   step_met : (opening mid new : Flat K) (events : List (Event K)) (event : Event K) → IsWellFormed mid → Run opening events mid → Step mid event new → LimitsAreMetOrNotRisen opening events mid →
       LimitsAreMetOrNotRisen opening (events ++ event ∷ []) new
   step_met opening mid new events event w run s l = record {
-    maxima = λ path. one_more (MeetsMaximum path) (in_queue path) opening mid new events event run s (raised_maximum mid new event path w s) (l.maxima path);
-    users = λ path user. one_more (MeetsUserLimit path user) (of_user path user) opening mid new events event run s (raised_limit mid new event path user w s) (l.users path user);
+    maxima = λ path. one_more (MeetsMaximum path) (in_queue path) opening mid new events event run s (raised (in_queue path) (λ q. q.maximum) path mid new event (its_maximum path) w s) (l.maxima path);
+    users = λ path user. one_more (MeetsUserLimit path user) (of_user path user) opening mid new events event run s (raised (of_user path user) user_limit path mid new event (its_user_limit path user) w s) (l.users path user);
   }
 
   -- after some events that were made, others are
@@ -216,13 +208,13 @@ module _ {K : ℕ} where
       (go_on (done ++ event ∷ []) events opening next new (step_formed old next event w step) (run_on done (event ∷ []) opening old next run (next, step, refl)) (step_met opening old next done event w run step l) r)
 
 pub limits_stay_met : LimitsStayMet
-limits_stay_met K old new event w e s = ((λ path. maximum_stays_met old new event path w e s), (λ path user. limit_stays_met old new event path user w e s))
+limits_stay_met K old new event w e s = (maximum_stays_met old new event w e s, limit_stays_met old new event w e s)
 
 pub queues_stay_bounded : QueuesStayBounded
 queues_stay_bounded K old new event w b e s =
     all_met new (step_formed old new event w s)
-    (λ path. maximum_stays_met old new event path w e s (maxima_met old b path))
-    (λ path user. limit_stays_met old new event path user w e s (limits_met old b path user))
+    (λ path. maximum_stays_met old new event w e s path (maxima_met old b path))
+    (λ path user. limit_stays_met old new event w e s path user (limits_met old b path user))
 
 pub quiet_runs_raise_nothing : QuietRunsRaiseNothing
 quiet_runs_raise_nothing K events old new w = (
