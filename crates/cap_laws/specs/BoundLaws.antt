@@ -1,6 +1,6 @@
 -- Laws of the bounds: what holds in every state of a run.
 use Rattle.std.specs.Prelude.{◌≡◌, ℕ, ◌<◌, Bool, true, false, List, Some, None, ◌++◌, count_by, ◌&&◌, if◌then◌else◌}
-use Rattle.std.specs.List.{All}
+use Rattle.std.specs.List.{All, list_any}
 use Rattle.cap_model.specs.Asks.{Ask}
 use Rattle.cap_model.specs.declared.news.Cause.{Cause}
 use Rattle.cap_model.specs.declared.request.Request.{Request}
@@ -55,13 +55,13 @@ refreshes (Event.Call by request reply) = is_refresh request
 refreshes (Event.Grant c) = false
 refreshes (Event.Reserve r) = false
 
--- a maximum that is met, and a user limit that is, stays met at a step that is no Refresh
+-- a maximum that is met, and a user limit that is, stays met over a run without a Refresh, whatever other limits are not met
 abbrev pub LimitsStayMet : Type 0
 LimitsStayMet =
-    (K : ℕ) (old new : Flat K) (event : Event K) → IsWellFormed old → refreshes event ≡ false → Step old event new →
+    (K : ℕ) (events : List (Event K)) (old new : Flat K) → IsWellFormed old → list_any refreshes events ≡ false → Run old events new →
     ((path : List ℕ) → MeetsMaximum path old → MeetsMaximum path new) × ((path user : List ℕ) → MeetsUserLimit path user old → MeetsUserLimit path user new)
 
--- so where each queue is within its maximum and each user within the user limit, they are after such a step
+-- so where each queue is within its maximum and each user within the user limit, they are after a step that is no Refresh
 abbrev pub QueuesStayBounded : Type 0
 QueuesStayBounded =
     (K : ℕ) (old new : Flat K) (event : Event K) → IsWellFormed old → All (IsQueueBounded old) old.settings.queues → refreshes event ≡ false → Step old event new →

@@ -72,7 +72,7 @@ pub fn steps_keep_clusters_well_formed()
     ensures { StepStaysWellFormed }
 {}
 
-/// A step that is no Refresh keeps a queue within its maximum, and a user within the user limit.
+/// Without a Refresh a queue stays within its maximum, and a user within the user limit.
 pub fn steps_keep_queues_within_limits()
     ensures limits { LimitsStayMet }
     ensures queues { QueuesStayBounded }

@@ -1,7 +1,7 @@
 -- Limits stay met but for a Refresh, and after each run they are met or nothing has risen since they were.
 use Rattle.std.proofs.Common.{◌≡◌, ℕ, ◌≤◌, Bool, true, false, List, [], ◌∷◌, ◌++◌, refl, sym, ◌∙◌, ap, subst, inl, inr, arith}
 use Rattle.std.specs.Prelude.{◌⊎◌, Option, Some, None, IfSome, find, option_map, bytes_eq}
-use Rattle.std.specs.List.{All}
+use Rattle.std.specs.List.{All, list_any}
 use Rattle.std.proofs.lemmas.Bool.{cases_Bool}
 use Rattle.std.proofs.lemmas.List.{append_assoc, append-nil}
 use Rattle.std.proofs.lemmas.Slice.Eq.{bytes_eq-Decides}
@@ -10,6 +10,7 @@ use Rattle.cap_base.specs.Settings.{QueueRow}
 use Rattle.cap_base.specs.Amounts.{fits, times}
 use Rattle.cap_base.proofs.Amounts.{fits_amounts, amounts_fit}
 use Rattle.cap_base.proofs.lists.Members.{IsIn, found, each_of, of_each}
+use Rattle.cap_base.proofs.lists.Tests.{or_left, or_right}
 use Rattle.cap_model.specs.Flat.{Flat, app_at, queue_at}
 use Rattle.cap_model.specs.Uses.{use_of, queue_use, user_use}
 use Rattle.cap_model.specs.Replies.{granted_cluster}
@@ -136,11 +137,11 @@ module _ {K : ℕ} where
       | inr r ↦ kept old new l (step_queues old new event e s) (step_no_more test old new event w s r) m
     ]
 
-  maximum_stays_met : (old new : Flat K) (event : Event K) → IsWellFormed old → refreshes event ≡ false → Step old event new → (path : List ℕ) → MeetsMaximum path old → MeetsMaximum path new
-  maximum_stays_met old new event w e s path = stays_met (in_queue path) (λ q. q.maximum) path old new event (its_maximum path) w e s
-
-  limit_stays_met : (old new : Flat K) (event : Event K) → IsWellFormed old → refreshes event ≡ false → Step old event new → (path user : List ℕ) → MeetsUserLimit path user old → MeetsUserLimit path user new
-  limit_stays_met old new event w e s path user = stays_met (of_user path user) user_limit path old new event (its_user_limit path user) w e s
+    run_stays_met : (events : List (Event K)) (old new : Flat K) → IsLimit K test most path → IsWellFormed old → list_any refreshes events ≡ false → Run old events new → Meets old → Meets new
+    run_stays_met [] old new l w e run m = subst Meets run m
+    run_stays_met (event ∷ events) old new l w e (mid, step, run) m =
+        run_stays_met events mid new l (step_formed old mid event w step) (or_right (refreshes event) (list_any refreshes events) e) run
+        (stays_met old mid event l w (or_left (refreshes event) (list_any refreshes events) e) step m)
 
   -- of all queues of a cluster, and of a queue of its
   maxima_met : (cluster : Flat K) → All (IsQueueBounded cluster) cluster.settings.queues → (path : List ℕ) → MeetsMaximum path cluster
@@ -208,13 +209,16 @@ module _ {K : ℕ} where
       (go_on (done ++ event ∷ []) events opening next new (step_formed old next event w step) (run_on done (event ∷ []) opening old next run (next, step, refl)) (step_met opening old next done event w run step l) r)
 
 pub limits_stay_met : LimitsStayMet
-limits_stay_met K old new event w e s = (maximum_stays_met old new event w e s, limit_stays_met old new event w e s)
+limits_stay_met K events old new w e run = (
+  (λ path. run_stays_met (in_queue path) (λ q. q.maximum) path events old new (its_maximum path) w e run),
+  (λ path user. run_stays_met (of_user path user) user_limit path events old new (its_user_limit path user) w e run),
+)
 
 pub queues_stay_bounded : QueuesStayBounded
 queues_stay_bounded K old new event w b e s =
     all_met new (step_formed old new event w s)
-    (λ path. maximum_stays_met old new event w e s path (maxima_met old b path))
-    (λ path user. limit_stays_met old new event w e s path user (limits_met old b path user))
+    (λ path. stays_met (in_queue path) (λ q. q.maximum) path old new event (its_maximum path) w e s (maxima_met old b path))
+    (λ path user. stays_met (of_user path user) user_limit path old new event (its_user_limit path user) w e s (limits_met old b path user))
 
 pub quiet_runs_raise_nothing : QuietRunsRaiseNothing
 quiet_runs_raise_nothing K events old new w = (
