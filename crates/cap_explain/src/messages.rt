@@ -1,8 +1,9 @@
 //! Requests and replies of each kind in words (`put_request`, `put_answer`).
 
-use crate::names::{put_amounts, put_count, put_number, put_text, refusal_words};
+use crate::names::{put_amounts, put_count, put_number, put_refusal, put_text};
 use crate::parts::{
-    put_allocated, put_asks, put_beat, put_cluster, put_numbers, put_queue, put_range, put_turn,
+    put_allocated, put_asks, put_beat, put_cluster, put_lines, put_numbers, put_queue, put_range,
+    put_turn,
 };
 use cap_base::RESOURCES;
 use cap_grammar::{Answer, kind};
@@ -22,6 +23,7 @@ fn kind_name(kind: u8) -> &'static str {
         8 => "QueueInfo",
         9 => "SetQueueState",
         10 => "ClusterInfo",
+        11 => "Refresh",
         _ => "request",
     }
 }
@@ -71,6 +73,7 @@ pub(crate) fn put_request(
             words.push_str(if *running { ", RUNNING" } else { ", STOPPED" })
         }
         Request::ClusterInfo => Ok(()),
+        Request::Refresh { text } => put_lines(words, text.as_slice()),
     }
 }
 
@@ -99,10 +102,7 @@ pub(crate) fn put_answer(words: &mut String, answer: &Answer) -> Result<(), Allo
 /// What a reply says.
 fn put_reply(words: &mut String, reply: &OwnedReply<RESOURCES>) -> Result<(), AllocError> {
     match reply {
-        ReplyWith::Refused(refusal) => {
-            let (status, why) = (refusal.status(), refusal_words(*refusal));
-            write!(words, "refused {status}, {why}")
-        }
+        ReplyWith::Refused(refusal) => put_refusal(words, *refusal),
         ReplyWith::Submit { app } => write!(words, "application {app}"),
         ReplyWith::RegisterMaster { minimum, maximum } => put_range(words, minimum, maximum),
         ReplyWith::Allocate { reply } => put_allocated(words, reply),
@@ -113,7 +113,7 @@ fn put_reply(words: &mut String, reply: &OwnedReply<RESOURCES>) -> Result<(), Al
         ReplyWith::RegisterNode { node } => write!(words, "node {node}"),
         ReplyWith::Heartbeat { reply } => put_beat(words, reply),
         ReplyWith::QueueInfo { report } => put_queue(words, report),
-        ReplyWith::SetQueueState => words.push_str("done"),
+        ReplyWith::SetQueueState | ReplyWith::Refresh => words.push_str("done"),
         ReplyWith::ClusterInfo { report } => put_cluster(words, report),
     }
 }

@@ -1,10 +1,25 @@
 //! Words for refusals, causes of an end, texts, numbers, keys and amounts.
 
 use cap_base::RESOURCES;
+use cap_base::properties::ConfigFaultKind;
 use cap_model::{Cause, Key, Refusal};
 use cap_vector::Amounts;
 use std::alloc::AllocError;
 use std::str;
+
+/// What may be wrong in property lines.
+const FAULTS: [ConfigFaultKind; 10] = [
+    ConfigFaultKind::BadLine,
+    ConfigFaultKind::UnknownKey,
+    ConfigFaultKind::Repeated,
+    ConfigFaultKind::BadValue,
+    ConfigFaultKind::NoSuchQueue,
+    ConfigFaultKind::OverParent,
+    ConfigFaultKind::GuaranteeOverMaximum,
+    ConfigFaultKind::TooManyQueues,
+    ConfigFaultKind::TooDeep,
+    ConfigFaultKind::NoChild,
+];
 
 /// The characters of a text, `?` if they can't be shown.
 pub(crate) fn shown(text: &[u8]) -> &str {
@@ -41,7 +56,7 @@ pub(crate) fn put_amounts<const MAX: u64>(
     before: &str,
     amounts: &Amounts<RESOURCES, MAX>,
 ) -> Result<(), AllocError> {
-    let [memory, vcores] = amounts.amounts();
+    let [memory, vcores, _] = amounts.amounts();
     write!(words, "{before}[{memory} MiB")?;
     put_count(words, ", ", vcores, "vcore")?;
     words.push_str("]")
@@ -65,8 +80,27 @@ pub(crate) fn cause_words(cause: Cause) -> &'static str {
     }
 }
 
+/// A refusal: its number, and why.
+pub(crate) fn put_refusal(words: &mut String, refusal: Refusal) -> Result<(), AllocError> {
+    let (status, why) = (refusal.status(), refusal_words(refusal));
+    write!(words, "refused {status}, {why}")?;
+    match refusal {
+        Refusal::BadSettings { line, number } => put_fault(words, line, number),
+        _ => Ok(()),
+    }
+}
+
+/// The line of a fault of property lines, its number, and what is wrong if a fault has this number.
+fn put_fault(words: &mut String, line: u32, number: u8) -> Result<(), AllocError> {
+    write!(words, " in line {line}, number {number}")?;
+    match FAULTS.iter().find(|kind| kind.number() == number) {
+        Some(kind) => write!(words, ": {kind}"),
+        None => Ok(()),
+    }
+}
+
 /// Why a request is refused.
-pub(crate) fn refusal_words(refusal: Refusal) -> &'static str {
+fn refusal_words(refusal: Refusal) -> &'static str {
     match refusal {
         Refusal::UnknownQueue => "no queue has this path",
         Refusal::NotLeaf => "the queue has queues below it",
@@ -84,6 +118,8 @@ pub(crate) fn refusal_words(refusal: Refusal) -> &'static str {
         Refusal::TooManyNodes => "4096 nodes are present",
         Refusal::ZeroResource => "the node has nothing",
         Refusal::NumbersSpent => "all numbers are used",
+        Refusal::BadSettings { .. } => "the property lines have a fault",
+        Refusal::OtherQueues => "the property lines name other queues than the cluster has",
         Refusal::NoMemory => "an allocation failed",
     }
 }

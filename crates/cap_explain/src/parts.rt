@@ -1,8 +1,9 @@
-//! The parts of requests and replies in words: asks, grants, ends and reports.
+//! The parts of requests and replies in words: asks, property lines, grants, ends and reports.
 
 use crate::names::{cause_words, put_amounts, put_count, put_key, put_number, put_text, shown};
 use cap_base::RESOURCES;
 use cap_model::{AllocateReply, Ask, ClusterReport, End, Grant, HeartbeatReply, QueueReport};
+use cap_text::split_line;
 use cap_vector::Resource;
 use std::alloc::AllocError;
 
@@ -37,6 +38,31 @@ pub(crate) fn put_numbers(
         put_number(words, name, *number)?;
     }
     Ok(())
+}
+
+/// How many bytes property lines have, and each line that is not empty, with its number.
+pub(crate) fn put_lines(words: &mut String, text: &[u8]) -> Result<(), AllocError> {
+    put_count(words, ": ", text.len() as u64, "byte")?;
+    let mut number = 0;
+    let mut rest = text;
+    while !rest.is_empty() {
+        let (line, after) = split_line(rest);
+        number += 1;
+        if !line.is_empty() {
+            write!(words, ", line {number} {}", printable(line))?;
+        }
+        rest = after;
+    }
+    Ok(())
+}
+
+/// The characters of a line, `?` if one of them is not printed.
+fn printable(line: &[u8]) -> &str {
+    if line.iter().all(|byte| matches!(*byte, b' '..=b'~')) {
+        shown(line)
+    } else {
+        "?"
+    }
 }
 
 /// The least and the most that a container may have.
