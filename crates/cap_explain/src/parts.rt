@@ -43,7 +43,7 @@ pub(crate) fn put_numbers(
 /// How many bytes property lines have, and each line that is not empty, with its number.
 pub(crate) fn put_lines(words: &mut String, text: &[u8]) -> Result<(), AllocError> {
     put_count(words, ": ", text.len() as u64, "byte")?;
-    let mut number = 0;
+    let mut number: usize = 0;
     let mut rest = text;
     while !rest.is_empty() {
         let (line, after) = split_line(rest);
