@@ -11,6 +11,7 @@ use Rattle.cap_model.specs.Refresh.{refreshed_queue}
 use Rattle.cap_base.specs.Paths.{is_under}
 use Rattle.cap_base.proofs.lists.Members.{each_of, of_each, of_map}
 use Rattle.cap_base.proofs.lists.Tests.{kept_if}
+use Rattle.cap_laws.proofs.calls.Refreshing.{refreshed_path}
 use Rattle.cap_laws.proofs.uses.Tallies.{Test, count_of, used_by}
 use Rattle.cap_tree.specs.Measure.{Measure}
 use Rattle.cap_tree.specs.Queue.{Queue, IsUnused, of_user, with_running, with_settings}
@@ -97,7 +98,7 @@ rows_change qs = record {
   path = λ r. name r (find (λ q. bytes_eq q.path r.path) qs);
   counts = λ cluster r. by cluster r (find (λ q. bytes_eq q.path r.path) qs);
   queues = shown;
-  same = λ q. stays q (find (λ row. bytes_eq row.path q.path) qs);
+  same = refreshed_path qs;
 }
   where
     changed : Row → Option QueueRow → Row
@@ -114,10 +115,6 @@ rows_change qs = record {
     by : {K : ℕ} (cluster : Flat K) (r : Row) (o : Option QueueRow) → IsRowOf cluster r → IsRowOf cluster (changed r o)
     by cluster r None h = h
     by cluster r (Some q) h = record { active = h.active; used = h.used; users = h.users }
-
-    stays : (q : QueueRow) (o : Option QueueRow) → (option_map_or (λ (row : QueueRow). record row { path = q.path }) o q).path ≡ q.path
-    stays q None = refl
-    stays q (Some row) = refl
 
     one : (r : Row) (o : Option QueueRow) → settings_of_row (changed r o) ≡ option_map_or (λ (row : QueueRow). record row { path = r.path }) o (settings_of_row r)
     one r None = refl

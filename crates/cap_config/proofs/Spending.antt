@@ -58,9 +58,9 @@ spend_later entries path left names i name guarantee h is g over =
     let rest = guaranteed_below entries path (drop (i + 1) names) in
     exceeds_same (guaranteed_below entries path (drop i names)) left rest (left_of left guarantee)
     (λ k small.
-        ap (ltb (get_or left k 0)) (each_more entries path names i name guarantee h is g k small)
-        ∙ lt_later (get_or left k 0) (get_or guarantee k 0) (get_or rest k 0) (not_exceeds guarantee left over k small)
-        ∙ ap (λ n. ltb n (get_or rest k 0)) (sym (amount_of_all (λ j. get_or left j 0 - get_or guarantee j 0) k small)))
+    ap (ltb (get_or left k 0)) (each_more entries path names i name guarantee h is g k small)
+    ∙ lt_later (get_or left k 0) (get_or guarantee k 0) (get_or rest k 0) (not_exceeds guarantee left over k small)
+    ∙ ap (λ n. ltb n (get_or rest k 0)) (sym (amount_of_all (λ j. get_or left j 0 - get_or guarantee j 0) k small)))
 
 -- no queue is guaranteed anything
 pub none_below : (entries : List Entry) (path most : List ℕ) → exceeds (guaranteed_below entries path []) most ≡ false

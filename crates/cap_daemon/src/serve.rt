@@ -245,7 +245,7 @@ fn refuse_settings<W: Write>(
     if fault.kind == ConfigFaultKind::NoMemory {
         return no_memory(writer);
     }
-    let Ok(line) = format!(in alloc; "config {} {}\n", fault.line, fault.kind as u8) else {
+    let Ok(line) = format!(in alloc; "config {} {}\n", fault.line, fault.kind.number()) else {
         return no_memory(writer);
     };
     match print(writer, line.as_bytes()) {
