@@ -470,7 +470,7 @@ const CHANGES: [(
     ("root.b", [0, 0, 0], [1024, 1, 0], OVER_USER),
     ("root.b", [1024, 1, 0], [1024, 7, 0], Ok(())),
     ("root.b", [1024, 1, 0], [1024, 8, 0], OVER_USER),
-    ("root.b", [0, 0, 0], [MOST, MOST], OVER_USER),
+    ("root.b", [0, 0, 0], [MOST, MOST, MOST], OVER_USER),
 ];
 
 #[test]
