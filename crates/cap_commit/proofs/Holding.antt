@@ -28,13 +28,12 @@ use Rattle.cap_laws.proofs.calls.Moves.{KeepsApp, AppsChange, only_app}
 use Rattle.cap_laws.proofs.calls.Registering.{may_enter}
 use Rattle.cap_laws.proofs.bounds.Formed.{unrefused_leaf}
 use Rattle.cap_laws.proofs.uses.Tallies.{HoldsSame, count_of, count_changed, same_use, change_holds, coming_holds, going_holds}
-use Rattle.cap_base.proofs.lists.Tests.{kept_if}
 use Rattle.cap_tree.specs.Measure.{Measure}
 use Rattle.cap_tree.specs.Queue.{IsUnused, MayLeave}
 use Rattle.cap_vector.proofs.AmountLemmas.{amount-zeros}
 use Rattle.cap_tree.specs.Count.{zero_count, one_app}
-use Rattle.cap_tree.specs.Rows.{Row, IsAt, entered_row, left_row, with_state, queues_of, user_row_at}
-use Rattle.cap_tree.proofs.Listings.{any_kept, path_kept, set_running, same_path, state_in_settings}
+use Rattle.cap_tree.specs.Rows.{Row, IsAt, entered_row, left_row, queues_of, user_row_at}
+use Rattle.cap_tree.proofs.Listings.{any_kept, path_kept}
 use Rattle.cap_asks.specs.Accounts.{Account, HeldApp}
 use Rattle.cap_asks.specs.Apps.{HeldApps, UsesRoom, IsEntered, IsLeft, account_of, live_of, position_of}
 use Rattle.cap_laws.specs.Reservations.{AreReserved}

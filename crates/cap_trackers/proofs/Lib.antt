@@ -1,4 +1,4 @@
 pub mod Answering
 pub mod Beating
 pub mod Refusing
-pub mod Refreshing
+pub mod SettingLines

@@ -8,7 +8,7 @@ ghost use Rattle.cap_trackers.specs.Refreshing.{fault_refusal};
 use cap_base::RESOURCES;
 use cap_base::properties::{ConfigFault, ConfigFaultKind};
 use cap_commit::Cluster;
-use cap_config::laws::{faults_are_of_the_text, settings_have_each_amount};
+use cap_config::laws::{faults_are_of_the_text, settings_have_each_amount, text_has_one_answer};
 use cap_config::read_config;
 use cap_model::{Refusal, Reply, SettingsText};
 use std::alloc::Global;
@@ -30,6 +30,7 @@ pub fn refresh(
     let text = text.as_slice();
     faults_are_of_the_text();
     settings_have_each_amount();
+    text_has_one_answer();
     let config = match read_config(alloc, text) {
         Ok(config) => config,
         Err(fault) => return Reply::Refused(refusal(fault)),

@@ -6,11 +6,14 @@ use cap_messages::{
 };
 use std::alloc::Global;
 
-/// Bytes that are no reply: none, a refusal of a kind that no request has, and a fault of another status.
-const NO_REPLIES: [&[u8]; 4] = [
+/// Bytes that are no reply: none, refusals of kinds that no request has, one of property lines without its line or without what is wrong there,
+/// and a fault of another status.
+const NO_REPLIES: [&[u8]; 6] = [
     &[],
     &[1, 0, 0, 0, 0, 0, 20],
-    &[1, 11, 0, 0, 0, 0, 20],
+    &[1, 12, 0, 0, 0, 0, 20],
+    &[1, 11, 0, 0, 0, 0, 17],
+    &[1, 11, 0, 0, 0, 0, 17, 0, 0, 0, 1],
     &[1, 0, 0, 0, 0, 0, 42],
 ];
 
