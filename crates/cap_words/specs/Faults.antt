@@ -48,7 +48,7 @@ limit_words MaximumAbove = codes "more than the maximum-capacity of the queue ab
 limit_words OwnCapacity = codes "the capacities of the queues below add up to more than the queue's capacity"
 
 -- each amount that is over
-abbrev pub each_over : List ℕ → List ℕ → List ℕ
+unfoldable pub each_over : List ℕ → List ℕ → List ℕ
 each_over amounts most =
     over_words (codes ", memory ") (amount amounts 0) (amount most 0)
     ++ over_words (codes ", vcores ") (amount amounts 1) (amount most 1)

@@ -15,6 +15,7 @@ pub(crate) fn put_number<I: Integer>(words: &mut String, number: I) -> Result<()
 }
 
 /// Adds amounts in MiB, vcores and GPUs as property lines have them, without the brackets. So many GPUs go without saying.
+#[tactic(auto, unfolding(crate::specs::Amounts::amounts_words))]
 pub(crate) fn put_amounts(
     words: &mut String,
     unsaid: u64,
@@ -30,6 +31,7 @@ pub(crate) fn put_amounts(
     put_gpus(words, unsaid, amounts[2])
 }
 
+#[tactic(auto, unfolding(crate::specs::Amounts::gpus_words))]
 fn put_gpus(words: &mut String, unsaid: u64, gpus: u64) -> Result<(), AllocError>
     ensures { OnOk result (string_bytes words.new
         ≡ string_bytes words.old ++ gpus_words unsaid gpus) }
@@ -42,6 +44,7 @@ fn put_gpus(words: &mut String, unsaid: u64, gpus: u64) -> Result<(), AllocError
 }
 
 /// Adds an amount of a resource and the limit that it is over. Nothing where it is not.
+#[tactic(auto, unfolding(crate::specs::Amounts::over_words))]
 pub(crate) fn put_over(
     words: &mut String,
     resource: &str,

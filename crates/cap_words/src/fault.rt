@@ -140,6 +140,7 @@ fn limit_words(limit: Limit) -> &'static str
 }
 
 /// Adds each amount that is over, and its limit.
+#[tactic(auto, unfolding(crate::specs::Faults::each_over))]
 fn put_each_over(
     words: &mut String,
     amounts: [u64; RESOURCES],
