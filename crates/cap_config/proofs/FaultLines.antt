@@ -1,5 +1,5 @@
 -- The line and the kind of a first fault.
-use Rattle.std.proofs.Common.{◌≡◌, ℕ, suc, ◌+◌, ◌≤◌, List, [], ◌∷◌, ◌++◌, length, Bool, true, false, cond, leb, max, min, Option, Some, None, Result, Ok, Err, refl, sym, subst, ap, ◌∙◌, arith, add-one}
+use Rattle.std.proofs.Common.{◌≡◌, ℕ, suc, ◌+◌, ◌≤◌, List, [], ◌∷◌, ◌++◌, length, Bool, true, false, cond, leb, max, min, Option, Some, None, Result, Ok, Err, refl, subst, arith}
 use Rattle.std.specs.Prelude.{◌≢◌, ◌==◌, find, is_none, IfSome}
 use Rattle.std.specs.List.{list_all, slice_split, onto_first}
 use Rattle.std.specs.Option.{option_map}
@@ -15,14 +15,14 @@ use Rattle.cap_base.specs.declared.properties.setting.Setting.TheVariants.{Queue
 use Rattle.cap_vector.specs.Vector.{amount_max}
 use Rattle.cap_base.specs.declared.properties.fault.ConfigFault.{ConfigFault}
 use Rattle.cap_base.specs.declared.properties.fault.ConfigFaultKind.{ConfigFaultKind}
-use Rattle.cap_base.specs.declared.properties.fault.ConfigFaultKind.TheVariants.{BadLine, UnknownKey, Repeated, BadValue, NoSuchQueue, OverParent, GuaranteeOverMaximum, TooManyQueues, TooDeep, NoChild, NoMemory}
+use Rattle.cap_base.specs.declared.properties.fault.ConfigFaultKind.TheVariants.{Repeated, BadValue, NoSuchQueue, OverParent, GuaranteeOverMaximum, TooManyQueues, TooDeep, NoChild, NoMemory}
 use Rattle.cap_base.specs.properties.Fault.{fault_at}
 use Rattle.cap_base.specs.properties.Keys.{key_of, root}
 use Rattle.cap_base.specs.properties.Seen.{contains_bytes}
 use Rattle.cap_base.specs.properties.Values.{value_of}
 use Rattle.cap_base.specs.properties.Queues.{entry_for, same_setting}
 use Rattle.cap_base.specs.properties.Entries.{entry_of, with_value, with_key, with_parts, line_parts, read_after, read_lines, and_then, is_passed_over, key_text}
-use Rattle.cap_base.specs.properties.Tests.{line_where, cluster_entry, number_or, line_or_zero, pair_line, lesser, allocation_line, lists_none, no_child_line, is_astray, no_such_queue_line, lists_deep, too_deep_line, listed_by, line_past, too_many_line, is_over_maximum, over_maximum_line, is_over_parent, over_parent_line, or_else, or_fault, shape_fault, whole_fault}
+use Rattle.cap_base.specs.properties.Tests.{line_where, cluster_entry, line_or_zero, pair_line, lesser, allocation_line, lists_none, no_child_line, is_astray, lists_deep, listed_by, line_past, is_over_maximum, is_over_parent, or_else, or_fault, shape_fault, whole_fault}
 use Rattle.cap_base.specs.properties.First.{first_fault, fault_after}
 use Rattle.cap_config.specs.Laws.{FaultsAreInLines, LinesAreFew, FaultsAreOfText}
 use Rattle.cap_config.proofs.Found.{both, found_has}

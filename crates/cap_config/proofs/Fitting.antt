@@ -1,8 +1,7 @@
 -- Capacities of a text with no fault fit.
-use Rattle.std.proofs.Common.{◌≡◌, ℕ, List, [], get_or, Bool, true, false, cond, ltb, not, Option, Some, None, refl, sym, ap, ◌∙◌, arith, subst}
-use Rattle.std.specs.Prelude.{◌&&◌, ◌||◌}
+use Rattle.std.proofs.Common.{◌≡◌, ℕ, List, Bool, true, false, cond, not, Option, Some, None, refl, sym, ap, ◌∙◌, arith, subst}
+use Rattle.std.specs.Prelude.{◌&&◌}
 use Rattle.std.specs.Str.{bytes_eq}
-use Rattle.std.proofs.lemmas.Bool.Decides.{nat_tests}
 use Rattle.std.proofs.lemmas.Bool.{not-true}
 use Rattle.cap_base.specs.Limits.{resources}
 use Rattle.cap_vector.specs.Vector.{zeros}

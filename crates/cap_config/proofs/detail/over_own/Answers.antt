@@ -1,4 +1,4 @@
-use Rattle.std.proofs.Common.{sym, ◌∙◌, ap, None, Option}
+use Rattle.std.proofs.Common.{◌∙◌, ap, None, Option}
 use Rattle.cap_base.specs.declared.properties.entry.Entry.{Entry}
 use Rattle.cap_base.specs.declared.properties.setting.Setting.TheVariants.{MaximumCapacity}
 use Rattle.cap_config.specs.Details.{over_own, over_some, limit_of}

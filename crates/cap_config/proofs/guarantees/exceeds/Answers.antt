@@ -1,5 +1,5 @@
 use Rattle.std.proofs.Common.{sym, arith}
-use Rattle.cap_config.proofs.Exceeding.{exceeds_at, exceeds_not}
+use Rattle.cap_config.proofs.Exceeding.{exceeds_not}
 use Rattle.cap_config.proofs.guarantees.exceeds.Goals as goal
 
 pub returns : goal.returns

@@ -1,4 +1,4 @@
-use Rattle.std.proofs.Common.{sym, ◌∙◌, ap, arith, true, false, ◌≡◌, ◌+◌}
+use Rattle.std.proofs.Common.{sym, ◌∙◌, ap, arith, false, ◌≡◌, ◌+◌}
 use Rattle.std.specs.Prelude.{◌==◌}
 use Rattle.std.specs.Str.Lines.{lines}
 use Rattle.std.proofs.lemmas.Bool.Decides.{nat_tests}
