@@ -10,7 +10,7 @@
 Each call of a connection sends one request and waits for its reply; a refusal is raised as `Refused`, with its number and its name. To have several
 requests in flight, `send` them and ask each `Pending` for its `result` later: replies come in the order of the requests.
 
-Memory is counted in MiB, vcores in whole ones. The bytes are those of docs/FORMATS.md, version 1."""
+Memory is counted in MiB, vcores in whole ones. The bytes are those of docs/FORMATS.md, version 1, which have no amounts of `yarn.io/gpu`."""
 from __future__ import annotations
 
 import queue
@@ -25,6 +25,7 @@ from typing import Any, ClassVar, Deque, Generic, List, NamedTuple, Optional, Se
 
 VERSION = 1
 PAYLOAD_MAX = 65_536
+TEXT_MAX = 65_526
 AMOUNT_MAX = 1 << 40
 IN_FLIGHT = 64
 T = TypeVar("T")
@@ -49,18 +50,46 @@ class Refusal(IntEnum):
     TooManyNodes = 14  # 4,096 nodes are present
     ZeroResource = 15  # the node's total is 0 in every resource
     NumbersSpent = 16  # the next application or node number would be 2^62
+    BadSettings = 17  # property lines have a fault: `Refused.fault` says which
+    OtherQueues = 18  # property lines name other queues than the cluster has
     NoMemory = 20  # an allocation of the scheduler failed
     BadLength = 40  # a frame of a length that none has: the connection has ended
     BadRequest = 41  # a payload that is no request: the connection goes on
 
 
-class Refused(Exception):
-    """A request was refused: `refusal` says why, by its name and its number."""
+class SettingsFault(IntEnum):
+    """What is wrong in property lines; docs/FORMATS.md, "Property lines", says where each holds."""
 
-    def __init__(self, refusal: Refusal, request: Optional[Request] = None):
-        self.refusal, self.request = refusal, request
+    BadLine = 1
+    UnknownKey = 2
+    Repeated = 3
+    BadValue = 4
+    NoSuchQueue = 5
+    OverParent = 6
+    GuaranteeOverMaximum = 7
+    TooManyQueues = 8
+    TooDeep = 9
+    NoChild = 10
+
+
+class Fault(NamedTuple):
+    """The first fault of property lines: its line, counted from 1 (0 where `root` has no queues), and what is wrong there."""
+
+    line: int
+    kind: SettingsFault
+
+    def __str__(self) -> str:
+        return f"line {self.line}: {self.kind.name} ({self.kind.value})"
+
+
+class Refused(Exception):
+    """A request was refused: `refusal` says why, by its name and its number; of BadSettings `fault` says what is wrong in which line."""
+
+    def __init__(self, refusal: Refusal, request: Optional[Request] = None, fault: Optional[Fault] = None):
+        self.refusal, self.request, self.fault = refusal, request, fault
         of = f"{type(request).__name__}: " if request else ""
-        super().__init__(f"{of}{refusal.name} ({refusal.value})")
+        at = f", {fault}" if fault else ""
+        super().__init__(f"{of}{refusal.name} ({refusal.value}){at}")
 
 
 class Ended(ConnectionError):
@@ -230,6 +259,10 @@ class Fields:
         container, cause = self.take("QB")
         return End(container, member(Cause, cause))
 
+    def take_fault(self) -> Fault:
+        line, kind = self.take("IB")
+        return Fault(line, member(SettingsFault, kind))
+
     def take_flag(self) -> bool:
         flag = self.take("B")
         if flag > 1:
@@ -286,9 +319,11 @@ class Request(Generic[T]):
         if not is_fault and head != (VERSION, self.KIND, call_id):
             raise BadReply(f"{payload.hex()} is no reply to call {call_id} of kind {self.KIND}")
         if status:
+            refusal = member(Refusal, status)
+            fault = fields.take_fault() if refusal is Refusal.BadSettings else None
             if not fields.is_at_end():
-                raise BadReply(f"a refusal has no body: {payload.hex()}")
-            raise Refused(member(Refusal, status), self)
+                raise BadReply(f"bytes are left over after a refusal: {payload.hex()}")
+            raise Refused(refusal, self, fault)
         result = self.take_body(fields)
         if not fields.is_at_end():
             raise BadReply(f"bytes are left over: {payload.hex()}")
@@ -444,6 +479,23 @@ class ClusterInfo(Request[ClusterReport]):
         return ClusterReport(*fields.take("III"), fields.take_resource(), fields.take_resource())
 
 
+@dataclass(frozen=True)
+class Refresh(Request[None]):
+    """All settings become those of property lines, whose queues are those of the cluster."""
+
+    KIND: ClassVar[int] = 11
+    lines: str
+
+    def put_body(self, fields: Fields) -> None:
+        data = self.lines.encode()
+        if len(data) > TEXT_MAX:
+            raise ValueError(f"property lines have at most {TEXT_MAX} bytes, and not {len(data)}")
+        fields.put(f"I{len(data)}s", len(data), data)
+
+    def take_body(self, fields: Fields) -> None:
+        pass
+
+
 def frame(payload: bytes) -> bytes:
     """The payload with its length before it."""
     if not 0 < len(payload) <= PAYLOAD_MAX:
@@ -532,6 +584,10 @@ class Connection:
     def cluster_info(self) -> ClusterReport:
         """What there is in all."""
         return self.call(ClusterInfo())
+
+    def refresh(self, lines: str) -> None:
+        """Sets all settings to those of property lines, at most 65,526 bytes. Nothing that runs ends. Refused: BadSettings, OtherQueues."""
+        self.call(Refresh(lines))
 
     def close(self) -> None:
         self._stream.close()

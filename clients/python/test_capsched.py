@@ -8,8 +8,8 @@ import tempfile
 import unittest
 
 from capsched import (
-    Allocate, AllocateReply, Allocations, Ask, BadReply, Cause, ClusterInfo, ClusterReport, Connection, End, Ended, FinishMaster, Grant, Heartbeat, HeartbeatReply,
-    NodeGone, QueueInfo, QueueReport, Refusal, Refused, RegisterMaster, RegisterNode, Replay, Resource, SetQueueState, Submit, frame,
+    Allocate, AllocateReply, Allocations, Ask, BadReply, Cause, ClusterInfo, ClusterReport, Connection, End, Ended, Fault, FinishMaster, Grant, Heartbeat, HeartbeatReply,
+    NodeGone, QueueInfo, QueueReport, Refresh, Refusal, Refused, RegisterMaster, RegisterNode, Replay, Resource, SetQueueState, SettingsFault, Submit, frame,
 )
 from serving import PROGRAM, TOP, serve
 
@@ -30,6 +30,7 @@ EXCHANGE = {
     11: (QueueInfo("root.default"), QueueReport(True, True, Resource(4096, 4), None, NONE, 0)),
     12: (SetQueueState("root.default", False), None),
     13: (NodeGone(1), 0),
+    15: (Refresh(SETTINGS[0]), None),
 }
 
 
@@ -68,6 +69,19 @@ class Bytes(unittest.TestCase):
         self.assertEqual((raised.exception.refusal, raised.exception.refusal.value), (Refusal.QueueStopped, 3))
         self.assertEqual(str(raised.exception), "Submit: QueueStopped (3)")
 
+    def test_a_refusal_of_property_lines_has_its_fault(self):
+        with self.assertRaises(Refused) as raised:
+            Refresh("").reply(bytes.fromhex("010b0000000a" + "11" + "00000000" + "0a"), 10)
+        self.assertEqual((raised.exception.refusal, raised.exception.fault), (Refusal.BadSettings, Fault(0, SettingsFault.NoChild)))
+        self.assertEqual(str(raised.exception), "Refresh: BadSettings (17), line 0: NoChild (10)")
+        for bad in ("11", "11" + "00000000", "11" + "00000000" + "0b", "11" + "00000000" + "0a" + "00", "12" + "00"):
+            with self.assertRaises(BadReply, msg=bad):
+                Refresh("").reply(bytes.fromhex("010b0000000a" + bad), 10)
+
+    def test_property_lines_to_the_longest_payload(self):
+        self.assertEqual(frame(Refresh("").payload(10)).hex(), "0000000a010b0000000a00000000")
+        self.assertEqual(len(Refresh("#" * 65526).payload(1)), 65536)
+
     def test_faults_answer_any_request(self):
         for status, refusal in (("28", Refusal.BadLength), ("29", Refusal.BadRequest)):
             with self.assertRaises(Refused) as raised:
@@ -86,7 +100,7 @@ class Bytes(unittest.TestCase):
         self.assertEqual(len(Allocate(1, 0, [most] * 256, [1] * 1024).payload(1)), 6 + 8 + 4 + 2 + 256 * 97 + 2 + 1024 * 8)
         bad = [
             Submit("", "u"), Submit("r" * 256, "u"), Submit("root.a", "a b"), Submit("root.ä", "u"), Submit("root", "u" * 65), RegisterMaster(2**64), RegisterMaster(-1),
-            RegisterNode("n", "/r", Resource(2**40 + 1, 1)), RegisterNode("n", "/r", Resource(1, -1)), Allocate(1, 2**32), Allocate(1, 0, [ASKED] * 257), Heartbeat(1, 0, [1] * 1025),
+            RegisterNode("n", "/r", Resource(2**40 + 1, 1)), RegisterNode("n", "/r", Resource(1, -1)), Allocate(1, 2**32), Allocate(1, 0, [ASKED] * 257), Heartbeat(1, 0, [1] * 1025), Refresh("#" * 65527),
         ]
         for request in bad:
             with self.assertRaises(ValueError, msg=request):
@@ -108,10 +122,28 @@ class Replayed(unittest.TestCase):
                 self.assertEqual([replay.turn(0) for _ in range(3)], [["done", "0", "grant", "1"], ["done", "0", "grant", "2"], ["idle"]])
             if call_id == 9:
                 self.assertEqual(master.allocate(1, 3).ends, [End(2, Cause.EndedOnNode)])
+            if call_id == 15:
+                with self.assertRaises(Refused) as raised:
+                    master.submit("root.default", "u1")
+                self.assertEqual(raised.exception.refusal, Refusal.QueueStopped)
             self.assertEqual((node if isinstance(request, on_node) else master).call(request), result, request)
-        with self.assertRaises(Refused) as raised:
-            master.submit("root.default", "u1")
-        self.assertEqual(raised.exception.refusal, Refusal.QueueStopped)
+        self.assertEqual(master.queue_info("root.default"), QueueReport(True, True, NONE, None, NONE, 0))
+
+    def test_a_refresh_is_refused_as_a_whole(self):
+        replay = self.cluster()
+        operator = replay.connect()
+        before = operator.queue_info("root.default")
+        for lines, refusal, fault in (
+            ("", Refusal.BadSettings, Fault(0, SettingsFault.NoChild)),
+            (SETTINGS[0] + "\nx", Refusal.BadSettings, Fault(2, SettingsFault.BadLine)),
+            ("yarn.scheduler.capacity.root.queues=other", Refusal.OtherQueues, None),
+        ):
+            with self.assertRaises(Refused) as raised:
+                operator.refresh(lines)
+            self.assertEqual((raised.exception.refusal, raised.exception.fault), (refusal, fault))
+            self.assertEqual(operator.queue_info("root.default"), before)
+        operator.refresh("\n".join(SETTINGS).replace("memory=4096", "memory=8192"))
+        self.assertEqual(operator.queue_info("root.default").guaranteed, Resource(8192, 4))
 
     def test_a_proposal_in_words(self):
         replay = self.cluster()
