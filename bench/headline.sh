@@ -15,7 +15,9 @@ grep -v '^#' ../crates.txt | cut -d: -f1 | awk -v most="${1:-}" '
       for (i = 4; i <= n && parts[i] ~ /^[a-z]/; i++) file = file "/" parts[i]
       return file ".rt"
     }
-    return parts[1] "/" parts[2] "/" parts[3] ".antt"
+    file = parts[1] "/" parts[2] "/" parts[3]
+    if (parts[3] ~ /^[a-z]/ && parts[4] != "") file = file "/" parts[4]
+    return file ".antt"
   }
   # reads a file that was not read yet, after those that it imports
   function read(file, line, modules, n, i, below, parts) {

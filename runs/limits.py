@@ -12,7 +12,7 @@ sys.dont_write_bytecode = True
 HERE = os.path.dirname(os.path.abspath(__file__))
 TOP = os.path.dirname(HERE)
 sys.path.insert(0, f"{TOP}/clients/python")
-from capsched import Allocate, Ask, ClusterInfo, FinishMaster, Heartbeat, NodeGone, QueueInfo, RegisterMaster, RegisterNode, Resource, Submit, frame
+from capsched import Allocate, Ask, ClusterInfo, FinishMaster, Heartbeat, NodeGone, QueueInfo, Refresh, RegisterMaster, RegisterNode, Resource, Submit, frame
 
 PROPERTY = "yarn.scheduler.capacity"
 ONE_LEAF = f"{PROPERTY}.root.queues=a"
@@ -153,6 +153,17 @@ def check_streams(program):
     yield is_answered("a fault after an answer", program, ONE_LEAF, fault)
 
 
+def check_refreshes(program):
+    """1,024 queues are refreshed by the longest text that a frame holds: the deepest stops with root. With a queue less nothing changes. A byte more is in no frame."""
+    settings, deepest = nest(16, 1024)
+    stopped = f"{settings}\n{PROPERTY}.root.state=STOPPED\n"
+    longest = stopped + "#" * (65_526 - len(stopped))
+    asked = sent(QueueInfo(deepest)), [told(QueueInfo, 0, "0001" + "00" * 53)]
+    steps = [(sent(Refresh(longest)), [told(Refresh, 0)]), asked, (sent(Refresh(nest(16, 1023)[0])), [told(Refresh, 18)]), asked]
+    bad_length = "out 1 00000007010000000000" + "28"
+    yield is_answered("a Refresh of 65,536 bytes", program, settings, [*steps, (f"bytes 1 {65_537:08x}", [bad_length, "ended 1"])])
+
+
 def check_reservations(program):
     """A container and a reservation on each of 4,096 nodes: nothing is proposed then. One container ends, and its node's reservation becomes another; then all
     nodes are lost, and nothing is left."""
@@ -200,7 +211,7 @@ def cluster_info(apps, nodes, containers, memory, vcores):
     return sent(ClusterInfo()), [told(ClusterInfo, 0, body)]
 
 
-CHECKS = (check_settings, check_nodes, check_applications, check_allocates, check_streams, check_reservations)
+CHECKS = (check_settings, check_nodes, check_applications, check_allocates, check_streams, check_refreshes, check_reservations)
 
 
 def check(program):
