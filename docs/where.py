@@ -1,7 +1,7 @@
 #!/usr/bin/env python3
-"""Writes the list of crates and files in `docs/ARCHITECTURE.md` out of the first lines of the files themselves: `//! ..` of a source, `-- ..` of a file of specs.
+"""Writes the list of crates and files in `docs/ARCHITECTURE.md` out of the first sentences of the files themselves: `//! ..` of a source, `-- ..` of a file of specs.
 
-With `--check` it writes nothing, and fails where the document is not what it would write. It fails too where a file does not begin with such a line, one sentence.
+With `--check` it writes nothing, and fails where the document is not what it would write. It fails too where a file does not begin with such a sentence.
 """
 import difflib
 import os
@@ -20,11 +20,15 @@ def read(path):
 
 
 def sentence_of(path, mark):
-    """What the first line of a file says, after the mark; the program ends where it says nothing."""
-    line = read(path).partition("\n")[0]
-    if not line.startswith(mark) or not line.endswith("."):
-        sys.exit(f"{os.path.relpath(path, TOP)}:1: the first line is not '{mark}' and a sentence that says what the file holds")
-    return line[len(mark) :]
+    """What a file says first, after the mark, up to the end of the line that ends the sentence; the program ends where it says nothing."""
+    said = []
+    for line in read(path).splitlines():
+        if not line.startswith(mark):
+            break
+        said.append(line[len(mark) :])
+        if line.endswith("."):
+            return " ".join(said)
+    sys.exit(f"{os.path.relpath(path, TOP)}:1: the file does not begin with '{mark}' and a sentence that says what it holds")
 
 
 def files_of(folder, ending):
