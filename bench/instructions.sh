@@ -1,6 +1,6 @@
 #!/usr/bin/env bash
-# Counts the instructions of six works by valgrind's callgrind, from the difference of two sizes: a ClusterInfo on one of 16 connections, a heartbeat, an
-# allocate of 20 asks among 256 applications, a queue that is opened from its lines and shown, a turn of a worker (it copies, proposes and commits) in a cluster of
+# Counts the instructions of seven works by valgrind's callgrind, from the difference of two sizes: a ClusterInfo on one of 16 connections, a heartbeat, an
+# allocate of 20 asks among 256 applications, a queue that is opened from its lines and shown, a Refresh of 1,024 queues, a turn of a worker (it copies, proposes and commits) in a cluster of
 # 512 nodes, 64 leaf queues and 256 applications, and one of 32 workers that all copy the same state first. Prints them a request, with those that clear and copy
 # memory apart, of which callgrind counts about one a byte; fails where both together are past the bound beside each. Needs valgrind, a package of most
 # distributions. Counts depend a little on the C library and the processor.
@@ -70,6 +70,31 @@ queue() {
     }'
 }
 
+# 1,024 queues, and n Refreshes by their own lines, of some 63 KB
+refresh() {
+  awk -v n="$1" '
+    function says(line) { print "conf " line; lines = lines line "\n" }
+    function names(letter, count,  list, i) {
+      for (i = 1; i <= count; i++) list = list (i > 1 ? "," : "") letter i
+      return list
+    }
+    BEGIN {
+      for (i = 32; i < 127; i++) hex[sprintf("%c", i)] = sprintf("%02x", i)
+      hex["\n"] = "0a"
+      says("yarn.scheduler.capacity.root.queues=" names("a", 31))
+      for (a = 1; a <= 31; a++) {
+        parent = "yarn.scheduler.capacity.root.a" a
+        says(parent ".queues=" names("b", 32))
+        says(parent ".capacity=[memory=32768,vcores=32]")
+        for (b = 1; b <= 26; b++) says(parent ".b" b ".capacity=[memory=1024,vcores=1]")
+      }
+      print "open 1"
+      size = length(lines)
+      for (i = 1; i <= size; i++) text = text hex[substr(lines, i, 1)]
+      for (i = 1; i <= n; i++) printf "bytes 1 %08x" "010b%08x" "%08x" "%s\n", 10 + size, i, size, text
+    }'
+}
+
 # 512 nodes, and 256 applications in 64 leaf queues, each with an ask that stays wanted; then n turns of the first of so many workers, or one turn of each
 turns() {
   awk -v n="$1" -v workers="$2" '
@@ -122,6 +147,7 @@ measure cluster_info 2000 3500 '^out [0-9]* 00000033010a'
 measure heartbeat 2000 4000 '^out 1 000000110106[0-9a-f]\{8\}00'
 measure allocate 1024 45000 '^out 1 0000000f0103[0-9a-f]\{8\}00'
 measure queue 480 40000 '^out 1 000000[0-9a-f]\{2\}0108[0-9a-f]\{8\}00'
+measure refresh 8 30000000 '^out 1 00000007010b[0-9a-f]\{8\}00'
 measure turn 512 250000 '^done 0 grant'
 measure turn_of_32 512 250000 '^done [0-9]* grant'
 exit "$broken"

@@ -11,7 +11,9 @@ from typing import Optional
 from xml.etree import ElementTree
 
 PREFIX = "yarn.scheduler.capacity."
+GPU = "yarn.io/gpu"
 LIMITS = [f"yarn.scheduler.{which}-allocation-{what}" for which in ("minimum", "maximum") for what in ("mb", "vcores")]
+LIMITS += [f"yarn.resource-types.{GPU}.{which}-allocation" for which in ("minimum", "maximum")]
 # of capacity-scheduler.xml in whole, and of yarn-site.xml the part that is the scheduler's
 OF_THE_SCHEDULER = ("yarn.scheduler.", "yarn.resource-types", "yarn.resourcemanager.scheduler.", "yarn.resourcemanager.monitor.capacity.")
 MEBI = {"": 1, "Mi": 1, "Gi": 1 << 10, "Ti": 1 << 20, "Pi": 1 << 30}
@@ -49,11 +51,12 @@ OF_THE_CLUSTER = [
     ("multi-node", "nodes are looked at as a ring, in order of their registration"),
     ("reservations", "there is no reservation system; room on a node is reserved for single containers"),
     ("lazy-preemption", "there is no preemption: a container ends when its master or its node says so"),
-    ("application.fail-fast", "settings are read once, when the daemon starts"),
+    ("application.fail-fast", "settings are read when the daemon starts, and of a client's Refresh"),
     ("user.", "a user has the limit of the queue, and no weight of its own"),
 ]
 ELSEWHERE = [
-    ("yarn.resource-types", "the resources are memory and vcores"),
+    (f"yarn.resource-types.{GPU}.units", "GPUs are counted, and have no unit"),
+    ("yarn.resource-types", f"the resources are memory, vcores and {GPU}"),
     ("yarn.resourcemanager.monitor.capacity.", "there is no preemption: a container ends when its master or its node says so"),
     ("yarn.resourcemanager.scheduler.", "which scheduler runs is not asked: it is this one"),
     ("yarn.scheduler.", "nothing stands in its place"),
@@ -93,13 +96,15 @@ def read_properties(file):
 
 
 def resource(value) -> Optional[str]:
-    """An absolute resource of memory and vcores as capsched writes it; None where it is something else."""
+    """An absolute resource of memory, vcores and perhaps GPUs as capsched writes it; None where it is something else."""
     inner = re.fullmatch(r"\[(.*)\]", value)
     parts = dict(part.strip().split("=", 1) for part in inner[1].split(",") if "=" in part) if inner else {}
     memory = re.fullmatch(r"(\d+) *([MGTP]i)?", parts.get("memory", "").strip())
-    if set(parts) != {"memory", "vcores"} or not memory or not parts["vcores"].strip().isdigit():
+    counts = {name: parts[name].strip() for name in ("vcores", GPU) if name in parts}
+    if set(parts) - {GPU} != {"memory", "vcores"} or not memory or not all(count.isdigit() for count in counts.values()):
         return None
-    return f"[memory={int(memory[1]) * MEBI[memory[2] or '']},vcores={int(parts['vcores'])}]"
+    said = ",".join(f"{name}={int(count)}" for name, count in counts.items())
+    return f"[memory={int(memory[1]) * MEBI[memory[2] or '']},{said}]"
 
 
 def why_no_resource(value):
@@ -107,7 +112,7 @@ def why_no_resource(value):
         return "weights are left out: write the guarantee as [memory=MiB,vcores=N]"
     if re.fullmatch(r"-?[\d.]+%?", value):
         return "percentages are left out: write the amount as [memory=MiB,vcores=N]; a maximum-capacity of 100 is the parent's, as where none is given"
-    return "a resource is [memory=MiB,vcores=N], and has no other parts"
+    return f"a resource is [memory=MiB,vcores=N] or [memory=MiB,vcores=N,{GPU}=N], and has no other parts"
 
 
 def convert_setting(key, setting, value):
@@ -138,9 +143,11 @@ def convert(name, value, paths):
         return None, "a value that refers to another property is not read: write what it stands for"
     if name in LIMITS or name == f"{PREFIX}maximum-applications":
         return f"{name}={value}", None
+    if name == "yarn.resource-types" and value == GPU:
+        return None, None
     if name == f"{PREFIX}resource-calculator":
         is_dominant = value.endswith(".DominantResourceCalculator")
-        return None, None if is_dominant else "queues are compared by their dominant resource, of memory and vcores"
+        return None, None if is_dominant else f"queues are compared by their dominant resource, of memory, vcores and {GPU}"
     if not name.startswith(PREFIX):
         return None, next(why for beginning, why in ELSEWHERE if name.startswith(beginning))
     rest = name[len(PREFIX):]
