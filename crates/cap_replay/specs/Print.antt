@@ -1,8 +1,9 @@
 -- What is printed.
-use Rattle.std.specs.Prelude.{ℕ, List, [], ◌∷◌, ◌++◌, codes, decimal}
+use Rattle.std.specs.Prelude.{ℕ, List, [], ◌∷◌, ◌++◌, ◌==◌, codes, decimal, if◌then◌else◌}
 use Rattle.std.specs.Prelude.{Option, Some, None}
 use Rattle.std.specs.List.{flat_map}
 use Rattle.hex.specs.Hex.{encode_lower}
+use Rattle.cap_vector.specs.Vector.{amount}
 use Rattle.cap_base.specs.Limits.{resources}
 use Rattle.cap_model.specs.declared.event.Event.{Event}
 use Rattle.cap_model.specs.declared.proposal.ProposalKind.{ProposalKind}
@@ -29,13 +30,18 @@ frame_line number frame = codes "out " ++ decimal number ++ codes " " ++ encode_
 abbrev pub blanked : List ℕ → List ℕ
 blanked numbers = flat_map (λ n. 32 ∷ decimal n) numbers
 
+-- the GPUs of a proposal, where there are any
+unfoldable pub gpus_words : ℕ → List ℕ
+gpus_words gpus = if gpus == 0 then [] else blanked (gpus ∷ [])
+
 -- a proposal: its kind, application, priority, allocation request id and node, and its amounts
 abbrev pub kind_words : ProposalKind → List ℕ
 kind_words Grant = codes " grant"
 kind_words Reserve = codes " reserve"
 
 abbrev pub proposal_words : NodeProposal → List ℕ
-proposal_words p = kind_words p.kind ++ blanked (p.app ∷ p.key.priority ∷ p.key.request ∷ p.node ∷ p.resource)
+proposal_words p =
+    kind_words p.kind ++ blanked (p.app ∷ p.key.priority ∷ p.key.request ∷ p.node ∷ amount p.resource 0 ∷ amount p.resource 1 ∷ []) ++ gpus_words (amount p.resource 2)
 
 -- what a worker proposes, and the line that says it
 abbrev pub choice_words : Option NodeProposal → List ℕ

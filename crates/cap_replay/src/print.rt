@@ -3,7 +3,7 @@
 ghost use Rattle.std.specs.Prelude.{◌≡◌, ◌+◌, ◌*◌, ◌++◌, ◌<◌, ◌∷◌, [], length, IfSome, OnOk, OnErr, decimal, take, drop};
 ghost use Rattle.hex.specs.Hex.{encode_lower};
 ghost use Rattle.cap_model.specs.Admission.{reason_number};
-ghost use Rattle.cap_replay.specs.Print.{number_line, fault_line, frame_line, blanked, choice_line, proposal_words, verdict_line, made_words, reason_words};
+ghost use Rattle.cap_replay.specs.Print.{number_line, fault_line, frame_line, blanked, choice_line, proposal_words, gpus_words, verdict_line, made_words, reason_words};
 
 use cap_base::RESOURCES;
 use cap_model::{Event, Proposal, Reason, Verdict};
@@ -100,7 +100,8 @@ fn put_choice(
     line.extend_from_slice(b"\n")
 }
 
-/// Puts a proposal: its kind, application, priority, allocation request id and node, and its MiB and vcores.
+/// Puts a proposal: its kind, application, priority, allocation request id and node, and its MiB, vcores and GPUs, without the GPUs
+/// where there are none.
 fn put_proposal(line: &mut Vec<u8>, proposal: &Proposal<RESOURCES>) -> Result<(), AllocError>
     ensures { OnOk result (line.new.items
         ≡ line.old.items ++ proposal_words proposal.now) }
@@ -111,16 +112,28 @@ fn put_proposal(line: &mut Vec<u8>, proposal: &Proposal<RESOURCES>) -> Result<()
         b" reserve"
     };
     let key = proposal.key();
-    let [memory, vcores, _] = proposal.resource().amounts();
+    let amounts = proposal.resource().amounts();
     let numbers = [
         proposal.app(),
         u64::from(key.priority),
         key.request,
         proposal.node(),
-        memory,
-        vcores,
+        amounts[0],
+        amounts[1],
     ];
-    put_numbers(line, kind, &numbers)
+    put_numbers(line, kind, &numbers)?;
+    put_gpus(line, amounts[2])
+}
+
+/// Puts the GPUs of a proposal, where there are any.
+#[tactic(auto, unfolding(crate::specs::Print::gpus_words))]
+fn put_gpus(line: &mut Vec<u8>, gpus: u64) -> Result<(), AllocError>
+    ensures { OnOk result (line.new.items ≡ line.old.items ++ gpus_words gpus) }
+{
+    if gpus == 0 {
+        return Ok(());
+    }
+    put_numbers(line, b"", &[gpus])
 }
 
 /// Prints the line of what a worker's commit came to.
