@@ -34,8 +34,8 @@ pub fn settings_are_listed()
     ensures { SettingsAreListed }
 {}
 
-/// The line of a first fault is at most the number of the text's lines, and so at most that of its bytes. A first fault
-/// is never want of memory.
+/// The line of a first fault is at most the number of the text's lines, and so at most that of its bytes. A first fault is never
+/// want of memory.
 pub fn faults_are_of_the_text()
     ensures lines { FaultsAreInLines }
     ensures few { LinesAreFew }

@@ -14,8 +14,7 @@ pub(crate) fn put_number<I: Integer>(words: &mut String, number: I) -> Result<()
     words.push_str(buffer.format(number))
 }
 
-/// Adds amounts in MiB, vcores and GPUs as property lines have them, without the brackets, and without the GPUs where
-/// there are `unsaid` of them.
+/// Adds amounts in MiB, vcores and GPUs as property lines have them, without the brackets. So many GPUs go without saying.
 #[tactic(auto, unfolding(crate::specs::Amounts::amounts_words))]
 pub(crate) fn put_amounts(
     words: &mut String,

@@ -30,12 +30,11 @@ pub struct Widths {
 
 /// A table of the queues of these settings, and their limits in three more lines. Each line ends with a line feed.
 ///
-/// After a header there is a line for each queue, in the order of the settings, with columns under one another: its path;
-/// its guarantee, and the maximum capacity that it has of its own or from a queue above, in MiB, vcores and GPUs, or `-`
-/// where there is none; its user limit factor; and its own state, RUNNING or STOPPED. The limits are the minimum and the
-/// maximum allocation of a container, in MiB, vcores and GPUs, and how many applications may be active at once. GPUs are
-/// not named where they are 0, and in the maximum allocation where it is the most that there may be. `NoMemory` if an
-/// allocation fails.
+/// After a header there is a line for each queue, in the order of the settings, with columns under one another: its path; its
+/// guarantee, and the maximum capacity that it has of its own or from a queue above, in MiB, vcores and GPUs, or `-` where there
+/// is none; its user limit factor; and its own state, RUNNING or STOPPED. The limits are the minimum and the maximum allocation
+/// of a container, in MiB, vcores and GPUs, and how many applications may be active at once. GPUs are not named where they are 0,
+/// nor in a maximum allocation of the most that there may be. `NoMemory` if an allocation fails.
 pub fn queue_table(alloc: Global, config: &Config<RESOURCES>) -> Result<String, NoMemory>
     ensures { IfOk result (λ words. string_bytes words ≡ table config.now) }
 {
@@ -218,7 +217,7 @@ fn put_limits(words: &mut String, config: &Config<RESOURCES>) -> Result<(), Allo
     put_applications(words, config.application_limit())
 }
 
-/// Adds the line of a bound of one container, after its name, without the GPUs where there are `unsaid` of them.
+/// Adds the line of a bound of one container, after its name. So many GPUs go without saying.
 #[tactic(auto, unfolding(crate::specs::Table::allocation_line))]
 fn put_allocation(
     words: &mut String,
