@@ -1,0 +1,6 @@
+pub mod Vectors
+pub mod Sights
+pub mod Choices
+pub mod Parts
+pub mod Calls
+pub mod Steps

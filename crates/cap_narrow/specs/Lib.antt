@@ -1,0 +1,5 @@
+pub mod Narrowing
+pub mod Clusters
+pub mod VectorLaws
+pub mod ClusterLaws
+pub mod Steps

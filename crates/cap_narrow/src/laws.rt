@@ -1,0 +1,33 @@
+//! Laws of the definitions in `specs/`, for callers to cite. The functions do nothing.
+ghost use Rattle.cap_narrow.specs.VectorLaws.{FitsNarrow, ExchangedNarrow, TimesNarrow, RoundingNarrow, RoundingEndsInNone, FullnessNarrow, SameNarrow};
+ghost use Rattle.cap_narrow.specs.ClusterLaws.{SightsNarrow, SightsShowNone, ReasonsNarrow, ChoicesNarrow};
+ghost use Rattle.cap_narrow.specs.Steps.{RunsNarrow};
+
+/// What is computed of vectors whose last amount is 0 is computed of their first amounts alone.
+pub fn vectors_narrow()
+    ensures fits { FitsNarrow }
+    ensures exchanged { ExchangedNarrow }
+    ensures times { TimesNarrow }
+    ensures rounded { RoundingNarrow }
+    ensures stays { RoundingEndsInNone }
+    ensures fullness { FullnessNarrow }
+    ensures same { SameNarrow }
+{}
+
+/// What is seen of the first resources of a cluster is what is seen of them in the whole of it; and where the cluster has none of
+/// the last resource, none is seen.
+pub fn sights_narrow()
+    ensures sights { SightsNarrow }
+    ensures none { SightsShowNone }
+{}
+
+/// Where none of the last resource is seen, a proposal is rejected for the same reason without it, and the same is proposed.
+pub fn choices_narrow()
+    ensures reasons { ReasonsNarrow }
+    ensures choices { ChoicesNarrow }
+{}
+
+/// A run whose calls ask for none of the last resource is a run without it.
+pub fn runs_narrow()
+    ensures { RunsNarrow }
+{}
