@@ -31,7 +31,7 @@ use Rattle.cap_model.specs.RegisterNode.{total_of_nodes, new_node}
 use Rattle.cap_model.specs.Heartbeat.{is_repeated_heartbeat, ended_by, beat_of, after_processed_heartbeat, after_heartbeat, no_beat}
 use Rattle.cap_model.specs.NodeGone.{without_node}
 use Rattle.cap_model.specs.QueueCalls.{queue_report, cluster_report}
-use Rattle.cap_model.specs.Replies.{refusal_of, granted_reply, granted_cluster, may_grow}
+use Rattle.cap_model.specs.Replies.{refusal_of, granted_reply, granted_cluster, may_grow, early_refusal}
 use Rattle.cap_base.proofs.lists.Members.{each_of, of_each, of_map, of_filter, in_either}
 use Rattle.cap_base.proofs.lists.Filters.{find_mapped_at}
 use Rattle.cap_base.proofs.lists.Sums.{sum_by_map, sum_of_zeros}
@@ -41,6 +41,7 @@ use Rattle.cap_narrow.specs.Steps.{narrow_request, narrow_reply, narrow_queue_re
 use Rattle.cap_narrow.proofs.Vectors.{fits_narrow, plus_narrow, sums_narrow, ends_within, within_narrow, zero_narrow}
 use Rattle.cap_narrow.proofs.Sights.{filter_mapped, holds_mapped, sum_mapped, app_narrow, queue_use_narrow}
 use Rattle.cap_narrow.proofs.Choices.{all_same, some_mapped, none_mapped}
+use Rattle.cap_narrow.proofs.Refreshing.{refresh_refused, refreshed_narrow, none_refreshed}
 use Rattle.cap_narrow.proofs.Parts.{any_same, change_meets, puts_narrow, named_narrow, live_narrow, after_ends_narrow, with_app_narrow, NoneAsked, asks_narrow}
 
 pub some_stay : {A : Type 0} (P : A → Type 0) (t : A → Bool) (xs : List A) → All P xs → All P (filter t xs)
@@ -75,8 +76,7 @@ module _ {K : ℕ} where
 
   none_after_ends : (cause : Cause) (gone : List Container) (old : Flat (suc K)) → HasNone old → HasNone (after_ends cause gone old)
   none_after_ends cause gone old none = record {
-    minimum = none.minimum;
-    guarantees = none.guarantees;
+    settings = none.settings;
     asks = asks_stay old none (with_ends cause gone) (λ a. refl);
     nodes = none.nodes;
     live = some_stay (λ (c : Container). EndsInNone K c.resource) (λ c. not (is_among gone c)) old.nodes.live none.live;
@@ -85,8 +85,7 @@ module _ {K : ℕ} where
 
   none_with_app : (n : ℕ) (h : App → App) → ((a : App) → (h a).asks ≡ a.asks) → (old : Flat (suc K)) → HasNone old → HasNone (with_app n h old)
   none_with_app n h e old none = record {
-    minimum = none.minimum;
-    guarantees = none.guarantees;
+    settings = none.settings;
     asks = asks_stay old none (λ a. if a.number == n then h a else a) (if_stays (λ (a : App). a.number == n) h (λ a. a.asks) e);
     nodes = none.nodes;
     live = none.live;
@@ -95,8 +94,7 @@ module _ {K : ℕ} where
 
   none_with_node : (n : ℕ) (h : ClusterNode → ClusterNode) → ((a : ClusterNode) → (h a).total ≡ a.total) → (old : Flat (suc K)) → HasNone old → HasNone (with_node n h old)
   none_with_node n h e old none = record {
-    minimum = none.minimum;
-    guarantees = none.guarantees;
+    settings = none.settings;
     asks = none.asks;
     nodes = mapped_stay (λ (node : ClusterNode). EndsInNone K node.total) (λ node. if node.number == n then h node else node) old.nodes.present
         (λ node g. subst (EndsInNone K) (sym (if_stays (λ (a : ClusterNode). a.number == n) h (λ a. a.total) e node)) g) none.nodes;
@@ -223,6 +221,7 @@ module _ {K : ℕ} where
     refusal_narrow none (Request.QueueInfo path) a = λ i. earliest ((no_queue path i, Refusal.UnknownQueue) ∷ [])
     refusal_narrow none (Request.SetQueueState path running) a = λ i. earliest ((no_queue path i, Refusal.UnknownQueue) ∷ [])
     refusal_narrow none Request.ClusterInfo a = refl
+    refusal_narrow none (Request.Refresh text) a = refresh_refused text c
 
     pub grow_narrow : (request : Request (suc K)) → may_grow (narrow c) (narrow_request request) ≡ may_grow c request
     grow_narrow (Request.Allocate n id asks releases) = ap not (repeated_narrow n id)
@@ -235,6 +234,20 @@ module _ {K : ℕ} where
     grow_narrow (Request.QueueInfo path) = refl
     grow_narrow (Request.SetQueueState path running) = refl
     grow_narrow Request.ClusterInfo = refl
+    grow_narrow (Request.Refresh text) = refl
+
+    pub early_narrow : HasNone c → (request : Request (suc K)) → AsksNone request → early_refusal (narrow c) (narrow_request request) ≡ early_refusal c request
+    early_narrow none (Request.Refresh text) a = refl
+    early_narrow none (Request.Submit path user) a = refusal_narrow none (Request.Submit path user) a
+    early_narrow none (Request.RegisterMaster n) a = refusal_narrow none (Request.RegisterMaster n) a
+    early_narrow none (Request.Allocate n id asks releases) a = refusal_narrow none (Request.Allocate n id asks releases) a
+    early_narrow none (Request.FinishMaster n) a = refusal_narrow none (Request.FinishMaster n) a
+    early_narrow none (Request.RegisterNode host rack total) a = refusal_narrow none (Request.RegisterNode host rack total) a
+    early_narrow none (Request.Heartbeat n id ended) a = refusal_narrow none (Request.Heartbeat n id ended) a
+    early_narrow none (Request.NodeGone n) a = refusal_narrow none (Request.NodeGone n) a
+    early_narrow none (Request.QueueInfo path) a = refusal_narrow none (Request.QueueInfo path) a
+    early_narrow none (Request.SetQueueState path running) a = refusal_narrow none (Request.SetQueueState path running) a
+    early_narrow none Request.ClusterInfo a = refusal_narrow none Request.ClusterInfo a
 
     -- ---- an allocate
     released_narrow : (n : ℕ) (releases : List ℕ) → released_by (narrow c) n releases ≡ map (narrow_container K) (released_by c n releases)
@@ -297,8 +310,7 @@ module _ {K : ℕ} where
 
     none_dropped : (n : ℕ) → HasNone c → HasNone (without_node n c)
     none_dropped n none = record {
-      minimum = none.minimum;
-      guarantees = none.guarantees;
+      settings = none.settings;
       asks = none.asks;
       nodes = some_stay (λ (x : ClusterNode). EndsInNone K x.total) (λ x. not (x.number == n)) c.nodes.present none.nodes;
       live = none.live;
@@ -410,11 +422,11 @@ module _ {K : ℕ} where
           };
         }
     cluster_after Request.ClusterInfo a = refl
+    cluster_after (Request.Refresh text) a = refreshed_narrow text c
 
     pub none_after : (request : Request (suc K)) → AsksNone request → HasNone (granted_cluster c request)
     none_after (Request.Submit path user) a = record {
-      minimum = none.minimum;
-      guarantees = none.guarantees;
+      settings = none.settings;
       asks = one_comes (λ (app : App). All (λ (ask : Ask). EndsInNone K ask.resource) app.asks) c.apps.active (new_app c.apps.next path user) none.asks (of_each (λ (ask : Ask). EndsInNone K ask.resource) [] (λ x m. absurd m));
       nodes = none.nodes;
       live = none.live;
@@ -423,16 +435,14 @@ module _ {K : ℕ} where
     none_after (Request.RegisterMaster n) a = none_with_app n (λ (x : App). record x { registered = Bool.true }) (λ x. refl) c none
     none_after (Request.Allocate n id asks releases) a = none_allocated c none n id asks releases (each_of (λ (ask : Ask). EndsInNone K ask.resource) asks a)
     none_after (Request.FinishMaster n) a = record {
-      minimum = none.minimum;
-      guarantees = none.guarantees;
+      settings = none.settings;
       asks = some_stay (λ (app : App). All (λ (ask : Ask). EndsInNone K ask.resource) app.asks) (λ x. not (x.number == n)) c.apps.active none.asks;
       nodes = none.nodes;
       live = some_stay (λ (x : Container). EndsInNone K x.resource) (λ x. not (is_among (containers_of c.nodes n) x)) c.nodes.live none.live;
       reserved = some_stay (λ (r : Reservation). EndsInNone K r.resource) (λ r. not (r.app == n)) c.nodes.reserved none.reserved;
     }
     none_after (Request.RegisterNode host rack total) a = record {
-      minimum = none.minimum;
-      guarantees = none.guarantees;
+      settings = none.settings;
       asks = none.asks;
       nodes = one_comes (λ (x : ClusterNode). EndsInNone K x.total) c.nodes.present (new_node c.nodes.next_node host rack total) none.nodes a;
       live = none.live;
@@ -442,15 +452,18 @@ module _ {K : ℕ} where
     none_after (Request.NodeGone n) a = none_dropped (after_ends Cause.NodeLost (containers_on c.nodes n) c) n (none_after_ends Cause.NodeLost (containers_on c.nodes n) c none)
     none_after (Request.QueueInfo path) a = none
     none_after (Request.SetQueueState path running) a = record {
-      minimum = none.minimum;
-      guarantees = mapped_stay (λ (q : QueueRow). length q.guaranteed ≡ suc K) (λ q. if bytes_eq q.path path then record q { running = running } else q) c.settings.queues
-          (λ q e. ap length (if_stays (λ (x : QueueRow). bytes_eq x.path path) (λ (x : QueueRow). record x { running = running }) (λ x. x.guaranteed) (λ x. refl) q) ∙ e) none.guarantees;
+      settings = record {
+        minimum = none.settings.minimum;
+        guarantees = mapped_stay (λ (q : QueueRow). length q.guaranteed ≡ suc K) (λ q. if bytes_eq q.path path then record q { running = running } else q) c.settings.queues
+            (λ q e. ap length (if_stays (λ (x : QueueRow). bytes_eq x.path path) (λ (x : QueueRow). record x { running = running }) (λ x. x.guaranteed) (λ x. refl) q) ∙ e) none.settings.guarantees;
+      };
       asks = none.asks;
       nodes = none.nodes;
       live = none.live;
       reserved = none.reserved;
     }
     none_after Request.ClusterInfo a = none
+    none_after (Request.Refresh text) a = none_refreshed text c none a
 
     pub reply_narrow : (request : Request (suc K)) → AsksNone request → granted_reply (narrow c) (narrow_request request) ≡ narrow_reply (granted_reply c request)
     reply_narrow (Request.Submit path user) a = refl
@@ -467,3 +480,4 @@ module _ {K : ℕ} where
     reply_narrow (Request.QueueInfo path) a = ap (λ r. Reply.QueueInfo r) (report_narrow c path)
     reply_narrow (Request.SetQueueState path running) a = refl
     reply_narrow Request.ClusterInfo a = ap (λ r. Reply.ClusterInfo r) (cluster_narrow c)
+    reply_narrow (Request.Refresh text) a = refl

@@ -202,8 +202,7 @@ module _ {K : ℕ} where
 
     pub none_after_ask : (n : ℕ) (ask : Ask) → EndsInNone K ask.resource → HasNone (after_ask n cluster ask)
     none_after_ask n ask e = record {
-      minimum = none.minimum;
-      guarantees = none.guarantees;
+      settings = none.settings;
       asks = of_each (λ (a : App). All (λ (x : Ask). EndsInNone K x.resource) a.asks) (after_ask n cluster ask).apps.active (λ a m. of_each (λ (x : Ask). EndsInNone K x.resource) a.asks (asked a m));
       nodes = none.nodes;
       live = none.live;
@@ -229,7 +228,7 @@ module _ {K : ℕ} where
   rounded_narrow cluster ask = ap (λ v. record ask { resource = v }) (rounding_narrow K ask.resource cluster.settings.minimum_allocation cluster.settings.maximum_allocation)
 
   pub rounded_none : (cluster : Flat (suc K)) → HasNone cluster → (ask : Ask) → EndsInNone K ask.resource → EndsInNone K (rounded_ask (suc K) cluster.settings ask).resource
-  rounded_none cluster none ask e = rounding_ends K ask.resource cluster.settings.minimum_allocation cluster.settings.maximum_allocation e none.minimum
+  rounded_none cluster none ask e = rounding_ends K ask.resource cluster.settings.minimum_allocation cluster.settings.maximum_allocation e none.settings.minimum
 
   pub record AreAsked (n : ℕ) (asks : List Ask) (cluster : Flat (suc K)) : Type 0 where
     pub same : after_asks n (map (narrow_ask K) asks) (narrow cluster) ≡ narrow (after_asks n asks cluster)

@@ -126,7 +126,7 @@ module _ {K : ℕ} (cluster : Flat (suc K)) where
     shows_none = record {
       guarantees = of_each (λ (q : QueueSight). length q.row.guaranteed ≡ suc K) (map (queue_sight cluster) cluster.settings.queues)
           (λ q m. let w = of_map (queue_sight cluster) cluster.settings.queues q m in
-          subst (λ (x : QueueSight). length x.row.guaranteed ≡ suc K) (w.2) (each_of (λ (r : QueueRow). length r.guaranteed ≡ suc K) cluster.settings.queues none.guarantees (w.0) (w.1)));
+          subst (λ (x : QueueSight). length x.row.guaranteed ≡ suc K) (w.2) (each_of (λ (r : QueueRow). length r.guaranteed ≡ suc K) cluster.settings.queues none.settings.guarantees (w.0) (w.1)));
       used = of_each (λ (q : QueueSight). EndsInNone K q.used) (map (queue_sight cluster) cluster.settings.queues)
           (λ q m. let w = of_map (queue_sight cluster) cluster.settings.queues q m in subst (λ (x : QueueSight). EndsInNone K x.used) (w.2) (use_ends (λ app. is_under (w.0).path app.leaf)));
       used_by = of_each (λ (q : QueueSight). (user : List ℕ) → EndsInNone K (q.used_by user)) (map (queue_sight cluster) cluster.settings.queues)

@@ -23,7 +23,7 @@ use Rattle.cap_narrow.specs.Steps.{narrow_request, narrow_reply, narrow_event, A
 use Rattle.cap_narrow.proofs.Sights.{filter_mapped, law_sights, law_shows}
 use Rattle.cap_narrow.proofs.Choices.{law_reasons, asked_ends}
 use Rattle.cap_narrow.proofs.Parts.{change_meets, one_narrow, none_taken, NoneAsked}
-use Rattle.cap_narrow.proofs.Calls.{node_narrow, refusal_narrow, grow_narrow, cluster_after, none_after, reply_narrow, some_stay, one_comes}
+use Rattle.cap_narrow.proofs.Calls.{node_narrow, refusal_narrow, grow_narrow, early_narrow, cluster_after, none_after, reply_narrow, some_stay, one_comes}
 
 module _ {K : ℕ} where
   -- ---- calls
@@ -58,7 +58,7 @@ module _ {K : ℕ} where
     inr (
       record {
         grows = grow_narrow old request ∙ l.grows;
-        unrefused = refusal_narrow old none request a ∙ l.unrefused;
+        unrefused = early_narrow old none request a ∙ l.unrefused;
         reply_is = ap narrow_reply l.reply_is;
       },
       ap narrow c,
@@ -103,8 +103,7 @@ module _ {K : ℕ} where
 
   none_granted : (old : Flat (suc K)) → HasNone old → (c : Container) → EndsInNone K c.resource → HasNone (after_grant old c)
   none_granted old none c e = record {
-    minimum = none.minimum;
-    guarantees = none.guarantees;
+    settings = none.settings;
     asks = of_each (λ (a : App). All (λ (ask : Ask). EndsInNone K ask.resource) a.asks) (after_grant old c).apps.active (λ a m. of_each (λ (ask : Ask). EndsInNone K ask.resource) a.asks (asked a m));
     nodes = none.nodes;
     live = one_comes (λ (x : Container). EndsInNone K x.resource) old.nodes.live c none.live e;
@@ -137,8 +136,7 @@ module _ {K : ℕ} where
       let e = asked_ends (sight_of old) (law_shows K old none) (reserve_proposal r) (admissible.0).resource in (
         (admissible_narrow old none (reserve_proposal r) e admissible, ap narrow after ∙ sym (reserved old r)),
         subst HasNone (sym after) (record {
-          minimum = none.minimum;
-          guarantees = none.guarantees;
+          settings = none.settings;
           asks = none.asks;
           nodes = none.nodes;
           live = none.live;

@@ -51,6 +51,12 @@ narrow_node_sight K n = record n { total = take K n.total; free = take K n.free;
 abbrev pub narrow_proposal : ℕ → NodeProposal → NodeProposal
 narrow_proposal K p = record p { resource = take K p.resource }
 
+-- Settings raise no ask to any of the last resource, and each guarantee has an amount of each. What is guaranteed of the last resource, and
+-- what the maxima are, may be any amounts.
+pub record SetsNone (K : ℕ) (settings : Settings) : Type 0 where
+  pub minimum : EndsInNone K settings.minimum_allocation
+  pub guarantees : All (λ q. length q.guaranteed ≡ suc K) settings.queues
+
 module _ {K : ℕ} where
   -- a cluster without its last resource
   abbrev pub narrow : Flat (suc K) → Flat K
@@ -67,8 +73,7 @@ module _ {K : ℕ} where
 
   -- nothing in a cluster has any of the last resource
   pub record HasNone (cluster : Flat (suc K)) : Type 0 where
-    pub minimum : EndsInNone K cluster.settings.minimum_allocation
-    pub guarantees : All (λ q. length q.guaranteed ≡ suc K) cluster.settings.queues
+    pub settings : SetsNone K cluster.settings
     pub asks : All (λ app. All (λ ask. EndsInNone K ask.resource) app.asks) cluster.apps.active
     pub nodes : All (λ node. EndsInNone K node.total) cluster.nodes.present
     pub live : All (λ c. EndsInNone K c.resource) cluster.nodes.live
