@@ -5,3 +5,5 @@ pub mod Parts
 pub mod Refreshing
 pub mod Calls
 pub mod Steps
+pub mod Words
+pub mod Gpus

@@ -3,7 +3,7 @@ use Rattle.std.proofs.Common.{◌≡◌, ℕ, suc, ◌≤◌, Bool, true, List, 
 use Rattle.std.specs.Prelude.{Option, Some, None, ◌&&◌, map, find, option_map, is_some, bytes_eq}
 use Rattle.std.specs.List.{All, list_all}
 use Rattle.std.specs.Option.{option_map_or}
-use Rattle.std.proofs.lemmas.List.{take-take}
+use Rattle.std.proofs.lemmas.List.{take-take, take_all}
 use Rattle.cap_base.specs.Settings.{QueueRow, Settings}
 use Rattle.cap_base.specs.Trees.{has_path, has_same_paths}
 use Rattle.cap_base.specs.properties.First.{first_fault, settings_in}
@@ -55,6 +55,20 @@ settings_narrow K new old = λ i. record new {
   minimum_allocation = sym (take-take K (suc K) new.minimum_allocation (omega arith)) i;
   maximum_allocation = sym (take-take K (suc K) new.maximum_allocation (omega arith)) i;
 }
+
+-- settings that set none still set none without resources past the last
+pub firsts_set_none : (K : ℕ) (settings : Settings) → SetsNone K settings → SetsNone K (first_of_settings (suc K) settings)
+firsts_set_none K settings none = record {
+  minimum = subst (EndsInNone K) (sym (whole settings.minimum_allocation none.minimum.count)) none.minimum;
+  guarantees = of_each (λ (q : QueueRow). length q.guaranteed ≡ suc K) (map (first_of_queue (suc K)) settings.queues)
+      (λ q m.
+      let w = of_map (first_of_queue (suc K)) settings.queues q m in
+      let its = each_of (λ (r : QueueRow). length r.guaranteed ≡ suc K) settings.queues none.guarantees (w.0) (w.1) in
+      subst (λ (r : QueueRow). length r.guaranteed ≡ suc K) (w.2) (ap length (whole (w.0).guaranteed its) ∙ its));
+}
+  where
+    whole : (v : List ℕ) → length v ≡ suc K → take (suc K) v ≡ v
+    whole v e = take_all (suc K) v (omega (arith, e))
 
 module _ {K : ℕ} (text : List ℕ) (cluster : Flat (suc K)) where
   pub refresh_refused : refresh_refusal (narrow cluster) text ≡ refresh_refusal cluster text

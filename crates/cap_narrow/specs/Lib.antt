@@ -3,3 +3,4 @@ pub mod Clusters
 pub mod VectorLaws
 pub mod ClusterLaws
 pub mod Steps
+pub mod Gpus

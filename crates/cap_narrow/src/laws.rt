@@ -2,6 +2,7 @@
 ghost use Rattle.cap_narrow.specs.VectorLaws.{FitsNarrow, ExchangedNarrow, TimesNarrow, RoundingNarrow, RoundingEndsInNone, FullnessNarrow, SameNarrow};
 ghost use Rattle.cap_narrow.specs.ClusterLaws.{SightsNarrow, SightsShowNone, ReasonsNarrow, ChoicesNarrow};
 ghost use Rattle.cap_narrow.specs.Steps.{RunsNarrow};
+ghost use Rattle.cap_narrow.specs.Gpus.{TextsWithoutGpu, RefreshesAskNone, OpeningsHaveNone};
 
 /// What is computed of vectors whose last amount is 0 is computed of their first amounts alone.
 pub fn vectors_narrow()
@@ -30,4 +31,12 @@ pub fn choices_narrow()
 /// A run whose calls ask for none of the last resource is a run without it.
 pub fn runs_narrow()
     ensures { RunsNarrow }
+{}
+
+/// Property lines that set no least GPUs of a container raise no ask to any: a Refresh with them asks for none of the third resource,
+/// and a cluster that is opened with them has none. So do all in which `yarn.io/gpu` doesn't stand.
+pub fn texts_ask_for_no_gpu()
+    ensures texts { TextsWithoutGpu }
+    ensures refreshes { RefreshesAskNone }
+    ensures openings { OpeningsHaveNone }
 {}
