@@ -7,3 +7,4 @@ pub mod Calls
 pub mod Steps
 pub mod Words
 pub mod Gpus
+pub mod Examples

@@ -4,3 +4,4 @@ pub mod VectorLaws
 pub mod ClusterLaws
 pub mod Steps
 pub mod Gpus
+pub mod Example

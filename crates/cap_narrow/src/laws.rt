@@ -3,6 +3,7 @@ ghost use Rattle.cap_narrow.specs.VectorLaws.{FitsNarrow, ExchangedNarrow, Times
 ghost use Rattle.cap_narrow.specs.ClusterLaws.{SightsNarrow, SightsShowNone, ReasonsNarrow, ChoicesNarrow};
 ghost use Rattle.cap_narrow.specs.Steps.{RunsNarrow};
 ghost use Rattle.cap_narrow.specs.Gpus.{TextsWithoutGpu, RefreshesAskNone, OpeningsHaveNone};
+ghost use Rattle.cap_narrow.specs.Example.{OneGrantWithoutGpus};
 
 /// What is computed of vectors whose last amount is 0 is computed of their first amounts alone.
 pub fn vectors_narrow()
@@ -39,4 +40,9 @@ pub fn texts_ask_for_no_gpu()
     ensures texts { TextsWithoutGpu }
     ensures refreshes { RefreshesAskNone }
     ensures openings { OpeningsHaveNone }
+{}
+
+/// A cluster of three resources with one grant is, without the third, the worked cluster of two with that grant.
+pub fn one_grant_without_gpus_as_in_the_example()
+    ensures { OneGrantWithoutGpus }
 {}
