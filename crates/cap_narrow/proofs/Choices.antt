@@ -25,46 +25,13 @@ use Rattle.cap_model.specs.Choice.{level_of, ring_from, is_after}
 use Rattle.cap_model.specs.Candidates.{proposals_of, admissible_on, sooner, first_served, choice_on, first_choice, choice_from}
 use Rattle.cap_base.specs.Members.{IsIn}
 use Rattle.cap_base.proofs.lists.Members.{each_of, of_filter, in_either, found}
-use Rattle.cap_base.proofs.lists.Filters.{find_mapped_at, filter_same}
+use Rattle.cap_base.proofs.lists.Filters.{find_mapped_at, filter_same, filter_mapped}
 use Rattle.cap_base.proofs.lists.Sums.{sum_by_map}
 use Rattle.cap_narrow.specs.Narrowing.{EndsInNone}
 use Rattle.cap_narrow.specs.Clusters.{narrow_ask, narrow_reservation, narrow_sight, narrow_queue_sight, narrow_app_sight, narrow_node_sight, narrow_proposal, ShowsNone}
 use Rattle.cap_narrow.specs.ClusterLaws.{ReasonsNarrow, ChoicesNarrow}
+use Rattle.cap_narrow.proofs.Lists.{holds_mapped, holds_same, some_mapped, none_mapped, all_same, position_same, in_drop}
 use Rattle.cap_narrow.proofs.Vectors.{take_nothing, fits_narrow, exchanged_narrow, times_narrow, fullness_narrow, same_narrow}
-use Rattle.cap_narrow.proofs.Sights.{filter_mapped, holds_mapped}
-
--- ---- lists and options
-
--- a test that says the same of the value that is there
-pub holds_same : {A : Type 0} (t u : A → Bool) (o : Option A) → ((x : A) → o ≡ Some x → t x ≡ u x) → holds_of t o ≡ holds_of u o
-holds_same t u None e = refl
-holds_same t u (Some x) e = e x refl
-
-pub all_same : {A B : Type 0} (f : A → B) (t : B → Bool) (u : A → Bool) (xs : List A) → ((x : A) → IsIn x xs → t (f x) ≡ u x) → list_all t (map f xs) ≡ list_all u xs
-all_same f t u [] e = refl
-all_same f t u (x ∷ xs) e = λ i. e x (inl refl) i && all_same f t u xs (λ y m. e y (inr m)) i
-
-prefix_same : {A B : Type 0} (f : A → B) (t : B → Bool) (u : A → Bool) (xs : List A) → ((x : A) → IsIn x xs → t (f x) ≡ u x) → prefix_len t (map f xs) ≡ prefix_len u xs
-prefix_same f t u [] e = refl
-prefix_same f t u (x ∷ xs) e = λ i. cond (e x (inl refl) i) (1 + prefix_same f t u xs (λ y m. e y (inr m)) i) 0
-
-position_same : {A B : Type 0} (f : A → B) (t : B → Bool) (u : A → Bool) (xs : List A) → ((x : A) → IsIn x xs → t (f x) ≡ u x) → position t (map f xs) ≡ position u xs
-position_same f t u xs e =
-    let p = prefix_same f (λ y. not (t y)) (λ x. not (u x)) xs (λ x m. ap not (e x m)) in
-    λ i. cond (nat_lt (p i) (length-map xs f i)) (Some (p i)) None
-
-pub some_mapped : {A B : Type 0} (f : A → B) (o : Option A) → is_some (option_map f o) ≡ is_some o
-some_mapped f None = refl
-some_mapped f (Some x) = refl
-
-pub none_mapped : {A B : Type 0} (f : A → B) (o : Option A) → is_none (option_map f o) ≡ is_none o
-none_mapped f None = refl
-none_mapped f (Some x) = refl
-
-in_drop : {A : Type 0} (n : ℕ) (xs : List A) (x : A) → IsIn x (drop n xs) → IsIn x xs
-in_drop zero xs x m = m
-in_drop (suc n) [] x m = m
-in_drop (suc n) (y ∷ xs) x m = inr (in_drop n xs x m)
 
 -- ---- a use after a proposal has none of the last resource
 exchanged_ends : (K : ℕ) (old new v : List ℕ) → EndsInNone K new → EndsInNone K v → EndsInNone K (amounts_exchanged old new v)
@@ -84,7 +51,7 @@ module _ {K : ℕ} (sight : Sight (suc K)) where
   queue_seen path = find_mapped_at (narrow_queue_sight K) (λ (q : QueueSight). bytes_eq q.row.path path) sight.queues
 
   way_seen : (leaf : List ℕ) → queues_to (narrow_sight sight) leaf ≡ map (narrow_queue_sight K) (queues_to sight leaf)
-  way_seen leaf = filter_mapped (narrow_queue_sight K) (λ (q : QueueSight). is_under q.row.path leaf) sight.queues
+  way_seen leaf = filter_mapped (λ (q : QueueSight). is_under q.row.path leaf) (narrow_queue_sight K) sight.queues
 
   wanted_seen : (app : ℕ) (ask : Ask) → still_wanted (narrow_sight sight) app (narrow_ask K ask) ≡ still_wanted sight app ask
   wanted_seen app ask =
@@ -332,7 +299,7 @@ module _ {K : ℕ} (sight : Sight (suc K)) where
     admissible_same n =
         let all = flat_map (λ (a : AppSight). flat_map (proposals_of n a) a.asks) sight.apps in
         ap (filter (λ r. is_none (reason_of (narrow_sight sight) r))) (of_apps n sight.apps)
-        ∙ filter_mapped (narrow_proposal K) (λ r. is_none (reason_of (narrow_sight sight) r)) all
+        ∙ filter_mapped (λ r. is_none (reason_of (narrow_sight sight) r)) (narrow_proposal K) all
         ∙ ap (map (narrow_proposal K))
         (filter_same (λ p. is_none (reason_of (narrow_sight sight) (narrow_proposal K p))) (λ p. is_none (reason_of sight p)) all
         (λ p m. ap is_none (reason_narrow none p (apps_end n sight.apps (each_of (λ (a : AppSight). All (λ (ask : Ask). EndsInNone K ask.resource) a.asks) sight.apps none.asks) p m))))
@@ -374,8 +341,8 @@ asked_ends {K} sight none p h = by (seen_app sight p.app) refl h
         let m = (found (λ (x : AppSight). x.number == p.app) sight.apps a e).0 in
         of_ask a.asks (each_of (λ (x : AppSight). All (λ (y : Ask). EndsInNone K y.resource) x.asks) sight.apps none.asks a m) (ask_at p.key a.asks) refl g
 
-pub law_reasons : ReasonsNarrow
-law_reasons K sight p none ends = reason_narrow sight none p ends
+pub reasons_narrow : ReasonsNarrow
+reasons_narrow K sight p none ends = reason_narrow sight none p ends
 
-pub law_choices : ChoicesNarrow
-law_choices K sight start none = choice_narrow sight none start
+pub choices_narrow : ChoicesNarrow
+choices_narrow K sight start none = choice_narrow sight none start

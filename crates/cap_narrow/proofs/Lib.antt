@@ -1,8 +1,11 @@
+pub mod Lists
 pub mod Vectors
 pub mod Sights
 pub mod Choices
-pub mod Parts
+pub mod Changes
+pub mod Asking
 pub mod Refreshing
+pub mod Refusals
 pub mod Calls
 pub mod Steps
 pub mod Words

@@ -13,8 +13,7 @@ use Rattle.cap_model.specs.Flat.{Flat}
 use Rattle.cap_model.specs.Refresh.{first_of_queue, first_of_settings, refreshed_queue, refreshed_settings, lines_refusal, has_its_queues, refresh_refusal, after_refresh}
 use Rattle.cap_narrow.specs.Narrowing.{EndsInNone}
 use Rattle.cap_narrow.specs.Clusters.{narrow, SetsNone, HasNone}
-use Rattle.cap_narrow.proofs.Choices.{all_same, some_mapped}
-use Rattle.cap_narrow.proofs.Sights.{maps_meet}
+use Rattle.cap_narrow.proofs.Lists.{some_mapped, all_same, maps_meet}
 
 -- ---- the queues that stand, whatever their amounts
 path_there : (K : ℕ) (path : List ℕ) (qs : List QueueRow) → has_path (map (first_of_queue K) qs) path ≡ has_path qs path

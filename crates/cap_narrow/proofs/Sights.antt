@@ -3,6 +3,7 @@ use Rattle.std.proofs.Common.{◌≡◌, ℕ, suc, Bool, true, false, List, [], 
 use Rattle.std.specs.Prelude.{Option, Some, None, ◌==◌, ◌&&◌, map, filter, cond, option_map, bytes_eq, if◌then◌else◌}
 use Rattle.std.specs.List.{All}
 use Rattle.std.proofs.lemmas.List.{map-append, length-map}
+use Rattle.std.proofs.lemmas.List.Elements.{All-append, All-map, All-filter}
 use Rattle.cap_vector.specs.Vector.{amount, by_amount, less}
 use Rattle.cap_base.specs.Settings.{QueueRow}
 use Rattle.cap_base.specs.Cascade.{holds_of}
@@ -16,31 +17,16 @@ use Rattle.cap_model.specs.Sight.{QueueSight, AppSight, sight_of, app_sight, que
 use Rattle.cap_base.specs.Members.{IsIn}
 use Rattle.cap_base.proofs.lists.Members.{each_of, of_each, of_map, of_filter, in_either}
 use Rattle.cap_base.proofs.lists.Sums.{sum_by_map, sum_of_zeros}
-use Rattle.cap_base.proofs.lists.Filters.{find_mapped_at}
+use Rattle.cap_base.proofs.lists.Filters.{find_mapped_at, filter_mapped}
 use Rattle.cap_narrow.specs.Narrowing.{EndsInNone}
-use Rattle.cap_narrow.specs.Clusters.{narrow, narrow_app, narrow_node, narrow_container, narrow_reservation, narrow_sight, narrow_queue_sight, narrow_app_sight, narrow_node_sight, HasNone, ShowsNone}
-use Rattle.cap_narrow.specs.ClusterLaws.{SightsNarrow, SightsShowNone}
-use Rattle.cap_narrow.proofs.Vectors.{sums_narrow, less_narrow, ends_within}
+use Rattle.cap_narrow.specs.Clusters.{narrow, narrow_app, narrow_node, narrow_container, narrow_reservation, narrow_sight, narrow_queue_sight, narrow_app_sight, narrow_node_sight, WantNone, HasNone, ShowsNone}
+use Rattle.cap_narrow.specs.ClusterLaws.{UsesNarrow, SightsNarrow, SightsShowNone}
+use Rattle.cap_narrow.proofs.Lists.{holds_mapped, maps_meet}
+use Rattle.cap_narrow.proofs.Vectors.{less_narrow, sums_narrow, ends_within}
 
-pub filter_mapped : {A B : Type 0} (f : A → B) (t : B → Bool) (xs : List A) → filter t (map f xs) ≡ map f (filter (λ x. t (f x)) xs)
-filter_mapped f t [] = refl
-filter_mapped f t (x ∷ xs) = by (t (f x)) (filter_mapped f t xs)
-  where
-    by : (b : Bool) → filter t (map f xs) ≡ map f (filter (λ y. t (f y)) xs) → cond b (f x ∷ filter t (map f xs)) (filter t (map f xs)) ≡ map f (cond b (x ∷ filter (λ y. t (f y)) xs) (filter (λ y. t (f y)) xs))
-    by true e = ap (λ ys. f x ∷ ys) e
-    by false e = e
-
--- two maps that come to the same
-pub maps_meet : {A B C D : Type 0} (f : B → D) (g : A → B) (h : C → D) (k : A → C) → ((x : A) → f (g x) ≡ h (k x)) → (xs : List A) → map f (map g xs) ≡ map h (map k xs)
-maps_meet f g h k e [] = refl
-maps_meet f g h k e (x ∷ xs) = λ i. e x i ∷ maps_meet f g h k e xs i
-
-pub holds_mapped : {A B : Type 0} (f : A → B) (t : B → Bool) (o : Option A) → holds_of t (option_map f o) ≡ holds_of (λ x. t (f x)) o
-holds_mapped f t None = refl
-holds_mapped f t (Some x) = refl
-
-narrow_holding : ℕ → Holding → Holding
-narrow_holding K h = record { app = h.app; resource = take K h.resource }
+-- what is held, cut to its first K amounts
+abbrev narrow_holding : ℕ → Holding → Holding
+narrow_holding K h = record h { resource = take K h.resource }
 
 -- a sum over what is mapped
 pub sum_mapped : {A B : Type 0} (K : ℕ) (t : B → Bool) (of : B → List ℕ) (f : A → B) (xs : List A) → sum_where K t of (map f xs) ≡ sum_where K (λ x. t (f x)) (λ x. of (f x)) xs
@@ -50,29 +36,29 @@ module _ {K : ℕ} (cluster : Flat (suc K)) where
   pub app_narrow : (n : ℕ) → app_at (narrow cluster) n ≡ option_map (narrow_app K) (app_at cluster n)
   app_narrow n = find_mapped_at (narrow_app K) (λ (app : App). app.number == n) cluster.apps.active
 
-  holdings_narrow : holdings (narrow cluster) ≡ map (λ (h : Holding). record { app = h.app; resource = take K h.resource }) (holdings cluster)
+  holdings_narrow : holdings (narrow cluster) ≡ map (narrow_holding K) (holdings cluster)
   holdings_narrow =
-      (λ i. maps_meet of_container (narrow_container K) (λ (h : Holding). record { app = h.app; resource = take K h.resource }) of_container (λ c. refl) cluster.nodes.live i
-      ++ maps_meet of_reservation (narrow_reservation K) (λ (h : Holding). record { app = h.app; resource = take K h.resource }) of_reservation (λ r. refl) cluster.nodes.reserved i)
-      ∙ sym (map-append (λ (h : Holding). record { app = h.app; resource = take K h.resource }) (map of_container cluster.nodes.live) (map of_reservation cluster.nodes.reserved))
+      (λ i. maps_meet of_container (narrow_container K) (narrow_holding K) of_container (λ c. refl) cluster.nodes.live i
+      ++ maps_meet of_reservation (narrow_reservation K) (narrow_holding K) of_reservation (λ r. refl) cluster.nodes.reserved i)
+      ∙ sym (map-append (narrow_holding K) (map of_container cluster.nodes.live) (map of_reservation cluster.nodes.reserved))
 
   -- a use, of the applications that pass a test of their leaf and user
-  pub use_narrow : (test : List ℕ → List ℕ → Bool) → use_of (narrow cluster) (λ a. test a.leaf a.user) ≡ take K (use_of cluster (λ a. test a.leaf a.user))
+  use_narrow : (test : List ℕ → List ℕ → Bool) → use_of (narrow cluster) (λ a. test a.leaf a.user) ≡ take K (use_of cluster (λ a. test a.leaf a.user))
   use_narrow test =
       let counts : Holding → Bool = λ h. holds_of (λ (a : App). test a.leaf a.user) (app_at (narrow cluster) h.app) in
       let before : Holding → Bool = λ h. holds_of (λ (a : App). test a.leaf a.user) (app_at cluster h.app) in
       ap (sum_where K counts (λ h. h.resource)) holdings_narrow
-      ∙ sum_mapped K counts (λ h. h.resource) (λ (h : Holding). record { app = h.app; resource = take K h.resource }) (holdings cluster)
+      ∙ sum_mapped K counts (λ h. h.resource) (narrow_holding K) (holdings cluster)
       ∙ (λ i. sum_where K (λ (h : Holding). (ap (holds_of (λ (a : App). test a.leaf a.user)) (app_narrow h.app) ∙ holds_mapped (narrow_app K) (λ (a : App). test a.leaf a.user) (app_at cluster h.app)) i) (λ h. take K h.resource) (holdings cluster))
       ∙ sums_narrow K before (λ h. h.resource) (holdings cluster)
 
   pub queue_use_narrow : (path : List ℕ) → queue_use (narrow cluster) path ≡ take K (queue_use cluster path)
   queue_use_narrow path = use_narrow (λ leaf user. is_under path leaf)
 
-  pub user_use_narrow : (leaf user : List ℕ) → user_use (narrow cluster) leaf user ≡ take K (user_use cluster leaf user)
+  user_use_narrow : (leaf user : List ℕ) → user_use (narrow cluster) leaf user ≡ take K (user_use cluster leaf user)
   user_use_narrow leaf user = use_narrow (λ l u. bytes_eq leaf l && bytes_eq user u)
 
-  pub held_narrow : (n : ℕ) → node_held (narrow cluster) n ≡ take K (node_held cluster n)
+  held_narrow : (n : ℕ) → node_held (narrow cluster) n ≡ take K (node_held cluster n)
   held_narrow n =
       sum_mapped K (λ (c : Container). c.node == n) (λ c. c.resource) (narrow_container K) cluster.nodes.live
       ∙ sums_narrow K (λ (c : Container). c.node == n) (λ c. c.resource) cluster.nodes.live
@@ -88,7 +74,7 @@ module _ {K : ℕ} (cluster : Flat (suc K)) where
 
   apps_seen : map app_sight (filter (λ app. app.registered) (map (narrow_app K) cluster.apps.active)) ≡ map (narrow_app_sight K) (map app_sight (filter (λ app. app.registered) cluster.apps.active))
   apps_seen =
-      ap (map app_sight) (filter_mapped (narrow_app K) (λ (app : App). app.registered) cluster.apps.active)
+      ap (map app_sight) (filter_mapped (λ (app : App). app.registered) (narrow_app K) cluster.apps.active)
       ∙ maps_meet app_sight (narrow_app K) (narrow_app_sight K) app_sight (λ a. refl) (filter (λ (app : App). app.registered) cluster.apps.active)
 
   sight_narrow : sight_of (narrow cluster) ≡ narrow_sight (sight_of cluster)
@@ -102,21 +88,18 @@ module _ {K : ℕ} (cluster : Flat (suc K)) where
 
   module _ (none : HasNone cluster) where
     -- nothing that is held has any of the last resource
-    nothing_held : (h : Holding) → IsIn h (holdings cluster) → amount h.resource K ≡ 0
-    nothing_held h m = elim (in_either h (map of_container cluster.nodes.live) (map of_reservation cluster.nodes.reserved) m) [
-      | inl g ↦
-          let w = of_map of_container cluster.nodes.live h g in
-          ap (λ (x : Holding). amount x.resource K) (sym (w.2)) ∙ (each_of (λ (c : Container). EndsInNone K c.resource) cluster.nodes.live none.live (w.0) (w.1)).none
-      | inr g ↦
-          let w = of_map of_reservation cluster.nodes.reserved h g in
-          ap (λ (x : Holding). amount x.resource K) (sym (w.2)) ∙ (each_of (λ (r : Reservation). EndsInNone K r.resource) cluster.nodes.reserved none.reserved (w.0) (w.1)).none
-    ]
+    held_ends : All (λ (h : Holding). EndsInNone K h.resource) (holdings cluster)
+    held_ends =
+        All-append (λ (h : Holding). EndsInNone K h.resource) (map of_container cluster.nodes.live) (map of_reservation cluster.nodes.reserved)
+        (All-map (λ (h : Holding). EndsInNone K h.resource) of_container cluster.nodes.live none.live)
+        (All-map (λ (h : Holding). EndsInNone K h.resource) of_reservation cluster.nodes.reserved none.reserved)
 
-    pub use_ends : (test : App → Bool) → EndsInNone K (use_of cluster test)
+    use_ends : (test : App → Bool) → EndsInNone K (use_of cluster test)
     use_ends test =
         let counts : Holding → Bool = λ h. holds_of test (app_at cluster h.app) in
         ends_within K (part counts (λ h. h.resource) (holdings cluster))
-        (sum_of_zeros (λ (h : Holding). if counts h then amount h.resource K else 0) (holdings cluster) (λ h m. by (counts h) (amount h.resource K) (nothing_held h m)))
+        (sum_of_zeros (λ (h : Holding). if counts h then amount h.resource K else 0) (holdings cluster)
+        (λ h m. by (counts h) (amount h.resource K) (each_of (λ (x : Holding). EndsInNone K x.resource) (holdings cluster) held_ends h m).none))
       where
         by : (b : Bool) (n : ℕ) → n ≡ 0 → (if b then n else 0) ≡ 0
         by true n e = e
@@ -124,23 +107,21 @@ module _ {K : ℕ} (cluster : Flat (suc K)) where
 
     shows_none : ShowsNone (sight_of cluster)
     shows_none = record {
-      guarantees = of_each (λ (q : QueueSight). length q.row.guaranteed ≡ suc K) (map (queue_sight cluster) cluster.settings.queues)
-          (λ q m. let w = of_map (queue_sight cluster) cluster.settings.queues q m in
-          subst (λ (x : QueueSight). length x.row.guaranteed ≡ suc K) (w.2) (each_of (λ (r : QueueRow). length r.guaranteed ≡ suc K) cluster.settings.queues none.settings.guarantees (w.0) (w.1)));
-      used = of_each (λ (q : QueueSight). EndsInNone K q.used) (map (queue_sight cluster) cluster.settings.queues)
-          (λ q m. let w = of_map (queue_sight cluster) cluster.settings.queues q m in subst (λ (x : QueueSight). EndsInNone K x.used) (w.2) (use_ends (λ app. is_under (w.0).path app.leaf)));
-      used_by = of_each (λ (q : QueueSight). (user : List ℕ) → EndsInNone K (q.used_by user)) (map (queue_sight cluster) cluster.settings.queues)
-          (λ q m. let w = of_map (queue_sight cluster) cluster.settings.queues q m in
-          subst (λ (x : QueueSight). (user : List ℕ) → EndsInNone K (x.used_by user)) (w.2) (λ user. use_ends (λ app. bytes_eq (w.0).path app.leaf && bytes_eq user app.user)));
-      asks = of_each (λ (a : AppSight). All (λ ask. EndsInNone K ask.resource) a.asks) (map app_sight (filter (λ app. app.registered) cluster.apps.active))
-          (λ a m.
-          let w = of_map app_sight (filter (λ (app : App). app.registered) cluster.apps.active) a m in
-          let g = of_filter (λ (app : App). app.registered) cluster.apps.active (w.0) (w.1) in
-          subst (λ (x : AppSight). All (λ (ask : Ask). EndsInNone K ask.resource) x.asks) (w.2) (each_of (λ (app : App). All (λ (ask : Ask). EndsInNone K ask.resource) app.asks) cluster.apps.active none.asks (w.0) (g.1)));
+      guarantees = All-map (λ (q : QueueSight). length q.row.guaranteed ≡ suc K) (queue_sight cluster) cluster.settings.queues none.settings.guarantees;
+      used = All-map (λ (q : QueueSight). EndsInNone K q.used) (queue_sight cluster) cluster.settings.queues
+          (of_each (λ (q : QueueRow). EndsInNone K (queue_use cluster q.path)) cluster.settings.queues (λ q m. use_ends (λ app. is_under q.path app.leaf)));
+      used_by = All-map (λ (q : QueueSight). (user : List ℕ) → EndsInNone K (q.used_by user)) (queue_sight cluster) cluster.settings.queues
+          (of_each (λ (q : QueueRow). (user : List ℕ) → EndsInNone K (user_use cluster q.path user)) cluster.settings.queues
+          (λ q m user. use_ends (λ app. bytes_eq q.path app.leaf && bytes_eq user app.user)));
+      asks = All-map (λ (a : AppSight). WantNone K a.asks) app_sight (filter (λ app. app.registered) cluster.apps.active)
+          (All-filter (λ (app : App). app.registered) (λ (app : App). WantNone K app.asks) cluster.apps.active none.asks);
     }
 
-pub law_sights : SightsNarrow
-law_sights K cluster = sight_narrow cluster
+pub uses_narrow : UsesNarrow
+uses_narrow K cluster path user node = (queue_use_narrow cluster path, user_use_narrow cluster path user, held_narrow cluster node)
 
-pub law_shows : SightsShowNone
-law_shows K cluster none = shows_none cluster none
+pub sights_narrow : SightsNarrow
+sights_narrow K cluster = sight_narrow cluster
+
+pub sights_show_none : SightsShowNone
+sights_show_none K cluster none = shows_none cluster none

@@ -2,6 +2,7 @@
 use Rattle.std.proofs.Common.{◌≡◌, ℕ, suc, ◌+◌, List, [], ◌∷◌, ◌++◌, refl, sym, ◌∙◌, ap, subst, inl, inr}
 use Rattle.std.specs.Prelude.{Bool, true, false, Option, Some, None, ◌==◌, not, map, option_map, unwrap_or, if◌then◌else◌}
 use Rattle.std.specs.List.{All}
+use Rattle.std.proofs.lemmas.List.Elements.{All-nil, All-push, All-filter}
 use Rattle.std.proofs.lemmas.List.{map-append}
 use Rattle.cap_model.specs.Asks.{Ask}
 use Rattle.cap_model.specs.News.{Reply}
@@ -16,14 +17,17 @@ use Rattle.cap_model.specs.Replies.{Replies, refusal_of, granted_reply, granted_
 use Rattle.cap_model.specs.declared.event.Event.{Event}
 use Rattle.cap_model.specs.Events.{Step, Run, after_grant, after_reserve, news_of, take_one, grant_proposal, reserve_proposal}
 use Rattle.cap_base.specs.Members.{IsIn}
+use Rattle.cap_base.proofs.lists.Filters.{filter_mapped}
 use Rattle.cap_base.proofs.lists.Members.{each_of, of_each, of_map}
 use Rattle.cap_narrow.specs.Narrowing.{EndsInNone}
-use Rattle.cap_narrow.specs.Clusters.{narrow, narrow_proposal, narrow_app, narrow_news, narrow_node, narrow_container, narrow_reservation, HasNone}
+use Rattle.cap_narrow.specs.Clusters.{narrow, narrow_proposal, narrow_app, narrow_grant, narrow_node, narrow_container, narrow_reservation, WantNone, HasNone}
 use Rattle.cap_narrow.specs.Steps.{narrow_request, narrow_reply, narrow_event, AsksNone, EventAsksNone, CallsAskNone, RunsNarrow}
-use Rattle.cap_narrow.proofs.Sights.{filter_mapped, law_sights, law_shows}
-use Rattle.cap_narrow.proofs.Choices.{law_reasons, asked_ends}
-use Rattle.cap_narrow.proofs.Parts.{change_meets, one_narrow, none_taken, NoneAsked}
-use Rattle.cap_narrow.proofs.Calls.{node_narrow, refusal_narrow, grow_narrow, early_narrow, cluster_after, none_after, reply_narrow, some_stay, one_comes}
+use Rattle.cap_narrow.proofs.Lists.{change_meets, all_changed_if}
+use Rattle.cap_narrow.proofs.Sights.{sights_narrow, sights_show_none}
+use Rattle.cap_narrow.proofs.Choices.{asked_ends, reasons_narrow}
+use Rattle.cap_narrow.proofs.Asking.{one_narrow, none_taken}
+use Rattle.cap_narrow.proofs.Refusals.{node_narrow, refusal_narrow, grow_narrow, early_narrow}
+use Rattle.cap_narrow.proofs.Calls.{cluster_after, none_after, reply_narrow}
 
 module _ {K : ℕ} where
   -- ---- calls
@@ -71,11 +75,11 @@ module _ {K : ℕ} where
   admissible_narrow old none p e a =
       let before : reason_of (sight_of old) p ≡ None = (rejected_exactly (suc K) (sight_of old) p).1 a in
       let same : reason_of (sight_of (narrow old)) (narrow_proposal K p) ≡ reason_of (sight_of old) p =
-      ap (λ s. reason_of s (narrow_proposal K p)) (law_sights K old) ∙ law_reasons K (sight_of old) p (law_shows K old none) e in
+      ap (λ s. reason_of s (narrow_proposal K p)) (sights_narrow K old) ∙ reasons_narrow K (sight_of old) p (sights_show_none K old none) e in
       (rejected_exactly K (sight_of (narrow old)) (narrow_proposal K p)).0 (same ∙ before)
 
-  news_is : (old : Flat (suc K)) (c : Container) → news_of (narrow old) (narrow_container K c) ≡ narrow_news K (news_of old c)
-  news_is old c = ap (λ host. record (narrow_news K (news_of old c)) { host = host }) (ap (λ o. unwrap_or (option_map (λ (n : ClusterNode). n.host) o) []) (node_narrow old c.node) ∙ by (node_at old c.node))
+  news_is : (old : Flat (suc K)) (c : Container) → news_of (narrow old) (narrow_container K c) ≡ narrow_grant K (news_of old c)
+  news_is old c = ap (λ host. record (narrow_grant K (news_of old c)) { host = host }) (ap (λ o. unwrap_or (option_map (λ (n : ClusterNode). n.host) o) []) (node_narrow old c.node) ∙ by (node_at old c.node))
     where
       by : (o : Option ClusterNode) → unwrap_or (option_map (λ (n : ClusterNode). n.host) (option_map (narrow_node K) o)) [] ≡ unwrap_or (option_map (λ (n : ClusterNode). n.host) o) []
       by None = refl
@@ -91,12 +95,12 @@ module _ {K : ℕ} where
               (λ (a : App). a.number == c.app) (λ a. refl)
               (λ a. λ j. record (narrow_app K a) {
                 asks = one_narrow K c.key a.asks j;
-                grants = (ap (λ g. map (narrow_news K) a.grants ++ g ∷ []) (news_is old c) ∙ sym (map-append (narrow_news K) a.grants (news_of old c ∷ []))) j;
+                grants = (ap (λ g. map (narrow_grant K) a.grants ++ g ∷ []) (news_is old c) ∙ sym (map-append (narrow_grant K) a.grants (news_of old c ∷ []))) j;
               }) old.apps.active i;
         };
         nodes = record (narrow old).nodes {
           live = sym (map-append (narrow_container K) old.nodes.live (c ∷ [])) i;
-          reserved = filter_mapped (narrow_reservation K) (λ (r : Reservation). not (r.node == c.node)) old.nodes.reserved i;
+          reserved = filter_mapped (λ (r : Reservation). not (r.node == c.node)) (narrow_reservation K) old.nodes.reserved i;
           next_container = old.nodes.next_container + 1;
         };
       })
@@ -104,24 +108,12 @@ module _ {K : ℕ} where
   none_granted : (old : Flat (suc K)) → HasNone old → (c : Container) → EndsInNone K c.resource → HasNone (after_grant old c)
   none_granted old none c e = record {
     settings = none.settings;
-    asks = of_each (λ (a : App). All (λ (ask : Ask). EndsInNone K ask.resource) a.asks) (after_grant old c).apps.active (λ a m. of_each (λ (ask : Ask). EndsInNone K ask.resource) a.asks (asked a m));
+    asks = all_changed_if (λ (a : App). WantNone K a.asks) (λ a. a.number == c.app) (λ a. record a { asks = take_one c.key a.asks; grants = a.grants ++ news_of old c ∷ [] })
+        (λ a w. none_taken K c.key a.asks w) old.apps.active none.asks;
     nodes = none.nodes;
-    live = one_comes (λ (x : Container). EndsInNone K x.resource) old.nodes.live c none.live e;
-    reserved = some_stay (λ (r : Reservation). EndsInNone K r.resource) (λ r. not (r.node == c.node)) old.nodes.reserved none.reserved;
+    live = All-push (λ (x : Container). EndsInNone K x.resource) old.nodes.live c none.live e;
+    reserved = All-filter (λ r. not (r.node == c.node)) (λ (r : Reservation). EndsInNone K r.resource) old.nodes.reserved none.reserved;
   }
-    where
-      change : App → App
-      change a = if a.number == c.app then record a { asks = take_one c.key a.asks; grants = a.grants ++ news_of old c ∷ [] } else a
-
-      asked : (a : App) → IsIn a (map change old.apps.active) → NoneAsked K a.asks
-      asked a m =
-          let w = of_map change old.apps.active a m in
-          let before = each_of (λ (ask : Ask). EndsInNone K ask.resource) (w.0).asks (each_of (λ (b : App). All (λ (ask : Ask). EndsInNone K ask.resource) b.asks) old.apps.active none.asks (w.0) (w.1)) in
-          subst (λ (b : App). NoneAsked K b.asks) (w.2) (by (w.0) ((w.0).number == c.app) before)
-        where
-          by : (b : App) (t : Bool) → NoneAsked K b.asks → NoneAsked K (if t then record b { asks = take_one c.key b.asks; grants = b.grants ++ news_of old c ∷ [] } else b).asks
-          by b true h = none_taken K c.key b.asks h
-          by b false h = h
 
   reserved : (old : Flat (suc K)) (r : Reservation) → after_reserve (narrow old) (narrow_reservation K r) ≡ narrow (after_reserve old r)
   reserved old r = λ i. record (narrow old) { nodes = record (narrow old).nodes { reserved = sym (map-append (narrow_reservation K) old.nodes.reserved (r ∷ [])) i } }
@@ -130,17 +122,17 @@ module _ {K : ℕ} where
   step_narrow : (old new : Flat (suc K)) (event : Event (suc K)) → HasNone old → EventAsksNone event → Step old event new → Step (narrow old) (narrow_event event) (narrow new) × HasNone new
   step_narrow old new (Event.Call by request reply) none a s = call_narrow old new none request reply a s
   step_narrow old new (Event.Grant c) none a (admissible, number, after) =
-      let e = asked_ends (sight_of old) (law_shows K old none) (grant_proposal c) (admissible.0).resource in
+      let e = asked_ends (sight_of old) (sights_show_none K old none) (grant_proposal c) (admissible.0).resource in
       ((admissible_narrow old none (grant_proposal c) e admissible, number, ap narrow after ∙ sym (granted old c)), subst HasNone (sym after) (none_granted old none c e))
   step_narrow old new (Event.Reserve r) none a (admissible, after) =
-      let e = asked_ends (sight_of old) (law_shows K old none) (reserve_proposal r) (admissible.0).resource in (
+      let e = asked_ends (sight_of old) (sights_show_none K old none) (reserve_proposal r) (admissible.0).resource in (
         (admissible_narrow old none (reserve_proposal r) e admissible, ap narrow after ∙ sym (reserved old r)),
         subst HasNone (sym after) (record {
           settings = none.settings;
           asks = none.asks;
           nodes = none.nodes;
           live = none.live;
-          reserved = one_comes (λ (x : Reservation). EndsInNone K x.resource) old.nodes.reserved r none.reserved e;
+          reserved = All-push (λ (x : Reservation). EndsInNone K x.resource) old.nodes.reserved r none.reserved e;
         }),
       )
 
@@ -151,5 +143,5 @@ module _ {K : ℕ} where
       let r = run_narrow events mid new s.1 more run in
       ((narrow mid, s.0, r.0), r.1)
 
-pub law_runs : RunsNarrow
-law_runs K events old new none a run = run_narrow events old new none a run
+pub runs_narrow : RunsNarrow
+runs_narrow K events old new none a run = run_narrow events old new none a run

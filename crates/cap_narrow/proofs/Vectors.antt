@@ -1,6 +1,6 @@
 -- Vectors whose last amount is 0, and their first amounts.
 use Rattle.std.proofs.Common.{◌≡◌, ℕ, zero, suc, ◌+◌, ◌-◌, ◌*◌, ◌<◌, Bool, true, false, List, [], ◌∷◌, ◌++◌, length, take, refl, sym, ◌∙◌, ap, arith}
-use Rattle.std.specs.Prelude.{◌==◌, ◌&&◌, nat_le, min, max, map, cond, bytes_eq, if◌then◌else◌}
+use Rattle.std.specs.Prelude.{Option, Some, None, ◌==◌, ◌&&◌, nat_le, min, max, map, cond, bytes_eq, if◌then◌else◌}
 use Rattle.std.specs.List.{range_with_len}
 use Rattle.std.specs.Ordering.{nat_cmp, is_lt, ordering_then}
 use Rattle.std.specs.declared.cmp.Ordering.TheVariants.{Equal}
@@ -16,7 +16,7 @@ use Rattle.cap_base.proofs.lists.Sums.{sum_by_agree}
 use Rattle.cap_base.proofs.Amounts.{amount_of}
 use Rattle.std.proofs.lemmas.List.FromFn.{length-map-range_with_len}
 use Rattle.cap_narrow.specs.Narrowing.{EndsInNone}
-use Rattle.cap_narrow.specs.VectorLaws.{FitsNarrow, ExchangedNarrow, TimesNarrow, RoundingNarrow, RoundingEndsInNone, FullnessNarrow, SameNarrow}
+use Rattle.cap_narrow.specs.VectorLaws.{FitsNarrow, MaximumNarrow, UserLimitNarrow, ExchangedNarrow, TimesNarrow, RoundingNarrow, RoundingEndsInNone, FullnessNarrow, SameNarrow}
 
 pub take_nothing : (K : ℕ) → take {A = ℕ} K [] ≡ []
 take_nothing zero = refl
@@ -27,7 +27,7 @@ tail_ends : (K x : ℕ) (v : List ℕ) → EndsInNone (suc K) (x ∷ v) → Ends
 tail_ends K x v e = record { count = omega (arith, e.count); none = e.none }
 
 -- what fits
-pub fits_narrow : (K : ℕ) (a b : List ℕ) → EndsInNone K a → fits (take K a) (take K b) ≡ fits a b
+pub fits_narrow : FitsNarrow
 fits_narrow zero [] b h = refl
 fits_narrow zero (x ∷ []) [] h = grind (arith, nat_tests, h.none)
 fits_narrow zero (x ∷ []) (y ∷ b) h = grind (arith, nat_tests, h.none)
@@ -36,6 +36,10 @@ fits_narrow (suc K) [] b h = refl
 fits_narrow (suc K) (x ∷ a) [] h =
     ap (λ v. x == 0 && fits (take K a) v) (sym (take_nothing K)) ∙ ap (λ t. x == 0 && t) (fits_narrow K a [] (tail_ends K x a h))
 fits_narrow (suc K) (x ∷ a) (y ∷ b) h = ap (λ t. nat_le x y && t) (fits_narrow K a b (tail_ends K x a h))
+
+pub maximum_narrow : MaximumNarrow
+maximum_narrow K None used h = refl
+maximum_narrow K (Some most) used h = fits_narrow K used most h
 
 -- sums and differences
 pub less_narrow : (K : ℕ) (a b : List ℕ) → less (take K a) (take K b) ≡ take K (less a b)
@@ -56,13 +60,16 @@ plus_narrow (suc K) [] b = refl
 plus_narrow (suc K) (x ∷ a) [] = refl
 plus_narrow (suc K) (x ∷ a) (y ∷ b) = ap (λ v. (x + y) ∷ v) (plus_narrow K a b)
 
-pub exchanged_narrow : (K : ℕ) (old new v : List ℕ) → amounts_exchanged (take K old) (take K new) (take K v) ≡ take K (amounts_exchanged old new v)
+pub exchanged_narrow : ExchangedNarrow
 exchanged_narrow K old new v = ap (λ u. plus u (take K new)) (less_narrow K v old) ∙ plus_narrow K (less v old) new
 
-pub times_narrow : (K factor : ℕ) (v : List ℕ) → times factor (take K v) ≡ take K (times factor v)
+pub times_narrow : TimesNarrow
 times_narrow zero factor v = refl
 times_narrow (suc K) factor [] = refl
 times_narrow (suc K) factor (x ∷ v) = ap (λ u. (factor * x) ∷ u) (times_narrow K factor v)
+
+pub user_limit_narrow : UserLimitNarrow
+user_limit_narrow K factor guaranteed used h = ap (fits (take K used)) (times_narrow K factor guaranteed) ∙ fits_narrow K used (times factor guaranteed) h
 
 -- computed vectors
 range_narrow : (f : ℕ → ℕ) (a n : ℕ) → take n (map f (range_with_len a (suc n))) ≡ map f (range_with_len a n)
@@ -82,12 +89,12 @@ sums_narrow {X} K test of items =
     (λ k l. sum_by_agree (λ (x : X). if test x then amount (take K (of x)) k else 0) (λ x. if test x then amount (of x) k else 0) items
     (λ x m. ap (λ n. if test x then n else 0) (get_or-take K (of x) k 0 l)))
 
-pub rounding_narrow : (K : ℕ) (v step most : List ℕ) → round_up K (take K v) (take K step) (take K most) ≡ take K (round_up (suc K) v step most)
+pub rounding_narrow : RoundingNarrow
 rounding_narrow K v step most =
     computed_narrow K (λ k. min (raised_amount (amount (take K v) k) (amount (take K step) k)) (amount (take K most) k)) (λ k. min (raised_amount (amount v k) (amount step k)) (amount most k))
     (λ k l. λ i. min (raised_amount (get_or-take K v k 0 l i) (get_or-take K step k 0 l i)) (get_or-take K most k 0 l i))
 
-pub rounding_ends : (K : ℕ) (v step most : List ℕ) → EndsInNone K v → EndsInNone K step → EndsInNone K (round_up (suc K) v step most)
+pub rounding_ends : RoundingEndsInNone
 rounding_ends K v step most h s =
     let f : ℕ → ℕ = λ k. min (raised_amount (amount v k) (amount step k)) (amount most k) in
     record {
@@ -99,9 +106,6 @@ rounding_ends K v step most h s =
     zero_least n = grind arith
 
 -- fullness: the fraction of what is not used is the least, so it stands last
-no_share : ℕ → Share
-no_share g = record { used = 0; guaranteed = g }
-
 not_less : (x : Share) (g : ℕ) → is_lt (share_cmp x (record { used = 0; guaranteed = g })) ≡ false
 not_less x g = by (x.used * max 1 g) (0 * max 1 x.guaranteed) (grind arith)
   where
@@ -176,7 +180,7 @@ fullness_narrow K u g v h eu ev lg lh =
     sym ((λ i. shares_cmp (shares_last K u g eu lg i) (shares_last K v h ev lh i)) ∙ cmp_last xs ys a b (many ∙ sym same) (none_equal (amount g K) (amount h K)))
 
 -- the same vector
-pub same_narrow : (K : ℕ) (a b : List ℕ) → EndsInNone K a → EndsInNone K b → bytes_eq (take K a) (take K b) ≡ bytes_eq a b
+pub same_narrow : SameNarrow
 same_narrow zero [] b h k = absurd (omega (arith, h.count))
 same_narrow zero (x ∷ []) [] h k = absurd (omega (arith, k.count))
 same_narrow zero (x ∷ []) (y ∷ []) h k = grind (arith, nat_tests, h.none, k.none)
@@ -185,27 +189,6 @@ same_narrow zero (x ∷ y ∷ a) b h k = absurd (omega (arith, h.count))
 same_narrow (suc K) [] b h k = absurd (omega (arith, h.count))
 same_narrow (suc K) (x ∷ a) [] h k = absurd (omega (arith, k.count))
 same_narrow (suc K) (x ∷ a) (y ∷ b) h k = ap (λ t. x == y && t) (same_narrow K a b (tail_ends K x a h) (tail_ends K y b k))
-
-pub law_fits : FitsNarrow
-law_fits = fits_narrow
-
-pub law_exchanged : ExchangedNarrow
-law_exchanged = exchanged_narrow
-
-pub law_times : TimesNarrow
-law_times = times_narrow
-
-pub law_rounding : RoundingNarrow
-law_rounding = rounding_narrow
-
-pub law_rounding_ends : RoundingEndsInNone
-law_rounding_ends = rounding_ends
-
-pub law_fullness : FullnessNarrow
-law_fullness = fullness_narrow
-
-pub law_same : SameNarrow
-law_same = same_narrow
 
 pub ends_within : (K : ℕ) (f : ℕ → ℕ) → f K ≡ 0 → EndsInNone K (by_amount (suc K) f)
 ends_within K f e = record { count = length-map-range_with_len f 0 (suc K); none = amount_of (suc K) f K (omega arith) ∙ e }

@@ -14,14 +14,14 @@ use Rattle.cap_narrow.specs.Narrowing.{EndsInNone}
 abbrev pub narrow_ask : ℕ → Ask → Ask
 narrow_ask K ask = record ask { resource = take K ask.resource }
 
-abbrev pub narrow_news : ℕ → Grant → Grant
-narrow_news K g = record g { resource = take K g.resource }
+abbrev pub narrow_grant : ℕ → Grant → Grant
+narrow_grant K g = record g { resource = take K g.resource }
 
-abbrev pub narrow_told : ℕ → AllocateReply → AllocateReply
-narrow_told K r = record r { grants = map (narrow_news K) r.grants }
+abbrev pub narrow_allocate_reply : ℕ → AllocateReply → AllocateReply
+narrow_allocate_reply K r = record r { grants = map (narrow_grant K) r.grants }
 
 abbrev pub narrow_app : ℕ → App → App
-narrow_app K a = record a { kept = option_map (narrow_told K) a.kept; asks = map (narrow_ask K) a.asks; grants = map (narrow_news K) a.grants }
+narrow_app K a = record a { kept = option_map (narrow_allocate_reply K) a.kept; asks = map (narrow_ask K) a.asks; grants = map (narrow_grant K) a.grants }
 
 abbrev pub narrow_apps : ℕ → AppTable → AppTable
 narrow_apps K t = record t { active = map (narrow_app K) t.active }
@@ -57,6 +57,10 @@ pub record SetsNone (K : ℕ) (settings : Settings) : Type 0 where
   pub minimum : EndsInNone K settings.minimum_allocation
   pub guarantees : All (λ q. length q.guaranteed ≡ suc K) settings.queues
 
+-- no ask of these is for any of the last resource
+abbrev pub WantNone : ℕ → List Ask → Type 0
+WantNone K asks = All (λ ask. EndsInNone K ask.resource) asks
+
 module _ {K : ℕ} where
   -- a cluster without its last resource
   abbrev pub narrow : Flat (suc K) → Flat K
@@ -74,7 +78,7 @@ module _ {K : ℕ} where
   -- nothing in a cluster has any of the last resource
   pub record HasNone (cluster : Flat (suc K)) : Type 0 where
     pub settings : SetsNone K cluster.settings
-    pub asks : All (λ app. All (λ ask. EndsInNone K ask.resource) app.asks) cluster.apps.active
+    pub asks : All (λ app. WantNone K app.asks) cluster.apps.active
     pub nodes : All (λ node. EndsInNone K node.total) cluster.nodes.present
     pub live : All (λ c. EndsInNone K c.resource) cluster.nodes.live
     pub reserved : All (λ r. EndsInNone K r.resource) cluster.nodes.reserved
@@ -84,4 +88,4 @@ module _ {K : ℕ} where
     pub guarantees : All (λ q. length q.row.guaranteed ≡ suc K) sight.queues
     pub used : All (λ q. EndsInNone K q.used) sight.queues
     pub used_by : All (λ q. (user : List ℕ) → EndsInNone K (q.used_by user)) sight.queues
-    pub asks : All (λ app. All (λ ask. EndsInNone K ask.resource) app.asks) sight.apps
+    pub asks : All (λ app. WantNone K app.asks) sight.apps

@@ -1,6 +1,6 @@
 //! Laws of the definitions in `specs/`, for callers to cite. The functions do nothing.
-ghost use Rattle.cap_narrow.specs.VectorLaws.{FitsNarrow, ExchangedNarrow, TimesNarrow, RoundingNarrow, RoundingEndsInNone, FullnessNarrow, SameNarrow};
-ghost use Rattle.cap_narrow.specs.ClusterLaws.{SightsNarrow, SightsShowNone, ReasonsNarrow, ChoicesNarrow};
+ghost use Rattle.cap_narrow.specs.VectorLaws.{FitsNarrow, MaximumNarrow, UserLimitNarrow, ExchangedNarrow, TimesNarrow, RoundingNarrow, RoundingEndsInNone, FullnessNarrow, SameNarrow};
+ghost use Rattle.cap_narrow.specs.ClusterLaws.{UsesNarrow, SightsNarrow, SightsShowNone, ReasonsNarrow, ChoicesNarrow};
 ghost use Rattle.cap_narrow.specs.Steps.{RunsNarrow};
 ghost use Rattle.cap_narrow.specs.Gpus.{TextsWithoutGpu, RefreshesAskNone, OpeningsHaveNone};
 ghost use Rattle.cap_narrow.specs.Example.{OneGrantWithoutGpus};
@@ -8,6 +8,8 @@ ghost use Rattle.cap_narrow.specs.Example.{OneGrantWithoutGpus};
 /// What is computed of vectors whose last amount is 0 is computed of their first amounts alone.
 pub fn vectors_narrow()
     ensures fits { FitsNarrow }
+    ensures maximum { MaximumNarrow }
+    ensures user { UserLimitNarrow }
     ensures exchanged { ExchangedNarrow }
     ensures times { TimesNarrow }
     ensures rounded { RoundingNarrow }
@@ -16,9 +18,10 @@ pub fn vectors_narrow()
     ensures same { SameNarrow }
 {}
 
-/// What is seen of the first resources of a cluster is what is seen of them in the whole of it; and where the cluster has none of
-/// the last resource, none is seen.
+/// What is used and seen of the first resources of a cluster is what is used and seen of them in the whole of it; and where the
+/// cluster has none of the last resource, none is seen.
 pub fn sights_narrow()
+    ensures uses { UsesNarrow }
     ensures sights { SightsNarrow }
     ensures none { SightsShowNone }
 {}

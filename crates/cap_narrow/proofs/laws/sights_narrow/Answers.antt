@@ -1,5 +1,5 @@
-use Rattle.cap_narrow.proofs.Sights.{law_sights, law_shows}
+use Rattle.cap_narrow.proofs.Sights.{uses_narrow, sights_narrow, sights_show_none}
 use Rattle.cap_narrow.proofs.laws.sights_narrow.Goals as goal
 
 pub returns : goal.returns
-returns c = record { sights = law_sights; none = law_shows }
+returns c = record { uses = uses_narrow; sights = sights_narrow; none = sights_show_none }

@@ -1,5 +1,15 @@
-use Rattle.cap_narrow.proofs.Vectors.{law_fits, law_exchanged, law_times, law_rounding, law_rounding_ends, law_fullness, law_same}
+use Rattle.cap_narrow.proofs.Vectors.{fits_narrow, maximum_narrow, user_limit_narrow, exchanged_narrow, times_narrow, rounding_narrow, rounding_ends, fullness_narrow, same_narrow}
 use Rattle.cap_narrow.proofs.laws.vectors_narrow.Goals as goal
 
 pub returns : goal.returns
-returns c = record { fits = law_fits; exchanged = law_exchanged; times = law_times; rounded = law_rounding; stays = law_rounding_ends; fullness = law_fullness; same = law_same }
+returns c = record {
+  fits = fits_narrow;
+  maximum = maximum_narrow;
+  user = user_limit_narrow;
+  exchanged = exchanged_narrow;
+  times = times_narrow;
+  rounded = rounding_narrow;
+  stays = rounding_ends;
+  fullness = fullness_narrow;
+  same = same_narrow;
+}
