@@ -1,10 +1,10 @@
 -- Asks, without the last resource.
-use Rattle.std.proofs.Common.{◌≡◌, ℕ, suc, ◌-◌, List, [], ◌∷◌, refl, ◌∙◌, ap, inl, inr}
+use Rattle.std.proofs.Common.{◌≡◌, ℕ, suc, ◌-◌, List, [], ◌∷◌, refl, ◌∙◌, ap}
 use Rattle.std.specs.Prelude.{Bool, true, false, Option, Some, None, not, ◌==◌, ◌||◌, map, filter, option_map, bytes_eq, if◌then◌else◌}
-use Rattle.std.specs.List.{All, fold}
+use Rattle.std.specs.List.{fold}
 use Rattle.std.specs.Option.{option_map_or}
 use Rattle.std.specs.Ordering.{is_lt}
-use Rattle.std.proofs.lemmas.List.Elements.{All-nil, All-cons, All-head, All-tail, All-filter}
+use Rattle.std.proofs.lemmas.List.Elements.{All-cons, All-head, All-tail, All-filter}
 use Rattle.cap_base.specs.Cascade.{holds_of}
 use Rattle.cap_base.proofs.lists.Members.{each_of, found}
 use Rattle.cap_base.proofs.lists.Filters.{find_mapped_at, filter_mapped}

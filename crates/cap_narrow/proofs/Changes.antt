@@ -1,8 +1,8 @@
 -- Changes of one application, of one node, and ends of containers, without the last resource.
-use Rattle.std.proofs.Common.{◌≡◌, ℕ, suc, List, [], ◌∷◌, ◌++◌, refl, sym, ◌∙◌, ap, subst}
-use Rattle.std.specs.Prelude.{Bool, true, false, Option, Some, None, not, ◌==◌, map, filter, find, option_map, if◌then◌else◌}
-use Rattle.std.specs.List.{All, cons_option}
-use Rattle.std.proofs.lemmas.List.Elements.{All-map, All-filter, All-weaker}
+use Rattle.std.proofs.Common.{◌≡◌, ℕ, suc, List, [], ◌∷◌, ◌++◌, refl, ◌∙◌, ap}
+use Rattle.std.specs.Prelude.{Option, Some, None, not, ◌==◌, map, filter, find, option_map}
+use Rattle.std.specs.List.{cons_option}
+use Rattle.std.proofs.lemmas.List.Elements.{All-map, All-filter}
 use Rattle.cap_base.proofs.lists.Filters.{find_mapped_at, map_twice, filter_mapped}
 use Rattle.cap_model.specs.declared.news.Cause.{Cause}
 use Rattle.cap_model.specs.Flat.{Flat, App, ClusterNode, Container, with_app, with_node}

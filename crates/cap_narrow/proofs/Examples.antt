@@ -1,14 +1,13 @@
 -- The clusters of the worked example, written out.
 use Rattle.std.proofs.Common.{◌≡◌, ℕ, List, [], ◌∷◌, true, refl, sym, ◌∙◌, ap}
-use Rattle.std.specs.Prelude.{Option, Some, None, codes}
+use Rattle.std.specs.Prelude.{Some, None, codes}
 use Rattle.cap_vector.specs.Vector.{plus, less}
 use Rattle.cap_base.specs.Settings.{Settings}
-use Rattle.cap_model.specs.Flat.{Flat, App, AppTable, ClusterNode, NodeTable}
-use Rattle.cap_model.specs.News.{AllocateReply}
+use Rattle.cap_model.specs.Flat.{Flat}
 use Rattle.cap_model.specs.Sight.{sight_of}
 use Rattle.cap_model.specs.Candidates.{choice_from}
 use Rattle.cap_model.specs.Events.{after_grant}
-use Rattle.cap_examples.specs.ExampleClusters.{mb_and_vcores, key, ask_anywhere, two_queues, grant_of, container, after_grants}
+use Rattle.cap_examples.specs.ExampleClusters.{mb_and_vcores, key, ask_anywhere, two_queues, container, after_grants}
 use Rattle.cap_examples.specs.ExampleProposals.{one_asked}
 use Rattle.cap_narrow.specs.Clusters.{narrow}
 use Rattle.cap_narrow.specs.Example.{mb_vcores_and_gpus, queues_with_gpus, asked_without_gpus, OneGrantWithoutGpus}

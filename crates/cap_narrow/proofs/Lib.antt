@@ -1,6 +1,7 @@
 pub mod Lists
 pub mod Vectors
 pub mod Sights
+pub mod Reasons
 pub mod Choices
 pub mod Changes
 pub mod Asking

@@ -1,5 +1,5 @@
 -- A Refresh, without the last resource.
-use Rattle.std.proofs.Common.{◌≡◌, ℕ, suc, ◌≤◌, Bool, true, List, [], ◌∷◌, take, length, refl, sym, ◌∙◌, ap, subst, arith}
+use Rattle.std.proofs.Common.{◌≡◌, ℕ, suc, true, List, [], ◌∷◌, take, length, refl, sym, ◌∙◌, ap, subst, arith}
 use Rattle.std.specs.Prelude.{Option, Some, None, ◌&&◌, map, find, option_map, is_some, bytes_eq}
 use Rattle.std.specs.List.{All, list_all}
 use Rattle.std.specs.Option.{option_map_or}
@@ -7,8 +7,8 @@ use Rattle.std.proofs.lemmas.List.{take-take, take_all}
 use Rattle.cap_base.specs.Settings.{QueueRow, Settings}
 use Rattle.cap_base.specs.Trees.{has_path, has_same_paths}
 use Rattle.cap_base.specs.properties.First.{first_fault, settings_in}
-use Rattle.cap_base.proofs.lists.Members.{IsIn, each_of, of_each, of_map, found}
-use Rattle.cap_base.proofs.lists.Filters.{find_mapped_at, map_twice}
+use Rattle.cap_base.proofs.lists.Members.{each_of, of_each, of_map, found}
+use Rattle.cap_base.proofs.lists.Filters.{find_mapped_at}
 use Rattle.cap_model.specs.Flat.{Flat}
 use Rattle.cap_model.specs.Refresh.{first_of_queue, first_of_settings, refreshed_queue, refreshed_settings, lines_refusal, has_its_queues, refresh_refusal, after_refresh}
 use Rattle.cap_narrow.specs.Narrowing.{EndsInNone}

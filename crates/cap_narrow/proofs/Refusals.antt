@@ -1,43 +1,35 @@
 -- Refusals of calls, and what they read, without the last resource.
-use Rattle.std.proofs.Common.{◌≡◌, ℕ, suc, ◌+◌, ◌-◌, Bool, true, false, List, [], ◌∷◌, ◌++◌, length, take, refl, sym, ◌∙◌, ap, subst, inl, inr, arith}
-use Rattle.std.specs.Prelude.{Option, Some, None, is_some, is_none, not, ◌==◌, ◌&&◌, nat_le, nat_lt, nat_eq, map, filter, cond, option_map, option_and_then, unwrap_or, bytes_eq, if◌then◌else◌}
-use Rattle.std.specs.List.{All, list_any, list_all, fold, starts_with}
-use Rattle.std.proofs.lemmas.List.{map-append, length-map, take-map, drop-map, take-replicate}
-use Rattle.cap_vector.specs.Vector.{amount_max, amount, plus, zeros, is_within}
+use Rattle.std.proofs.Common.{◌≡◌, ℕ, suc, true, List, [], ◌∷◌, ◌++◌, length, take, refl, sym, ◌∙◌, ap, arith}
+use Rattle.std.specs.Prelude.{is_some, is_none, not, ◌==◌, ◌&&◌, nat_le, nat_lt, nat_eq, map, filter, option_map, bytes_eq}
+use Rattle.std.specs.List.{list_any, list_all, fold, starts_with}
+use Rattle.std.proofs.lemmas.List.{length-map}
+use Rattle.cap_vector.specs.Vector.{amount_max, amount, plus, is_within}
 use Rattle.cap_vector.specs.AmountLaws.{amount-plus}
 use Rattle.cap_vector.proofs.AmountLemmas.{length-plus}
 use Rattle.cap_base.specs.Settings.{QueueRow}
-use Rattle.cap_base.specs.Limits.{number_end, nodes_max, keys_max, news_max}
+use Rattle.cap_base.specs.Limits.{number_end, nodes_max, keys_max}
 use Rattle.cap_base.specs.Cascade.{holds_of, earliest}
 use Rattle.cap_base.specs.Amounts.{part}
 use Rattle.cap_base.specs.Texts.{dot}
 use Rattle.cap_model.specs.Asks.{Ask}
-use Rattle.cap_model.specs.declared.news.Cause.{Cause}
 use Rattle.cap_model.specs.declared.refusal.Refusal.{Refusal}
 use Rattle.cap_model.specs.declared.request.Request.{Request}
-use Rattle.cap_model.specs.declared.reply.ReplyWith.TheVariants as Reply
-use Rattle.cap_model.specs.News.{AllocateReply}
-use Rattle.cap_model.specs.declared.replies.HeartbeatReply.{HeartbeatReply}
-use Rattle.cap_base.specs.Paths.{is_under, root_path}
+use Rattle.cap_base.specs.Paths.{is_under}
 use Rattle.cap_model.specs.Refresh.{first_of_queue}
-use Rattle.cap_model.specs.Flat.{Flat, App, ClusterNode, Container, Reservation, app_at, node_at, queue_at, containers_of, containers_on, with_app, with_node}
+use Rattle.cap_model.specs.Flat.{Flat, App, ClusterNode, Container, app_at, node_at, queue_at, containers_of, containers_on}
 use Rattle.cap_model.specs.ResponseIds.{repeats, is_bad}
-use Rattle.cap_model.specs.Ending.{is_among, named_among, with_ends, after_ends}
-use Rattle.cap_model.specs.Asking.{put_ask, after_asks}
-use Rattle.cap_model.specs.Submit.{new_app, has_children, is_running}
-use Rattle.cap_model.specs.Allocate.{is_repeated_allocate, is_too_large, has_too_many_keys, released_by, after_processed_allocate, after_allocate, after_telling, news_report, kept_reply, nothing_told}
-use Rattle.cap_model.specs.FinishMaster.{after_finish_master}
-use Rattle.cap_model.specs.RegisterNode.{total_of_nodes, new_node}
-use Rattle.cap_model.specs.Heartbeat.{is_repeated_heartbeat, ended_by, beat_of, after_processed_heartbeat, after_heartbeat, no_beat}
-use Rattle.cap_model.specs.NodeGone.{without_node}
-use Rattle.cap_model.specs.QueueCalls.{queue_report, cluster_report}
-use Rattle.cap_model.specs.Replies.{refusal_of, granted_reply, granted_cluster, may_grow, early_refusal}
-use Rattle.cap_base.proofs.lists.Members.{each_of, of_each, of_map, of_filter, in_either}
+use Rattle.cap_model.specs.Asking.{put_ask}
+use Rattle.cap_model.specs.Submit.{has_children, is_running}
+use Rattle.cap_model.specs.Allocate.{is_repeated_allocate, is_too_large, has_too_many_keys}
+use Rattle.cap_model.specs.RegisterNode.{total_of_nodes}
+use Rattle.cap_model.specs.Heartbeat.{is_repeated_heartbeat}
+use Rattle.cap_model.specs.Replies.{refusal_of, may_grow, early_refusal}
+use Rattle.cap_base.proofs.lists.Members.{each_of}
 use Rattle.cap_base.proofs.lists.Filters.{find_mapped_at, filter_mapped}
-use Rattle.cap_base.proofs.lists.Sums.{sum_by_map, sum_of_zeros}
+use Rattle.cap_base.proofs.lists.Sums.{sum_of_zeros}
 use Rattle.cap_narrow.specs.Narrowing.{EndsInNone}
-use Rattle.cap_narrow.specs.Clusters.{narrow, narrow_ask, narrow_app, narrow_grant, narrow_allocate_reply, narrow_node, narrow_container, narrow_reservation, WantNone, HasNone}
-use Rattle.cap_narrow.specs.Steps.{narrow_request, narrow_reply, narrow_queue_report, narrow_cluster_report, AsksNone}
+use Rattle.cap_narrow.specs.Clusters.{narrow, narrow_ask, narrow_app, narrow_allocate_reply, narrow_node, narrow_container, WantNone, HasNone}
+use Rattle.cap_narrow.specs.Steps.{narrow_request, AsksNone}
 use Rattle.cap_narrow.proofs.Lists.{holds_mapped, some_mapped, none_mapped, all_same, any_same}
 use Rattle.cap_narrow.proofs.Vectors.{fits_narrow, plus_narrow, sums_narrow, ends_within, within_narrow, zero_narrow}
 use Rattle.cap_narrow.proofs.Sights.{sum_mapped, app_narrow}

@@ -1,6 +1,6 @@
 -- What is seen of a cluster without the last resource.
-use Rattle.std.proofs.Common.{◌≡◌, ℕ, suc, Bool, true, false, List, [], ◌∷◌, ◌++◌, length, take, refl, sym, ◌∙◌, ap, subst, inl, inr}
-use Rattle.std.specs.Prelude.{Option, Some, None, ◌==◌, ◌&&◌, map, filter, cond, option_map, bytes_eq, if◌then◌else◌}
+use Rattle.std.proofs.Common.{◌≡◌, ℕ, suc, Bool, true, false, List, ◌++◌, length, take, refl, sym, ◌∙◌, ap}
+use Rattle.std.specs.Prelude.{◌==◌, ◌&&◌, map, filter, option_map, bytes_eq, if◌then◌else◌}
 use Rattle.std.specs.List.{All}
 use Rattle.std.proofs.lemmas.List.{map-append, length-map}
 use Rattle.std.proofs.lemmas.List.Elements.{All-append, All-map, All-filter}
@@ -8,14 +8,12 @@ use Rattle.cap_vector.specs.Vector.{amount, by_amount, less}
 use Rattle.cap_base.specs.Settings.{QueueRow}
 use Rattle.cap_base.specs.Cascade.{holds_of}
 use Rattle.cap_base.specs.Amounts.{sum_where, part}
-use Rattle.cap_model.specs.Asks.{Ask}
 use Rattle.cap_base.specs.Paths.{is_under}
 use Rattle.cap_model.specs.Refresh.{first_of_queue}
 use Rattle.cap_model.specs.Flat.{Flat, App, ClusterNode, Container, Reservation, app_at, reservation_on}
 use Rattle.cap_model.specs.Uses.{Holding, holdings, of_container, of_reservation, use_of, queue_use, user_use, node_held, node_free}
 use Rattle.cap_model.specs.Sight.{QueueSight, AppSight, sight_of, app_sight, queue_sight, node_sight}
-use Rattle.cap_base.specs.Members.{IsIn}
-use Rattle.cap_base.proofs.lists.Members.{each_of, of_each, of_map, of_filter, in_either}
+use Rattle.cap_base.proofs.lists.Members.{each_of, of_each}
 use Rattle.cap_base.proofs.lists.Sums.{sum_by_map, sum_of_zeros}
 use Rattle.cap_base.proofs.lists.Filters.{find_mapped_at, filter_mapped}
 use Rattle.cap_narrow.specs.Narrowing.{EndsInNone}

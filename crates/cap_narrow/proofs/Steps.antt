@@ -1,10 +1,8 @@
 -- A run without the last resource.
 use Rattle.std.proofs.Common.{◌≡◌, ℕ, suc, ◌+◌, List, [], ◌∷◌, ◌++◌, refl, sym, ◌∙◌, ap, subst, inl, inr}
-use Rattle.std.specs.Prelude.{Bool, true, false, Option, Some, None, ◌==◌, not, map, option_map, unwrap_or, if◌then◌else◌}
-use Rattle.std.specs.List.{All}
-use Rattle.std.proofs.lemmas.List.Elements.{All-nil, All-push, All-filter}
+use Rattle.std.specs.Prelude.{Option, Some, None, ◌==◌, not, map, option_map, unwrap_or}
+use Rattle.std.proofs.lemmas.List.Elements.{All-push, All-filter}
 use Rattle.std.proofs.lemmas.List.{map-append}
-use Rattle.cap_model.specs.Asks.{Ask}
 use Rattle.cap_model.specs.News.{Reply}
 use Rattle.cap_model.specs.declared.refusal.Refusal.{Refusal}
 use Rattle.cap_model.specs.declared.reply.ReplyWith.TheVariants as Reply
@@ -16,15 +14,13 @@ use Rattle.cap_laws.proofs.choice.Reasons.{rejected_exactly}
 use Rattle.cap_model.specs.Replies.{Replies, refusal_of, granted_reply, granted_cluster, reply_to, after_request, refused_or}
 use Rattle.cap_model.specs.declared.event.Event.{Event}
 use Rattle.cap_model.specs.Events.{Step, Run, after_grant, after_reserve, news_of, take_one, grant_proposal, reserve_proposal}
-use Rattle.cap_base.specs.Members.{IsIn}
 use Rattle.cap_base.proofs.lists.Filters.{filter_mapped}
-use Rattle.cap_base.proofs.lists.Members.{each_of, of_each, of_map}
 use Rattle.cap_narrow.specs.Narrowing.{EndsInNone}
 use Rattle.cap_narrow.specs.Clusters.{narrow, narrow_proposal, narrow_app, narrow_grant, narrow_node, narrow_container, narrow_reservation, WantNone, HasNone}
 use Rattle.cap_narrow.specs.Steps.{narrow_request, narrow_reply, narrow_event, AsksNone, EventAsksNone, CallsAskNone, RunsNarrow}
 use Rattle.cap_narrow.proofs.Lists.{change_meets, all_changed_if}
 use Rattle.cap_narrow.proofs.Sights.{sights_narrow, sights_show_none}
-use Rattle.cap_narrow.proofs.Choices.{asked_ends, reasons_narrow}
+use Rattle.cap_narrow.proofs.Reasons.{asked_ends, reasons_narrow}
 use Rattle.cap_narrow.proofs.Asking.{one_narrow, none_taken}
 use Rattle.cap_narrow.proofs.Refusals.{node_narrow, refusal_narrow, grow_narrow, early_narrow}
 use Rattle.cap_narrow.proofs.Calls.{cluster_after, none_after, reply_narrow}

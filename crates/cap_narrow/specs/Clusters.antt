@@ -1,7 +1,7 @@
 -- A cluster, what is seen of it and what happens in it, without the last resource.
 use Rattle.std.specs.Prelude.{◌≡◌, ℕ, suc, List, map, option_map, take, length}
 use Rattle.std.specs.List.{All}
-use Rattle.cap_base.specs.Settings.{QueueRow, Settings}
+use Rattle.cap_base.specs.Settings.{Settings}
 use Rattle.cap_model.specs.Asks.{Ask}
 use Rattle.cap_model.specs.News.{Grant, AllocateReply}
 use Rattle.cap_model.specs.Refresh.{first_of_queue, first_of_settings}

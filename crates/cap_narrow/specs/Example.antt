@@ -1,5 +1,5 @@
 -- A worked example: a cluster of three resources in which nothing has a GPU, and what a cluster of two makes of the same calls.
-use Rattle.std.specs.Prelude.{◌≡◌, ℕ, List, [], ◌∷◌, Option, Some, None, codes}
+use Rattle.std.specs.Prelude.{◌≡◌, ℕ, List, [], ◌∷◌, Some, None, codes}
 use Rattle.std.specs.List.{fold}
 use Rattle.cap_vector.specs.Vector.{amount_max}
 use Rattle.cap_base.specs.Settings.{Settings}

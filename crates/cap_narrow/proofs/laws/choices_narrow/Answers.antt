@@ -1,4 +1,5 @@
-use Rattle.cap_narrow.proofs.Choices.{reasons_narrow, choices_narrow}
+use Rattle.cap_narrow.proofs.Reasons.{reasons_narrow}
+use Rattle.cap_narrow.proofs.Choices.{choices_narrow}
 use Rattle.cap_narrow.proofs.laws.choices_narrow.Goals as goal
 
 pub returns : goal.returns
