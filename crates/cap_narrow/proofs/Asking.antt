@@ -138,7 +138,7 @@ module _ {K : ℕ} where
       let mid = after_ask n cluster rounded in
       let r = asks_narrow n asks mid (none_after_ask cluster none n rounded e) (All-tail (λ (x : Ask). EndsInNone K x.resource) ask asks a) in (
         ap (λ asked. after_asks n (map (narrow_ask K) asks) (after_ask n (narrow cluster) asked)) (rounded_narrow cluster ask)
-        ∙ ap (after_asks n (map (narrow_ask K) asks)) (after_ask_narrow cluster none n rounded e)
-        ∙ r.0,
+            ∙ ap (after_asks n (map (narrow_ask K) asks)) (after_ask_narrow cluster none n rounded e)
+            ∙ r.0,
         r.1,
       )

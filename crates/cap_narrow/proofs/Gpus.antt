@@ -30,7 +30,7 @@ use Rattle.cap_config.specs.Laws.{QueueHasAmounts}
 use Rattle.cap_config.proofs.RowTrees.{made_of}
 use Rattle.cap_config.proofs.RowAmounts.{settings_have}
 use Rattle.cap_narrow.specs.Clusters.{SetsNone}
-use Rattle.cap_narrow.specs.Gpus.{stands_in, RaisesToNoGpu, TextsWithoutGpu, RefreshesAskNone, OpeningsHaveNone}
+use Rattle.cap_narrow.specs.Gpus.{stands_in, RaisesToNoGpu, TextsWithoutLeastGpus, TextsWithoutGpus, RefreshesAskNone, OpeningsHaveNone}
 use Rattle.cap_narrow.proofs.Refreshing.{firsts_set_none}
 use Rattle.cap_narrow.proofs.Words.{IsPartOf, part_itself, part_of_part, part_taken, part_dropped, part_trimmed, line_of_text, part_stands}
 
@@ -127,27 +127,27 @@ text_spelled text entries h =
     (λ keys n line entry m e. part_of_part (spelling entry.setting) line text (line_spelled keys n line entry e) (line_of_text text line m)) 0 [] [] entries h (All-nil (λ entry. IsPartOf (spelling entry.setting) text))
 
 -- ---- the least GPUs of a container
-gpu_spelled : (setting : Setting) → same_setting setting MinimumGpu ≡ true → IsPartOf (codes "yarn.io/gpu") (spelling setting)
-unfolding spelling
-gpu_spelled MinimumGpu h = (codes "yarn.resource-types.", codes ".minimum-allocation", refl)
-gpu_spelled Queues h = absurd (cc h)
-gpu_spelled Capacity h = absurd (cc h)
-gpu_spelled MaximumCapacity h = absurd (cc h)
-gpu_spelled UserLimitFactor h = absurd (cc h)
-gpu_spelled State h = absurd (cc h)
-gpu_spelled MaximumApplications h = absurd (cc h)
-gpu_spelled MinimumMemory h = absurd (cc h)
-gpu_spelled MinimumVcores h = absurd (cc h)
-gpu_spelled MaximumMemory h = absurd (cc h)
-gpu_spelled MaximumVcores h = absurd (cc h)
-gpu_spelled MaximumGpu h = absurd (cc h)
+is_least : (setting : Setting) → same_setting setting MinimumGpu ≡ true → setting ≡ MinimumGpu
+is_least MinimumGpu h = refl
+is_least Queues h = absurd (cc h)
+is_least Capacity h = absurd (cc h)
+is_least MaximumCapacity h = absurd (cc h)
+is_least UserLimitFactor h = absurd (cc h)
+is_least State h = absurd (cc h)
+is_least MaximumApplications h = absurd (cc h)
+is_least MinimumMemory h = absurd (cc h)
+is_least MinimumVcores h = absurd (cc h)
+is_least MaximumMemory h = absurd (cc h)
+is_least MaximumVcores h = absurd (cc h)
+is_least MaximumGpu h = absurd (cc h)
 
 least_gpus : (entries : List Entry) → amount (settings_of entries).minimum_allocation 2 ≡ number_or (cluster_entry entries MinimumGpu) 0
 unfolding settings_of
 least_gpus entries = refl
 
-pub texts_without_gpu : TextsWithoutGpu
-texts_without_gpu text without settings h =
+-- a word of the key that sets them stands in a text by which they are more than 0
+without_word : (w : ℕ) (word : List ℕ) → IsPartOf (w ∷ word) (spelling MinimumGpu) → (text : List ℕ) → stands_in (w ∷ word) text ≡ false → RaisesToNoGpu text
+without_word w word part text without settings h =
     let of = made_of text settings h in
     ap (λ (s : Settings). amount s.minimum_allocation 2) (sym of.made) ∙ least_gpus of.entries ∙ by of.entries of.read (cluster_entry of.entries MinimumGpu) refl
   where
@@ -156,8 +156,16 @@ texts_without_gpu text without settings h =
     by entries read (Some entry) e =
         let is = found (λ (x : Entry). same_setting x.setting MinimumGpu) entries entry e in
         let its = each_of (λ (x : Entry). IsPartOf (spelling x.setting) text) entries (text_spelled text entries read) entry is.0 in
-        let there : stands_in (codes "yarn.io/gpu") text ≡ true = part_stands 121 (codes "arn.io/gpu") text (part_of_part (codes "yarn.io/gpu") (spelling entry.setting) text (gpu_spelled entry.setting is.1) its) in
-        absurd (cc (sym there ∙ without))
+        let key : IsPartOf (spelling MinimumGpu) text = subst (λ setting. IsPartOf (spelling setting) text) (is_least entry.setting is.1) its in
+        absurd (cc (sym (part_stands w word text (part_of_part (w ∷ word) (spelling MinimumGpu) text part key)) ∙ without))
+
+pub texts_without_least_gpus : TextsWithoutLeastGpus
+unfolding spelling
+texts_without_least_gpus = without_word 121 (codes "arn.resource-types.yarn.io/gpu.minimum-allocation") (part_itself (spelling MinimumGpu))
+
+pub texts_without_gpus : TextsWithoutGpus
+unfolding spelling
+texts_without_gpus = without_word 121 (codes "arn.io/gpu") (codes "yarn.resource-types.", codes ".minimum-allocation", refl)
 
 -- ---- what such settings set
 settings_set_none : (text : List ℕ) (settings : Settings) → RaisesToNoGpu text → settings_in text ≡ Some settings → SetsNone 2 settings

@@ -179,4 +179,3 @@ module _ {K : ℕ} where
     early_narrow none (Request.QueueInfo path) a = refusal_narrow none (Request.QueueInfo path) a
     early_narrow none (Request.SetQueueState path running) a = refusal_narrow none (Request.SetQueueState path running) a
     early_narrow none Request.ClusterInfo a = refusal_narrow none Request.ClusterInfo a
-

@@ -1,4 +1,4 @@
--- A cluster, what is seen of it and what happens in it, without the last resource.
+-- A cluster and what is seen of it, without the last resource.
 use Rattle.std.specs.Prelude.{◌≡◌, ℕ, suc, List, map, option_map, take, length}
 use Rattle.std.specs.List.{All}
 use Rattle.cap_base.specs.Settings.{Settings}
@@ -51,8 +51,8 @@ narrow_node_sight K n = record n { total = take K n.total; free = take K n.free;
 abbrev pub narrow_proposal : ℕ → NodeProposal → NodeProposal
 narrow_proposal K p = record p { resource = take K p.resource }
 
--- Settings raise no ask to any of the last resource, and each guarantee has an amount of each. What is guaranteed of the last resource, and
--- what the maxima are, may be any amounts.
+-- Settings by which no ask is raised to any of the last resource, and each guarantee has an amount of each. What is guaranteed of the last
+-- and what the maxima of it are may be any amounts.
 pub record SetsNone (K : ℕ) (settings : Settings) : Type 0 where
   pub minimum : EndsInNone K settings.minimum_allocation
   pub guarantees : All (λ q. length q.guaranteed ≡ suc K) settings.queues
@@ -75,7 +75,7 @@ module _ {K : ℕ} where
     next_container = sight.next_container;
   }
 
-  -- nothing in a cluster has any of the last resource
+  -- nothing in a cluster has any of the last resource: its asks, nodes, containers and reservations have none, and its settings raise no ask
   pub record HasNone (cluster : Flat (suc K)) : Type 0 where
     pub settings : SetsNone K cluster.settings
     pub asks : All (λ app. WantNone K app.asks) cluster.apps.active
@@ -83,7 +83,7 @@ module _ {K : ℕ} where
     pub live : All (λ c. EndsInNone K c.resource) cluster.nodes.live
     pub reserved : All (λ r. EndsInNone K r.resource) cluster.nodes.reserved
 
-  -- and nothing that is seen of it
+  -- none of it is seen: no queue, no user uses any, and no ask wants any
   pub record ShowsNone (sight : Sight (suc K)) : Type 0 where
     pub guarantees : All (λ q. length q.row.guaranteed ≡ suc K) sight.queues
     pub used : All (λ q. EndsInNone K q.used) sight.queues
