@@ -105,17 +105,19 @@ module _ {K : ℕ} (sight : Sight (suc K)) where
         ∙ holds_mapped (narrow_ask K) (λ ask. holds_of (takes_place ask.place) (seen_node (narrow_sight sight) p.node)) (proposed_ask sight p)
         ∙ (λ i. holds_of (λ ask. (ap (holds_of (takes_place ask.place)) (node_seen p.node) ∙ holds_mapped (narrow_node_sight K) (takes_place ask.place) (seen_node sight p.node)) i) (proposed_ask sight p))
 
+    -- the proposal fits what a node has left, or its total
+    room_is : (of : NodeSight → List ℕ) → ((n : NodeSight) → of (narrow_node_sight K n) ≡ take K (of n)) →
+        holds_of (λ n. fits (take K p.resource) (of n)) (seen_node (narrow_sight sight) p.node) ≡ holds_of (λ n. fits p.resource (of n)) (seen_node sight p.node)
+    room_is of cut =
+        ap (holds_of (λ (n : NodeSight). fits (take K p.resource) (of n))) (node_seen p.node)
+        ∙ holds_mapped (narrow_node_sight K) (λ (n : NodeSight). fits (take K p.resource) (of n)) (seen_node sight p.node)
+        ∙ (λ i. holds_of (λ (n : NodeSight). (ap (fits (take K p.resource)) (cut n) ∙ fits_narrow K p.resource (of n) ends) i) (seen_node sight p.node))
+
     free_is : fits_free (narrow_sight sight) (narrow_proposal K p) ≡ fits_free sight p
-    free_is =
-        ap (holds_of (λ (n : NodeSight). fits (take K p.resource) n.free)) (node_seen p.node)
-        ∙ holds_mapped (narrow_node_sight K) (λ (n : NodeSight). fits (take K p.resource) n.free) (seen_node sight p.node)
-        ∙ (λ i. holds_of (λ (n : NodeSight). fits_narrow K p.resource n.free ends i) (seen_node sight p.node))
+    free_is = room_is (λ n. n.free) (λ n. refl)
 
     total_is : fits_total (narrow_sight sight) (narrow_proposal K p) ≡ fits_total sight p
-    total_is =
-        ap (holds_of (λ (n : NodeSight). fits (take K p.resource) n.total)) (node_seen p.node)
-        ∙ holds_mapped (narrow_node_sight K) (λ (n : NodeSight). fits (take K p.resource) n.total) (seen_node sight p.node)
-        ∙ (λ i. holds_of (λ (n : NodeSight). fits_narrow K p.resource n.total ends i) (seen_node sight p.node))
+    total_is = room_is (λ n. n.total) (λ n. refl)
 
     back_of : (b : Bool) (o : Option Reservation) → (if b then unwrap_or (option_map (λ (r : Reservation). r.resource) (option_map (narrow_reservation K) o)) [] else []) ≡ take K (if b then unwrap_or (option_map (λ (r : Reservation). r.resource) o) [] else [])
     back_of true None = sym (take_nothing K)

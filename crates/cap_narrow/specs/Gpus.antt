@@ -19,11 +19,11 @@ stands_in word (b ∷ text) = starts_with nat_eq (b ∷ text) word || stands_in 
 abbrev pub RaisesToNoGpu : List ℕ → Type 0
 RaisesToNoGpu text = (settings : Settings) → settings_in text ≡ Some settings → amount settings.minimum_allocation 2 ≡ 0
 
--- so does each text in which the key that sets the least GPUs doesn't stand
+-- they raise none where the key that sets the least GPUs does not stand in the text
 abbrev pub TextsWithoutLeastGpus : Type 0
 TextsWithoutLeastGpus = (text : List ℕ) → stands_in (codes "yarn.resource-types.yarn.io/gpu.minimum-allocation") text ≡ false → RaisesToNoGpu text
 
--- and so each in which the name of the resource doesn't
+-- and so where the name of the resource does not
 abbrev pub TextsWithoutGpus : Type 0
 TextsWithoutGpus = (text : List ℕ) → stands_in (codes "yarn.io/gpu") text ≡ false → RaisesToNoGpu text
 
