@@ -1,7 +1,7 @@
 -- A run without the last resource.
 use Rattle.std.proofs.Common.{◌≡◌, ℕ, suc, ◌+◌, List, [], ◌∷◌, ◌++◌, refl, sym, ◌∙◌, ap, subst, inl, inr}
 use Rattle.std.specs.Prelude.{Option, Some, None, ◌==◌, not, map, option_map, unwrap_or}
-use Rattle.std.proofs.lemmas.List.Elements.{All-push, All-filter}
+use Rattle.std.proofs.lemmas.List.Elements.{All-head, All-tail, All-push, All-filter}
 use Rattle.std.proofs.lemmas.List.{map-append}
 use Rattle.cap_model.specs.News.{Reply}
 use Rattle.cap_model.specs.declared.refusal.Refusal.{Refusal}
@@ -134,9 +134,9 @@ module _ {K : ℕ} where
 
   run_narrow : (events : List (Event (suc K))) (old new : Flat (suc K)) → HasNone old → CallsAskNone events → Run old events new → Run (narrow old) (map narrow_event events) (narrow new) × HasNone new
   run_narrow [] old new none a run = (ap narrow run, subst HasNone run none)
-  run_narrow (event ∷ events) old new none (a, more) (mid, step, run) =
-      let s = step_narrow old mid event none a step in
-      let r = run_narrow events mid new s.1 more run in
+  run_narrow (event ∷ events) old new none a (mid, step, run) =
+      let s = step_narrow old mid event none (All-head EventAsksNone event events a) step in
+      let r = run_narrow events mid new s.1 (All-tail EventAsksNone event events a) run in
       ((narrow mid, s.0, r.0), r.1)
 
 pub runs_narrow : RunsNarrow
