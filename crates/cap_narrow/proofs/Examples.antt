@@ -1,4 +1,4 @@
--- The clusters of the worked example, written out.
+-- The clusters of the worked examples, written out, and lines that guarantee GPUs.
 use Rattle.std.proofs.Common.{◌≡◌, ℕ, List, [], ◌∷◌, true, refl, sym, ◌∙◌, ap}
 use Rattle.std.specs.Prelude.{Some, None, codes}
 use Rattle.cap_vector.specs.Vector.{plus, less}
@@ -10,7 +10,8 @@ use Rattle.cap_model.specs.Events.{after_grant}
 use Rattle.cap_examples.specs.ExampleClusters.{mb_and_vcores, key, ask_anywhere, two_queues, container, after_grants}
 use Rattle.cap_examples.specs.ExampleProposals.{one_asked}
 use Rattle.cap_narrow.specs.Clusters.{narrow}
-use Rattle.cap_narrow.specs.Example.{mb_vcores_and_gpus, queues_with_gpus, asked_without_gpus, OneGrantWithoutGpus}
+use Rattle.cap_narrow.specs.Example.{mb_vcores_and_gpus, queues_with_gpus, asked_without_gpus, OneGrantWithoutGpus, lines_with_gpus, GuaranteesRaiseNone}
+use Rattle.cap_narrow.proofs.Gpus.{texts_without_least_gpus}
 
 -- one node, and two applications, of which the first asks
 abbrev asking : {K : ℕ} → Settings → List ℕ → List ℕ → Flat K
@@ -63,3 +64,6 @@ one_grant =
       ap (λ (c : Flat 2). choice_from (sight_of c) 0) of_two,
       ap (λ (c : Flat 3). narrow (after_grant c grant)) of_three ∙ granted ∙ ap (after_grants 1 1 (key 1 0) 1 (mb_and_vcores 1024 1)) (sym of_two),
     )
+
+pub guarantees_raise_none : GuaranteesRaiseNone
+guarantees_raise_none = (refl, texts_without_least_gpus lines_with_gpus refl)

@@ -1,5 +1,5 @@
--- A worked example: a cluster of three resources in which nothing has a GPU, and what a cluster of two makes of the same calls.
-use Rattle.std.specs.Prelude.{◌≡◌, ℕ, List, [], ◌∷◌, Some, None, codes}
+-- Worked examples: a cluster of three resources in which nothing has a GPU and the one of two that it is, and lines that guarantee GPUs.
+use Rattle.std.specs.Prelude.{◌≡◌, ℕ, true, List, [], ◌∷◌, ◌++◌, Some, None, codes}
 use Rattle.std.specs.List.{fold}
 use Rattle.cap_vector.specs.Vector.{amount_max}
 use Rattle.cap_base.specs.Settings.{Settings}
@@ -12,6 +12,7 @@ use Rattle.cap_model.specs.Events.{after_grant}
 use Rattle.cap_examples.specs.ExampleClusters.{mb_and_vcores, key, ask_anywhere, queue, grant_of, container, after_grants}
 use Rattle.cap_examples.specs.ExampleProposals.{one_asked}
 use Rattle.cap_narrow.specs.Clusters.{narrow}
+use Rattle.cap_narrow.specs.Gpus.{stands_in, RaisesToNoGpu}
 
 -- memory in MiB, vcores and GPUs
 abbrev pub mb_vcores_and_gpus : ℕ → ℕ → ℕ → List ℕ
@@ -49,3 +50,11 @@ OneGrantWithoutGpus =
     × (choice_from (sight_of asked_without_gpus) 0 ≡ Some (grant_of 1 (key 1 0) 1 (mb_vcores_and_gpus 1024 1 0)))
     × (choice_from (sight_of one_asked) 0 ≡ Some (grant_of 1 (key 1 0) 1 (mb_and_vcores 1024 1)))
     × (narrow (after_grant asked_without_gpus (container 1 1 (key 1 0) 1 (mb_vcores_and_gpus 1024 1 0))) ≡ after_grants 1 1 (key 1 0) 1 (mb_and_vcores 1024 1) one_asked)
+
+-- property lines that guarantee GPUs to a queue, and set no least GPUs of a container
+abbrev pub lines_with_gpus : List ℕ
+lines_with_gpus = codes "yarn.scheduler.capacity.root.queues=a" ++ 10 ∷ codes "yarn.scheduler.capacity.root.a.capacity=[memory=4096,vcores=4,yarn.io/gpu=3]"
+
+-- they name the resource, and yet raise no ask to any of it
+abbrev pub GuaranteesRaiseNone : Type 0
+GuaranteesRaiseNone = (stands_in (codes "yarn.io/gpu") lines_with_gpus ≡ true) × RaisesToNoGpu lines_with_gpus

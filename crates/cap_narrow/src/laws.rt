@@ -3,7 +3,7 @@ ghost use Rattle.cap_narrow.specs.VectorLaws.{FitsNarrow, MaximumNarrow, UserLim
 ghost use Rattle.cap_narrow.specs.ClusterLaws.{UsesNarrow, SightsNarrow, SightsShowNone, ReasonsNarrow, ChoicesNarrow};
 ghost use Rattle.cap_narrow.specs.Steps.{RunsNarrow};
 ghost use Rattle.cap_narrow.specs.Gpus.{TextsWithoutLeastGpus, TextsWithoutGpus, RefreshesAskNone, OpeningsHaveNone};
-ghost use Rattle.cap_narrow.specs.Example.{OneGrantWithoutGpus};
+ghost use Rattle.cap_narrow.specs.Example.{OneGrantWithoutGpus, GuaranteesRaiseNone};
 
 /// What is computed of vectors whose last amount is 0 is computed of their first amounts alone.
 pub fn vectors_narrow()
@@ -51,4 +51,9 @@ pub fn texts_ask_for_no_gpu()
 /// A cluster of three resources with one grant is, without the third, the worked cluster of two with that grant.
 pub fn one_grant_without_gpus_as_in_the_example()
     ensures { OneGrantWithoutGpus }
+{}
+
+/// Property lines that guarantee GPUs to a queue, and set no least of a container, raise no ask to any.
+pub fn guarantees_raise_none_as_in_the_example()
+    ensures { GuaranteesRaiseNone }
 {}
