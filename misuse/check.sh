@@ -33,7 +33,7 @@ use cap_copy::Snapshot;
 use std::alloc::Global;
 use std::thread::{Threads, join};
 
-fn cluster(alloc: Global) -> Option<Cluster<2>> {
+fn cluster(alloc: Global) -> Option<Cluster<3>> {
     let config = read_config(alloc, b"yarn.scheduler.capacity.root.queues=a").ok()?;
     Cluster::from_config(alloc, &config).ok()
 }
