@@ -73,14 +73,14 @@ impl<const K: usize> QueueRow<K> {
         self.path
     }
 
-    /// What it is guaranteed, in MiB and vcores: `yarn.scheduler.capacity.<queue-path>.capacity`.
+    /// What it is guaranteed, in MiB, vcores and GPUs: `yarn.scheduler.capacity.<queue-path>.capacity`.
     pub fn guaranteed(&self) -> Resource<K>
         ensures { result ≡ self.now.guaranteed }
     {
         self.guaranteed
     }
 
-    /// Up to where it may grow, in MiB and vcores: its own `yarn.scheduler.capacity.<queue-path>.maximum-capacity`, or
+    /// Up to where it may grow, in MiB, vcores and GPUs: its own `yarn.scheduler.capacity.<queue-path>.maximum-capacity`, or
     /// else that of the nearest queue above that has one. None where none has.
     pub fn maximum(&self) -> Option<Resource<K>>
         ensures { result ≡ self.now.maximum }

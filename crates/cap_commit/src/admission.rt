@@ -130,7 +130,7 @@ impl<const K: usize> Cluster<K> {
         self.own_reservation(proposal).is_some()
     }
 
-    /// The room that a grant takes back, in MiB and vcores: 0 of each where it converts no reservation.
+    /// The room that a grant takes back, in MiB, vcores and GPUs: 0 of each where it converts no reservation.
     pub(crate) fn taken_back(&self, proposal: &Proposal<K>) -> Resource<K>
         ensures value { result ≡ taken_back (sight_of self.now.flat) proposal.now }
         ensures vector { IsResource K result }

@@ -167,7 +167,7 @@ impl<const K: usize> Cluster<K> {
         }
     }
 
-    /// What all applications use, in MiB and vcores: the use of `root`.
+    /// What all applications use, in MiB, vcores and GPUs: the use of `root`.
     pub fn root_use(&self) -> Sum<K>
         ensures { result ≡ queue_use self.now.flat root_path }
     {
@@ -393,7 +393,7 @@ impl<const K: usize> Cluster<K> {
         self.apps.add_end(container.app(), &end);
     }
 
-    /// Takes a node in under the next number, of a total in MiB and vcores. `NoMemory` changes nothing.
+    /// Takes a node in under the next number, of a total in MiB, vcores and GPUs. `NoMemory` changes nothing.
     pub fn add_node(
         &mut self,
         host: &ShortText,

@@ -100,14 +100,14 @@ impl<const K: usize> SeenNode<K> {
         &self.rack
     }
 
-    /// What it has in all, in MiB and vcores.
+    /// What it has in all, in MiB, vcores and GPUs.
     pub fn total(&self) -> &Resource<K>
         ensures { result.now ≡ self.now.total }
     {
         &self.total
     }
 
-    /// What it has left, in MiB and vcores.
+    /// What it has left, in MiB, vcores and GPUs.
     pub fn free(&self) -> &Resource<K>
         ensures { result.now ≡ self.now.free }
     {

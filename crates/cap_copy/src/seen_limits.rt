@@ -15,7 +15,8 @@ use cap_vector::{Resource, Sum, fits_exchanged};
 use std::alloc::{Allocator, Global};
 use std::marker::Model;
 
-/// A queue on the way to a leaf: its maximum capacity, if it has one, and what is used in it and under it, in MiB and vcores.
+/// A queue on the way to a leaf: its maximum capacity, if it has one, and what is used in it and under it, in MiB, vcores and
+/// GPUs.
 #[derive(Drop)]
 struct SeenQueue<const K: usize> {
     maximum: Option<Resource<K>>,
@@ -87,7 +88,8 @@ impl<const K: usize, B: Allocator> Model for SeenLimits<K, B> {
 }
 
 impl<const K: usize, B: Allocator + Copy> SeenLimits<K, B> {
-    /// Whether the use of the application at an index stays within its limits with `old` taken away and `new` added, in MiB and vcores.
+    /// Whether the use of the application at an index stays within its limits with `old` taken away and `new` added, in MiB,
+    /// vcores and GPUs.
     pub(crate) fn stays_within(&self, index: usize, old: &Resource<K>, new: &Resource<K>) -> bool
         requires { index < length self.now }
         ensures { result ≡ holds_of (stays_within old.now new.now) (slice_get self.now index) }

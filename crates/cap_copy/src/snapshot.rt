@@ -91,8 +91,8 @@ impl<const K: usize, B: Allocator + Copy> Snapshot<K, B> {
         &self.asks[index]
     }
 
-    /// Whether the use of the ask's queues and user stays within their limits with `old` taken away and what is asked for added, in MiB
-    /// and vcores.
+    /// Whether the use of the ask's queues and user stays within their limits with `old` taken away and what is asked for
+    /// added, in MiB, vcores and GPUs.
     pub fn stays_within(&self, ask: &SeenAsk<K>, old: &Resource<K>) -> bool
         requires { ask.now.index < length self.now.limits }
         ensures { result ≡ holds_of (stays_within old.now ask.now.ask.resource)

@@ -14,12 +14,12 @@ use cap_commit::{Cluster, Owner, Reported};
 use cap_model::{AllocateNumbers, Ask, Asks, Cause, NoMemory, Numbers, Refusal, Reply};
 use cap_vector::fits;
 
-/// A master asks for containers, in MiB and vcores, releases some, and reads the oldest 64 grants and 64 ends that were not
-/// reported before. Each ask replaces the one of its key, rounded up to a multiple of the minimum allocation and cut to the maximum
-/// allocation; a count of 0 takes the key away. A release that names no live container of the application, or one that was named
-/// before, is counted as ignored. `response` is the response id of the last reply to the master, 0 at first. A request that comes
-/// again with the id of the last processed one is answered with the kept reply and changes nothing. Refused with
-/// `UnknownApplication`, `NotRegistered`, `BadResponseId`, `AskTooLarge` (before it is rounded) or `TooManyAsks`, or with
+/// A master asks for containers, in MiB, vcores and GPUs, releases some, and reads the oldest 64 grants and 64 ends that were
+/// not reported before. Each ask replaces the one of its key, rounded up to a multiple of the minimum allocation and cut to the
+/// maximum allocation; a count of 0 takes the key away. A release that names no live container of the application, or one that
+/// was named before, is counted as ignored. `response` is the response id of the last reply to the master, 0 at first. A
+/// request that comes again with the id of the last processed one is answered with the kept reply and changes nothing. Refused
+/// with `UnknownApplication`, `NotRegistered`, `BadResponseId`, `AskTooLarge` (before it is rounded) or `TooManyAsks`, or with
 /// `NoMemory` if an allocation fails; a refusal changes nothing.
 pub fn allocate<const K: usize>(
     cluster: &mut Cluster<K>,

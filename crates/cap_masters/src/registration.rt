@@ -8,8 +8,8 @@ use cap_commit::Cluster;
 use cap_model::{Refusal, Reply};
 
 /// The master of an application reports, once, and may ask and finish from then on; the reply gives the least and the most that a
-/// container may have, in MiB and vcores. Refused with `UnknownApplication` or `AlreadyRegistered`, which changes nothing. It
-/// takes no memory.
+/// container may have, in MiB, vcores and GPUs. Refused with `UnknownApplication` or `AlreadyRegistered`, which changes
+/// nothing. It takes no memory.
 pub fn register_master<const K: usize>(cluster: &mut Cluster<K>, app: u64) -> Reply<K>
     ensures replies { RepliesInFullAlways cluster.old.flat (RegisterMaster app)
         result cluster.new.flat }

@@ -26,8 +26,8 @@ impl Key {
     }
 }
 
-/// An ask of an application: how many containers of this resource, in MiB and vcores, are still wanted for the key, and where.
-/// A place is a host, a rack, or `*` for anywhere. A count of 0 takes the key away.
+/// An ask of an application: how many containers of this resource, in MiB, vcores and GPUs, are still wanted for the key, and
+/// where. A place is a host, a rack, or `*` for anywhere. A count of 0 takes the key away.
 #[derive(Clone, Copy, Debug, PartialEq, Eq)]
 pub struct Ask<const K: usize> {
     key: Key,
@@ -57,7 +57,7 @@ impl<const K: usize> Model for Ask<K> {
 }
 
 impl<const K: usize> Ask<K> {
-    /// The ask for so many containers of this resource, in MiB and vcores, at this place.
+    /// The ask for so many containers of this resource, in MiB, vcores and GPUs, at this place.
     pub fn new(key: &Key, count: u32, resource: &Resource<K>, place: &ShortText) -> Ask<K>
         ensures { result ≡ record {
           key = key.now;
@@ -88,7 +88,7 @@ impl<const K: usize> Ask<K> {
         self.count
     }
 
-    /// What each is to have, in MiB and vcores.
+    /// What each is to have, in MiB, vcores and GPUs.
     pub fn resource(&self) -> Resource<K>
         ensures { result ≡ self.now.resource }
     {
@@ -110,7 +110,7 @@ impl<const K: usize> Ask<K> {
             || self.place.as_bytes() != old.place.as_bytes()
     }
 
-    /// The same ask for another resource, in MiB and vcores.
+    /// The same ask for another resource, in MiB, vcores and GPUs.
     pub fn with_resource(&self, resource: &Resource<K>) -> Ask<K>
         ensures { result ≡ record self.now { resource = resource.now } }
     {

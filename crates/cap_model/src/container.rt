@@ -17,7 +17,7 @@ pub struct Container<const K: usize> {
     pub key: Key,
     /// The number of its node.
     pub node: u64,
-    /// What it holds there, in MiB and vcores.
+    /// What it holds there, in MiB, vcores and GPUs.
     pub resource: Resource<K>,
 }
 
@@ -72,7 +72,7 @@ impl<const K: usize> Container<K> {
         self.node
     }
 
-    /// What it holds, in MiB and vcores.
+    /// What it holds, in MiB, vcores and GPUs.
     pub fn resource(&self) -> Resource<K>
         ensures value { result ≡ self.now.resource }
         ensures vector { IsResource K self.now.resource }
@@ -90,7 +90,7 @@ pub struct Reservation<const K: usize> {
     pub key: Key,
     /// The number of the node.
     pub node: u64,
-    /// What is kept, in MiB and vcores.
+    /// What is kept, in MiB, vcores and GPUs.
     pub resource: Resource<K>,
 }
 
@@ -131,7 +131,7 @@ impl<const K: usize> Reservation<K> {
         self.node
     }
 
-    /// What is kept, in MiB and vcores.
+    /// What is kept, in MiB, vcores and GPUs.
     pub fn resource(&self) -> Resource<K>
         ensures value { result ≡ self.now.resource }
         ensures vector { IsResource K self.now.resource }

@@ -7,7 +7,7 @@ use cap_base::ShortText;
 use cap_vector::Resource;
 use std::marker::Model;
 
-/// A granted container as it is reported to its application, with what it has in MiB and vcores.
+/// A granted container as it is reported to its application, with what it has in MiB, vcores and GPUs.
 #[derive(Clone, Copy, Debug, PartialEq, Eq)]
 pub struct Grant<const K: usize> {
     container: u64,
@@ -40,7 +40,7 @@ impl<const K: usize> Model for Grant<K> {
 }
 
 impl<const K: usize> Grant<K> {
-    /// The grant of the container of this number, with these MiB and vcores, on the node of this number and host.
+    /// The grant of the container of this number, with this much, on the node of this number and host.
     pub fn new(
         container: u64,
         key: &Key,
@@ -93,7 +93,7 @@ impl<const K: usize> Grant<K> {
         self.host
     }
 
-    /// What it has, in MiB and vcores.
+    /// What it has, in MiB, vcores and GPUs.
     pub fn resource(&self) -> Resource<K>
         ensures { result ≡ self.now.resource }
     {

@@ -30,7 +30,7 @@ pub struct Proposal<const K: usize> {
     pub key: Key,
     /// The number of the node.
     pub node: u64,
-    /// What the container is to have, in MiB and vcores.
+    /// What the container is to have, in MiB, vcores and GPUs.
     pub resource: Resource<K>,
 }
 
@@ -129,7 +129,7 @@ impl<const K: usize> Proposal<K> {
         self.node
     }
 
-    /// What the container is to have, in MiB and vcores.
+    /// What the container is to have, in MiB, vcores and GPUs.
     pub fn resource(&self) -> Resource<K>
         ensures value { result ≡ self.now.resource }
         ensures vector { IsResource K self.now.resource }

@@ -9,11 +9,11 @@ pub struct QueueReport<const K: usize> {
     pub running: bool,
     /// Whether it has no children.
     pub leaf: bool,
-    /// Its capacity, in MiB and vcores.
+    /// Its capacity, in MiB, vcores and GPUs.
     pub guaranteed: Resource<K>,
-    /// Its maximum capacity, its own or inherited, in MiB and vcores; none where it has neither.
+    /// Its maximum capacity, its own or inherited, in MiB, vcores and GPUs; none where it has neither.
     pub maximum: Option<Resource<K>>,
-    /// What all applications in and under it use, in MiB and vcores.
+    /// What all applications in and under it use, in MiB, vcores and GPUs.
     pub used: Sum<K>,
     /// How many applications are active in and under it.
     pub apps: u32,
@@ -28,8 +28,8 @@ pub struct ClusterReport<const K: usize> {
     pub apps: u32,
     /// How many containers are live.
     pub containers: u32,
-    /// What all nodes have together, in MiB and vcores.
+    /// What all nodes have together, in MiB, vcores and GPUs.
     pub totals: Resource<K>,
-    /// What all applications use, in MiB and vcores: the use of `root`.
+    /// What all applications use, in MiB, vcores and GPUs: the use of `root`.
     pub used: Sum<K>,
 }

@@ -48,7 +48,7 @@ impl<const K: usize> Load<K> {
         self.live
     }
 
-    /// What it has left, in MiB and vcores.
+    /// What it has left, in MiB, vcores and GPUs.
     pub(crate) fn free(&self) -> Resource<K>
         requires { Fits self.now.held self.now.node.total }
         ensures { result ≡ less self.now.node.total self.now.held }

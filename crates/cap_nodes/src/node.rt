@@ -41,7 +41,7 @@ impl<const K: usize> Model for Node<K> {
 }
 
 impl<const K: usize> Node<K> {
-    /// A node of this number, host, rack and total, in MiB and vcores, that was registered just now.
+    /// A node of this number, host, rack and total, in MiB, vcores and GPUs, that was registered just now.
     pub(crate) fn new(
         number: u64,
         host: &ShortText,
@@ -93,7 +93,7 @@ impl<const K: usize> Node<K> {
         &self.rack
     }
 
-    /// What it has in all, in MiB and vcores.
+    /// What it has in all, in MiB, vcores and GPUs.
     pub fn total(&self) -> Resource<K>
         ensures value { result ≡ self.now.total }
         ensures vector { IsResource K self.now.total }

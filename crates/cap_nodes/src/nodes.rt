@@ -116,7 +116,7 @@ impl<const K: usize> Nodes<K> {
         self.present.count()
     }
 
-    /// What all nodes have together, in MiB and vcores.
+    /// What all nodes have together, in MiB, vcores and GPUs.
     pub fn total(&self) -> Resource<K>
         ensures value { result ≡ sum_of_totals K self.now.present }
         ensures within { IsWithin amount_max (sum_of_totals K self.now.present) }
@@ -219,7 +219,7 @@ impl<const K: usize> Nodes<K> {
         }
     }
 
-    /// What a present node has left, in MiB and vcores.
+    /// What a present node has left, in MiB, vcores and GPUs.
     pub fn free_of(&self, number: u64) -> Resource<K>
         requires { IsSome (node_in self.now number) }
         ensures { result ≡ free_on K self.now number }
@@ -230,7 +230,7 @@ impl<const K: usize> Nodes<K> {
         }
     }
 
-    /// What the node at an index, in order of number, has left, in MiB and vcores.
+    /// What the node at an index, in order of number, has left, in MiB, vcores and GPUs.
     pub fn free_at(&self, index: usize) -> Resource<K>
         requires { index < length self.now.present }
         ensures { IfSome (slice_get self.now.present index)
@@ -239,8 +239,8 @@ impl<const K: usize> Nodes<K> {
         self.present.nth(index).free()
     }
 
-    /// Takes a node in under the next number, which is the result, of a total in MiB and vcores, with no container. `NoMemory`
-    /// changes nothing.
+    /// Takes a node in under the next number, which is the result, of a total in MiB, vcores and GPUs, with no container.
+    /// `NoMemory` changes nothing.
     pub fn register(
         &mut self,
         host: &ShortText,
@@ -265,8 +265,8 @@ impl<const K: usize> Nodes<K> {
         Ok(number)
     }
 
-    /// A container of this resource, in MiB and vcores, becomes live on a present node that has room for it, for the key of an
-    /// application, under the next number, which is the result. `NoMemory` changes nothing.
+    /// A container of this resource, in MiB, vcores and GPUs, becomes live on a present node that has room for it, for the key
+    /// of an application, under the next number, which is the result. `NoMemory` changes nothing.
     pub fn place(
         &mut self,
         app: u64,
@@ -300,9 +300,9 @@ impl<const K: usize> Nodes<K> {
         self.present.lift(container.node(), &container.resource());
     }
 
-    /// A node keeps these MiB and vcores for the ask of a key of an application, after all other reservations. `NoMemory` changes
-    /// nothing; it is also answered where there are 65,536 reservations, or 2^62 were made. The nodes and their containers stay, so
-    /// that what is true of every table is known.
+    /// A node keeps this much, in MiB, vcores and GPUs, for the ask of a key of an application, after all other reservations.
+    /// `NoMemory` changes nothing; it is also answered where there are 65,536 reservations, or 2^62 were made. The nodes and
+    /// their containers stay, so that what is true of every table is known.
     pub fn reserve(
         &mut self,
         app: u64,

@@ -139,7 +139,7 @@ fn has_numbers<const K: usize, B: Allocator + Copy>(snapshot: &Snapshot<K, B>) -
     snapshot.live() < LIVE_MAX && snapshot.next_container() < NUMBER_END
 }
 
-/// The room of the node's reservation, in MiB and vcores: 0 of each where it holds none.
+/// The room of the node's reservation, in MiB, vcores and GPUs: 0 of each where it holds none.
 fn room_back<const K: usize>(node: &SeenNode<K>) -> Resource<K>
     ensures { result ≡ room_back K node.now }
 {
@@ -150,7 +150,7 @@ fn room_back<const K: usize>(node: &SeenNode<K>) -> Resource<K>
 }
 
 /// Whether the queues from `root` down to the ask's leaf stay within their maximum capacities and its user within the user limit,
-/// with `old` taken away and what is asked for added, in MiB and vcores.
+/// with `old` taken away and what is asked for added, in MiB, vcores and GPUs.
 fn is_in_limits<const K: usize, B: Allocator + Copy>(
     snapshot: &Snapshot<K, B>,
     ask: &SeenAsk<K>,

@@ -6,7 +6,7 @@ use lib.ListN.{get_elem?}
 use Rattle.atomic_table.specs.Table.{State, Me, Step}
 use Rattle.atomic_table.specs.Seated.{TableId}
 use Rattle.cap_base.specs.Limits.{resources}
-use Rattle.cap_base.specs.Settings.{Settings}
+use Rattle.cap_base.specs.Settings.{no_settings}
 use Rattle.cap_model.specs.Flat.{Flat, opened_cluster}
 use Rattle.cap_shared.specs.declared.entry.Entry.{Entry}
 use Rattle.cap_shared.specs.declared.history.NotedAnswer.{NotedAnswer}
@@ -22,9 +22,6 @@ use Rattle.cap_shared.specs.Journal.{receipt_for, seat_entries, receipts_in}
 -- what stands for a word and for a cluster where there is none
 abbrev pub no_table : TableId
 no_table = record { words = 0; slots = 0; views_name = 0; atom = 0; block = 0; offset = 0; slot_names = [] }
-
-abbrev pub no_settings : Settings
-no_settings = record { queues = []; minimum_allocation = []; maximum_allocation = []; application_limit = 0 }
 
 abbrev pub no_cluster : Flat resources
 no_cluster = opened_cluster no_settings

@@ -10,8 +10,8 @@ use cap_model::{
 };
 use cap_vector::{Resource, checked_add};
 
-/// A node manager joins with a host, a rack and a total in MiB and vcores, and with no container; the reply gives the node's
-/// number, which no other node has or had. Refused with `HostTaken`, `TotalTooLarge`, `TooManyNodes`, `ZeroResource` or
+/// A node manager joins with a host, a rack and a total in MiB, vcores and GPUs, and with no container; the reply gives the
+/// node's number, which no other node has or had. Refused with `HostTaken`, `TotalTooLarge`, `TooManyNodes`, `ZeroResource` or
 /// `NumbersSpent`, or with `NoMemory` if an allocation fails; a refusal changes nothing.
 pub fn register_node<const K: usize>(
     cluster: &mut Cluster<K>,

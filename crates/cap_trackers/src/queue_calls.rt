@@ -6,9 +6,9 @@ use cap_commit::{Cluster, Found};
 use cap_model::{ClusterReport, PathText, Refusal, Reply};
 
 /// What an operator sees of the queue of this path: whether it and every queue above it are RUNNING, whether it is a leaf
-/// queue, its `capacity`, its `maximum-capacity` (its own or inherited, if any) and what is used in and under it, all in MiB and
-/// vcores, and how many applications are active in and under it. Refused with `UnknownQueue` where no queue has the path. It
-/// changes nothing and takes no memory.
+/// queue, its `capacity`, its `maximum-capacity` (its own or inherited, if any) and what is used in and under it, all in MiB,
+/// vcores and GPUs, and how many applications are active in and under it. Refused with `UnknownQueue` where no queue has the
+/// path. It changes nothing and takes no memory.
 pub fn queue_info<const K: usize>(cluster: &Cluster<K>, path: &PathText) -> Reply<K>
     ensures replies { RepliesInFullAlways cluster.now.flat (QueueInfo path.now)
         result cluster.now.flat }
@@ -42,7 +42,7 @@ pub fn set_queue_state<const K: usize>(
 }
 
 /// What an operator sees of the cluster: how many nodes are present, applications active and containers live, what all
-/// nodes have, and what `root` uses, in MiB and vcores. It is never refused, changes nothing and takes no memory.
+/// nodes have, and what `root` uses, in MiB, vcores and GPUs. It is never refused, changes nothing and takes no memory.
 pub fn cluster_info<const K: usize>(cluster: &Cluster<K>) -> Reply<K>
     ensures replies { RepliesInFullAlways cluster.now.flat ClusterInfo result cluster.now.flat }
     ensures numbers { HasNumbers cluster.now.flat result }

@@ -5,7 +5,7 @@ ghost use Rattle.cap_tree.specs.Count.{IsPart, MayMove, count_moved, is_zero_cou
 use cap_vector::{AMOUNT_MAX, Amounts, SUM_MAX, exchanged};
 use std::marker::Model;
 
-/// What is used, in MiB and vcores, and how many applications are active.
+/// What is used, in MiB, vcores and GPUs, and how many applications are active.
 #[derive(Clone, Copy, Debug)]
 pub(crate) struct Count<const K: usize, const MAX: u64> {
     pub(crate) used: Amounts<K, MAX>,

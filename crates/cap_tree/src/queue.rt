@@ -144,14 +144,14 @@ impl<const K: usize, A: Allocator + Copy> Queue<K, A> {
 }
 
 impl<const K: usize, A: Allocator> Queue<K, A> {
-    /// What it is guaranteed, in MiB and vcores.
+    /// What it is guaranteed, in MiB, vcores and GPUs.
     pub fn guaranteed(&self) -> Resource<K>
         ensures { result ≡ self.now.guaranteed }
     {
         self.guaranteed
     }
 
-    /// Up to where it may grow, in MiB and vcores. None where nothing bounds it.
+    /// Up to where it may grow, in MiB, vcores and GPUs. None where nothing bounds it.
     pub fn maximum(&self) -> Option<Resource<K>>
         ensures { result ≡ self.now.maximum }
     {
@@ -172,7 +172,7 @@ impl<const K: usize, A: Allocator> Queue<K, A> {
         self.running
     }
 
-    /// What is used in it and under it, in MiB and vcores.
+    /// What is used in it and under it, in MiB, vcores and GPUs.
     pub fn used(&self) -> Sum<K>
         ensures { result ≡ self.now.used }
     {
@@ -186,7 +186,7 @@ impl<const K: usize, A: Allocator> Queue<K, A> {
         self.count.active
     }
 
-    /// What a user uses in it, in MiB and vcores: 0 of each where the user has no row.
+    /// What a user uses in it, in MiB, vcores and GPUs: 0 of each where the user has no row.
     pub fn user_use(&self, user: &ShortText) -> Sum<K>
         ensures { result ≡ use_of K (user_row user.now self.now.users) }
     {

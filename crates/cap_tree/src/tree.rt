@@ -232,8 +232,8 @@ impl<const K: usize, A: Allocator + Copy> QueueTree<K, A> {
         };
     }
 
-    /// The user gives so much, in MiB and vcores, of its use in the leaf back: the use of the leaf, of each queue above and of
-    /// the user falls by it.
+    /// The user gives so much, in MiB, vcores and GPUs, of its use in the leaf back: the use of the leaf, of each queue above
+    /// and of the user falls by it.
     pub fn give_back(&mut self, path: &Path<A>, user: &ShortText, r: &Resource<K>)
         requires { MayGive r.now (user_row_at path.now.items user.now self.old) }
         ensures { self.new ≡
@@ -249,8 +249,8 @@ impl<const K: usize, A: Allocator + Copy> QueueTree<K, A> {
         };
     }
 
-    /// The user's use in the leaf changes from `old` to `new`, in MiB and vcores: `old` is taken away and `new` added, at the leaf,
-    /// at each queue above and for the user. It takes no memory.
+    /// The user's use in the leaf changes from `old` to `new`, in MiB, vcores and GPUs: `old` is taken away and `new` added, at
+    /// the leaf, at each queue above and for the user. It takes no memory.
     pub fn apply(&mut self, path: &Path<A>, user: &ShortText, old: &Resource<K>, new: &Resource<K>)
         requires may { MayGive old.now (user_row_at path.now.items user.now self.old) }
         requires within { IsWithin sum_max (amounts_exchanged old.now new.now (root_use self.old)) }
@@ -268,9 +268,9 @@ impl<const K: usize, A: Allocator + Copy> QueueTree<K, A> {
         };
     }
 
-    /// Whether the user's use in the leaf may change from `old` to `new`, in MiB and vcores: with `old` taken away and `new` added,
-    /// the use of each queue from `root` down to the leaf is within its maximum, and the user's within the user limit of the leaf.
-    /// The error is the first of these limits that would be passed.
+    /// Whether the user's use in the leaf may change from `old` to `new`, in MiB, vcores and GPUs: with `old` taken away and
+    /// `new` added, the use of each queue from `root` down to the leaf is within its maximum, and the user's within the user
+    /// limit of the leaf. The error is the first of these limits that would be passed.
     pub fn accept(
         &self,
         path: &Path<A>,
@@ -318,7 +318,7 @@ impl<const K: usize, A: Allocator + Copy> QueueTree<K, A> {
         self.root.item().active()
     }
 
-    /// What is used in all, in MiB and vcores: the use of `root`. And what is true of every tree, as `find` says it.
+    /// What is used in all, in MiB, vcores and GPUs: the use of `root`. And what is true of every tree, as `find` says it.
     pub fn used(&self) -> Sum<K>
         ensures all { result ≡ root_use self.now }
         ensures rows { AreRows self.now }
@@ -366,7 +366,7 @@ impl<const K: usize, A: Allocator + Copy> QueueTree<K, A> {
         self.root.next_child(path.as_slice(), after)
     }
 
-    /// What is used in the queue and under it, in MiB and vcores.
+    /// What is used in the queue and under it, in MiB, vcores and GPUs.
     pub fn use_of(&self, path: &Path<A>) -> Sum<K>
         requires { IsPosition self.now path.now.items }
         ensures { result ≡ used_at path.now.items self.now }
@@ -374,7 +374,7 @@ impl<const K: usize, A: Allocator + Copy> QueueTree<K, A> {
         self.root.get(path.as_slice()).used()
     }
 
-    /// What a user uses in the leaf, in MiB and vcores: 0 of each where the user has no row.
+    /// What a user uses in the leaf, in MiB, vcores and GPUs: 0 of each where the user has no row.
     pub fn user_use(&self, path: &Path<A>, user: &ShortText) -> Sum<K>
         requires { IsPosition self.now path.now.items }
         ensures { result ≡ use_of K (user_row_at path.now.items user.now self.now) }

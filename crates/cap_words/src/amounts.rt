@@ -14,7 +14,8 @@ pub(crate) fn put_number<I: Integer>(words: &mut String, number: I) -> Result<()
     words.push_str(buffer.format(number))
 }
 
-/// Adds amounts in MiB, vcores and GPUs as property lines have them, without the brackets. So many GPUs go without saying.
+/// Adds amounts in MiB, vcores and GPUs as property lines have them, without the brackets. The GPUs are left out where there
+/// are as many as `unsaid`.
 #[tactic(auto, unfolding(crate::specs::Amounts::amounts_words))]
 pub(crate) fn put_amounts(
     words: &mut String,

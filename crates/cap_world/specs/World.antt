@@ -7,7 +7,7 @@ use Rattle.cap_base.specs.Limits.{resources}
 use Rattle.cap_model.specs.declared.event.Event.{Event}
 use Rattle.cap_model.specs.declared.proposal.Verdict.{Verdict}
 use Rattle.cap_model.specs.Admission.{NodeProposal}
-use Rattle.cap_base.specs.Settings.{Settings}
+use Rattle.cap_base.specs.Settings.{no_settings}
 use Rattle.cap_commit.specs.ClusterState.{ClusterState}
 use Rattle.cap_model.specs.Flat.{Flat, opened_cluster}
 use Rattle.cap_model.specs.Events.{Run}
@@ -97,10 +97,6 @@ pub record Adds (old new : Known) (before after : List (Event resources)) : Type
 -- each entry is the list of events after a step, and how long it was before
 abbrev pub events_of : List (Vec (Event resources) × ℕ) → List (Event resources)
 events_of entries = flat_map (λ e. drop e.1 e.0.items) entries
-
--- the settings of nothing
-abbrev pub no_settings : Settings
-no_settings = record { queues = []; minimum_allocation = []; maximum_allocation = []; application_limit = 0 }
 
 -- the first entry is the opening
 abbrev pub opening_of : List (ClusterState resources × ℕ) → Flat resources
