@@ -95,7 +95,7 @@ fn put_payload(
 ) -> Result<(), AllocError> {
     write!(words, "# {connection} -> ")?;
     match read_request(alloc, payload) {
-        Ok((call_id, request)) => put_request(words, call_id, &request)?,
+        Ok((head, request)) => put_request(words, head, &request)?,
         Err(MessageFault::Bad) => {
             put_count(words, "no request, ", payload.len() as u64, "byte")?;
         }

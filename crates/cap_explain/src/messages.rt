@@ -6,7 +6,7 @@ use crate::parts::{
     put_turn,
 };
 use cap_base::RESOURCES;
-use cap_grammar::{Answer, kind};
+use cap_grammar::{Answer, Head, kind};
 use cap_model::{OwnedReply, ReplyWith, Request};
 use std::alloc::AllocError;
 
@@ -28,13 +28,22 @@ fn kind_name(kind: u8) -> &'static str {
     }
 }
 
-/// A request in words: its kind, its call id and what it says.
+/// The kind and the call id of a message, and its version if that isn't 1.
+fn put_head(words: &mut String, kind: u8, head: Head) -> Result<(), AllocError> {
+    write!(words, "{} {}", kind_name(kind), head.call_id)?;
+    if head.version == 1 {
+        return Ok(());
+    }
+    write!(words, " (version {})", head.version)
+}
+
+/// A request in words: its kind, its head and what it says.
 pub(crate) fn put_request(
     words: &mut String,
-    call_id: u32,
+    head: Head,
     request: &Request<RESOURCES>,
 ) -> Result<(), AllocError> {
-    write!(words, "{} {call_id}", kind_name(kind(request)))?;
+    put_head(words, kind(request), head)?;
     match request {
         Request::Submit { path, user } => {
             put_text(words, ": queue", path.as_bytes())?;
@@ -50,13 +59,13 @@ pub(crate) fn put_request(
             releases,
         } => {
             put_turn(words, ": application", *app, *response)?;
-            put_asks(words, asks.as_slice())?;
+            put_asks(words, head.version, asks.as_slice())?;
             put_numbers(words, ", release", releases.as_slice())
         }
         Request::RegisterNode { host, rack, total } => {
             put_text(words, ": host", host.as_bytes())?;
             put_text(words, ", rack", rack.as_bytes())?;
-            put_amounts(words, ", ", total)
+            put_amounts(words, head.version, ", ", total)
         }
         Request::Heartbeat {
             node,
@@ -77,16 +86,13 @@ pub(crate) fn put_request(
     }
 }
 
-/// An answer in words: the kind and the call id of its request, and what it says.
+/// An answer in words: the kind and the head of its request, and what it says.
 pub(crate) fn put_answer(words: &mut String, answer: &Answer) -> Result<(), AllocError> {
     match answer {
-        Answer::Reply {
-            call_id,
-            kind,
-            reply,
-        } => {
-            write!(words, "{} {call_id}: ", kind_name(*kind))?;
-            put_reply(words, reply)
+        Answer::Reply { head, kind, reply } => {
+            put_head(words, *kind, *head)?;
+            words.push_str(": ")?;
+            put_reply(words, head.version, reply)
         }
         Answer::Fault(status) => {
             let why = match *status {
@@ -99,21 +105,27 @@ pub(crate) fn put_answer(words: &mut String, answer: &Answer) -> Result<(), Allo
     }
 }
 
-/// What a reply says.
-fn put_reply(words: &mut String, reply: &OwnedReply<RESOURCES>) -> Result<(), AllocError> {
+/// What a reply says in this version.
+fn put_reply(
+    words: &mut String,
+    version: u8,
+    reply: &OwnedReply<RESOURCES>,
+) -> Result<(), AllocError> {
     match reply {
         ReplyWith::Refused(refusal) => put_refusal(words, *refusal),
         ReplyWith::Submit { app } => write!(words, "application {app}"),
-        ReplyWith::RegisterMaster { minimum, maximum } => put_range(words, minimum, maximum),
-        ReplyWith::Allocate { reply } => put_allocated(words, reply),
+        ReplyWith::RegisterMaster { minimum, maximum } => {
+            put_range(words, version, minimum, maximum)
+        }
+        ReplyWith::Allocate { reply } => put_allocated(words, version, reply),
         ReplyWith::FinishMaster { ended } | ReplyWith::NodeGone { ended } => {
             put_count(words, "", u64::from(*ended), "container")?;
             words.push_str(" ended")
         }
         ReplyWith::RegisterNode { node } => write!(words, "node {node}"),
         ReplyWith::Heartbeat { reply } => put_beat(words, reply),
-        ReplyWith::QueueInfo { report } => put_queue(words, report),
+        ReplyWith::QueueInfo { report } => put_queue(words, version, report),
         ReplyWith::SetQueueState | ReplyWith::Refresh => words.push_str("done"),
-        ReplyWith::ClusterInfo { report } => put_cluster(words, report),
+        ReplyWith::ClusterInfo { report } => put_cluster(words, version, report),
     }
 }

@@ -50,15 +50,19 @@ pub(crate) fn put_count(
     words.push_str("s")
 }
 
-/// Amounts after other words, in MiB and vcores.
+/// The amounts that this version spells, after other words: MiB and vcores, and from version 2 on GPUs.
 pub(crate) fn put_amounts<const MAX: u64>(
     words: &mut String,
+    version: u8,
     before: &str,
     amounts: &Amounts<RESOURCES, MAX>,
 ) -> Result<(), AllocError> {
-    let [memory, vcores, _] = amounts.amounts();
+    let [memory, vcores, gpus] = amounts.amounts();
     write!(words, "{before}[{memory} MiB")?;
     put_count(words, ", ", vcores, "vcore")?;
+    if version >= 2 {
+        put_count(words, ", ", gpus, "GPU")?;
+    }
     words.push_str("]")
 }
 

@@ -18,10 +18,14 @@ pub(crate) fn put_turn(
 }
 
 /// The asks of an Allocate.
-pub(crate) fn put_asks(words: &mut String, asks: &[Ask<RESOURCES>]) -> Result<(), AllocError> {
+pub(crate) fn put_asks(
+    words: &mut String,
+    version: u8,
+    asks: &[Ask<RESOURCES>],
+) -> Result<(), AllocError> {
     for ask in asks {
         write!(words, ", ask {} x ", ask.count())?;
-        put_amounts(words, "", &ask.resource())?;
+        put_amounts(words, version, "", &ask.resource())?;
         put_key(words, &ask.key())?;
         put_text(words, " at", ask.place().as_bytes())?;
     }
@@ -68,16 +72,18 @@ fn printable(line: &[u8]) -> &str {
 /// The least and the most that a container may have.
 pub(crate) fn put_range(
     words: &mut String,
+    version: u8,
     minimum: &Resource<RESOURCES>,
     maximum: &Resource<RESOURCES>,
 ) -> Result<(), AllocError> {
-    put_amounts(words, "containers from ", minimum)?;
-    put_amounts(words, " to ", maximum)
+    put_amounts(words, version, "containers from ", minimum)?;
+    put_amounts(words, version, " to ", maximum)
 }
 
 /// What an Allocate is answered.
 pub(crate) fn put_allocated(
     words: &mut String,
+    version: u8,
     reply: &AllocateReply<RESOURCES>,
 ) -> Result<(), AllocError> {
     write!(
@@ -85,12 +91,16 @@ pub(crate) fn put_allocated(
         "response {}, {} ignored",
         reply.response, reply.ignored
     )?;
-    put_grants(words, &reply.grants)?;
+    put_grants(words, version, &reply.grants)?;
     put_ends(words, &reply.ends)
 }
 
 /// What is granted.
-fn put_grants(words: &mut String, grants: &[Grant<RESOURCES>]) -> Result<(), AllocError> {
+fn put_grants(
+    words: &mut String,
+    version: u8,
+    grants: &[Grant<RESOURCES>],
+) -> Result<(), AllocError> {
     for grant in grants {
         let (container, node, host) = (grant.container(), grant.node(), grant.host());
         let host = shown(host.as_bytes());
@@ -98,7 +108,7 @@ fn put_grants(words: &mut String, grants: &[Grant<RESOURCES>]) -> Result<(), All
             words,
             ", granted container {container} on node {node} ({host}) "
         )?;
-        put_amounts(words, "", &grant.resource())?;
+        put_amounts(words, version, "", &grant.resource())?;
         put_key(words, &grant.key())?;
     }
     Ok(())
@@ -127,28 +137,30 @@ pub(crate) fn put_beat(words: &mut String, reply: &HeartbeatReply) -> Result<(),
 /// What is shown of a queue.
 pub(crate) fn put_queue(
     words: &mut String,
+    version: u8,
     report: &QueueReport<RESOURCES>,
 ) -> Result<(), AllocError> {
     let state = if report.running { "RUNNING" } else { "STOPPED" };
     let place = if report.leaf { "leaf" } else { "parent" };
     write!(words, "{state}, {place}")?;
-    put_amounts(words, ", capacity ", &report.guaranteed)?;
+    put_amounts(words, version, ", capacity ", &report.guaranteed)?;
     match &report.maximum {
-        Some(maximum) => put_amounts(words, ", maximum ", maximum)?,
+        Some(maximum) => put_amounts(words, version, ", maximum ", maximum)?,
         None => words.push_str(", no maximum")?,
     }
-    put_amounts(words, ", used ", &report.used)?;
+    put_amounts(words, version, ", used ", &report.used)?;
     put_count(words, ", ", u64::from(report.apps), "application")
 }
 
 /// What is shown of the cluster.
 pub(crate) fn put_cluster(
     words: &mut String,
+    version: u8,
     report: &ClusterReport<RESOURCES>,
 ) -> Result<(), AllocError> {
     put_count(words, "", u64::from(report.nodes), "node")?;
     put_count(words, ", ", u64::from(report.apps), "application")?;
     put_count(words, ", ", u64::from(report.containers), "container")?;
-    put_amounts(words, ", in all ", &report.totals)?;
-    put_amounts(words, ", used ", &report.used)
+    put_amounts(words, version, ", in all ", &report.totals)?;
+    put_amounts(words, version, ", used ", &report.used)
 }

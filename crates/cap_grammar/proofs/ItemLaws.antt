@@ -5,11 +5,14 @@ use Rattle.std.specs.Int.{Width, w16, w32, w64, byte_len, from_be_bytes}
 use Rattle.std.proofs.lemmas.Bool.{lt-ltb}
 use Rattle.std.proofs.Math.Seq.{drop-drop}
 use Rattle.cap_base.specs.Cascade.{holds_of}
+use Rattle.cap_base.specs.Limits.{resources}
+use Rattle.cap_grammar.specs.Versions.{is_version}
 use Rattle.cap_grammar.specs.Fields.{byte_at, number_at, pair_at, passing_at, times_at, counted_at}
 use Rattle.cap_grammar.specs.Bodies.{HasItemsAt, ListsItems}
 use Rattle.cap_grammar.specs.Reading.{CarriesItems, head_at}
 use Rattle.cap_grammar.proofs.FieldLaws.{bind_then, guard_else, guard_then}
 use Rattle.cap_grammar.proofs.RequestLaws.{second_is_kind}
+use Rattle.cap_grammar.proofs.VersionLaws.{one_or_two}
 
 -- what stands after a number
 pub number_rest : (w : Width) (bytes : List ℕ) (n : ℕ) (rest : List ℕ) → number_at w bytes ≡ Some (n, rest) → rest ≡ drop (byte_len w) bytes
@@ -69,7 +72,8 @@ head_is (v ∷ k ∷ bytes) h rest e =
     let head-is : ((v, y.0), y.1) ≡ (h, rest) = cc is in
     (ap (λ (p : (ℕ × (ℕ × ℕ)) × List ℕ). p.0.0) head-is, sym (ap (λ (p : (ℕ × ℕ) × List ℕ). p.1) pair-is ∙ ap (λ (p : (ℕ × (ℕ × ℕ)) × List ℕ). p.1) head-is) ∙ number_rest w32 bytes z.0 z.1 at_z)))
 
-pub carries_items : (bytes : List ℕ) (h : ℕ × (ℕ × ℕ)) (rest : List ℕ) → head_at bytes ≡ Some (h, rest) → h.0 ≡ 1 → ListsItems h.1.0 rest → CarriesItems bytes
-carries_items bytes h rest e first lists =
+pub carries_items : (bytes : List ℕ) (h : ℕ × (ℕ × ℕ)) (rest : List ℕ) → head_at bytes ≡ Some (h, rest) → is_version resources h.0 ≡ true → ListsItems h.1.0 rest → CarriesItems bytes
+carries_items bytes h rest e is lists =
     let head = head_is bytes h rest e in
-    (head.0 ∙ first, subst (λ (kind : ℕ). ListsItems kind (drop 6 bytes)) (sym (second_is_kind bytes h rest e)) (subst (λ (body : List ℕ). ListsItems h.1.0 body) head.1 lists))
+    let version = subst (λ v. (v ≡ 1) ⊎ (v ≡ 2)) (sym head.0) (one_or_two resources h.0 is) in
+    (version, subst (λ (kind : ℕ). ListsItems kind (drop 6 bytes)) (sym (second_is_kind bytes h rest e)) (subst (λ (body : List ℕ). ListsItems h.1.0 body) head.1 lists))

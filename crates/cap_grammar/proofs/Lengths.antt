@@ -6,22 +6,19 @@ use Rattle.std.specs.Int.{w32, w64, to_be_bytes}
 use Rattle.std.proofs.lemmas.Bool.{and_parts}
 use Rattle.std.proofs.lemmas.Bool.Decides.{nat_tests}
 use Rattle.std.proofs.lemmas.List.{length-take}
-use Rattle.cap_base.specs.Limits.{resources}
-use Rattle.cap_vector.specs.Vector.{IsResource}
 use Rattle.cap_base.specs.Texts.{is_graphic}
 use Rattle.cap_model.specs.News.{Grant}
 use Rattle.cap_model.specs.declared.news.End.{End}
 use Rattle.cap_grammar.specs.Texts.{is_place}
-use Rattle.cap_grammar.specs.Shown.{amounts_spelled}
 use Rattle.cap_grammar.specs.Spelling.{text, resource, grant, FitsGrant, end}
 
 length_amounts : (v : List ℕ) → length (flat_map (to_be_bytes w64) v) ≡ 8 * length v
 length_amounts [] = omega arith
 length_amounts (n ∷ v) = omega (arith, length-append (to_be_bytes w64 n) (flat_map (to_be_bytes w64) v), length_amounts v)
 
-length_resource : (v : List ℕ) → IsResource resources v → length (resource amounts_spelled v) ≡ 16
+pub length_resource : (n : ℕ) (v : List ℕ) → n ≤ length v → length (resource n v) ≡ 8 * n
 unfolding resource
-length_resource v is = let all = is.count in omega (arith, length_amounts (take amounts_spelled v), length-take amounts_spelled v, all)
+length_resource n v all = omega (arith, length_amounts (take n v), length-take n v, all)
 
 short_place : (t : List ℕ) → is_place t ≡ true → length t ≤ 64
 short_place t h =
@@ -29,25 +26,26 @@ short_place t h =
     let q = and_parts (nat_lt 0 (length t)) (nat_le (length t) 64) p.0 in
     let few = q.1 in grind (arith, nat_tests, few)
 
-pub length_grant : (g : Grant) → FitsGrant g → length (grant g) ≤ 109
+pub length_grant : (n : ℕ) (g : Grant) → n ≤ 3 → FitsGrant 3 g → length (grant n g) ≤ 117
 unfolding grant
-length_grant g fits =
-    let e : List ℕ = text g.host ++ resource amounts_spelled g.resource in
+length_grant n g le fits =
+    let e : List ℕ = text g.host ++ resource n g.resource in
     let d : List ℕ = to_be_bytes w64 g.node ++ e in
     let c : List ℕ = to_be_bytes w64 g.key.request ++ d in
     let b : List ℕ = to_be_bytes w32 g.key.priority ++ c in
-    let le = length-append (text g.host) (resource amounts_spelled g.resource) in
-    let lr = length_resource g.resource fits.resource in
-    let lh = short_place g.host fits.host in
-    omega (arith, le, lr, lh)
+    let count = fits.resource.count in
+    let last = length-append (text g.host) (resource n g.resource) in
+    let amounts = length_resource n g.resource (omega (arith, le, count)) in
+    let host = short_place g.host fits.host in
+    omega (arith, last, amounts, host, le)
 
 pub length_end : (e : End) → length (end e) ≡ 9
 unfolding end
 length_end e = omega arith
 
-pub length_grants : (gs : List Grant) → AllByRecursion FitsGrant gs → length (flat_map grant gs) ≤ 109 * length gs
-length_grants [] fits = omega arith
-length_grants (g ∷ gs) fits = omega (arith, length-append (grant g) (flat_map grant gs), length_grant g fits.0, length_grants gs fits.1)
+pub length_grants : (n : ℕ) (gs : List Grant) → n ≤ 3 → AllByRecursion (FitsGrant 3) gs → length (flat_map (grant n) gs) ≤ 117 * length gs
+length_grants n [] le fits = omega arith
+length_grants n (g ∷ gs) le fits = omega (arith, length-append (grant n g) (flat_map (grant n) gs), length_grant n g le fits.0, length_grants n gs le fits.1)
 
 pub length_ends : (es : List End) → length (flat_map end es) ≤ 9 * length es
 length_ends [] = omega arith

@@ -1,3 +1,4 @@
+pub mod VersionLaws
 pub mod Lengths
 pub mod ListLaws
 pub mod Appends

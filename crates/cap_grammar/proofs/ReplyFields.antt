@@ -1,20 +1,20 @@
 -- The fields of replies, each with what spells it: refusals, and what calls give that is more than a number. No function reads
 -- replies so: these readers serve the laws alone.
-use Rattle.std.proofs.Common.{◌≡◌, ℕ, ◌^◌, ◌<◌, ◌≤◌, List, [], ◌∷◌, ◌++◌, length, Option, Some, None, map, refl, sym, ap, subst, ◌∙◌, append_assoc, true, arith, suc, Bool}
+use Rattle.std.proofs.Common.{◌≡◌, ℕ, ◌^◌, ◌<◌, ◌≤◌, ◌+◌, ◌-◌, List, [], ◌∷◌, ◌++◌, length, Option, Some, None, map, refl, sym, ap, subst, ◌∙◌, append_assoc, true, arith, suc, Bool}
 use Rattle.std.specs.Prelude.{◌==◌, if◌then◌else◌, is_some, unwrap_or, option_map, IfSome}
 use Rattle.std.specs.List.{flat_map, AllByRecursion}
 use Rattle.std.specs.Int.{w16, w32, w64, to_be_bytes}
-use Rattle.std.proofs.lemmas.List.{append-nil}
+use Rattle.std.proofs.lemmas.List.{append-nil, length-replicate, replicate-append-replicate, take-replicate}
 use Rattle.cap_vector.specs.Vector.{IsResource, IsSum, amount_max, sum_max, zeros}
-use Rattle.cap_base.specs.Limits.{news_max, resources}
+use Rattle.cap_base.specs.Limits.{news_max}
 use Rattle.cap_model.specs.declared.refusal.Refusal.{Refusal}
 use Rattle.cap_model.specs.declared.refusal.Refusal.TheVariants.{BadSettings, UnknownQueue, NotLeaf, QueueStopped, TooManyApplications, UnknownApplication, AlreadyRegistered, NotRegistered, BadResponseId, AskTooLarge, TooManyAsks, UnknownNode, HostTaken, TotalTooLarge, TooManyNodes, ZeroResource, NumbersSpent, OtherQueues, NoMemory}
 use Rattle.cap_model.specs.News.{Grant, cause_number}
 use Rattle.cap_model.specs.declared.news.End.{End}
 use Rattle.cap_model.specs.declared.news.Cause.{Cause}
 use Rattle.cap_grammar.specs.Texts.{is_place}
-use Rattle.cap_grammar.specs.Shown.{amounts_spelled, shown_amounts, shown_grant, IsShownVector}
-use Rattle.cap_grammar.specs.Spelling.{counted_list, FitsListed, grant, FitsGrant, end, FitsEnd, text, resource, flag, byte, FitsByte, IsSpelledResource}
+use Rattle.cap_grammar.specs.Shown.{shown_amounts, shown_grant, IsShownVector}
+use Rattle.cap_grammar.specs.Spelling.{counted_list, FitsListed, grant, FitsGrant, end, FitsEnd, text, resource, flag, byte, FitsByte}
 use Rattle.cap_grammar.specs.Fields.{◌>>=◌, byte_at, flag_at, number_at, amounts_at, text_at, pair_at, passing_at, times_at}
 use Rattle.cap_grammar.proofs.ShownLaws.{how_many}
 use Rattle.cap_grammar.proofs.FieldLaws.{IsField, is_pair, is_byte, is_flag, is_u16, is_u32, is_u64, is_amounts, is_text_passing, is_times, is_made, shown_is_vector, zeros_within}
@@ -58,74 +58,79 @@ refusal_at status bytes =
 abbrev pub Limit : Type 0
 Limit = Bool × List ℕ
 
-abbrev pub FitsLimit : Limit → Type 0
-FitsLimit x = Unit {0} × IsSpelledResource x.1
+abbrev pub FitsLimit : (K n : ℕ) → Limit → Type 0
+FitsLimit K n x = Unit {0} × IsShownVector K n amount_max x.1
 
-abbrev pub limit_of : Limit → List ℕ
-limit_of x = flag x.0 ++ resource amounts_spelled x.1
+abbrev pub limit_of : ℕ → Limit → List ℕ
+limit_of n x = flag x.0 ++ resource n x.1
 
-abbrev pub limit_at : List ℕ → Option (Limit × List ℕ)
-limit_at bytes = pair_at flag_at (amounts_at resources amounts_spelled amount_max) bytes
+abbrev pub limit_at : (K n : ℕ) → List ℕ → Option (Limit × List ℕ)
+limit_at K n bytes = pair_at flag_at (amounts_at K n amount_max) bytes
 
-pub is_limit : IsField limit_at limit_of FitsLimit
-is_limit = is_pair flag_at flag (λ holds. Unit {0}) (amounts_at resources amounts_spelled amount_max) (resource amounts_spelled) IsSpelledResource is_flag (is_amounts resources amounts_spelled amount_max (omega arith) (omega arith))
+pub is_limit : (K n : ℕ) → n ≤ K → IsField (limit_at K n) (limit_of n) (FitsLimit K n)
+is_limit K n le = is_pair flag_at flag (λ holds. Unit {0}) (amounts_at K n amount_max) (resource n) (IsShownVector K n amount_max) is_flag (is_amounts K n amount_max le (omega arith))
 
 abbrev pub maximum_of : Limit → Option (List ℕ)
 maximum_of x = if x.0 then Some x.1 else None
 
-abbrev pub limit_to : Option (List ℕ) → Limit
-limit_to maximum = (is_some maximum, unwrap_or maximum (zeros resources))
+abbrev pub limit_to : ℕ → Option (List ℕ) → Limit
+limit_to K maximum = (is_some maximum, unwrap_or maximum (zeros K))
 
-pub maximum_again : (maximum : Option (List ℕ)) → maximum_of (limit_to maximum) ≡ maximum
-maximum_again None = refl
-maximum_again (Some amounts) = refl
+pub maximum_again : (K : ℕ) (maximum : Option (List ℕ)) → maximum_of (limit_to K maximum) ≡ maximum
+maximum_again K None = refl
+maximum_again K (Some amounts) = refl
 
-pub shown_resource : (v : List ℕ) → IsResource resources v → IsSpelledResource (shown_amounts amounts_spelled v)
-shown_resource v is = shown_is_vector resources amounts_spelled amount_max (omega arith) (omega arith) v is
+pub shown_resource : (K n : ℕ) → n ≤ K → (v : List ℕ) → IsResource K v → IsShownVector K n amount_max (shown_amounts n v)
+shown_resource K n le v is = shown_is_vector K n amount_max le (omega arith) v is
 
-pub shown_sum : (v : List ℕ) → IsSum resources v → IsShownVector resources amounts_spelled sum_max (shown_amounts amounts_spelled v)
-shown_sum v is = shown_is_vector resources amounts_spelled sum_max (omega arith) (omega arith) v is
+pub shown_sum : (K n : ℕ) → n ≤ K → (v : List ℕ) → IsSum K v → IsShownVector K n sum_max (shown_amounts n v)
+shown_sum K n le v is = shown_is_vector K n sum_max le (omega arith) v is
 
-pub limit_fits : (maximum : Option (List ℕ)) → IfSome maximum (IsResource resources) → FitsLimit (limit_to (option_map (shown_amounts amounts_spelled) maximum))
-limit_fits None fits = (tt, record { vector = record { count = refl; within = zeros_within amount_max resources }; is_shown = refl })
-limit_fits (Some amounts) fits = (tt, shown_resource amounts fits)
+zeros_shown : (K n : ℕ) → n ≤ K → shown_amounts n (zeros K) ≡ zeros K
+zeros_shown K n le =
+    let whole : n + (K - n) ≡ K = omega (arith, le) in
+    rw (take-replicate {X = ℕ} n K 0 le, length-replicate {A = ℕ} K 0) (replicate-append-replicate {A = ℕ} n (K - n) 0 ∙ ap zeros whole)
+
+pub limit_fits : (K n : ℕ) → n ≤ K → (maximum : Option (List ℕ)) → IfSome maximum (IsResource K) → FitsLimit K n (limit_to K (option_map (shown_amounts n) maximum))
+limit_fits K n le None fits = (tt, record { vector = record { count = length-replicate {A = ℕ} K 0; within = zeros_within amount_max K }; is_shown = zeros_shown K n le })
+limit_fits K n le (Some amounts) fits = (tt, shown_resource K n le amounts fits)
 
 -- running and leaf, guaranteed, maximum, use and applications
 abbrev pub Report : Type 0
 Report = ((((Bool × Bool) × List ℕ) × Limit) × List ℕ) × ℕ
 
-abbrev pub FitsReport : Report → Type 0
-FitsReport x = ((((Unit {0} × Unit {0}) × IsSpelledResource x.0.0.0.1) × FitsLimit x.0.0.1) × IsShownVector resources amounts_spelled sum_max x.0.1) × (x.1 < 2 ^ 32)
+abbrev pub FitsReport : (K n : ℕ) → Report → Type 0
+FitsReport K n x = ((((Unit {0} × Unit {0}) × IsShownVector K n amount_max x.0.0.0.1) × FitsLimit K n x.0.0.1) × IsShownVector K n sum_max x.0.1) × (x.1 < 2 ^ 32)
 
-abbrev pub report_of : Report → List ℕ
-report_of x = ((((flag x.0.0.0.0.0 ++ flag x.0.0.0.0.1) ++ resource amounts_spelled x.0.0.0.1) ++ limit_of x.0.0.1) ++ resource amounts_spelled x.0.1) ++ to_be_bytes w32 x.1
+abbrev pub report_of : ℕ → Report → List ℕ
+report_of n x = ((((flag x.0.0.0.0.0 ++ flag x.0.0.0.0.1) ++ resource n x.0.0.0.1) ++ limit_of n x.0.0.1) ++ resource n x.0.1) ++ to_be_bytes w32 x.1
 
 abbrev pub flags_at : List ℕ → Option ((Bool × Bool) × List ℕ)
 flags_at bytes = pair_at flag_at flag_at bytes
 
-abbrev pub guarantee_at : List ℕ → Option (((Bool × Bool) × List ℕ) × List ℕ)
-guarantee_at bytes = pair_at flags_at (amounts_at resources amounts_spelled amount_max) bytes
+abbrev pub guarantee_at : (K n : ℕ) → List ℕ → Option (((Bool × Bool) × List ℕ) × List ℕ)
+guarantee_at K n bytes = pair_at flags_at (amounts_at K n amount_max) bytes
 
-abbrev pub limits_at : List ℕ → Option ((((Bool × Bool) × List ℕ) × Limit) × List ℕ)
-limits_at bytes = pair_at guarantee_at limit_at bytes
+abbrev pub limits_at : (K n : ℕ) → List ℕ → Option ((((Bool × Bool) × List ℕ) × Limit) × List ℕ)
+limits_at K n bytes = pair_at (guarantee_at K n) (limit_at K n) bytes
 
-abbrev pub uses_at : List ℕ → Option (((((Bool × Bool) × List ℕ) × Limit) × List ℕ) × List ℕ)
-uses_at bytes = pair_at limits_at (amounts_at resources amounts_spelled sum_max) bytes
+abbrev pub uses_at : (K n : ℕ) → List ℕ → Option (((((Bool × Bool) × List ℕ) × Limit) × List ℕ) × List ℕ)
+uses_at K n bytes = pair_at (limits_at K n) (amounts_at K n sum_max) bytes
 
-abbrev pub queue_report_at : List ℕ → Option (Report × List ℕ)
-queue_report_at bytes = pair_at uses_at (number_at w32) bytes
+abbrev pub queue_report_at : (K n : ℕ) → List ℕ → Option (Report × List ℕ)
+queue_report_at K n bytes = pair_at (uses_at K n) (number_at w32) bytes
 
 pub is_flags : IsField flags_at (λ (x : Bool × Bool). flag x.0 ++ flag x.1) (λ (x : Bool × Bool). Unit {0} × Unit {0})
 is_flags = is_pair flag_at flag (λ holds. Unit {0}) flag_at flag (λ holds. Unit {0}) is_flag is_flag
 
-pub is_report : IsField queue_report_at report_of FitsReport
-is_report =
+pub is_report : (K n : ℕ) → n ≤ K → IsField (queue_report_at K n) (report_of n) (FitsReport K n)
+is_report K n le =
     is_pair _ _ _ _ _ _
     (is_pair _ _ _ _ _ _
     (is_pair _ _ _ _ _ _
-    (is_pair _ _ _ _ _ _ is_flags (is_amounts resources amounts_spelled amount_max (omega arith) (omega arith)))
-    is_limit)
-    (is_amounts resources amounts_spelled sum_max (omega arith) (omega arith)))
+    (is_pair _ _ _ _ _ _ is_flags (is_amounts K n amount_max le (omega arith)))
+    (is_limit K n le))
+    (is_amounts K n sum_max le (omega arith)))
     is_u32
 
 -- ---- the bounds of a container
@@ -133,17 +138,17 @@ is_report =
 abbrev pub Bounds : Type 0
 Bounds = List ℕ × List ℕ
 
-abbrev pub bounds_at : List ℕ → Option (Bounds × List ℕ)
-bounds_at bytes = pair_at (amounts_at resources amounts_spelled amount_max) (amounts_at resources amounts_spelled amount_max) bytes
+abbrev pub bounds_at : (K n : ℕ) → List ℕ → Option (Bounds × List ℕ)
+bounds_at K n bytes = pair_at (amounts_at K n amount_max) (amounts_at K n amount_max) bytes
 
-abbrev pub bounds_of : Bounds → List ℕ
-bounds_of x = resource amounts_spelled x.0 ++ resource amounts_spelled x.1
+abbrev pub bounds_of : ℕ → Bounds → List ℕ
+bounds_of n x = resource n x.0 ++ resource n x.1
 
-abbrev pub FitsBounds : Bounds → Type 0
-FitsBounds x = IsSpelledResource x.0 × IsSpelledResource x.1
+abbrev pub FitsBounds : (K n : ℕ) → Bounds → Type 0
+FitsBounds K n x = IsShownVector K n amount_max x.0 × IsShownVector K n amount_max x.1
 
-pub is_bounds : IsField bounds_at bounds_of FitsBounds
-is_bounds = is_pair (amounts_at resources amounts_spelled amount_max) (resource amounts_spelled) IsSpelledResource (amounts_at resources amounts_spelled amount_max) (resource amounts_spelled) IsSpelledResource (is_amounts resources amounts_spelled amount_max (omega arith) (omega arith)) (is_amounts resources amounts_spelled amount_max (omega arith) (omega arith))
+pub is_bounds : (K n : ℕ) → n ≤ K → IsField (bounds_at K n) (bounds_of n) (FitsBounds K n)
+is_bounds K n le = is_pair (amounts_at K n amount_max) (resource n) (IsShownVector K n amount_max) (amounts_at K n amount_max) (resource n) (IsShownVector K n amount_max) (is_amounts K n amount_max le (omega arith)) (is_amounts K n amount_max le (omega arith))
 
 -- ---- lists with their length in one byte
 
@@ -160,22 +165,22 @@ told_again field s F is xs rest fits = (is_times (length xs) field s F is).again
 abbrev pub GrantParts : Type 0
 GrantParts = ℕ × (ℕ × (ℕ × (ℕ × (List ℕ × List ℕ))))
 
-abbrev pub FitsGrantParts : GrantParts → Type 0
-FitsGrantParts x = (x.0 < 2 ^ 64) × ((x.1.0 < 2 ^ 32) × ((x.1.1.0 < 2 ^ 64) × ((x.1.1.1.0 < 2 ^ 64) × ((is_place x.1.1.1.1.0 ≡ true) × IsSpelledResource x.1.1.1.1.1))))
+abbrev pub FitsGrantParts : (K n : ℕ) → GrantParts → Type 0
+FitsGrantParts K n x = (x.0 < 2 ^ 64) × ((x.1.0 < 2 ^ 32) × ((x.1.1.0 < 2 ^ 64) × ((x.1.1.1.0 < 2 ^ 64) × ((is_place x.1.1.1.1.0 ≡ true) × IsShownVector K n amount_max x.1.1.1.1.1))))
 
-abbrev pub grant_parts : GrantParts → List ℕ
-grant_parts x = to_be_bytes w64 x.0 ++ (to_be_bytes w32 x.1.0 ++ (to_be_bytes w64 x.1.1.0 ++ (to_be_bytes w64 x.1.1.1.0 ++ (text x.1.1.1.1.0 ++ resource amounts_spelled x.1.1.1.1.1))))
+abbrev pub grant_parts : ℕ → GrantParts → List ℕ
+grant_parts n x = to_be_bytes w64 x.0 ++ (to_be_bytes w32 x.1.0 ++ (to_be_bytes w64 x.1.1.0 ++ (to_be_bytes w64 x.1.1.1.0 ++ (text x.1.1.1.1.0 ++ resource n x.1.1.1.1.1))))
 
-abbrev pub grant_parts_at : List ℕ → Option (GrantParts × List ℕ)
-grant_parts_at bytes = pair_at (number_at w64) (pair_at (number_at w32) (pair_at (number_at w64) (pair_at (number_at w64) (pair_at (passing_at is_place text_at) (amounts_at resources amounts_spelled amount_max))))) bytes
+abbrev pub grant_parts_at : (K n : ℕ) → List ℕ → Option (GrantParts × List ℕ)
+grant_parts_at K n bytes = pair_at (number_at w64) (pair_at (number_at w32) (pair_at (number_at w64) (pair_at (number_at w64) (pair_at (passing_at is_place text_at) (amounts_at K n amount_max))))) bytes
 
-pub is_grant_parts : IsField grant_parts_at grant_parts FitsGrantParts
-is_grant_parts =
+pub is_grant_parts : (K n : ℕ) → n ≤ K → IsField (grant_parts_at K n) (grant_parts n) (FitsGrantParts K n)
+is_grant_parts K n le =
     is_pair _ _ _ _ _ _ is_u64
     (is_pair _ _ _ _ _ _ is_u32
     (is_pair _ _ _ _ _ _ is_u64
     (is_pair _ _ _ _ _ _ is_u64
-    (is_pair (passing_at is_place text_at) text (λ t. is_place t ≡ true) (amounts_at resources amounts_spelled amount_max) (resource amounts_spelled) IsSpelledResource (is_text_passing is_place) (is_amounts resources amounts_spelled amount_max (omega arith) (omega arith))))))
+    (is_pair (passing_at is_place text_at) text (λ t. is_place t ≡ true) (amounts_at K n amount_max) (resource n) (IsShownVector K n amount_max) (is_text_passing is_place) (is_amounts K n amount_max le (omega arith))))))
 
 abbrev pub grant_from : GrantParts → Grant
 grant_from x = record { container = x.0; key = record { priority = x.1.0; request = x.1.1.0 }; node = x.1.1.1.0; host = x.1.1.1.1.0; resource = x.1.1.1.1.1 }
@@ -183,27 +188,27 @@ grant_from x = record { container = x.0; key = record { priority = x.1.0; reques
 abbrev pub grant_to : Grant → GrantParts
 grant_to g = (g.container, (g.key.priority, (g.key.request, (g.node, (g.host, g.resource)))))
 
-abbrev pub grant_at : List ℕ → Option (Grant × List ℕ)
-grant_at bytes = do
-  x ← grant_parts_at bytes
+abbrev pub grant_at : (K n : ℕ) → List ℕ → Option (Grant × List ℕ)
+grant_at K n bytes = do
+  x ← grant_parts_at K n bytes
   Some (grant_from x.0, x.1)
 
 -- a grant whose amounts are all spelled, or 0
-abbrev pub FitsShownGrant : Grant → Type 0
-FitsShownGrant g = FitsGrantParts (grant_to g)
+abbrev pub FitsShownGrant : (K n : ℕ) → Grant → Type 0
+FitsShownGrant K n g = FitsGrantParts K n (grant_to g)
 
-pub is_grant : IsField grant_at grant FitsShownGrant
+pub is_grant : (K n : ℕ) → n ≤ K → IsField (grant_at K n) (grant n) (FitsShownGrant K n)
 unfolding grant
-is_grant = is_made grant_from grant_to grant_parts_at grant_parts FitsGrantParts FitsShownGrant (record { back = λ x fits. refl; forth = λ g fits. refl; to = λ x fits. fits; from = λ g fits. fits }) is_grant_parts
+is_grant K n le = is_made grant_from grant_to (grant_parts_at K n) (grant_parts n) (FitsGrantParts K n) (FitsShownGrant K n) (record { back = λ x fits. refl; forth = λ g fits. refl; to = λ x fits. fits; from = λ g fits. fits }) (is_grant_parts K n le)
 
-grants_each : (gs : List Grant) → AllByRecursion FitsGrant gs → AllByRecursion FitsShownGrant (map (shown_grant amounts_spelled) gs)
-grants_each [] fits = tt
-grants_each (g ∷ gs) fits =
+grants_each : (K n : ℕ) → n ≤ K → (gs : List Grant) → AllByRecursion (FitsGrant K) gs → AllByRecursion (FitsShownGrant K n) (map (shown_grant n) gs)
+grants_each K n le [] fits = tt
+grants_each K n le (g ∷ gs) fits =
     let h = fits.0 in
-    ((h.container, (h.priority, (h.request, (h.node, (h.host, shown_resource g.resource h.resource))))), grants_each gs fits.1)
+    ((h.container, (h.priority, (h.request, (h.node, (h.host, shown_resource K n le g.resource h.resource))))), grants_each K n le gs fits.1)
 
-pub grants_fit : (gs : List Grant) → FitsListed news_max FitsGrant gs → FitsListed news_max FitsShownGrant (map (shown_grant amounts_spelled) gs)
-grants_fit gs fits = record { few = subst (λ n. n ≤ news_max) (sym (how_many amounts_spelled gs)) fits.few; each = grants_each gs fits.each }
+pub grants_fit : (K n : ℕ) → n ≤ K → (gs : List Grant) → FitsListed news_max (FitsGrant K) gs → FitsListed news_max (FitsShownGrant K n) (map (shown_grant n) gs)
+grants_fit K n le gs fits = record { few = subst (λ m. m ≤ news_max) (sym (how_many n gs)) fits.few; each = grants_each K n le gs fits.each }
 
 abbrev pub cause_of : ℕ → Cause
 cause_of n = if n == 1 then Cause.Released else if n == 2 then Cause.EndedOnNode else Cause.NodeLost
@@ -234,26 +239,26 @@ ends_again (e ∷ es) rest fits = ap (times_at (suc (length es)) end_at) (append
 abbrev pub Allocated : Type 0
 Allocated = (ℕ × ℕ) × (List Grant × List End)
 
-abbrev pub allocated_at : List ℕ → Option (Allocated × List ℕ)
-allocated_at bytes = do
+abbrev pub allocated_at : (K n : ℕ) → List ℕ → Option (Allocated × List ℕ)
+allocated_at K n bytes = do
   response ← number_at w32 bytes
   ignored ← number_at w16 response.1
-  grants ← told_at grant_at ignored.1
+  grants ← told_at (grant_at K n) ignored.1
   ends ← told_at end_at grants.1
   Some (((response.0, ignored.0), (grants.0, ends.0)), ends.1)
 
-abbrev pub from_response : Option (ℕ × List ℕ) → Option (Allocated × List ℕ)
-from_response o = do
+abbrev pub from_response : (K n : ℕ) → Option (ℕ × List ℕ) → Option (Allocated × List ℕ)
+from_response K n o = do
   response ← o
   ignored ← number_at w16 response.1
-  grants ← told_at grant_at ignored.1
+  grants ← told_at (grant_at K n) ignored.1
   ends ← told_at end_at grants.1
   Some (((response.0, ignored.0), (grants.0, ends.0)), ends.1)
 
-abbrev pub from_ignored : ℕ → Option (ℕ × List ℕ) → Option (Allocated × List ℕ)
-from_ignored response o = do
+abbrev pub from_ignored : (K n response : ℕ) → Option (ℕ × List ℕ) → Option (Allocated × List ℕ)
+from_ignored K n response o = do
   ignored ← o
-  grants ← told_at grant_at ignored.1
+  grants ← told_at (grant_at K n) ignored.1
   ends ← told_at end_at grants.1
   Some (((response, ignored.0), (grants.0, ends.0)), ends.1)
 
@@ -268,12 +273,12 @@ from_ends response ignored grants o = do
   ends ← o
   Some (((response, ignored), (grants, ends.0)), ends.1)
 
-pub allocated_again : (response ignored : ℕ) (grants : List Grant) (ends : List End) → response < 2 ^ 32 → ignored < 2 ^ 16 → FitsListed news_max FitsShownGrant grants → FitsListed news_max FitsEnd ends →
-    allocated_at (to_be_bytes w32 response ++ (to_be_bytes w16 ignored ++ (counted_list grant grants ++ counted_list end ends))) ≡ Some (((response, ignored), (grants, ends)), [])
-allocated_again response ignored grants ends r i g e =
-    ap from_response (is_u32.again response (to_be_bytes w16 ignored ++ (counted_list grant grants ++ counted_list end ends)) r)
-    ∙ ap (from_ignored response) (is_u16.again ignored (counted_list grant grants ++ counted_list end ends) i)
-    ∙ ap (from_grants response ignored) (told_again grant_at grant FitsShownGrant is_grant grants (counted_list end ends) g)
+pub allocated_again : (K n : ℕ) → n ≤ K → (response ignored : ℕ) (grants : List Grant) (ends : List End) → response < 2 ^ 32 → ignored < 2 ^ 16 → FitsListed news_max (FitsShownGrant K n) grants → FitsListed news_max FitsEnd ends →
+    allocated_at K n (to_be_bytes w32 response ++ (to_be_bytes w16 ignored ++ (counted_list (grant n) grants ++ counted_list end ends))) ≡ Some (((response, ignored), (grants, ends)), [])
+allocated_again K n le response ignored grants ends r i g e =
+    ap (from_response K n) (is_u32.again response (to_be_bytes w16 ignored ++ (counted_list (grant n) grants ++ counted_list end ends)) r)
+    ∙ ap (from_ignored K n response) (is_u16.again ignored (counted_list (grant n) grants ++ counted_list end ends) i)
+    ∙ ap (from_grants response ignored) (told_again (grant_at K n) (grant n) (FitsShownGrant K n) (is_grant K n le) grants (counted_list end ends) g)
     ∙ ap (from_ends response ignored grants) (ap (times_at (length ends) end_at) (sym (append-nil (flat_map end ends))) ∙ ends_again ends [] e.each)
 
 -- ---- what a Heartbeat gives
@@ -299,21 +304,21 @@ is_beat = is_pair _ _ _ _ _ _ is_u32 (is_pair (number_at w16) (to_be_bytes w16) 
 abbrev pub Info : Type 0
 Info = (((ℕ × ℕ) × ℕ) × List ℕ) × List ℕ
 
-abbrev pub FitsInfo : Info → Type 0
-FitsInfo x = ((((x.0.0.0.0 < 2 ^ 32) × (x.0.0.0.1 < 2 ^ 32)) × (x.0.0.1 < 2 ^ 32)) × IsSpelledResource x.0.1) × IsShownVector resources amounts_spelled sum_max x.1
+abbrev pub FitsInfo : (K n : ℕ) → Info → Type 0
+FitsInfo K n x = ((((x.0.0.0.0 < 2 ^ 32) × (x.0.0.0.1 < 2 ^ 32)) × (x.0.0.1 < 2 ^ 32)) × IsShownVector K n amount_max x.0.1) × IsShownVector K n sum_max x.1
 
-abbrev pub info_of : Info → List ℕ
-info_of x = (((to_be_bytes w32 x.0.0.0.0 ++ to_be_bytes w32 x.0.0.0.1) ++ to_be_bytes w32 x.0.0.1) ++ resource amounts_spelled x.0.1) ++ resource amounts_spelled x.1
+abbrev pub info_of : ℕ → Info → List ℕ
+info_of n x = (((to_be_bytes w32 x.0.0.0.0 ++ to_be_bytes w32 x.0.0.0.1) ++ to_be_bytes w32 x.0.0.1) ++ resource n x.0.1) ++ resource n x.1
 
-abbrev pub info_at : List ℕ → Option (Info × List ℕ)
-info_at bytes = pair_at (pair_at (pair_at (pair_at (number_at w32) (number_at w32)) (number_at w32)) (amounts_at resources amounts_spelled amount_max)) (amounts_at resources amounts_spelled sum_max) bytes
+abbrev pub info_at : (K n : ℕ) → List ℕ → Option (Info × List ℕ)
+info_at K n bytes = pair_at (pair_at (pair_at (pair_at (number_at w32) (number_at w32)) (number_at w32)) (amounts_at K n amount_max)) (amounts_at K n sum_max) bytes
 
-pub is_info : IsField info_at info_of FitsInfo
-is_info =
+pub is_info : (K n : ℕ) → n ≤ K → IsField (info_at K n) (info_of n) (FitsInfo K n)
+is_info K n le =
     is_pair _ _ _ _ _ _
     (is_pair _ _ _ _ _ _
     (is_pair _ _ _ _ _ _
     (is_pair (number_at w32) (to_be_bytes w32) (λ n. n < 2 ^ 32) (number_at w32) (to_be_bytes w32) (λ n. n < 2 ^ 32) is_u32 is_u32)
     is_u32)
-    (is_amounts resources amounts_spelled amount_max (omega arith) (omega arith)))
-    (is_amounts resources amounts_spelled sum_max (omega arith) (omega arith))
+    (is_amounts K n amount_max le (omega arith)))
+    (is_amounts K n sum_max le (omega arith))

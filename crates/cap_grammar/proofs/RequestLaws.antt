@@ -1,94 +1,138 @@
 -- What is read is spelled so, and what is spelled so is read, and no request begins another.
-use Rattle.std.proofs.Common.{◌≡◌, ℕ, List, [], ◌∷◌, ◌++◌, Some, refl, sym, ap, subst, ◌∙◌, arith}
+use Rattle.std.proofs.Common.{◌≡◌, ℕ, zero, suc, List, [], ◌∷◌, ◌++◌, Some, true, refl, sym, ap, subst, ◌∙◌, arith}
 use Rattle.std.specs.Prelude.{Option, Result, Ok, Err, IfOk, IsErrOf, slice_index}
 use Rattle.std.specs.Int.{w32, to_be_bytes}
-use Rattle.std.proofs.lemmas.Bool.{eqb-true}
 use Rattle.std.proofs.lemmas.List.{append-nil}
 use Rattle.cap_base.specs.Limits.{resources}
+use Rattle.cap_vector.specs.Vector.{IsWithin, amount_max}
 use Rattle.cap_model.specs.declared.request.Request.{Request}
 use Rattle.cap_frames.specs.Stream.{IsBytes}
 use Rattle.cap_grammar.specs.declared.fault.MessageFault.{MessageFault}
 use Rattle.cap_grammar.specs.declared.fault.MessageFault.TheVariants as faults
-use Rattle.cap_grammar.specs.Spelling.{kind_of, request_body, FitsRequest, request_bytes, IsRequest, IsNoRequest}
-use Rattle.cap_grammar.specs.Fields.{◌>>=◌, number_at, byte_at, pair_at}
+use Rattle.cap_grammar.specs.Spelling.{resource, kind_of, request_body, FitsRequest, request_bytes, IsRequest, IsNoRequest}
+use Rattle.cap_grammar.specs.declared.head.Head.{Head}
+use Rattle.cap_grammar.specs.Versions.{is_version}
+use Rattle.cap_grammar.specs.Laws.{node_with_two_amounts}
+use Rattle.cap_grammar.specs.Fields.{◌>>=◌, number_at, byte_at, pair_at, amounts_at, amount_at}
+use Rattle.cap_grammar.specs.Bodies.{body_at, register_node_at}
 use Rattle.cap_grammar.specs.Reading.{GivesInMemory, head_at, request_at}
 use Rattle.cap_grammar.proofs.FieldLaws.{AreBytes, bind_then, guard_then, some_is}
-use Rattle.cap_grammar.proofs.RequestFields.{head, FitsHead, is_head}
+use Rattle.cap_grammar.proofs.RequestFields.{head_bytes, FitsHead, is_head}
+use Rattle.cap_grammar.proofs.VersionLaws.{spelled_among, version_small}
 use Rattle.cap_grammar.proofs.SpelledBytes.{one, both, word}
 use Rattle.cap_grammar.proofs.KindLaws.{body_takes, body_again, part_at, part_again, kind_fits, body_bytes}
 
-whole : (bytes rest : List ℕ) (version kind id : ℕ) (r : Request resources) → bytes ≡ head (version, (kind, id)) ++ rest → version ≡ 1 → kind_of r ≡ kind → rest ≡ request_body r → bytes ≡ request_bytes id r
-whole bytes rest version kind id r e v k b = e ∙ rw (v, ← k, b) refl
+whole : {K : ℕ} (bytes rest : List ℕ) (head : Head) (kind : ℕ) (r : Request K) → bytes ≡ head_bytes (head.version, (kind, head.call_id)) ++ rest → kind_of r ≡ kind → rest ≡ request_body head.version r → bytes ≡ request_bytes head r
+whole bytes rest head kind r e k b = e ∙ rw (← k, b) refl
 
-request_takes : (bytes : List ℕ) (id : ℕ) (r : Request resources) → AreBytes bytes → request_at bytes ≡ Some (id, r) → IsRequest bytes id r
+request_takes : (K : ℕ) (bytes : List ℕ) (head : Head) (r : Request K) → AreBytes bytes → request_at K bytes ≡ Some (head, r) → IsRequest bytes head r
 unfolding request_at
-request_takes bytes id r fits e =
+request_takes K bytes head r fits e =
     bind_then _ _ _ e (λ h at_head e'.
     let t = is_head.takes bytes h.0 h.1 fits at_head in
     let g = guard_then _ _ _ e' in
     bind_then _ _ _ g.1 (λ q at_body e''.
-    let b = body_takes h.0.1.0 h.1 q t.0.rest_fits at_body in
-    let made : ℕ × Request resources = (h.0.1.1, q) in
-    let same : made ≡ (id, r) = cc (e'') in
-    subst (λ (p : ℕ × Request resources). IsRequest bytes p.0 p.1) same (record {
-      spelled = whole bytes h.1 h.0.0 h.0.1.0 h.0.1.1 q t.0.parts (eqb-true h.0.0 1 g.0) b.kind_is b.spelled;
+    let b = body_takes K h.0.0 (spelled_among K h.0.0 g.0) h.0.1.0 h.1 q t.0.rest_fits at_body in
+    let found : Head = record { version = h.0.0; call_id = h.0.1.1 } in
+    let made : Head × Request K = (found, q) in
+    let same : made ≡ (head, r) = cc (e'') in
+    subst (λ (p : Head × Request K). IsRequest bytes p.0 p.1) same (record {
+      spelled = whole bytes h.1 found h.0.1.0 q t.0.parts b.kind_is b.spelled;
+      version_fits = g.0;
       id_fits = t.1.1.1;
       fits = b.fits;
     })))
 
-request_again : (bytes : List ℕ) (id : ℕ) (r : Request resources) → IsRequest bytes id r → request_at bytes ≡ Some (id, r)
+request_again : (K : ℕ) (bytes : List ℕ) (head : Head) (r : Request K) → IsRequest bytes head r → request_at K bytes ≡ Some (head, r)
 unfolding request_at
-request_again bytes id r is =
-    let h : ℕ × (ℕ × ℕ) = (1, (kind_of r, id)) in
-    let ok : FitsHead h = (omega arith, (kind_fits r, is.id_fits)) in
-    ap request_at is.spelled ∙ rw (is_head.again h (request_body r) ok, body_again r is.fits) refl
+request_again K bytes head r is =
+    let h : ℕ × (ℕ × ℕ) = (head.version, (kind_of r, head.call_id)) in
+    let ok : FitsHead h = (version_small K head.version is.version_fits, (kind_fits r, is.id_fits)) in
+    let le = spelled_among K head.version is.version_fits in
+    ap (request_at K) is.spelled ∙ rw (is_head.again h (request_body head.version r) ok, is.version_fits, body_again K head.version le r is.fits) refl
 
 -- no two requests share a spelling
-pub one_request : (bytes : List ℕ) (id id' : ℕ) (request request' : Request resources) → IsRequest bytes id request → IsRequest bytes id' request' → (id ≡ id') × (request ≡ request')
-one_request bytes id id' request request' is is' =
-    let same : (id, request) ≡ (id', request') = some_is (id, request) (id', request') (request_at bytes) (request_again bytes id request is) (request_again bytes id' request' is') in
-    (ap (λ (p : ℕ × Request resources). p.0) same, ap (λ (p : ℕ × Request resources). p.1) same)
+pub one_request : (K : ℕ) (bytes : List ℕ) (head head' : Head) (request request' : Request K) → IsRequest bytes head request → IsRequest bytes head' request' → (head ≡ head') × (request ≡ request')
+one_request K bytes head head' request request' is is' =
+    let same : (head, request) ≡ (head', request') = some_is (head, request) (head', request') (request_at K bytes) (request_again K bytes head request is) (request_again K bytes head' request' is') in
+    (ap (λ (p : Head × Request K). p.0) same, ap (λ (p : Head × Request K). p.1) same)
+
+-- so those of one version are none of the other
+pub one_version : (K : ℕ) (bytes : List ℕ) (head head' : Head) (request request' : Request K) → IsRequest bytes head request → IsRequest bytes head' request' → head.version ≡ head'.version
+one_version K bytes head head' request request' is is' = ap (λ (h : Head). h.version) (one_request K bytes head head' request request' is is').0
+
+-- about two resources there are messages of version 1 alone
+pub two_have_one : (bytes : List ℕ) → slice_index bytes 0 ≡ 2 → IsNoRequest 2 bytes
+two_have_one bytes first head request is =
+    let version : head.version ≡ 2 = sym (ap (λ (b : List ℕ). slice_index b 0) is.spelled) ∙ first in
+    let fits : is_version 2 2 ≡ true = subst (λ v. is_version 2 v ≡ true) version is.version_fits in
+    absurd (cc fits)
+
+-- ---- an example
+
+-- two amounts are read in version 1, and are too few in version 2
+pub one_in_version_one : IsRequest {K = 3} (node_with_two_amounts 1) (record { version = 1; call_id = 2 }) (Request.RegisterNode (110 ∷ 49 ∷ []) (47 ∷ 114 ∷ 49 ∷ []) (8192 ∷ 8 ∷ 0 ∷ []))
+unfolding resource
+one_in_version_one = record {
+  spelled = refl;
+  version_fits = refl;
+  id_fits = omega arith;
+  fits = (refl, refl, record { vector = record { count = refl; within = within }; is_shown = refl });
+}
+  where
+    within : IsWithin amount_max (8192 ∷ 8 ∷ 0 ∷ [])
+    within zero = omega arith
+    within (suc zero) = omega arith
+    within (suc (suc zero)) = omega arith
+    within (suc (suc (suc k))) = omega arith
+
+pub none_in_version_two : IsNoRequest 3 (node_with_two_amounts 2)
+unfolding request_at head_at body_at register_node_at amounts_at amount_at
+none_in_version_two head request is = let read = request_again 3 (node_with_two_amounts 2) head request is in absurd (cc read)
 
 -- the request at the front, and the bytes after it
-abbrev front_at : List ℕ → Option ((ℕ × Request resources) × List ℕ)
-front_at bytes = head_at bytes >>= λ h. part_at h.0.1.0 h.1 >>= λ r. Some ((h.0.1.1, r.0), r.1)
+abbrev front_at : (K : ℕ) → List ℕ → Option ((Head × Request K) × List ℕ)
+front_at K bytes = head_at bytes >>= λ h. part_at K h.0.0 h.0.1.0 h.1 >>= λ r. Some ((record { version = h.0.0; call_id = h.0.1.1 }, r.0), r.1)
 
-front_again : (bytes rest : List ℕ) (id : ℕ) (r : Request resources) → IsRequest bytes id r → front_at (bytes ++ rest) ≡ Some ((id, r), rest)
-front_again bytes rest id r is =
-    let h : ℕ × (ℕ × ℕ) = (1, (kind_of r, id)) in
-    let ok : FitsHead h = (omega arith, (kind_fits r, is.id_fits)) in
-    ap (λ (b : List ℕ). front_at (b ++ rest)) is.spelled ∙ rw (is_head.again h (request_body r ++ rest) ok, part_again r rest is.fits) refl
+front_again : {K : ℕ} (bytes rest : List ℕ) (head : Head) (r : Request K) → IsRequest bytes head r → front_at K (bytes ++ rest) ≡ Some ((head, r), rest)
+front_again {K} bytes rest head r is =
+    let h : ℕ × (ℕ × ℕ) = (head.version, (kind_of r, head.call_id)) in
+    let ok : FitsHead h = (version_small K head.version is.version_fits, (kind_fits r, is.id_fits)) in
+    let le = spelled_among K head.version is.version_fits in
+    ap (λ (b : List ℕ). front_at K (b ++ rest)) is.spelled ∙ rw (is_head.again h (request_body head.version r ++ rest) ok, part_again K head.version le r rest is.fits) refl
 
-pub none_begins_another : (bytes rest : List ℕ) (id id' : ℕ) (request request' : Request resources) → IsRequest bytes id request → IsRequest (bytes ++ rest) id' request' → rest ≡ []
-none_begins_another bytes rest id id' request request' is is' =
-    let shorter : front_at (bytes ++ rest) ≡ Some ((id, request), rest) = front_again bytes rest id request is in
-    let longer : front_at (bytes ++ rest) ≡ Some ((id', request'), []) = ap front_at (sym (append-nil (bytes ++ rest))) ∙ front_again (bytes ++ rest) [] id' request' is' in
-    let same : ((id, request), rest) ≡ ((id', request'), []) = some_is ((id, request), rest) ((id', request'), []) (front_at (bytes ++ rest)) shorter longer in
-    ap (λ (p : (ℕ × Request resources) × List ℕ). p.1) same
+pub none_begins_another : (K : ℕ) (bytes rest : List ℕ) (head head' : Head) (request request' : Request K) → IsRequest bytes head request → IsRequest (bytes ++ rest) head' request' → rest ≡ []
+none_begins_another K bytes rest head head' request request' is is' =
+    let shorter : front_at K (bytes ++ rest) ≡ Some ((head, request), rest) = front_again bytes rest head request is in
+    let longer : front_at K (bytes ++ rest) ≡ Some ((head', request'), []) = ap (front_at K) (sym (append-nil (bytes ++ rest))) ∙ front_again (bytes ++ rest) [] head' request' is' in
+    let same : ((head, request), rest) ≡ ((head', request'), []) = some_is ((head, request), rest) ((head', request'), []) (front_at K (bytes ++ rest)) shorter longer in
+    ap (λ (p : (Head × Request K) × List ℕ). p.1) same
 
-pub request_is_bytes : (id : ℕ) (r : Request resources) → FitsRequest r → IsBytes (request_bytes id r)
-request_is_bytes id r fits = one 1 (kind_of r ∷ to_be_bytes w32 id ++ request_body r) (omega arith) (one (kind_of r) (to_be_bytes w32 id ++ request_body r) (kind_fits r) (both (to_be_bytes w32 id) (request_body r) (word id) (body_bytes r fits)))
+pub request_is_bytes : (K : ℕ) (head : Head) (r : Request K) → is_version K head.version ≡ true → FitsRequest head.version r → IsBytes (request_bytes head r)
+request_is_bytes K head r is fits =
+    one head.version (kind_of r ∷ to_be_bytes w32 head.call_id ++ request_body head.version r) (version_small K head.version is)
+    (one (kind_of r) (to_be_bytes w32 head.call_id ++ request_body head.version r) (kind_fits r) (both (to_be_bytes w32 head.call_id) (request_body head.version r) (word head.call_id) (body_bytes head.version r fits)))
 
 -- ---- what a function that reads so returns
 
 abbrev Read : Type 0
-Read = Result (ℕ × Request resources) MessageFault
+Read = Result (Head × Request resources) MessageFault
 
-pub found : (bytes : List ℕ) (result : Read) → AreBytes bytes → GivesInMemory (λ x. (x.0, x.1)) result (request_at bytes) → IfOk result (λ x. IsRequest bytes x.0 x.1)
-found bytes (Ok x) fits h = request_takes bytes x.0 x.1 fits h
+pub found : (bytes : List ℕ) (result : Read) → AreBytes bytes → GivesInMemory (λ x. (x.0, x.1)) result (request_at resources bytes) → IfOk result (λ x. IsRequest bytes x.0 x.1)
+found bytes (Ok x) fits h = request_takes resources bytes x.0 x.1 fits h
 found bytes (Err e) fits h = tt
 
-pub only : (bytes : List ℕ) (result : Read) → GivesInMemory (λ x. (x.0, x.1)) result (request_at bytes) → (id : ℕ) (request : Request resources) → IsRequest bytes id request → IfOk result (λ x. (x.0 ≡ id) × (x.1 ≡ request))
-only bytes (Ok x) h id request is =
-    let e = request_again bytes id request is in
-    let same : (x.0, x.1) ≡ (id, request) = some_is (x.0, x.1) (id, request) (request_at bytes) h e in
-    (ap (λ (p : ℕ × Request resources). p.0) same, ap (λ (p : ℕ × Request resources). p.1) same)
-only bytes (Err e) h id request is = tt
+pub only : (bytes : List ℕ) (result : Read) → GivesInMemory (λ x. (x.0, x.1)) result (request_at resources bytes) → (head : Head) (request : Request resources) → IsRequest bytes head request → IfOk result (λ x. (x.0 ≡ head) × (x.1 ≡ request))
+only bytes (Ok x) h head request is =
+    let e = request_again resources bytes head request is in
+    let same : (x.0, x.1) ≡ (head, request) = some_is (x.0, x.1) (head, request) (request_at resources bytes) h e in
+    (ap (λ (p : Head × Request resources). p.0) same, ap (λ (p : Head × Request resources). p.1) same)
+only bytes (Err e) h head request is = tt
 
-pub bad : (bytes : List ℕ) (result : Read) → GivesInMemory (λ x. (x.0, x.1)) result (request_at bytes) → IsErrOf result faults.Bad → IsNoRequest bytes
-bad bytes (Ok x) h is_bad id request is = absurd (cc (is_bad))
-bad bytes (Err faults.Bad) h is_bad id request is = let e = request_again bytes id request is in absurd (cc (h, e))
-bad bytes (Err faults.NoMemory) h is_bad id request is = absurd (cc (is_bad))
+pub bad : (bytes : List ℕ) (result : Read) → GivesInMemory (λ x. (x.0, x.1)) result (request_at resources bytes) → IsErrOf result faults.Bad → IsNoRequest resources bytes
+bad bytes (Ok x) h is_bad head request is = absurd (cc (is_bad))
+bad bytes (Err faults.Bad) h is_bad head request is = let e = request_again resources bytes head request is in absurd (cc (h, e))
+bad bytes (Err faults.NoMemory) h is_bad head request is = absurd (cc (is_bad))
 
 -- the kind is the second byte
 pub second_is_kind : (bytes : List ℕ) (h : ℕ × (ℕ × ℕ)) (rest : List ℕ) → head_at bytes ≡ Some (h, rest) → slice_index bytes 1 ≡ h.1.0

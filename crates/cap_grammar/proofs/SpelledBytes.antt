@@ -16,8 +16,7 @@ use Rattle.cap_model.specs.declared.report.ClusterReport.{ClusterReport}
 use Rattle.cap_model.specs.declared.news.End.{End}
 use Rattle.cap_model.specs.declared.news.Cause.{Cause}
 use Rattle.cap_model.specs.declared.replies.HeartbeatReply.{HeartbeatReply}
-use Rattle.cap_base.specs.Limits.{news_max, resources}
-use Rattle.cap_grammar.specs.Shown.{amounts_spelled}
+use Rattle.cap_base.specs.Limits.{news_max}
 use Rattle.cap_grammar.specs.Spelling.{list_bytes, FitsListed, ask, FitsAsk, counted_list, grant, FitsGrant, end, FitsEnd, allocate_bytes, FitsAllocated, beat, text, resource, flag, limit, queue_report, cluster_report}
 use Rattle.cap_frames.specs.Stream.{IsBytes}
 
@@ -70,32 +69,32 @@ pub a_flag : (holds : Bool) → IsBytes (flag holds)
 a_flag false = one 0 [] (omega arith) (All-nil Small)
 a_flag true = one 1 [] (omega arith) (All-nil Small)
 
-a_limit : (maximum : Option (List ℕ)) → IsBytes (limit maximum)
-a_limit maximum = both (flag (is_some maximum)) (resource amounts_spelled (unwrap_or maximum (zeros resources))) (a_flag (is_some maximum)) (amounts amounts_spelled (unwrap_or maximum (zeros resources)))
+a_limit : (K n : ℕ) (maximum : Option (List ℕ)) → IsBytes (limit K n maximum)
+a_limit K n maximum = both (flag (is_some maximum)) (resource n (unwrap_or maximum (zeros K))) (a_flag (is_some maximum)) (amounts n (unwrap_or maximum (zeros K)))
 
-pub a_queue : (r : QueueReport resources) → IsBytes (queue_report r)
+pub a_queue : {K : ℕ} (n : ℕ) (r : QueueReport K) → IsBytes (queue_report n r)
 unfolding queue_report
-a_queue r =
+a_queue {K} n r =
     let flags = flag r.running ++ flag r.leaf in
-    both (flags ++ resource amounts_spelled r.guaranteed ++ limit r.maximum ++ resource amounts_spelled r.used) (to_be_bytes w32 r.apps)
-    (both (flags ++ resource amounts_spelled r.guaranteed ++ limit r.maximum) (resource amounts_spelled r.used)
-    (both (flags ++ resource amounts_spelled r.guaranteed) (limit r.maximum)
-    (both flags (resource amounts_spelled r.guaranteed) (both (flag r.running) (flag r.leaf) (a_flag r.running) (a_flag r.leaf)) (amounts amounts_spelled r.guaranteed))
-    (a_limit r.maximum))
-    (amounts amounts_spelled r.used))
+    both (flags ++ resource n r.guaranteed ++ limit K n r.maximum ++ resource n r.used) (to_be_bytes w32 r.apps)
+    (both (flags ++ resource n r.guaranteed ++ limit K n r.maximum) (resource n r.used)
+    (both (flags ++ resource n r.guaranteed) (limit K n r.maximum)
+    (both flags (resource n r.guaranteed) (both (flag r.running) (flag r.leaf) (a_flag r.running) (a_flag r.leaf)) (amounts n r.guaranteed))
+    (a_limit K n r.maximum))
+    (amounts n r.used))
     (word r.apps)
 
-pub a_cluster : (r : ClusterReport resources) → IsBytes (cluster_report r)
+pub a_cluster : {K : ℕ} (n : ℕ) (r : ClusterReport K) → IsBytes (cluster_report n r)
 unfolding cluster_report
-a_cluster r =
+a_cluster n r =
     let counts = to_be_bytes w32 r.nodes ++ to_be_bytes w32 r.apps ++ to_be_bytes w32 r.containers in
-    both (counts ++ resource amounts_spelled r.totals) (resource amounts_spelled r.used)
-    (both counts (resource amounts_spelled r.totals)
+    both (counts ++ resource n r.totals) (resource n r.used)
+    (both counts (resource n r.totals)
     (both (to_be_bytes w32 r.nodes ++ to_be_bytes w32 r.apps) (to_be_bytes w32 r.containers)
     (both (to_be_bytes w32 r.nodes) (to_be_bytes w32 r.apps) (word r.nodes) (word r.apps))
     (word r.containers))
-    (amounts amounts_spelled r.totals))
-    (amounts amounts_spelled r.used)
+    (amounts n r.totals))
+    (amounts n r.used)
 
 pub two : (n : ℕ) → IsBytes (to_be_bytes w16 n)
 two n = All-from_recursion Small (to_be_bytes w16 n) (small _, (small _, tt))
@@ -108,25 +107,25 @@ pub a_list : {A : Type 0} (w : Width) → ((n : ℕ) → IsBytes (to_be_bytes w 
 unfolding list_bytes
 a_list w number most spell F is xs fits = both (to_be_bytes w (length xs)) (flat_map spell xs) (number (length xs)) (each_of spell F is xs fits.each)
 
-pub an_ask : (a : Ask) → FitsAsk a → IsBytes (ask a)
+pub an_ask : (K n : ℕ) (a : Ask) → FitsAsk K n a → IsBytes (ask n a)
 unfolding ask
-an_ask a fits =
-    both (to_be_bytes w32 a.key.priority) (to_be_bytes w64 a.key.request ++ (to_be_bytes w32 a.count ++ (resource amounts_spelled a.resource ++ text a.place))) (word a.key.priority)
-    (both (to_be_bytes w64 a.key.request) (to_be_bytes w32 a.count ++ (resource amounts_spelled a.resource ++ text a.place)) (long a.key.request)
-    (both (to_be_bytes w32 a.count) (resource amounts_spelled a.resource ++ text a.place) (word a.count)
-    (both (resource amounts_spelled a.resource) (text a.place) (amounts amounts_spelled a.resource) (a_text 64 a.place (omega arith) fits.place))))
+an_ask K n a fits =
+    both (to_be_bytes w32 a.key.priority) (to_be_bytes w64 a.key.request ++ (to_be_bytes w32 a.count ++ (resource n a.resource ++ text a.place))) (word a.key.priority)
+    (both (to_be_bytes w64 a.key.request) (to_be_bytes w32 a.count ++ (resource n a.resource ++ text a.place)) (long a.key.request)
+    (both (to_be_bytes w32 a.count) (resource n a.resource ++ text a.place) (word a.count)
+    (both (resource n a.resource) (text a.place) (amounts n a.resource) (a_text 64 a.place (omega arith) fits.place))))
 
 a_told : {A : Type 0} (spell : A → List ℕ) (F : A → Type 0) → ((x : A) → F x → IsBytes (spell x)) → (xs : List A) → FitsListed news_max F xs → IsBytes (counted_list spell xs)
 a_told spell F is xs fits = let few : length xs ≤ 64 = fits.few in one (length xs) (flat_map spell xs) (omega (arith, few)) (each_of spell F is xs fits.each)
 
-a_grant : (g : Grant) → FitsGrant g → IsBytes (grant g)
+a_grant : (K n : ℕ) (g : Grant) → FitsGrant K g → IsBytes (grant n g)
 unfolding grant
-a_grant g fits =
-    both (to_be_bytes w64 g.container) (to_be_bytes w32 g.key.priority ++ (to_be_bytes w64 g.key.request ++ (to_be_bytes w64 g.node ++ (text g.host ++ resource amounts_spelled g.resource)))) (long g.container)
-    (both (to_be_bytes w32 g.key.priority) (to_be_bytes w64 g.key.request ++ (to_be_bytes w64 g.node ++ (text g.host ++ resource amounts_spelled g.resource))) (word g.key.priority)
-    (both (to_be_bytes w64 g.key.request) (to_be_bytes w64 g.node ++ (text g.host ++ resource amounts_spelled g.resource)) (long g.key.request)
-    (both (to_be_bytes w64 g.node) (text g.host ++ resource amounts_spelled g.resource) (long g.node)
-    (both (text g.host) (resource amounts_spelled g.resource) (a_text 64 g.host (omega arith) fits.host) (amounts amounts_spelled g.resource)))))
+a_grant K n g fits =
+    both (to_be_bytes w64 g.container) (to_be_bytes w32 g.key.priority ++ (to_be_bytes w64 g.key.request ++ (to_be_bytes w64 g.node ++ (text g.host ++ resource n g.resource)))) (long g.container)
+    (both (to_be_bytes w32 g.key.priority) (to_be_bytes w64 g.key.request ++ (to_be_bytes w64 g.node ++ (text g.host ++ resource n g.resource))) (word g.key.priority)
+    (both (to_be_bytes w64 g.key.request) (to_be_bytes w64 g.node ++ (text g.host ++ resource n g.resource)) (long g.key.request)
+    (both (to_be_bytes w64 g.node) (text g.host ++ resource n g.resource) (long g.node)
+    (both (text g.host) (resource n g.resource) (a_text 64 g.host (omega arith) fits.host) (amounts n g.resource)))))
 
 a_cause : (c : Cause) → cause_number c < 256
 a_cause Cause.Released = omega arith
@@ -137,12 +136,12 @@ an_end : (e : End) → FitsEnd e → IsBytes (end e)
 unfolding end
 an_end e fits = both (to_be_bytes w64 e.container) (cause_number e.cause ∷ []) (long e.container) (one (cause_number e.cause) [] (a_cause e.cause) (All-nil Small))
 
-pub an_allocated : (r : AllocateReply) → FitsAllocated r → IsBytes (allocate_bytes r)
+pub an_allocated : (K n : ℕ) (r : AllocateReply) → FitsAllocated K r → IsBytes (allocate_bytes n r)
 unfolding allocate_bytes
-an_allocated r fits =
-    both (to_be_bytes w32 r.response) (to_be_bytes w16 r.ignored ++ (counted_list grant r.grants ++ counted_list end r.ends)) (word r.response)
-    (both (to_be_bytes w16 r.ignored) (counted_list grant r.grants ++ counted_list end r.ends) (two r.ignored)
-    (both (counted_list grant r.grants) (counted_list end r.ends) (a_told grant FitsGrant a_grant r.grants fits.grants) (a_told end FitsEnd an_end r.ends fits.ends)))
+an_allocated K n r fits =
+    both (to_be_bytes w32 r.response) (to_be_bytes w16 r.ignored ++ (counted_list (grant n) r.grants ++ counted_list end r.ends)) (word r.response)
+    (both (to_be_bytes w16 r.ignored) (counted_list (grant n) r.grants ++ counted_list end r.ends) (two r.ignored)
+    (both (counted_list (grant n) r.grants) (counted_list end r.ends) (a_told (grant n) (FitsGrant K) (a_grant K n) r.grants fits.grants) (a_told end FitsEnd an_end r.ends fits.ends)))
 
 pub a_beat : (r : HeartbeatReply) → IsBytes (beat r)
 unfolding beat

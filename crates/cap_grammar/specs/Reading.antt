@@ -1,12 +1,13 @@
 -- Reading a request from left to right.
-use Rattle.std.specs.Prelude.{◌≡◌, ℕ, List, Option, Some, None, Result, Ok, Err, ◌==◌, if◌then◌else◌, drop, slice_index}
+use Rattle.std.specs.Prelude.{◌≡◌, ◌⊎◌, ℕ, List, Option, Some, None, Result, Ok, Err, if◌then◌else◌, drop, slice_index}
 use Rattle.std.specs.Int.{w32}
-use Rattle.cap_base.specs.Limits.{resources}
 use Rattle.cap_model.specs.declared.request.Request.{Request}
 use Rattle.cap_grammar.specs.declared.fault.MessageFault.{MessageFault}
 use Rattle.cap_grammar.specs.declared.fault.MessageFault.TheVariants as faults
 use Rattle.cap_grammar.specs.Fields.{◌>>=◌, pair_at, byte_at, number_at}
 use Rattle.cap_grammar.specs.Bodies.{ListsItems, body_at}
+use Rattle.cap_grammar.specs.declared.head.Head.{Head}
+use Rattle.cap_grammar.specs.Versions.{is_version}
 
 -- nothing is known of a reading for which memory ran out
 abbrev pub FailsInMemory : {Y : Type 0} → MessageFault → Option Y → Type 0
@@ -18,16 +19,16 @@ abbrev pub GivesInMemory : {X Y : Type 0} → (X → Y) → Result X MessageFaul
 GivesInMemory view (Ok x) read = read ≡ Some (view x)
 GivesInMemory view (Err e) read = FailsInMemory e read
 
--- a payload of version 1 with such a list, whatever follows
+-- a payload of version 1 or 2 with such a list, whatever follows: where a list begins does not depend on the version
 abbrev pub CarriesItems : List ℕ → Type 0
-CarriesItems bytes = (slice_index bytes 0 ≡ 1) × ListsItems (slice_index bytes 1) (drop 6 bytes)
+CarriesItems bytes = ((slice_index bytes 0 ≡ 1) ⊎ (slice_index bytes 0 ≡ 2)) × ListsItems (slice_index bytes 1) (drop 6 bytes)
 
 -- version, kind and call id
 unfoldable pub head_at : List ℕ → Option ((ℕ × (ℕ × ℕ)) × List ℕ)
 head_at bytes = pair_at byte_at (pair_at byte_at (number_at w32)) bytes
 
--- the call id and the request, all of the bytes
-unfoldable pub request_at : List ℕ → Option (ℕ × Request resources)
-request_at bytes = do
+-- the head and the request, all of the bytes
+unfoldable pub request_at : (K : ℕ) → List ℕ → Option (Head × Request K)
+request_at K bytes = do
   head ← head_at bytes
-  if head.0.0 == 1 then (body_at head.0.1.0 head.1 >>= λ request. Some (head.0.1.1, request)) else None
+  if is_version K head.0.0 then (body_at K head.0.0 head.0.1.0 head.1 >>= λ request. Some (record { version = head.0.0; call_id = head.0.1.1 }, request)) else None

@@ -6,10 +6,6 @@ use Rattle.cap_model.specs.declared.report.QueueReport.{QueueReport}
 use Rattle.cap_model.specs.declared.report.ClusterReport.{ClusterReport}
 use Rattle.cap_model.specs.declared.reply.ReplyWith.TheVariants as Reply
 
--- how many amounts of a vector are spelled in version 1: memory and vcores
-abbrev pub amounts_spelled : ℕ
-amounts_spelled = 2
-
 -- the first n amounts of a vector, and 0 in place of the others
 abbrev pub shown_amounts : ℕ → List ℕ → List ℕ
 shown_amounts n v = take n v ++ zeros (length v - n)

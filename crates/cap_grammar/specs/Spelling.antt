@@ -5,7 +5,7 @@ use Rattle.std.specs.Int.{Width, w16, w32, w64, to_be_bytes}
 use Rattle.cap_vector.specs.Vector.{IsResource, IsSum, amount_max, zeros}
 use Rattle.cap_model.specs.Refusals.{status_of}
 use Rattle.cap_model.specs.Asks.{Ask}
-use Rattle.cap_base.specs.Limits.{asks_max, numbers_max, news_max, resources, text_max}
+use Rattle.cap_base.specs.Limits.{asks_max, numbers_max, news_max, text_max}
 use Rattle.cap_model.specs.News.{Grant, AllocateReply, cause_number, Reply}
 use Rattle.cap_model.specs.declared.news.End.{End}
 use Rattle.cap_model.specs.declared.replies.HeartbeatReply.{HeartbeatReply}
@@ -14,8 +14,10 @@ use Rattle.cap_model.specs.declared.report.ClusterReport.{ClusterReport}
 use Rattle.cap_model.specs.declared.refusal.Refusal.{Refusal}
 use Rattle.cap_model.specs.declared.request.Request.{Request}
 use Rattle.cap_model.specs.declared.reply.ReplyWith.TheVariants as Reply
-use Rattle.cap_grammar.specs.Shown.{amounts_spelled, IsShownVector}
+use Rattle.cap_grammar.specs.declared.head.Head.{Head}
+use Rattle.cap_grammar.specs.Shown.{IsShownVector}
 use Rattle.cap_grammar.specs.Texts.{is_host, is_rack, is_path, is_user, is_place}
+use Rattle.cap_grammar.specs.Versions.{amounts_in, is_version}
 
 -- a text: its length and its bytes
 abbrev pub text : List ℕ → List ℕ
@@ -25,17 +27,13 @@ text bytes = length bytes ∷ bytes
 unfoldable pub resource : ℕ → List ℕ → List ℕ
 resource n amounts = flat_map (to_be_bytes w64) (take n amounts)
 
--- a resource vector whose amounts are all spelled, or 0
-abbrev pub IsSpelledResource : List ℕ → Type 0
-IsSpelledResource v = IsShownVector resources amounts_spelled amount_max v
-
 -- a byte that is 1 or 0
 abbrev pub flag : Bool → List ℕ
 flag holds = (if holds then 1 else 0) ∷ []
 
--- whether there is a maximum, and the maximum, zeros where there is none
-abbrev pub limit : Option (List ℕ) → List ℕ
-limit maximum = flag (is_some maximum) ++ resource amounts_spelled (unwrap_or maximum (zeros resources))
+-- whether there is a maximum, and the first n of its K amounts, zeros where there is none
+abbrev pub limit : ℕ → ℕ → Option (List ℕ) → List ℕ
+limit K n maximum = flag (is_some maximum) ++ resource n (unwrap_or maximum (zeros K))
 
 -- ---- requests
 
@@ -48,15 +46,15 @@ pub record FitsListed {A : Type 0} (most : ℕ) (Fits : A → Type 0) (xs : List
   pub few : length xs ≤ most
   pub each : AllByRecursion Fits xs
 
--- priority, request id, count, resource and place
-unfoldable pub ask : Ask → List ℕ
-ask a = to_be_bytes w32 a.key.priority ++ (to_be_bytes w64 a.key.request ++ (to_be_bytes w32 a.count ++ (resource amounts_spelled a.resource ++ text a.place)))
+-- priority, request id, count, the first n amounts and place
+unfoldable pub ask : ℕ → Ask → List ℕ
+ask n a = to_be_bytes w32 a.key.priority ++ (to_be_bytes w64 a.key.request ++ (to_be_bytes w32 a.count ++ (resource n a.resource ++ text a.place)))
 
-pub record FitsAsk (a : Ask) : Type 0 where
+pub record FitsAsk (K n : ℕ) (a : Ask) : Type 0 where
   pub priority : a.key.priority < 2 ^ 32
   pub request : a.key.request < 2 ^ 64
   pub count : a.count < 2 ^ 32
-  pub resource : IsSpelledResource a.resource
+  pub resource : IsShownVector K n amount_max a.resource
   pub place : is_place a.place ≡ true
 
 abbrev pub FitsNumber : ℕ → Type 0
@@ -69,7 +67,8 @@ byte b = b ∷ []
 abbrev pub FitsByte : ℕ → Type 0
 FitsByte b = b < 256
 
-abbrev pub kind_of : Request resources → ℕ
+-- the number of a request's kind
+abbrev pub kind_of : {K : ℕ} → Request K → ℕ
 kind_of (Request.Submit path user) = 1
 kind_of (Request.RegisterMaster app) = 2
 kind_of (Request.Allocate app response asks releases) = 3
@@ -82,86 +81,89 @@ kind_of (Request.SetQueueState path running) = 9
 kind_of Request.ClusterInfo = 10
 kind_of (Request.Refresh text) = 11
 
-abbrev pub request_body : Request resources → List ℕ
-request_body (Request.Submit path user) = text path ++ text user
-request_body (Request.RegisterMaster app) = to_be_bytes w64 app
-request_body (Request.Allocate app response asks releases) = to_be_bytes w64 app ++ (to_be_bytes w32 response ++ (list_bytes w16 ask asks ++ list_bytes w16 (to_be_bytes w64) releases))
-request_body (Request.FinishMaster app) = to_be_bytes w64 app
-request_body (Request.RegisterNode host rack total) = text host ++ (text rack ++ resource amounts_spelled total)
-request_body (Request.Heartbeat node response ended) = to_be_bytes w64 node ++ (to_be_bytes w32 response ++ list_bytes w16 (to_be_bytes w64) ended)
-request_body (Request.NodeGone node) = to_be_bytes w64 node
-request_body (Request.QueueInfo path) = text path
-request_body (Request.SetQueueState path running) = text path ++ flag running
-request_body Request.ClusterInfo = []
-request_body (Request.Refresh text) = list_bytes w32 byte text
+-- what follows the head of a request in this version
+abbrev pub request_body : {K : ℕ} → ℕ → Request K → List ℕ
+request_body version (Request.Submit path user) = text path ++ text user
+request_body version (Request.RegisterMaster app) = to_be_bytes w64 app
+request_body version (Request.Allocate app response asks releases) = to_be_bytes w64 app ++ (to_be_bytes w32 response ++ (list_bytes w16 (ask (amounts_in version)) asks ++ list_bytes w16 (to_be_bytes w64) releases))
+request_body version (Request.FinishMaster app) = to_be_bytes w64 app
+request_body version (Request.RegisterNode host rack total) = text host ++ (text rack ++ resource (amounts_in version) total)
+request_body version (Request.Heartbeat node response ended) = to_be_bytes w64 node ++ (to_be_bytes w32 response ++ list_bytes w16 (to_be_bytes w64) ended)
+request_body version (Request.NodeGone node) = to_be_bytes w64 node
+request_body version (Request.QueueInfo path) = text path
+request_body version (Request.SetQueueState path running) = text path ++ flag running
+request_body version Request.ClusterInfo = []
+request_body version (Request.Refresh text) = list_bytes w32 byte text
 
--- its texts and numbers are within their bounds
-abbrev pub FitsRequest : Request resources → Type 0
-FitsRequest (Request.Submit path user) = (is_path path ≡ true) × (is_user user ≡ true)
-FitsRequest (Request.RegisterMaster app) = app < 2 ^ 64
-FitsRequest (Request.Allocate app response asks releases) =
-    (app < 2 ^ 64) × (response < 2 ^ 32) × FitsListed asks_max FitsAsk asks × FitsListed numbers_max FitsNumber releases
-FitsRequest (Request.FinishMaster app) = app < 2 ^ 64
-FitsRequest (Request.RegisterNode host rack total) = (is_host host ≡ true) × (is_rack rack ≡ true) × IsSpelledResource total
-FitsRequest (Request.Heartbeat node response ended) = (node < 2 ^ 64) × (response < 2 ^ 32) × FitsListed numbers_max FitsNumber ended
-FitsRequest (Request.NodeGone node) = node < 2 ^ 64
-FitsRequest (Request.QueueInfo path) = is_path path ≡ true
-FitsRequest (Request.SetQueueState path running) = is_path path ≡ true
-FitsRequest Request.ClusterInfo = Unit {0}
-FitsRequest (Request.Refresh text) = FitsListed text_max FitsByte text
+-- its texts and numbers are within their bounds, and amounts that the version does not spell are 0
+abbrev pub FitsRequest : {K : ℕ} → ℕ → Request K → Type 0
+FitsRequest version (Request.Submit path user) = (is_path path ≡ true) × (is_user user ≡ true)
+FitsRequest version (Request.RegisterMaster app) = app < 2 ^ 64
+FitsRequest {K} version (Request.Allocate app response asks releases) =
+    (app < 2 ^ 64) × (response < 2 ^ 32) × FitsListed asks_max (FitsAsk K (amounts_in version)) asks × FitsListed numbers_max FitsNumber releases
+FitsRequest version (Request.FinishMaster app) = app < 2 ^ 64
+FitsRequest {K} version (Request.RegisterNode host rack total) = (is_host host ≡ true) × (is_rack rack ≡ true) × IsShownVector K (amounts_in version) amount_max total
+FitsRequest version (Request.Heartbeat node response ended) = (node < 2 ^ 64) × (response < 2 ^ 32) × FitsListed numbers_max FitsNumber ended
+FitsRequest version (Request.NodeGone node) = node < 2 ^ 64
+FitsRequest version (Request.QueueInfo path) = is_path path ≡ true
+FitsRequest version (Request.SetQueueState path running) = is_path path ≡ true
+FitsRequest version Request.ClusterInfo = Unit {0}
+FitsRequest version (Request.Refresh text) = FitsListed text_max FitsByte text
 
 -- version, kind, call id and body
-abbrev pub request_bytes : ℕ → Request resources → List ℕ
-request_bytes id request = 1 ∷ kind_of request ∷ to_be_bytes w32 id ++ request_body request
+abbrev pub request_bytes : {K : ℕ} → Head → Request K → List ℕ
+request_bytes head request = head.version ∷ kind_of request ∷ to_be_bytes w32 head.call_id ++ request_body head.version request
 
 -- the bytes spell the request
-pub record IsRequest (bytes : List ℕ) (id : ℕ) (request : Request resources) : Type 0 where
-  pub spelled : bytes ≡ request_bytes id request
-  pub id_fits : id < 2 ^ 32
-  pub fits : FitsRequest request
+pub record IsRequest {K : ℕ} (bytes : List ℕ) (head : Head) (request : Request K) : Type 0 where
+  pub spelled : bytes ≡ request_bytes head request
+  pub version_fits : is_version K head.version ≡ true
+  pub id_fits : head.call_id < 2 ^ 32
+  pub fits : FitsRequest head.version request
 
-abbrev pub IsNoRequest : List ℕ → Type 0
-IsNoRequest bytes = (id : ℕ) (request : Request resources) → IsRequest bytes id request → ⊥
+-- the bytes spell no request about K resources, in no version
+abbrev pub IsNoRequest : ℕ → List ℕ → Type 0
+IsNoRequest K bytes = (head : Head) (request : Request K) → IsRequest bytes head request → ⊥
 
 -- ---- replies
 
 -- whether it runs, whether it is a leaf, guarantee, maximum, use and active applications of a queue
-unfoldable pub queue_report : QueueReport resources → List ℕ
-queue_report r = flag r.running ++ flag r.leaf ++ resource amounts_spelled r.guaranteed ++ limit r.maximum ++ resource amounts_spelled r.used ++ to_be_bytes w32 r.apps
+unfoldable pub queue_report : {K : ℕ} → ℕ → QueueReport K → List ℕ
+queue_report {K} n r = flag r.running ++ flag r.leaf ++ resource n r.guaranteed ++ limit K n r.maximum ++ resource n r.used ++ to_be_bytes w32 r.apps
 
-pub record FitsQueueReport (r : QueueReport resources) : Type 0 where
-  pub guaranteed : IsResource resources r.guaranteed
-  pub maximum : IfSome r.maximum (IsResource resources)
-  pub used : IsSum resources r.used
+pub record FitsQueueReport {K : ℕ} (r : QueueReport K) : Type 0 where
+  pub guaranteed : IsResource K r.guaranteed
+  pub maximum : IfSome r.maximum (IsResource K)
+  pub used : IsSum K r.used
   pub apps : r.apps < 2 ^ 32
 
 -- how many nodes, active applications and live containers, what the nodes have, and what is used
-unfoldable pub cluster_report : ClusterReport resources → List ℕ
-cluster_report r = to_be_bytes w32 r.nodes ++ to_be_bytes w32 r.apps ++ to_be_bytes w32 r.containers ++ resource amounts_spelled r.totals ++ resource amounts_spelled r.used
+unfoldable pub cluster_report : {K : ℕ} → ℕ → ClusterReport K → List ℕ
+cluster_report n r = to_be_bytes w32 r.nodes ++ to_be_bytes w32 r.apps ++ to_be_bytes w32 r.containers ++ resource n r.totals ++ resource n r.used
 
-pub record FitsClusterReport (r : ClusterReport resources) : Type 0 where
+pub record FitsClusterReport {K : ℕ} (r : ClusterReport K) : Type 0 where
   pub nodes : r.nodes < 2 ^ 32
   pub apps : r.apps < 2 ^ 32
   pub containers : r.containers < 2 ^ 32
-  pub totals : IsResource resources r.totals
-  pub used : IsSum resources r.used
+  pub totals : IsResource K r.totals
+  pub used : IsSum K r.used
 
 -- a list with its length before it in one byte
 abbrev pub counted_list : {A : Type 0} → (A → List ℕ) → List A → List ℕ
 counted_list spell xs = length xs ∷ flat_map spell xs
 
 -- container, key, node, host and resource
-unfoldable pub grant : Grant → List ℕ
-grant g =
-    to_be_bytes w64 g.container ++ (to_be_bytes w32 g.key.priority ++ (to_be_bytes w64 g.key.request ++ (to_be_bytes w64 g.node ++ (text g.host ++ resource amounts_spelled g.resource))))
+unfoldable pub grant : ℕ → Grant → List ℕ
+grant n g =
+    to_be_bytes w64 g.container ++ (to_be_bytes w32 g.key.priority ++ (to_be_bytes w64 g.key.request ++ (to_be_bytes w64 g.node ++ (text g.host ++ resource n g.resource))))
 
-pub record FitsGrant (g : Grant) : Type 0 where
+pub record FitsGrant (K : ℕ) (g : Grant) : Type 0 where
   pub container : g.container < 2 ^ 64
   pub priority : g.key.priority < 2 ^ 32
   pub request : g.key.request < 2 ^ 64
   pub node : g.node < 2 ^ 64
   pub host : is_place g.host ≡ true
-  pub resource : IsResource resources g.resource
+  pub resource : IsResource K g.resource
 
 -- container and cause
 unfoldable pub end : End → List ℕ
@@ -171,13 +173,13 @@ abbrev pub FitsEnd : End → Type 0
 FitsEnd e = e.container < 2 ^ 64
 
 -- the new response id, how many were ignored, grants and ends
-unfoldable pub allocate_bytes : AllocateReply → List ℕ
-allocate_bytes r = to_be_bytes w32 r.response ++ (to_be_bytes w16 r.ignored ++ (counted_list grant r.grants ++ counted_list end r.ends))
+unfoldable pub allocate_bytes : ℕ → AllocateReply → List ℕ
+allocate_bytes n r = to_be_bytes w32 r.response ++ (to_be_bytes w16 r.ignored ++ (counted_list (grant n) r.grants ++ counted_list end r.ends))
 
-pub record FitsAllocated (r : AllocateReply) : Type 0 where
+pub record FitsAllocated (K : ℕ) (r : AllocateReply) : Type 0 where
   pub response : r.response < 2 ^ 32
   pub ignored : r.ignored < 2 ^ 16
-  pub grants : FitsListed news_max FitsGrant r.grants
+  pub grants : FitsListed news_max (FitsGrant K) r.grants
   pub ends : FitsListed news_max FitsEnd r.ends
 
 -- the new response id, how many were ignored, and how many live
@@ -202,27 +204,27 @@ abbrev pub FitsRefusal : Refusal → Type 0
 FitsRefusal (Refusal.BadSettings line number) = (line < 2 ^ 32) × FitsByte number
 FitsRefusal _ = Unit {0}
 
--- the status, which is 0 or a refusal's number, and what follows it
-abbrev pub reply_body : Reply resources → List ℕ
-reply_body (Reply.Refused refusal) = refusal_bytes refusal
-reply_body (Reply.Submit app) = 0 ∷ to_be_bytes w64 app
-reply_body (Reply.RegisterMaster minimum maximum) = 0 ∷ resource amounts_spelled minimum ++ resource amounts_spelled maximum
-reply_body (Reply.Allocate reply) = 0 ∷ allocate_bytes reply
-reply_body (Reply.FinishMaster ended) = 0 ∷ to_be_bytes w32 ended
-reply_body (Reply.RegisterNode node) = 0 ∷ to_be_bytes w64 node
-reply_body (Reply.Heartbeat reply) = 0 ∷ beat reply
-reply_body (Reply.NodeGone ended) = 0 ∷ to_be_bytes w32 ended
-reply_body (Reply.QueueInfo report) = 0 ∷ queue_report report
-reply_body Reply.SetQueueState = 0 ∷ []
-reply_body (Reply.ClusterInfo report) = 0 ∷ cluster_report report
-reply_body Reply.Refresh = 0 ∷ []
+-- the status, which is 0 or a refusal's number, and what follows it in this version
+abbrev pub reply_body : {K : ℕ} → ℕ → Reply K → List ℕ
+reply_body version (Reply.Refused refusal) = refusal_bytes refusal
+reply_body version (Reply.Submit app) = 0 ∷ to_be_bytes w64 app
+reply_body version (Reply.RegisterMaster minimum maximum) = 0 ∷ resource (amounts_in version) minimum ++ resource (amounts_in version) maximum
+reply_body version (Reply.Allocate reply) = 0 ∷ allocate_bytes (amounts_in version) reply
+reply_body version (Reply.FinishMaster ended) = 0 ∷ to_be_bytes w32 ended
+reply_body version (Reply.RegisterNode node) = 0 ∷ to_be_bytes w64 node
+reply_body version (Reply.Heartbeat reply) = 0 ∷ beat reply
+reply_body version (Reply.NodeGone ended) = 0 ∷ to_be_bytes w32 ended
+reply_body version (Reply.QueueInfo report) = 0 ∷ queue_report (amounts_in version) report
+reply_body version Reply.SetQueueState = 0 ∷ []
+reply_body version (Reply.ClusterInfo report) = 0 ∷ cluster_report (amounts_in version) report
+reply_body version Reply.Refresh = 0 ∷ []
 
--- a reply under the call id and the kind of its request
-abbrev pub reply_bytes : ℕ → ℕ → Reply resources → List ℕ
-reply_bytes id kind reply = 1 ∷ kind ∷ to_be_bytes w32 id ++ reply_body reply
+-- a reply under the head and the kind of its request
+abbrev pub reply_bytes : {K : ℕ} → Head → ℕ → Reply K → List ℕ
+reply_bytes head kind reply = head.version ∷ kind ∷ to_be_bytes w32 head.call_id ++ reply_body head.version reply
 
 -- a refusal, or a reply of this kind
-abbrev pub IsOfKind : ℕ → Reply resources → Type 0
+abbrev pub IsOfKind : {K : ℕ} → ℕ → Reply K → Type 0
 IsOfKind kind (Reply.Refused refusal) = Unit {0}
 IsOfKind kind (Reply.Submit app) = kind ≡ 1
 IsOfKind kind (Reply.RegisterMaster minimum maximum) = kind ≡ 2
@@ -237,11 +239,11 @@ IsOfKind kind (Reply.ClusterInfo report) = kind ≡ 10
 IsOfKind kind Reply.Refresh = kind ≡ 11
 
 -- its numbers are within their bounds
-abbrev pub FitsReply : Reply resources → Type 0
+abbrev pub FitsReply : {K : ℕ} → Reply K → Type 0
 FitsReply (Reply.Refused refusal) = FitsRefusal refusal
 FitsReply (Reply.Submit app) = app < 2 ^ 64
-FitsReply (Reply.RegisterMaster minimum maximum) = IsResource resources minimum × IsResource resources maximum
-FitsReply (Reply.Allocate reply) = FitsAllocated reply
+FitsReply {K} (Reply.RegisterMaster minimum maximum) = IsResource K minimum × IsResource K maximum
+FitsReply {K} (Reply.Allocate reply) = FitsAllocated K reply
 FitsReply (Reply.FinishMaster ended) = ended < 2 ^ 32
 FitsReply (Reply.RegisterNode node) = node < 2 ^ 64
 FitsReply (Reply.Heartbeat reply) = FitsBeat reply
@@ -251,14 +253,15 @@ FitsReply Reply.SetQueueState = Unit {0}
 FitsReply (Reply.ClusterInfo report) = FitsClusterReport report
 FitsReply Reply.Refresh = Unit {0}
 
--- the number of a request's kind
+-- the number of a kind
 abbrev pub IsKind : ℕ → Type 0
 IsKind kind = (1 ≤ kind) × (kind ≤ 11)
 
--- the bytes spell the reply to a request of this call id and kind
-pub record IsReply (bytes : List ℕ) (id kind : ℕ) (reply : Reply resources) : Type 0 where
-  pub spelled : bytes ≡ reply_bytes id kind reply
-  pub id_fits : id < 2 ^ 32
+-- the bytes spell the reply to a request of this head and kind
+pub record IsReply {K : ℕ} (bytes : List ℕ) (head : Head) (kind : ℕ) (reply : Reply K) : Type 0 where
+  pub spelled : bytes ≡ reply_bytes head kind reply
+  pub version_fits : is_version K head.version ≡ true
+  pub id_fits : head.call_id < 2 ^ 32
   pub is_kind : IsKind kind
   pub of_kind : IsOfKind kind reply
   pub fits : FitsReply reply
@@ -267,6 +270,6 @@ pub record IsReply (bytes : List ℕ) (id kind : ℕ) (reply : Reply resources) 
 abbrev pub IsFaultStatus : ℕ → Type 0
 IsFaultStatus status = (status ≡ 40) ⊎ (status ≡ 41)
 
--- the reply to a payload that is no request: kind 0, call id 0 and the status
+-- the reply to a payload that is no request: version 1, kind 0, call id 0 and the status
 abbrev pub fault_reply : ℕ → List ℕ
 fault_reply status = 1 ∷ 0 ∷ 0 ∷ 0 ∷ 0 ∷ 0 ∷ status ∷ []

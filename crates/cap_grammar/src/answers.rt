@@ -1,10 +1,13 @@
 //! Replies read from their bytes, to be shown (`read_reply`, `Answer`).
 ghost use Rattle.std.specs.Prelude.{◌≡◌, IfOk, true};
 ghost use Rattle.cap_grammar.specs.Answers.{IsKindly, IsReadAs, Says};
+ghost use Rattle.cap_grammar.specs.Versions.{is_version};
+ghost use Rattle.cap_base.specs.Limits.{resources};
 ghost use Rattle.cap_grammar.specs.Spelling.{IsFaultStatus};
 
 use crate::fault::MessageFault;
 use crate::fields::{byte_of, u32_of};
+use crate::head::{Head, has_version};
 use crate::output::{Out, REPLY_ROOM};
 use crate::replies::{BAD_LENGTH, BAD_MESSAGE, granted_of, kind_of, write_fault, write_reply};
 use crate::requests::head_of;
@@ -40,9 +43,9 @@ const REFUSALS: [Refusal; 18] = [
 /// What the bytes of a reply say.
 #[derive(Drop)]
 pub enum Answer {
-    /// The reply to a request of this call id and kind.
+    /// The reply to a request of this head and kind.
     Reply {
-        call_id: u32,
+        head: Head,
         kind: u8,
         reply: OwnedReply<RESOURCES>,
     },
@@ -51,25 +54,37 @@ pub enum Answer {
 }
 
 /// What the bytes of a reply say, all of them: of two answers no bytes say both. `Bad` where they are no reply. `NoMemory` if an
-/// allocation fails. Amounts of `yarn.io/gpu`, which version 1 does not spell, are 0.
+/// allocation fails. Amounts of GPUs, which version 1 does not spell, are then 0.
 pub fn read_reply(alloc: Global, bytes: &[u8]) -> Result<Answer, MessageFault>
     ensures { IfOk result (λ answer. Says bytes.now answer) }
 {
-    let ((_, kind, call_id), rest) = head_of(bytes)?;
+    let ((version, kind, call_id), rest) = head_of(bytes)?;
     let (status, rest) = byte_of(rest)?;
     let answer = if kind == 0 {
         Answer::Fault(fault_of(status)?)
     } else {
+        let version = version_of(version)?;
         let kind = kind_of(kind)?;
-        let reply = reply_of(alloc, kind, status, rest)?;
+        let reply = reply_of(alloc, version, kind, status, rest)?;
         Answer::Reply {
-            call_id,
+            head: Head { version, call_id },
             kind,
             reply,
         }
     };
     if is_spelled(alloc, &answer, bytes)? {
         Ok(answer)
+    } else {
+        Err(MessageFault::Bad)
+    }
+}
+
+/// The version of a reply.
+fn version_of(version: u8) -> Result<u8, MessageFault>
+    ensures { IfOk result (λ version. is_version resources version ≡ true) }
+{
+    if has_version(version) {
+        Ok(version)
     } else {
         Err(MessageFault::Bad)
     }
@@ -92,11 +107,7 @@ fn is_spelled(alloc: Global, answer: &Answer, bytes: &[u8]) -> Result<bool, Mess
 {
     let mut out = Out::with_capacity(alloc, REPLY_ROOM)?;
     match answer {
-        Answer::Reply {
-            call_id,
-            kind,
-            reply,
-        } => write_reply(*call_id, *kind, &reply.view(), &mut out),
+        Answer::Reply { head, kind, reply } => write_reply(*head, *kind, &reply.view(), &mut out),
         Answer::Fault(status) => write_fault(*status, &mut out),
     }
     Ok(are_written(bytes, &out))
@@ -112,14 +123,15 @@ fn are_written(bytes: &[u8], out: &Out) -> bool
 /// The reply to a request of this kind with this status, from what follows them.
 fn reply_of(
     alloc: Global,
+    version: u8,
     kind: u8,
     status: u8,
     bytes: &[u8],
 ) -> Result<OwnedReply<RESOURCES>, MessageFault>
-    ensures { IfOk result (λ reply. IsReadAs kind reply) }
+    ensures { IfOk result (λ reply. IsReadAs version kind reply) }
 {
     if status == 0 {
-        return granted_of(alloc, kind, bytes);
+        return granted_of(alloc, version, kind, bytes);
     }
     Ok(ReplyWith::Refused(refusal_of(status, bytes)?))
 }

@@ -3,10 +3,12 @@ ghost use Rattle.std.specs.Prelude.{◌≡◌, ◌≤◌, ◌<◌, ◌^◌, IfOk
 ghost use Rattle.std.specs.Int.{w16, w32, w64};
 ghost use Rattle.cap_base.specs.Limits.{resources};
 ghost use Rattle.cap_vector.specs.Vector.{amount_max, IsResource};
-ghost use Rattle.cap_grammar.specs.Shown.{amounts_spelled, shown_amounts};
+ghost use Rattle.cap_grammar.specs.Shown.{shown_amounts};
+ghost use Rattle.cap_grammar.specs.Versions.{amounts_in};
 ghost use Rattle.cap_grammar.specs.Fields.{Gives, byte_at, flag_at, number_at, text_at, amount_at, amounts_at};
 
 use crate::fault::MessageFault;
+use crate::head::VERSION_1;
 use cap_base::RESOURCES;
 use cap_vector::{AMOUNT_MAX, Amounts};
 
@@ -90,34 +92,49 @@ fn amount_of(bytes: &[u8]) -> Result<(u64, &[u8]), MessageFault>
     Ok((amount, rest))
 }
 
-// Memory and vcores, and 0 of all else.
+// The amounts that a version spells, and 0 of what it does not: memory and vcores, and in version 2 GPUs.
 #[tactic(auto, unfolding(crate::specs::Fields::amounts_at))]
-pub(crate) fn amounts_of(bytes: &[u8]) -> Result<([u64; RESOURCES], &[u8]), MessageFault>
+pub(crate) fn amounts_of(
+    version: u8,
+    bytes: &[u8],
+) -> Result<([u64; RESOURCES], &[u8]), MessageFault>
     ensures gives { Gives (λ x. (x.0, x.1.now)) result
-        (amounts_at resources amounts_spelled amount_max bytes.now) }
+        (amounts_at resources (amounts_in version) amount_max bytes.now) }
     ensures vector { IfOk result (λ x. IsResource resources x.0) }
 {
     let (memory, rest) = amount_of(bytes)?;
     let (vcores, rest) = amount_of(rest)?;
-    Ok(([memory, vcores, 0], rest))
+    if version == VERSION_1 {
+        return Ok(([memory, vcores, 0], rest));
+    }
+    let (gpus, rest) = amount_of(rest)?;
+    Ok(([memory, vcores, gpus], rest))
 }
 
-/// Memory in MiB and vcores.
-pub(crate) fn pair_of(bytes: &[u8]) -> Result<([u64; 2], &[u8]), MessageFault> {
-    let (memory, rest) = u64_of(bytes)?;
-    let (vcores, rest) = u64_of(rest)?;
-    Ok(([memory, vcores], rest))
-}
-
-/// Memory and vcores, each at most `MAX`, and 0 of all else.
-pub(crate) fn amounts_in<const MAX: u64>(
-    pair: [u64; 2],
-) -> Result<Amounts<RESOURCES, MAX>, MessageFault>
-    ensures { IfOk result (λ v. shown_amounts amounts_spelled v ≡ v) }
+/// The numbers in place of amounts that a version spells, and 0 of what it does not.
+pub(crate) fn numbers_in(
+    version: u8,
+    bytes: &[u8],
+) -> Result<([u64; RESOURCES], &[u8]), MessageFault>
+    ensures { IfOk result (λ x. shown_amounts (amounts_in version) x.0 ≡ x.0) }
 {
-    let [memory, vcores] = pair;
-    match Amounts::new([memory, vcores, 0]) {
-        Some(amounts) => Ok(amounts),
+    let (first, rest) = u64_of(bytes)?;
+    let (second, rest) = u64_of(rest)?;
+    if version == VERSION_1 {
+        return Ok(([first, second, 0], rest));
+    }
+    let (third, rest) = u64_of(rest)?;
+    Ok(([first, second, third], rest))
+}
+
+/// The vector of these amounts, each at most `MAX`.
+pub(crate) fn vector_of<const MAX: u64>(
+    amounts: [u64; RESOURCES],
+) -> Result<Amounts<RESOURCES, MAX>, MessageFault>
+    ensures { IfOk result (λ v. v ≡ amounts) }
+{
+    match Amounts::new(amounts) {
+        Some(vector) => Ok(vector),
         None => Err(MessageFault::Bad),
     }
 }

@@ -4,7 +4,8 @@ ghost use Rattle.std.specs.Int.{w16, w32, w64};
 ghost use Rattle.cap_grammar.specs.Fields.{Gives, counted_at, byte_at, number_at, passing_at};
 ghost use Rattle.cap_grammar.specs.Bodies.{HasItemsAt, ask_at, lines_at};
 ghost use Rattle.cap_grammar.specs.Reading.{GivesInMemory};
-ghost use Rattle.cap_base.specs.Limits.{asks_max, numbers_max, text_max};
+ghost use Rattle.cap_grammar.specs.Versions.{amounts_in};
+ghost use Rattle.cap_base.specs.Limits.{asks_max, numbers_max, resources, text_max};
 
 use crate::fault::MessageFault;
 use crate::fields::{amounts_of, text_of, u16_of, u32_of, u64_of};
@@ -64,9 +65,13 @@ pub(crate) fn numbers_of(alloc: Global, bytes: &[u8]) -> Result<(Numbers, &[u8])
 }
 
 // Asks.
-pub(crate) fn asks_of(alloc: Global, bytes: &[u8]) -> Result<(Asks<RESOURCES>, &[u8]), MessageFault>
+pub(crate) fn asks_of(
+    alloc: Global,
+    version: u8,
+    bytes: &[u8],
+) -> Result<(Asks<RESOURCES>, &[u8]), MessageFault>
     ensures gives { GivesInMemory (λ x. (x.0, x.1.now))
-        result (counted_at w16 asks_max ask_at bytes.now) }
+        result (counted_at w16 asks_max (ask_at resources (amounts_in version)) bytes.now) }
     ensures memory { IsErrOf result MessageFault.NoMemory → HasItemsAt w16 0 bytes.now }
 {
     let Ok((length, mut rest)) = length_of(ASKS_MAX, bytes) else {
@@ -79,7 +84,7 @@ pub(crate) fn asks_of(alloc: Global, bytes: &[u8]) -> Result<(Asks<RESOURCES>, &
         return Err(MessageFault::NoMemory);
     };
     for i in 0..length {
-        let Ok(read) = ask_of(rest) else {
+        let Ok(read) = ask_of(version, rest) else {
             return Err(MessageFault::Bad);
         };
         let Ok(()) = asks.push(read.0) else {
@@ -128,13 +133,14 @@ pub(crate) fn lines_of(alloc: Global, bytes: &[u8]) -> Result<(SettingsText, &[u
 
 // One ask: priority, request id, count, resource and place.
 #[tactic(auto, unfolding(crate::specs::Bodies::ask_at))]
-fn ask_of(bytes: &[u8]) -> Result<(Ask<RESOURCES>, &[u8]), MessageFault>
-    ensures { Gives (λ x. (x.0, x.1.now)) result (ask_at bytes.now) }
+fn ask_of(version: u8, bytes: &[u8]) -> Result<(Ask<RESOURCES>, &[u8]), MessageFault>
+    ensures { Gives (λ x. (x.0, x.1.now)) result
+        (ask_at resources (amounts_in version) bytes.now) }
 {
     let (priority, rest) = u32_of(bytes)?;
     let (request, rest) = u64_of(rest)?;
     let (count, rest) = u32_of(rest)?;
-    let (amounts, rest) = amounts_of(rest)?;
+    let (amounts, rest) = amounts_of(version, rest)?;
     let Some(resource) = Resource::new(amounts) else {
         return Err(MessageFault::Bad);
     };

@@ -1,12 +1,14 @@
 //! What an Allocate, with its grants and ends, and a Heartbeat give, written as bytes and read from them.
-ghost use Rattle.std.specs.Prelude.{◌≡◌, ◌≤◌, ◌+◌, ◌*◌, ◌++◌, length, map, IfOk};
+ghost use Rattle.std.specs.Prelude.{◌≡◌, ℕ, ◌≤◌, ◌+◌, ◌*◌, ◌++◌, length, map, IfOk};
 ghost use Rattle.std.specs.List.{flat_map, AllByRecursion};
 ghost use Rattle.cap_grammar.specs.Spelling.{grant, end, counted_list, allocate_bytes, beat, FitsGrant, FitsEnd, FitsAllocated, FitsBeat};
-ghost use Rattle.cap_grammar.specs.Shown.{amounts_spelled, shown_grant};
+ghost use Rattle.cap_grammar.specs.Shown.{shown_grant};
+ghost use Rattle.cap_grammar.specs.Versions.{amounts_in};
+ghost use Rattle.cap_base.specs.Limits.{resources};
 ghost use Rattle.cap_grammar.specs.Answers.{IsReadAs};
 
 use crate::fault::MessageFault;
-use crate::fields::{amounts_in, byte_of, pair_of, text_of, u16_of, u32_of, u64_of};
+use crate::fields::{byte_of, numbers_in, text_of, u16_of, u32_of, u64_of, vector_of};
 use crate::output::{Out, put_amounts};
 use crate::texts::place_from;
 use cap_base::RESOURCES;
@@ -18,12 +20,12 @@ use std::alloc::Global;
 
 // One grant.
 #[tactic(auto, unfolding(crate::specs::Spelling::grant))]
-fn put_grant(told: &Grant<RESOURCES>, out: &mut Out)
-    requires { 109 ≤ out.old.spare }
-    ensures appends { out.new.items ≡ out.old.items ++ grant told.now }
-    ensures spare { out.new.spare + length (grant told.now) ≡ out.old.spare }
-    ensures len { length (grant told.now) ≤ 109 }
-    ensures fits { FitsGrant told.now }
+fn put_grant(version: u8, told: &Grant<RESOURCES>, out: &mut Out)
+    requires { 117 ≤ out.old.spare }
+    ensures appends { out.new.items ≡ out.old.items ++ grant (amounts_in version) told.now }
+    ensures spare { out.new.spare + length (grant (amounts_in version) told.now) ≡ out.old.spare }
+    ensures len { length (grant (amounts_in version) told.now) ≤ 117 }
+    ensures fits { FitsGrant resources told.now }
 {
     let key = told.key();
     let host = told.host();
@@ -34,19 +36,22 @@ fn put_grant(told: &Grant<RESOURCES>, out: &mut Out)
     let host = host.as_bytes();
     out.extend_reserved(&[host.len() as u8]);
     out.extend_reserved(host);
-    put_amounts(&told.resource(), out);
+    put_amounts(version, &told.resource(), out);
 }
 
 // Grants, one after the other.
-fn put_grants(grants: &[Grant<RESOURCES>], out: &mut Out)
-    requires { 109 * length grants.now ≤ out.old.spare }
-    ensures appends { out.new.items ≡ out.old.items ++ flat_map grant grants.now }
-    ensures spare { out.new.spare + length (flat_map grant grants.now) ≡ out.old.spare }
-    ensures len { length (flat_map grant grants.now) ≤ 109 * length grants.now }
-    ensures fits { AllByRecursion FitsGrant grants.now }
+fn put_grants(version: u8, grants: &[Grant<RESOURCES>], out: &mut Out)
+    requires { 117 * length grants.now ≤ out.old.spare }
+    ensures appends { out.new.items
+        ≡ out.old.items ++ flat_map (grant (amounts_in version)) grants.now }
+    ensures spare { out.new.spare + length (flat_map (grant (amounts_in version)) grants.now)
+        ≡ out.old.spare }
+    ensures len { length (flat_map (grant (amounts_in version)) grants.now)
+        ≤ 117 * length grants.now }
+    ensures fits { AllByRecursion (FitsGrant resources) grants.now }
 {
     for told in grants {
-        put_grant(told, out);
+        put_grant(version, told, out);
     }
 }
 
@@ -78,18 +83,20 @@ fn put_ends(ends: &[End], out: &mut Out)
 
 // What an Allocate gives, written.
 #[tactic(auto, unfolding(crate::specs::Spelling::allocate_bytes))]
-pub(crate) fn put_allocated(reply: &AllocateView<'_, RESOURCES>, out: &mut Out)
-    requires { 7560 ≤ out.old.spare }
-    ensures appends { out.new.items ≡ out.old.items ++ allocate_bytes reply.now }
-    ensures spare { out.new.spare + length (allocate_bytes reply.now) ≡ out.old.spare }
-    ensures len { length (allocate_bytes reply.now) ≤ 7560 }
-    ensures fits { FitsAllocated reply.now }
+pub(crate) fn put_allocated(version: u8, reply: &AllocateView<'_, RESOURCES>, out: &mut Out)
+    requires { 8072 ≤ out.old.spare }
+    ensures appends { out.new.items
+        ≡ out.old.items ++ allocate_bytes (amounts_in version) reply.now }
+    ensures spare { out.new.spare + length (allocate_bytes (amounts_in version) reply.now)
+        ≡ out.old.spare }
+    ensures len { length (allocate_bytes (amounts_in version) reply.now) ≤ 8072 }
+    ensures fits { FitsAllocated resources reply.now }
 {
     out.extend_reserved(&reply.response.to_be_bytes());
     out.extend_reserved(&reply.ignored.to_be_bytes());
     let grants = reply.grants();
     out.extend_reserved(&[grants.len() as u8]);
-    put_grants(grants, out);
+    put_grants(version, grants, out);
     let ends = reply.ends();
     out.extend_reserved(&[ends.len() as u8]);
     put_ends(ends, out);
@@ -110,15 +117,19 @@ pub(crate) fn put_beat(reply: &HeartbeatReply, out: &mut Out)
 }
 
 // Grants, with their number before them.
-fn grants_of(alloc: Global, bytes: &[u8]) -> Result<(Vec<Grant<RESOURCES>>, &[u8]), MessageFault>
-    ensures { IfOk result (λ x. map (shown_grant amounts_spelled) x.0.items ≡ x.0.items) }
+fn grants_of(
+    alloc: Global,
+    version: u8,
+    bytes: &[u8],
+) -> Result<(Vec<Grant<RESOURCES>>, &[u8]), MessageFault>
+    ensures { IfOk result (λ x. map (shown_grant (amounts_in version)) x.0.items ≡ x.0.items) }
 {
     let (length, mut rest) = byte_of(bytes)?;
     let Ok(mut grants) = Vec::with_capacity(alloc, length as usize) else {
         return Err(MessageFault::NoMemory);
     };
     for _ in 0..length {
-        let Ok(read) = grant_of(rest) else {
+        let Ok(read) = grant_of(version, rest) else {
             return Err(MessageFault::Bad);
         };
         let Ok(()) = grants.push(read.0) else {
@@ -130,8 +141,8 @@ fn grants_of(alloc: Global, bytes: &[u8]) -> Result<(Vec<Grant<RESOURCES>>, &[u8
 }
 
 // One grant, read.
-fn grant_of(bytes: &[u8]) -> Result<(Grant<RESOURCES>, &[u8]), MessageFault>
-    ensures { IfOk result (λ x. shown_grant amounts_spelled x.0 ≡ x.0) }
+fn grant_of(version: u8, bytes: &[u8]) -> Result<(Grant<RESOURCES>, &[u8]), MessageFault>
+    ensures { IfOk result (λ x. shown_grant (amounts_in version) x.0 ≡ x.0) }
 {
     let (container, rest) = u64_of(bytes)?;
     let (priority, rest) = u32_of(rest)?;
@@ -139,8 +150,8 @@ fn grant_of(bytes: &[u8]) -> Result<(Grant<RESOURCES>, &[u8]), MessageFault>
     let (node, rest) = u64_of(rest)?;
     let (host, rest) = text_of(rest)?;
     let host = place_from(host)?;
-    let (resource, rest) = pair_of(rest)?;
-    let resource = amounts_in(resource)?;
+    let (resource, rest) = numbers_in(version, rest)?;
+    let resource = vector_of(resource)?;
     let key = Key { priority, request };
     Ok((Grant::new(container, &key, node, &host, &resource), rest))
 }
@@ -177,12 +188,16 @@ fn end_of(bytes: &[u8]) -> Result<(End, &[u8]), MessageFault> {
 }
 
 // What an Allocate gives, read.
-pub(crate) fn allocated(alloc: Global, bytes: &[u8]) -> Result<OwnedReply<RESOURCES>, MessageFault>
-    ensures { IfOk result (λ reply. IsReadAs 3 reply) }
+pub(crate) fn allocated(
+    alloc: Global,
+    version: u8,
+    bytes: &[u8],
+) -> Result<OwnedReply<RESOURCES>, MessageFault>
+    ensures { IfOk result (λ reply. IsReadAs version 3 reply) }
 {
     let (response, rest) = u32_of(bytes)?;
     let (ignored, rest) = u16_of(rest)?;
-    let (grants, rest) = grants_of(alloc, rest)?;
+    let (grants, rest) = grants_of(alloc, version, rest)?;
     let (ends, _) = ends_of(alloc, rest)?;
     if grants.len() > NEWS_MAX || ends.len() > NEWS_MAX {
         return Err(MessageFault::Bad);
@@ -199,7 +214,7 @@ pub(crate) fn allocated(alloc: Global, bytes: &[u8]) -> Result<OwnedReply<RESOUR
 
 // What a Heartbeat gives, read.
 pub(crate) fn beaten(bytes: &[u8]) -> Result<OwnedReply<RESOURCES>, MessageFault>
-    ensures { IfOk result (λ reply. IsReadAs 6 reply) }
+    ensures { (version : ℕ) → IfOk result (λ reply. IsReadAs version 6 reply) }
 {
     let (response, rest) = u32_of(bytes)?;
     let (ignored, rest) = u16_of(rest)?;

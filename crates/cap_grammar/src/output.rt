@@ -2,9 +2,10 @@
 ghost use Rattle.std.specs.Prelude.{◌≡◌, ◌≤◌, ◌+◌, ◌++◌, length};
 ghost use Rattle.cap_base.specs.Limits.{resources};
 ghost use Rattle.cap_vector.specs.Vector.{IsVector};
-ghost use Rattle.cap_grammar.specs.Shown.{amounts_spelled};
 ghost use Rattle.cap_grammar.specs.Spelling.{resource};
+ghost use Rattle.cap_grammar.specs.Versions.{amounts_in};
 
+use crate::head::VERSION_1;
 use bytes::BytesMut;
 use cap_base::RESOURCES;
 use cap_vector::Amounts;
@@ -13,23 +14,31 @@ use cap_vector::Amounts;
 pub type Out = BytesMut;
 
 /// The room that the longest reply takes, in bytes, with the four bytes of a frame's length before it.
-pub const REPLY_ROOM: usize = 7571;
+pub const REPLY_ROOM: usize = 8083;
 
 /// The room that the reply to a payload or a frame that is no request takes, in bytes.
 pub const FAULT_ROOM: usize = 7;
 
-const _: () = prove!(REPLY_ROOM == 7_571 && FAULT_ROOM == 7);
+const _: () = prove!(REPLY_ROOM == 8_083 && FAULT_ROOM == 7);
 
-// The amounts of a vector that messages spell: memory and vcores.
+// The amounts of a vector that a version spells: memory and vcores, and in version 2 GPUs.
 #[tactic(auto, unfolding(crate::specs::Spelling::resource))]
-pub(crate) fn put_amounts<const MAX: u64>(amounts: &Amounts<RESOURCES, MAX>, out: &mut Out)
-    requires { 16 ≤ out.old.spare }
-    ensures appends { out.new.items ≡ out.old.items ++ resource amounts_spelled amounts.now }
-    ensures spare { out.new.spare + 16 ≡ out.old.spare }
-    ensures len { length (resource amounts_spelled amounts.now) ≡ 16 }
+pub(crate) fn put_amounts<const MAX: u64>(
+    version: u8,
+    amounts: &Amounts<RESOURCES, MAX>,
+    out: &mut Out,
+)
+    requires { 24 ≤ out.old.spare }
+    ensures appends { out.new.items ≡ out.old.items ++ resource (amounts_in version) amounts.now }
+    ensures spare { out.new.spare + length (resource (amounts_in version) amounts.now)
+        ≡ out.old.spare }
+    ensures len { length (resource (amounts_in version) amounts.now) ≤ 24 }
     ensures vector { IsVector resources MAX amounts.now }
 {
-    let [memory, vcores, _] = amounts.amounts();
+    let [memory, vcores, gpus] = amounts.amounts();
     out.extend_reserved(&memory.to_be_bytes());
     out.extend_reserved(&vcores.to_be_bytes());
+    if version != VERSION_1 {
+        out.extend_reserved(&gpus.to_be_bytes());
+    }
 }

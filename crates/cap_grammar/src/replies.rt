@@ -1,11 +1,14 @@
 //! Replies of each kind written as bytes (`write_reply`, `write_fault`), and read from them by kind and status.
-ghost use Rattle.std.specs.Prelude.{◌≡◌, ◌≤◌, ◌<◌, ◌+◌, ◌++◌, ◌∷◌, length, IfOk};
+ghost use Rattle.std.specs.Prelude.{◌≡◌, ◌≤◌, ◌<◌, ◌+◌, ◌++◌, ◌∷◌, ◌^◌, length, true, IfOk};
 ghost use Rattle.std.specs.Int.{w32, w64, to_be_bytes};
 ghost use Rattle.cap_grammar.specs.Spelling.{IsKind, IsOfKind, FitsRefusal, FitsReply, IsReply, refusal_bytes, reply_bytes, reply_body, fault_reply};
 ghost use Rattle.cap_grammar.specs.Answers.{IsReadAs};
+ghost use Rattle.cap_grammar.specs.Versions.{is_version};
+ghost use Rattle.cap_base.specs.Limits.{resources};
 
 use crate::fault::MessageFault;
-use crate::fields::{amounts_in, pair_of, u32_of, u64_of};
+use crate::fields::{numbers_in, u32_of, u64_of, vector_of};
+use crate::head::{Head, VERSION_1};
 use crate::news::{allocated, beaten, put_allocated, put_beat};
 use crate::output::{FAULT_ROOM, Out, REPLY_ROOM, put_amounts};
 use crate::reports::{cluster_shown, put_cluster_report, put_queue_report, queue_shown};
@@ -23,12 +26,23 @@ pub const BAD_LENGTH: u8 = 40;
 /// The status of the reply to a payload that is no request.
 pub const BAD_MESSAGE: u8 = 41;
 
+// Version, kind and call id.
+fn put_head(version: u8, kind: u8, call_id: u32, out: &mut Out)
+    requires { 6 ≤ out.old.spare }
+    ensures appends { out.new.items ≡ out.old.items ++ version ∷ kind ∷ to_be_bytes w32 call_id }
+    ensures spare { out.new.spare + 6 ≡ out.old.spare }
+    ensures fits { call_id < 2 ^ 32 }
+{
+    out.extend_reserved(&[version, kind]);
+    out.extend_reserved(&call_id.to_be_bytes());
+}
+
 // The status and what follows it, after the 10 bytes of a frame's length and a reply's head.
-fn put_reply_body(reply: &ReplyView<'_, RESOURCES>, out: &mut Out)
+fn put_reply_body(version: u8, reply: &ReplyView<'_, RESOURCES>, out: &mut Out)
     requires { REPLY_ROOM ≤ out.old.spare + 10 }
-    ensures appends { out.new.items ≡ out.old.items ++ reply_body reply.now }
-    ensures spare { out.new.spare + length (reply_body reply.now) ≡ out.old.spare }
-    ensures room { 10 + length (reply_body reply.now) ≤ REPLY_ROOM }
+    ensures appends { out.new.items ≡ out.old.items ++ reply_body version reply.now }
+    ensures spare { out.new.spare + length (reply_body version reply.now) ≡ out.old.spare }
+    ensures room { 10 + length (reply_body version reply.now) ≤ REPLY_ROOM }
     ensures fits { FitsReply reply.now }
 {
     match reply {
@@ -36,12 +50,12 @@ fn put_reply_body(reply: &ReplyView<'_, RESOURCES>, out: &mut Out)
         ReplyWith::Submit { app } => put_number(*app, out),
         ReplyWith::RegisterMaster { minimum, maximum } => {
             out.extend_reserved(&[0]);
-            put_amounts(minimum, out);
-            put_amounts(maximum, out);
+            put_amounts(version, minimum, out);
+            put_amounts(version, maximum, out);
         }
         ReplyWith::Allocate { reply } => {
             out.extend_reserved(&[0]);
-            put_allocated(reply, out);
+            put_allocated(version, reply, out);
         }
         ReplyWith::FinishMaster { ended } => put_count(*ended, out),
         ReplyWith::RegisterNode { node } => put_number(*node, out),
@@ -52,12 +66,12 @@ fn put_reply_body(reply: &ReplyView<'_, RESOURCES>, out: &mut Out)
         ReplyWith::NodeGone { ended } => put_count(*ended, out),
         ReplyWith::QueueInfo { report } => {
             out.extend_reserved(&[0]);
-            put_queue_report(report, out);
+            put_queue_report(version, report, out);
         }
         ReplyWith::SetQueueState | ReplyWith::Refresh => out.extend_reserved(&[0]),
         ReplyWith::ClusterInfo { report } => {
             out.extend_reserved(&[0]);
-            put_cluster_report(report, out);
+            put_cluster_report(version, report, out);
         }
     }
 }
@@ -97,26 +111,26 @@ fn put_count(count: u32, out: &mut Out)
     out.extend_reserved(&count.to_be_bytes());
 }
 
-/// Appends the one spelling of a reply to a request of this call id and kind: the kind is one that `kind` gives, the reply
-/// is a refusal or one of the kind, and `REPLY_ROOM` bytes of `out` are free. Of each vector version 1 spells memory and vcores
-/// alone. It takes no memory and cannot fail; what `out` held stays.
-pub fn write_reply(call_id: u32, kind: u8, reply: &ReplyView<'_, RESOURCES>, out: &mut Out)
+/// Appends the one spelling of a reply to a request of this head and kind: the version is 1 or 2, the kind is one that `kind`
+/// gives, the reply is a refusal or one of the kind, and `REPLY_ROOM` bytes of `out` are free. Of each vector version 1 spells
+/// memory and vcores alone, version 2 GPUs too. It takes no memory and cannot fail; what `out` held stays.
+pub fn write_reply(head: Head, kind: u8, reply: &ReplyView<'_, RESOURCES>, out: &mut Out)
+    requires version { is_version resources head.version ≡ true }
     requires table { IsKind kind }
     requires kind { IsOfKind kind reply.now }
     requires room { REPLY_ROOM ≤ out.old.spare }
-    ensures appends { out.new.items ≡ out.old.items ++ reply_bytes call_id kind reply.now }
-    ensures spare { out.new.spare + length (reply_bytes call_id kind reply.now) ≡ out.old.spare }
-    ensures spells { IsReply (reply_bytes call_id kind reply.now) call_id kind reply.now }
-    ensures some { 0 < length (reply_bytes call_id kind reply.now) }
-    ensures room { 4 + length (reply_bytes call_id kind reply.now) ≤ REPLY_ROOM }
+    ensures appends { out.new.items ≡ out.old.items ++ reply_bytes head kind reply.now }
+    ensures spare { out.new.spare + length (reply_bytes head kind reply.now) ≡ out.old.spare }
+    ensures spells { IsReply (reply_bytes head kind reply.now) head kind reply.now }
+    ensures some { 0 < length (reply_bytes head kind reply.now) }
+    ensures room { 4 + length (reply_bytes head kind reply.now) ≤ REPLY_ROOM }
 {
-    out.extend_reserved(&[1, kind]);
-    out.extend_reserved(&call_id.to_be_bytes());
-    put_reply_body(reply, out);
+    put_head(head.version, kind, head.call_id, out);
+    put_reply_body(head.version, reply, out);
 }
 
-/// Appends the reply to a payload that is no request, or to a frame that is none, whose call id is not known: `status`
-/// with kind 0 and call id 0. `FAULT_ROOM` bytes of `out` are free. It takes no memory and cannot fail; what `out` held
+/// Appends the reply to a payload that is no request, or to a frame that is none, whose call id is not known: `status` with
+/// version 1, kind 0 and call id 0. `FAULT_ROOM` bytes of `out` are free. It takes no memory and cannot fail; what `out` held
 /// stays.
 pub fn write_fault(status: u8, out: &mut Out)
     requires { FAULT_ROOM ≤ out.old.spare }
@@ -124,7 +138,7 @@ pub fn write_fault(status: u8, out: &mut Out)
     ensures spare { out.new.spare + FAULT_ROOM ≡ out.old.spare }
     ensures room { length (fault_reply status) ≡ FAULT_ROOM }
 {
-    out.extend_reserved(&[1, 0, 0, 0, 0, 0, status]);
+    out.extend_reserved(&[VERSION_1, 0, 0, 0, 0, 0, status]);
 }
 
 /// The kind of a reply, which is that of a request.
@@ -140,17 +154,18 @@ pub(crate) fn kind_of(kind: u8) -> Result<u8, MessageFault>
 /// The reply to a request of this kind that is not refused, from what follows the status.
 pub(crate) fn granted_of(
     alloc: Global,
+    version: u8,
     kind: u8,
     bytes: &[u8],
 ) -> Result<OwnedReply<RESOURCES>, MessageFault>
-    ensures { IfOk result (λ reply. IsReadAs kind reply) }
+    ensures { IfOk result (λ reply. IsReadAs version kind reply) }
 {
     match kind {
         SUBMIT => Ok(ReplyWith::Submit {
             app: u64_of(bytes)?.0,
         }),
-        REGISTER_MASTER => registered(bytes),
-        ALLOCATE => allocated(alloc, bytes),
+        REGISTER_MASTER => registered(version, bytes),
+        ALLOCATE => allocated(alloc, version, bytes),
         FINISH_MASTER => Ok(ReplyWith::FinishMaster {
             ended: u32_of(bytes)?.0,
         }),
@@ -161,22 +176,22 @@ pub(crate) fn granted_of(
         NODE_GONE => Ok(ReplyWith::NodeGone {
             ended: u32_of(bytes)?.0,
         }),
-        QUEUE_INFO => queue_shown(bytes),
+        QUEUE_INFO => queue_shown(version, bytes),
         SET_QUEUE_STATE => Ok(ReplyWith::SetQueueState),
-        CLUSTER_INFO => cluster_shown(bytes),
+        CLUSTER_INFO => cluster_shown(version, bytes),
         REFRESH => Ok(ReplyWith::Refresh),
         _ => Err(MessageFault::Bad),
     }
 }
 
 /// What a RegisterMaster gives.
-fn registered(bytes: &[u8]) -> Result<OwnedReply<RESOURCES>, MessageFault>
-    ensures { IfOk result (λ reply. IsReadAs 2 reply) }
+fn registered(version: u8, bytes: &[u8]) -> Result<OwnedReply<RESOURCES>, MessageFault>
+    ensures { IfOk result (λ reply. IsReadAs version 2 reply) }
 {
-    let (minimum, rest) = pair_of(bytes)?;
-    let (maximum, _) = pair_of(rest)?;
+    let (minimum, rest) = numbers_in(version, bytes)?;
+    let (maximum, _) = numbers_in(version, rest)?;
     Ok(ReplyWith::RegisterMaster {
-        minimum: amounts_in(minimum)?,
-        maximum: amounts_in(maximum)?,
+        minimum: vector_of(minimum)?,
+        maximum: vector_of(maximum)?,
     })
 }

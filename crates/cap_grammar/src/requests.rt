@@ -1,15 +1,18 @@
 //! Requests: the numbers of the eleven kinds (`kind`), and a payload read as a request of one of them (`read_request`).
-ghost use Rattle.std.specs.Prelude.{◌≡◌, ◌⊎◌, ℕ, IfOk, IsErrOf};
+ghost use Rattle.std.specs.Prelude.{◌≡◌, ◌⊎◌, IfOk, IsErrOf};
 ghost use Rattle.std.specs.Int.{w16, w32};
 ghost use Rattle.cap_base.specs.Limits.{resources};
 ghost use Rattle.cap_model.specs.declared.request.Request.{Request};
 ghost use Rattle.cap_grammar.specs.Spelling.{IsRequest, IsNoRequest, kind_of};
 ghost use Rattle.cap_grammar.specs.Fields.{Gives};
+ghost use Rattle.cap_grammar.specs.Versions.{amounts_in};
+ghost use Rattle.cap_grammar.specs.declared.head.Head.{Head};
 ghost use Rattle.cap_grammar.specs.Bodies.{submit_at, register_master_at, allocate_at, finish_master_at, register_node_at, heartbeat_at, node_gone_at, queue_info_at, set_queue_state_at, cluster_info_at, refresh_at, body_at, HasItemsAt, ListsItems};
 ghost use Rattle.cap_grammar.specs.Reading.{GivesInMemory, CarriesItems, head_at, request_at};
 
 use crate::fault::MessageFault;
 use crate::fields::{amounts_of, byte_of, flag_of, text_of, u32_of, u64_of};
+use crate::head::{Head, has_version};
 use crate::lists::{asks_of, lines_of, numbers_of};
 use crate::texts::{host_from, path_from, rack_from, user_from};
 use cap_base::RESOURCES;
@@ -66,7 +69,7 @@ pub fn kind(request: &Request<RESOURCES>) -> u8
 // The body of a Submit, all of the bytes.
 #[tactic(auto, unfolding(crate::specs::Bodies::submit_at))]
 fn submit_of(bytes: &[u8]) -> Result<Request<RESOURCES>, MessageFault>
-    ensures { Gives (λ x. x) result (submit_at bytes.now) }
+    ensures { Gives (λ x. x) result (submit_at resources bytes.now) }
 {
     let (path, rest) = text_of(bytes)?;
     let path = path_from(path)?;
@@ -81,7 +84,7 @@ fn submit_of(bytes: &[u8]) -> Result<Request<RESOURCES>, MessageFault>
 // The body of a RegisterMaster, all of the bytes.
 #[tactic(auto, unfolding(crate::specs::Bodies::register_master_at))]
 fn register_master_of(bytes: &[u8]) -> Result<Request<RESOURCES>, MessageFault>
-    ensures { Gives (λ x. x) result (register_master_at bytes.now) }
+    ensures { Gives (λ x. x) result (register_master_at resources bytes.now) }
 {
     let (app, rest) = u64_of(bytes)?;
     if !rest.is_empty() {
@@ -92,14 +95,15 @@ fn register_master_of(bytes: &[u8]) -> Result<Request<RESOURCES>, MessageFault>
 
 // The body of an Allocate, all of the bytes.
 #[tactic(auto, unfolding(crate::specs::Bodies::allocate_at))]
-fn allocate_of(alloc: Global, bytes: &[u8]) -> Result<Request<RESOURCES>, MessageFault>
-    ensures gives { GivesInMemory (λ x. x) result (allocate_at bytes.now) }
+fn allocate_of(alloc: Global, version: u8, bytes: &[u8]) -> Result<Request<RESOURCES>, MessageFault>
+    ensures gives { GivesInMemory (λ x. x) result
+        (allocate_at resources (amounts_in version) bytes.now) }
     ensures memory { IsErrOf result MessageFault.NoMemory
         → HasItemsAt w16 12 bytes.now ⊎ HasItemsAt w16 14 bytes.now }
 {
     let (app, rest) = u64_of(bytes)?;
     let (response, rest) = u32_of(rest)?;
-    let (asks, rest) = asks_of(alloc, rest)?;
+    let (asks, rest) = asks_of(alloc, version, rest)?;
     let (releases, rest) = numbers_of(alloc, rest)?;
     if !rest.is_empty() {
         return Err(MessageFault::Bad);
@@ -115,7 +119,7 @@ fn allocate_of(alloc: Global, bytes: &[u8]) -> Result<Request<RESOURCES>, Messag
 // The body of a FinishMaster, all of the bytes.
 #[tactic(auto, unfolding(crate::specs::Bodies::finish_master_at))]
 fn finish_master_of(bytes: &[u8]) -> Result<Request<RESOURCES>, MessageFault>
-    ensures { Gives (λ x. x) result (finish_master_at bytes.now) }
+    ensures { Gives (λ x. x) result (finish_master_at resources bytes.now) }
 {
     let (app, rest) = u64_of(bytes)?;
     if !rest.is_empty() {
@@ -126,14 +130,15 @@ fn finish_master_of(bytes: &[u8]) -> Result<Request<RESOURCES>, MessageFault>
 
 // The body of a RegisterNode, all of the bytes.
 #[tactic(auto, unfolding(crate::specs::Bodies::register_node_at))]
-fn register_node_of(bytes: &[u8]) -> Result<Request<RESOURCES>, MessageFault>
-    ensures { Gives (λ x. x) result (register_node_at bytes.now) }
+fn register_node_of(version: u8, bytes: &[u8]) -> Result<Request<RESOURCES>, MessageFault>
+    ensures { Gives (λ x. x) result
+        (register_node_at resources (amounts_in version) bytes.now) }
 {
     let (host, rest) = text_of(bytes)?;
     let host = host_from(host)?;
     let (rack, rest) = text_of(rest)?;
     let rack = rack_from(rack)?;
-    let (amounts, rest) = amounts_of(rest)?;
+    let (amounts, rest) = amounts_of(version, rest)?;
     let Some(total) = Resource::new(amounts) else {
         return Err(MessageFault::Bad);
     };
@@ -146,7 +151,7 @@ fn register_node_of(bytes: &[u8]) -> Result<Request<RESOURCES>, MessageFault>
 // The body of a Heartbeat, all of the bytes.
 #[tactic(auto, unfolding(crate::specs::Bodies::heartbeat_at))]
 fn heartbeat_of(alloc: Global, bytes: &[u8]) -> Result<Request<RESOURCES>, MessageFault>
-    ensures gives { GivesInMemory (λ x. x) result (heartbeat_at bytes.now) }
+    ensures gives { GivesInMemory (λ x. x) result (heartbeat_at resources bytes.now) }
     ensures memory { IsErrOf result MessageFault.NoMemory → HasItemsAt w16 12 bytes.now }
 {
     let (node, rest) = u64_of(bytes)?;
@@ -165,7 +170,7 @@ fn heartbeat_of(alloc: Global, bytes: &[u8]) -> Result<Request<RESOURCES>, Messa
 // The body of a NodeGone, all of the bytes.
 #[tactic(auto, unfolding(crate::specs::Bodies::node_gone_at))]
 fn node_gone_of(bytes: &[u8]) -> Result<Request<RESOURCES>, MessageFault>
-    ensures { Gives (λ x. x) result (node_gone_at bytes.now) }
+    ensures { Gives (λ x. x) result (node_gone_at resources bytes.now) }
 {
     let (node, rest) = u64_of(bytes)?;
     if !rest.is_empty() {
@@ -177,7 +182,7 @@ fn node_gone_of(bytes: &[u8]) -> Result<Request<RESOURCES>, MessageFault>
 // The body of a QueueInfo, all of the bytes.
 #[tactic(auto, unfolding(crate::specs::Bodies::queue_info_at))]
 fn queue_info_of(bytes: &[u8]) -> Result<Request<RESOURCES>, MessageFault>
-    ensures { Gives (λ x. x) result (queue_info_at bytes.now) }
+    ensures { Gives (λ x. x) result (queue_info_at resources bytes.now) }
 {
     let (path, rest) = text_of(bytes)?;
     let path = path_from(path)?;
@@ -190,7 +195,7 @@ fn queue_info_of(bytes: &[u8]) -> Result<Request<RESOURCES>, MessageFault>
 // The body of a SetQueueState, all of the bytes.
 #[tactic(auto, unfolding(crate::specs::Bodies::set_queue_state_at))]
 fn set_queue_state_of(bytes: &[u8]) -> Result<Request<RESOURCES>, MessageFault>
-    ensures { Gives (λ x. x) result (set_queue_state_at bytes.now) }
+    ensures { Gives (λ x. x) result (set_queue_state_at resources bytes.now) }
 {
     let (path, rest) = text_of(bytes)?;
     let path = path_from(path)?;
@@ -204,7 +209,7 @@ fn set_queue_state_of(bytes: &[u8]) -> Result<Request<RESOURCES>, MessageFault>
 // The body of a ClusterInfo, which is empty.
 #[tactic(auto, unfolding(crate::specs::Bodies::cluster_info_at))]
 fn cluster_info_of(bytes: &[u8]) -> Result<Request<RESOURCES>, MessageFault>
-    ensures { Gives (λ x. x) result (cluster_info_at bytes.now) }
+    ensures { Gives (λ x. x) result (cluster_info_at resources bytes.now) }
 {
     if !bytes.is_empty() {
         return Err(MessageFault::Bad);
@@ -215,7 +220,7 @@ fn cluster_info_of(bytes: &[u8]) -> Result<Request<RESOURCES>, MessageFault>
 // The body of a Refresh, all of the bytes.
 #[tactic(auto, unfolding(crate::specs::Bodies::refresh_at))]
 fn refresh_of(alloc: Global, bytes: &[u8]) -> Result<Request<RESOURCES>, MessageFault>
-    ensures gives { GivesInMemory (λ x. x) result (refresh_at bytes.now) }
+    ensures gives { GivesInMemory (λ x. x) result (refresh_at resources bytes.now) }
     ensures memory { IsErrOf result MessageFault.NoMemory → HasItemsAt w32 0 bytes.now }
 {
     let (text, rest) = lines_of(alloc, bytes)?;
@@ -237,16 +242,21 @@ pub(crate) fn head_of(bytes: &[u8]) -> Result<((u8, u8, u32), &[u8]), MessageFau
 }
 
 #[tactic(auto, unfolding(crate::specs::Bodies::body_at))]
-fn body_of(alloc: Global, kind: u8, bytes: &[u8]) -> Result<Request<RESOURCES>, MessageFault>
-    ensures gives { GivesInMemory (λ x. x) result (body_at kind bytes.now) }
+fn body_of(
+    alloc: Global,
+    version: u8,
+    kind: u8,
+    bytes: &[u8],
+) -> Result<Request<RESOURCES>, MessageFault>
+    ensures gives { GivesInMemory (λ x. x) result (body_at resources version kind bytes.now) }
     ensures memory { IsErrOf result MessageFault.NoMemory → ListsItems kind bytes.now }
 {
     match kind {
         SUBMIT => submit_of(bytes),
         REGISTER_MASTER => register_master_of(bytes),
-        ALLOCATE => allocate_of(alloc, bytes),
+        ALLOCATE => allocate_of(alloc, version, bytes),
         FINISH_MASTER => finish_master_of(bytes),
-        REGISTER_NODE => register_node_of(bytes),
+        REGISTER_NODE => register_node_of(version, bytes),
         HEARTBEAT => heartbeat_of(alloc, bytes),
         NODE_GONE => node_gone_of(bytes),
         QUEUE_INFO => queue_info_of(bytes),
@@ -258,30 +268,30 @@ fn body_of(alloc: Global, kind: u8, bytes: &[u8]) -> Result<Request<RESOURCES>, 
 }
 
 #[tactic(auto, unfolding(crate::specs::Reading::request_at))]
-fn request_of(alloc: Global, bytes: &[u8]) -> Result<(u32, Request<RESOURCES>), MessageFault>
-    ensures gives { GivesInMemory (λ x. (x.0, x.1)) result (request_at bytes.now) }
+fn request_of(alloc: Global, bytes: &[u8]) -> Result<(Head, Request<RESOURCES>), MessageFault>
+    ensures gives { GivesInMemory (λ x. (x.0, x.1)) result (request_at resources bytes.now) }
     ensures memory { IsErrOf result MessageFault.NoMemory → CarriesItems bytes.now }
 {
     let ((version, kind, call_id), rest) = head_of(bytes)?;
-    if version != 1 {
+    if !has_version(version) {
         return Err(MessageFault::Bad);
     }
-    let request = body_of(alloc, kind, rest)?;
-    Ok((call_id, request))
+    let request = body_of(alloc, version, kind, rest)?;
+    Ok((Head { version, call_id }, request))
 }
 
-/// The call id and the request that a payload spells, with all of its bytes. `Bad` exactly where it spells none: a
-/// version other than 1, another kind, a text, a list or an amount over its bound, a text with length 0 or another byte, a host
-/// that is `*` or begins with `/`, a rack that does not, a state other than 0 and 1, bytes missing or left over. `NoMemory` if an
-/// allocation fails, which only a payload of version 1 with a list or property lines that are not empty can meet. Amounts are in
-/// MiB of memory and in vcores; of `yarn.io/gpu`, which version 1 does not spell, each vector has 0.
-pub fn read_request(alloc: Global, bytes: &[u8]) -> Result<(u32, Request<RESOURCES>), MessageFault>
+/// The head and the request that a payload spells, with all of its bytes. `Bad` exactly where it spells none: a version other
+/// than 1 and 2, another kind, a text, a list or an amount over its bound, a text with length 0 or another byte, a host that is
+/// `*` or begins with `/`, a rack that does not, a state other than 0 and 1, bytes missing or left over. `NoMemory` if an
+/// allocation fails, which only a payload of version 1 or 2 with a list or property lines that are not empty can meet. Amounts
+/// are in MiB of memory, in vcores and, in version 2, in GPUs, of which each vector in version 1 has 0.
+pub fn read_request(alloc: Global, bytes: &[u8]) -> Result<(Head, Request<RESOURCES>), MessageFault>
     // What is read is spelled so.
     ensures found { IfOk result (λ x. IsRequest bytes.now x.0 x.1) }
     // What is spelled so is read, and nothing else.
-    ensures only { (id : ℕ) (request : Request resources) → IsRequest bytes.now id request
-        → IfOk result (λ x. (x.0 ≡ id) × (x.1 ≡ request)) }
-    ensures bad { IsErrOf result MessageFault.Bad → IsNoRequest bytes.now }
+    ensures only { (head : Head) (request : Request resources) → IsRequest bytes.now head request
+        → IfOk result (λ x. (x.0 ≡ head) × (x.1 ≡ request)) }
+    ensures bad { IsErrOf result MessageFault.Bad → IsNoRequest resources bytes.now }
     ensures memory { IsErrOf result MessageFault.NoMemory → CarriesItems bytes.now }
 {
     request_of(alloc, bytes)

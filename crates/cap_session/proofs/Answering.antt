@@ -4,7 +4,8 @@ use Rattle.std.proofs.lemmas.List.{take-append-drop}
 use Rattle.cap_base.specs.Limits.{resources}
 use Rattle.cap_model.specs.News.{Reply}
 use Rattle.cap_frames.specs.Stream.{frame_of, fault, IsStream}
-use Rattle.cap_grammar.specs.Spelling.{IsNoRequest, fault_reply}
+use Rattle.cap_grammar.specs.declared.head.Head.{Head}
+use Rattle.cap_grammar.specs.Spelling.{IsNoRequest, kind_of, reply_bytes, fault_reply}
 use Rattle.cap_session.specs.Answers.{Call, Answers, nothing, replied, refused}
 use Rattle.cap_session.specs.Counted.{sent_count}
 use Rattle.cap_session.specs.Session.{SessionState, OpenRequest, SpellsAnswer, all_answers, answer_bytes, with_answer, after_sent, ended_after, AnswersBy, HasAnswered}
@@ -13,15 +14,19 @@ use Rattle.cap_session.specs.declared.session.SessionCause.TheVariants as causes
 use Rattle.cap_session.specs.declared.counted.Sent.{Sent}
 use Rattle.cap_session.specs.declared.counted.Sent.TheVariants as sents
 
-pub answers_more : {ps qs : List (List ℕ)} {cs ds : List Call} {output more : List ℕ} → Answers ps cs output → Answers qs ds more → Answers (ps ++ qs) (cs ++ ds) (output ++ more)
+pub answers_more : {ps qs : List (List ℕ)} {cs ds : List (Call resources)} {output more : List ℕ} → Answers ps cs output → Answers qs ds more → Answers (ps ++ qs) (cs ++ ds) (output ++ more)
 answers_more nothing b = b
-answers_more {qs} {ds} {more} (replied {payload} {bytes} {payloads} {id} {call} {calls} {output} is spells later) b =
+answers_more {qs} {ds} {more} (replied {payload} {bytes} {payloads} {head} {call} {calls} {output} is spells later) b =
     subst (λ (x : List ℕ). Answers (payload ∷ (payloads ++ qs)) (call ∷ (calls ++ ds)) x) (sym (append_assoc (frame_of bytes) output more)) (replied is spells (answers_more later b))
 answers_more {qs} {ds} {more} (refused {payload} {payloads} {calls} {output} is later) b =
     subst (λ (x : List ℕ). Answers (payload ∷ (payloads ++ qs)) (calls ++ ds) x) (sym (append_assoc (frame_of (fault_reply 41)) output more)) (refused is (answers_more later b))
 
-pub one_refused : (payload : List ℕ) → IsNoRequest payload → Answers (payload ∷ []) [] (frame_of (fault_reply 41))
-one_refused payload is = subst (λ (x : List ℕ). Answers (payload ∷ []) [] x) (append-nil (frame_of (fault_reply 41))) (refused is nothing)
+pub one_refused : (payload : List ℕ) → IsNoRequest resources payload → Answers {K = resources} (payload ∷ []) [] (frame_of (fault_reply 41))
+one_refused payload is = subst (λ (x : List ℕ). Answers {K = resources} (payload ∷ []) [] x) (append-nil (frame_of (fault_reply 41))) (refused is nothing)
+
+-- what is spelled under the head and the kind of an open request is its answer
+pub is_answer : (o : OpenRequest) (head : Head) (kind : ℕ) (reply : Reply resources) → o.head ≡ head → kind ≡ kind_of o.request → reply_bytes head kind reply ≡ answer_bytes o reply
+is_answer o head kind reply h k = ap (λ (x : Head). reply_bytes x kind reply) (sym h) ∙ ap (λ (x : ℕ). reply_bytes o.head x reply) k
 
 pub one_replied : (o : OpenRequest) (reply : Reply resources) → SpellsAnswer (Some o) reply → Answers (o.payload ∷ []) (record { request = o.request; reply = reply } ∷ []) (frame_of (answer_bytes o reply))
 one_replied o reply is =
@@ -49,15 +54,15 @@ pub answered_starved : (s : SessionState) → s.ended ≡ Some causes.NoMemory �
 answered_starved s is a = subst (λ (c : Option SessionCause). AnswersBy c s) (sym is) a
 
 -- payloads that are no requests were answered
-pub answers_refused : (s t : SessionState) (payloads : List (List ℕ)) (frames : List ℕ) → Answers s.answered s.calls (all_answers s) → Answers payloads [] frames → t.answered ≡ s.answered ++ payloads → t.calls ≡ s.calls → t.sent ≡ s.sent → t.unsent ≡ s.unsent ++ frames → Answers t.answered t.calls (all_answers t)
+pub answers_refused : (s t : SessionState) (payloads : List (List ℕ)) (frames : List ℕ) → Answers s.answered s.calls (all_answers s) → Answers {K = resources} payloads [] frames → t.answered ≡ s.answered ++ payloads → t.calls ≡ s.calls → t.sent ≡ s.sent → t.unsent ≡ s.unsent ++ frames → Answers t.answered t.calls (all_answers t)
 answers_refused s t payloads frames old answers done calls sent unsent =
     let more = answers_more old answers in
     let all : all_answers t ≡ all_answers s ++ frames = ap₂ (λ (x y : List ℕ). x ++ y) sent unsent ∙ sym (append_assoc s.sent s.unsent frames) in
     subst (λ (x : List (List ℕ)). Answers x t.calls (all_answers t)) (sym done)
-    (subst (λ (x : List Call). Answers (s.answered ++ payloads) x (all_answers t)) (append-nil s.calls ∙ sym calls) (subst (λ (x : List ℕ). Answers (s.answered ++ payloads) (s.calls ++ []) x) (sym all) more))
+    (subst (λ (x : List (Call resources)). Answers (s.answered ++ payloads) x (all_answers t)) (append-nil s.calls ∙ sym calls) (subst (λ (x : List ℕ). Answers (s.answered ++ payloads) (s.calls ++ []) x) (sym all) more))
 
 -- a length that no frame has
-pub answered_fault : (s t : SessionState) (payloads : List (List ℕ)) (frames after : List ℕ) → Answers s.answered s.calls (all_answers s) → Answers payloads [] frames → t.answered ≡ s.answered ++ payloads → t.calls ≡ s.calls → t.sent ≡ s.sent → t.unsent ≡ s.unsent ++ (frames ++ frame_of (fault_reply 40))
+pub answered_fault : (s t : SessionState) (payloads : List (List ℕ)) (frames after : List ℕ) → Answers s.answered s.calls (all_answers s) → Answers {K = resources} payloads [] frames → t.answered ≡ s.answered ++ payloads → t.calls ≡ s.calls → t.sent ≡ s.sent → t.unsent ≡ s.unsent ++ (frames ++ frame_of (fault_reply 40))
     → t.ended ≡ Some causes.BadLength → IsStream t.fed t.answered (fault after) → HasAnswered t
 answered_fault s t payloads frames after old answers done calls sent unsent ended at =
     let more = answers_more old answers in
@@ -67,7 +72,7 @@ answered_fault s t payloads frames after old answers done calls sent unsent ende
       after,
       (
         all_answers s ++ frames,
-        subst (λ (x : List (List ℕ)). Answers x t.calls (all_answers s ++ frames)) (sym done) (subst (λ (x : List Call). Answers (s.answered ++ payloads) x (all_answers s ++ frames)) (append-nil s.calls ∙ sym calls) more),
+        subst (λ (x : List (List ℕ)). Answers x t.calls (all_answers s ++ frames)) (sym done) (subst (λ (x : List (Call resources)). Answers (s.answered ++ payloads) x (all_answers s ++ frames)) (append-nil s.calls ∙ sym calls) more),
         all,
       ),
       at,

@@ -19,20 +19,20 @@ continues_none s = record {
 }
 
 -- one after the other
-pub continues_then : {s t u : SessionState} {more most : List ℕ} {calls later : List Call} {last : List ℕ} → Continues s t more calls [] → Continues t u most later last → Continues s u (more ++ most) (calls ++ later) last
+pub continues_then : {s t u : SessionState} {more most : List ℕ} {calls later : List (Call resources)} {last : List ℕ} → Continues s t more calls [] → Continues t u most later last → Continues s u (more ++ most) (calls ++ later) last
 continues_then {s} {t} {u} {more} {most} {calls} {later} {last} a b = record {
   payloads = a.payloads ++ b.payloads;
   frames = a.frames ++ b.frames;
   fed = b.fed ∙ ap (λ (x : List ℕ). x ++ most) a.fed ∙ append_assoc s.fed more most;
   answered = b.answered ∙ ap (λ (x : List (List ℕ)). x ++ b.payloads) a.answered ∙ append_assoc s.answered a.payloads b.payloads;
-  calls = b.calls ∙ ap (λ (x : List Call). x ++ later) a.calls ∙ append_assoc s.calls calls later;
+  calls = b.calls ∙ ap (λ (x : List (Call resources)). x ++ later) a.calls ∙ append_assoc s.calls calls later;
   answers = answers_more a.answers b.answers;
   output = b.output ∙ ap (λ (x : List ℕ). x ++ (b.frames ++ last)) (a.output ∙ ap (λ (x : List ℕ). all_answers s ++ x) (append-nil a.frames)) ∙ append_assoc (all_answers s) a.frames (b.frames ++ last)
       ∙ ap (λ (x : List ℕ). all_answers s ++ x) (sym (append_assoc a.frames b.frames last));
 }
 
 -- payloads that are no requests were answered, and then perhaps a length that no frame has
-pub continues_bad : (s t : SessionState) (payloads : List (List ℕ)) (frames last : List ℕ) → Answers payloads [] frames → t.fed ≡ s.fed → t.answered ≡ s.answered ++ payloads → t.calls ≡ s.calls → t.sent ≡ s.sent → t.unsent ≡ s.unsent ++ (frames ++ last) → Continues s t [] [] last
+pub continues_bad : (s t : SessionState) (payloads : List (List ℕ)) (frames last : List ℕ) → Answers {K = resources} payloads [] frames → t.fed ≡ s.fed → t.answered ≡ s.answered ++ payloads → t.calls ≡ s.calls → t.sent ≡ s.sent → t.unsent ≡ s.unsent ++ (frames ++ last) → Continues s t [] [] last
 continues_bad s t payloads frames last answers fed answered calls sent unsent = record {
   payloads = payloads;
   frames = frames;

@@ -5,8 +5,9 @@ use Rattle.bytes.specs.Filled.{Filled}
 use Rattle.http_server.specs.declared.log.Log.{Log}
 use Rattle.cap_base.specs.Limits.{resources}
 use Rattle.cap_model.specs.declared.request.Request.{Request}
+use Rattle.cap_grammar.specs.declared.head.Head.{Head}
 use Rattle.cap_model.specs.News.{Reply}
-use Rattle.cap_session.specs.declared.asked.Head.{Head}
+use Rattle.cap_session.specs.declared.asked.ReplyHead.{ReplyHead}
 use Rattle.cap_session.specs.Kept.{AnswerLog, calls_in, answered_in, calls_of, open_of, sent_in, IsHeadOf}
 use Rattle.cap_session.specs.Asked.{ReadResult, PayloadLog, payloads_in}
 
@@ -20,7 +21,7 @@ pub sent_more : (log : List (Filled × ℕ)) (b : Filled) (n : ℕ) → sent_in 
 sent_more log b n = sym (flat_map_more (λ (e : Filled × ℕ). take e.1 e.0.items) [] log (b, n))
 
 -- the one payload that is open
-pub opened_is : (head : Head) (log : PayloadLog) → IsHeadOf (open_of (Some head) log) (Some head) → (p : Filled) × (x : ℕ × Request resources) × (log ≡ (p, Ok x) ∷ [])
+pub opened_is : (head : ReplyHead) (log : PayloadLog) → IsHeadOf (open_of (Some head) log) (Some head) → (p : Filled) × (x : Head × Request resources) × (log ≡ (p, Ok x) ∷ [])
 opened_is head [] h = absurd h
 opened_is head ((p, Err e) ∷ []) h = absurd h
 opened_is head ((p, Err e) ∷ (q ∷ log)) h = absurd h

@@ -16,7 +16,7 @@ use Rattle.cap_session.specs.Session.{OpenRequest}
 use Rattle.cap_session.specs.Ahead.{asked_payloads, asked_requests, refused_payloads, payloads_ahead, history_of, HasGiven}
 use Rattle.cap_session.specs.Payloads.{ReadsAhead}
 use Rattle.cap_session.specs.declared.payloads.Ahead.{Ahead}
-use Rattle.cap_session.specs.declared.asked.Head.{Head}
+use Rattle.cap_session.specs.declared.asked.ReplyHead.{ReplyHead}
 use Rattle.cap_session.specs.declared.payloads.TheConstants.{AHEAD_MAX}
 
 take_first : (xs ys : List (List ℕ)) → take (length xs) (xs ++ ys) ≡ xs
@@ -67,12 +67,12 @@ takes_asked a b given first has was f r = record {
 }
 
 -- a request that was read ahead spells what was read
-pub opens_asked : (o : OpenRequest) (head : Head) (opened : PayloadLog) (q : Request resources) → HasParts o head opened → q ≡ o.request → (is : IsOpened opened (Ok (head.call_id, q))) × (o.payload ≡ is.payload.items)
+pub opens_asked : (o : OpenRequest) (head : ReplyHead) (opened : PayloadLog) (q : Request resources) → HasParts o head opened → q ≡ o.request → (is : IsOpened opened (Ok (head.of_request, q))) × (o.payload ≡ is.payload.items)
 opens_asked o head opened q has same = (
   record {
     payload = has.payload;
-    one = has.one ∙ ap (λ (x : Request resources). (has.payload, Ok (head.call_id, x)) ∷ []) (sym same);
-    reads = rw (← has.payload_is, ← has.call_id, same) has.reads;
+    one = has.one ∙ ap (λ (x : Request resources). (has.payload, Ok (head.of_request, x)) ∷ []) (sym same);
+    reads = rw (← has.payload_is, ← has.head_is, same) has.reads;
   },
   has.payload_is,
 )
@@ -130,13 +130,13 @@ finds_fault a given r has none not bad found again =
 pub nothing_read : IsReading (record { fed = []; given = []; is_spent = false })
 nothing_read = ([], rest [], record { whole = refl; each = search rules; ends = record { length_good = λ l. absurd (omega (arith, l)); short = λ l. absurd (omega (arith, l)) }; fits = search rules })
 
-pub read_from : (payload : List ℕ) (read : ReadResult) → IfOk read (λ x. IsRequest payload x.0 x.1) → (read ≡ Err Bad → IsNoRequest payload) → IsReadFrom payload read
+pub read_from : (payload : List ℕ) (read : ReadResult) → IfOk read (λ x. IsRequest payload x.0 x.1) → (read ≡ Err Bad → IsNoRequest resources payload) → IsReadFrom payload read
 read_from payload (Ok x) found bad = found
 read_from payload (Err Bad) found bad = bad refl
 read_from payload (Err NoMemory) found bad = tt
 
 -- what was read from the payload of a frame
-abbrev pub opens : (p : Filled) (bytes : List ℕ) (read : ReadResult) (none opened : PayloadLog) → bytes ≡ p.items → IfOk read (λ x. IsRequest bytes x.0 x.1) → (read ≡ Err Bad → IsNoRequest bytes) → none ≡ [] → opened ≡ none ++ (p, read) ∷ [] → IsOpened opened read
+abbrev pub opens : (p : Filled) (bytes : List ℕ) (read : ReadResult) (none opened : PayloadLog) → bytes ≡ p.items → IfOk read (λ x. IsRequest bytes x.0 x.1) → (read ≡ Err Bad → IsNoRequest resources bytes) → none ≡ [] → opened ≡ none ++ (p, read) ∷ [] → IsOpened opened read
 opens p bytes read none opened same found bad empty is = record {
   payload = p;
   one = is ∙ ap (λ (x : PayloadLog). x ++ (p, read) ∷ []) empty;

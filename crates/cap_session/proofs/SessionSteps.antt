@@ -16,7 +16,7 @@ use Rattle.cap_session.specs.declared.counted.Sent.TheVariants as sents
 use Rattle.cap_session.specs.Session.{ended_after, after_sent, HasAnswered, OpenRequest, open_payload, SpellsAnswer, FollowsStream, IsSession, EndsNow, NextGives, answer_bytes, with_answer, after_answer, AnswersBy}
 use Rattle.cap_session.specs.Kept.{AnswerLog, calls_in, answered_in, calls_of, open_of, sent_in, state_inside, SpellsRequest, IsHeadOf, IsKept, HasRoom, AnswersBad, AnswersAllBad, Finds, EndsWith}
 use Rattle.cap_session.specs.Asked.{ReadResult, PayloadLog, payloads_in}
-use Rattle.cap_session.specs.declared.asked.Head.{Head}
+use Rattle.cap_session.specs.declared.asked.ReplyHead.{ReplyHead}
 use Rattle.cap_session.specs.declared.find.FoundPayload.{FoundPayload}
 use Rattle.cap_session.specs.declared.find.FoundPayload.TheVariants as found
 use Rattle.cap_session.specs.declared.session.SessionCause.{SessionCause}
@@ -46,7 +46,7 @@ bad_given {h} {k} m p r gift = (
 )
 
 -- and answered
-pub bad_more : {h k : History} {u v : List ℕ} {old log : AnswerLog} (m : History) (w : List ℕ) (new : AnswerLog) (p : Filled) (e : MessageFault) (l : Log Filled ReadResult) (none : Log (Reply resources) (Unit {0})) → AnswersAllBad h k u v old log → m ≡ after_gift k p.items → IsNoRequest p.items → w ≡ v ++ frame_of (fault_reply 41)
+pub bad_more : {h k : History} {u v : List ℕ} {old log : AnswerLog} (m : History) (w : List ℕ) (new : AnswerLog) (p : Filled) (e : MessageFault) (l : Log Filled ReadResult) (none : Log (Reply resources) (Unit {0})) → AnswersAllBad h k u v old log → m ≡ after_gift k p.items → IsNoRequest resources p.items → w ≡ v ++ frame_of (fault_reply 41)
     → l.items ≡ (p, Err e) ∷ [] → none.items ≡ [] → new ≡ log ++ (l, none) ∷ [] → AnswersAllBad h m u w old new
 bad_more {h} {k} {u} {v} {old} {log} m w new p e l none r gift is said one empty more =
     let given = bad_given m p.items r gift in
@@ -130,22 +130,22 @@ record NoneOpen (t : Inside) : Type 0 where
 
 still_none : (s t : Inside) → IsKept s → open_of s.head s.opened.items ≡ None → t.head ≡ s.head → t.opened ≡ s.opened → NoneOpen t
 still_none s t kept none i o =
-    let same : open_of t.head t.opened.items ≡ open_of s.head s.opened.items = ap₂ (λ (x : Option Head) (l : Log Filled ReadResult). open_of x l.items) i o in
+    let same : open_of t.head t.opened.items ≡ open_of s.head s.opened.items = ap₂ (λ (x : Option ReplyHead) (l : Log Filled ReadResult). open_of x l.items) i o in
     let is = same ∙ none in
     record {
       none = is;
       spells = subst SpellsRequest (sym is) tt;
-      head = subst (λ (x : Option OpenRequest). IsHeadOf x t.head) (sym same) (subst (λ (x : Option Head). IsHeadOf (open_of s.head s.opened.items) x) (sym i) kept.head);
+      head = subst (λ (x : Option OpenRequest). IsHeadOf x t.head) (sym same) (subst (λ (x : Option ReplyHead). IsHeadOf (open_of s.head s.opened.items) x) (sym i) kept.head);
       room = subst (λ (x : Option OpenRequest). HasRoom x t.unsent.spare) (sym is) tt;
     }
 
 given_none : (t : Inside) (lost : List (List ℕ)) → NoneOpen t → t.payloads.given ≡ answered_in t.answered.items ++ lost → t.payloads.given ≡ answered_in t.answered.items ++ (open_payload (open_of t.head t.opened.items) ++ lost)
 given_none t lost is given = given ∙ ap (λ (o : Option OpenRequest). answered_in t.answered.items ++ (open_payload o ++ lost)) (sym is.none)
 
-pub asks : (s t : Inside) (head : Head) (opened : Log Filled ReadResult) (request : Request resources) → IsKept s → s.ended ≡ None → open_of s.head s.opened.items ≡ None → Finds s.payloads t.payloads s.unsent t.unsent s.answered.items t.answered.items (found.Request head opened request)
+pub asks : (s t : Inside) (head : ReplyHead) (opened : Log Filled ReadResult) (request : Request resources) → IsKept s → s.ended ≡ None → open_of s.head s.opened.items ≡ None → Finds s.payloads t.payloads s.unsent t.unsent s.answered.items t.answered.items (found.Request head opened request)
     → t.head ≡ Some head → t.opened ≡ opened → t.ended ≡ s.ended → t.sent ≡ s.sent → IsKept t × NextGives (state_inside s) (state_inside t) (nexts.Request request)
 asks s t head opened request kept over none (payloads, frames, p, step, given, ready, reading, one, is, kind, room) i o e g =
-    let now_open : OpenRequest = record { payload = p.items; call_id = head.call_id; request = request } in
+    let now_open : OpenRequest = record { payload = p.items; head = head.of_request; request = request } in
     let opens : open_of t.head t.opened.items ≡ Some now_open = ap₂ open_of i (ap (λ (l : Log Filled ReadResult). l.items) o ∙ one) in
     let sent : sent_in t.sent.items ≡ sent_in s.sent.items = ap (λ (l : Log Filled ℕ). sent_in l.items) g in
     let fed = step.fed in
@@ -159,7 +159,7 @@ asks s t head opened request kept over none (payloads, frames, p, step, given, r
       reading = reading;
       none_lost = λ _. (refl, ready);
       spells = subst SpellsRequest (sym opens) is;
-      head = subst (λ (x : Option OpenRequest). IsHeadOf x t.head) (sym opens) (subst (λ (x : Option Head). IsHeadOf (Some now_open) x) (sym i) (refl, kind));
+      head = subst (λ (x : Option OpenRequest). IsHeadOf x t.head) (sym opens) (subst (λ (x : Option ReplyHead). IsHeadOf (Some now_open) x) (sym i) (refl, kind));
       room = subst (λ (x : Option OpenRequest). HasRoom x t.unsent.spare) (sym opens) room;
       answers = answered_open (state_inside t) (e ∙ over) (answers_refused (state_inside s) (state_inside t) payloads frames (answers_open (state_inside s) over kept.answers) step.answers answered calls sent unsent);
       none_open = λ x. absurd cc;
@@ -242,23 +242,23 @@ rests s t kept over none (all, at) i o e g =
 -- ---- an answer
 
 -- what is open, by its head and the log of its payload
-pub opens : (s : Inside) (head : Head) → IsKept s → s.head ≡ Some head → (o : OpenRequest) × (open_of s.head s.opened.items ≡ Some o) × (head.call_id ≡ o.call_id) × (head.kind ≡ kind_of o.request) × (payloads_in s.opened.items ≡ o.payload ∷ [])
+pub opens : (s : Inside) (head : ReplyHead) → IsKept s → s.head ≡ Some head → (o : OpenRequest) × (open_of s.head s.opened.items ≡ Some o) × (head.of_request ≡ o.head) × (head.kind ≡ kind_of o.request) × (payloads_in s.opened.items ≡ o.payload ∷ [])
     × ((r : Reply resources) → calls_in s.opened.items ((r, tt) ∷ []) ≡ record { request = o.request; reply = r } ∷ [])
 opens s head kept i =
-    let of : IsHeadOf (open_of (Some head) s.opened.items) (Some head) = subst (λ (x : Option Head). IsHeadOf (open_of x s.opened.items) x) i kept.head in
+    let of : IsHeadOf (open_of (Some head) s.opened.items) (Some head) = subst (λ (x : Option ReplyHead). IsHeadOf (open_of x s.opened.items) x) i kept.head in
     let one = opened_is head s.opened.items of in
-    let o : OpenRequest = record { payload = one.0.items; call_id = one.1.0; request = one.1.1 } in
+    let o : OpenRequest = record { payload = one.0.items; head = one.1.0; request = one.1.1 } in
     let is : open_of (Some head) s.opened.items ≡ Some o = ap (λ (l : PayloadLog). open_of (Some head) l) one.2 in
     let of' : IsHeadOf (Some o) (Some head) = subst (λ (x : Option OpenRequest). IsHeadOf x (Some head)) is of in
-    (o, ap (λ (x : Option Head). open_of x s.opened.items) i ∙ is, of'.0, of'.1, ap payloads_in one.2, λ r. ap (λ (l : PayloadLog). calls_in l ((r, tt) ∷ [])) one.2)
+    (o, ap (λ (x : Option ReplyHead). open_of x s.opened.items) i ∙ is, of'.0, of'.1, ap payloads_in one.2, λ r. ap (λ (l : PayloadLog). calls_in l ((r, tt) ∷ [])) one.2)
 
 some_none : (o : OpenRequest) → Some o ≡ None → ⊥
 some_none o is = cc
 
-pub answers_it : (s t : Inside) (head : Head) (o : OpenRequest) (reply : Reply resources) (replies : Log (Reply resources) (Unit {0})) → IsKept s → open_of s.head s.opened.items ≡ Some o → payloads_in s.opened.items ≡ o.payload ∷ [] → calls_in s.opened.items ((reply, tt) ∷ []) ≡ record { request = o.request; reply = reply } ∷ [] → SpellsAnswer (Some o) reply
+pub answers_it : (s t : Inside) (head : ReplyHead) (o : OpenRequest) (reply : Reply resources) (replies : Log (Reply resources) (Unit {0})) → IsKept s → open_of s.head s.opened.items ≡ Some o → payloads_in s.opened.items ≡ o.payload ∷ [] → calls_in s.opened.items ((reply, tt) ∷ []) ≡ record { request = o.request; reply = reply } ∷ [] → SpellsAnswer (Some o) reply
     → t.payloads ≡ s.payloads → t.head ≡ None → t.ended ≡ s.ended → replies.items ≡ (reply, tt) ∷ [] → t.answered.items ≡ s.answered.items ++ (s.opened, replies) ∷ [] → t.sent ≡ s.sent → t.unsent.items ≡ s.unsent.items ++ frame_of (answer_bytes o reply) → IsKept t × (state_inside t ≡ after_answer (state_inside s) reply)
 answers_it s t head o reply replies kept opens payload call spells f none e r d g u =
-    let empty : open_of t.head t.opened.items ≡ None = ap (λ (x : Option Head). open_of x t.opened.items) none in
+    let empty : open_of t.head t.opened.items ≡ None = ap (λ (x : Option ReplyHead). open_of x t.opened.items) none in
     let answered : answered_in t.answered.items ≡ answered_in s.answered.items ++ o.payload ∷ [] = ap answered_in d ∙ answered_more s.answered.items s.opened replies ∙ ap (λ (x : List (List ℕ)). answered_in s.answered.items ++ x) payload in
     let calls : calls_of t.answered.items ≡ calls_of s.answered.items ++ record { request = o.request; reply = reply } ∷ [] =
     ap calls_of d ∙ calls_more s.answered.items s.opened replies ∙ ap (λ (x : List (Reply resources × Unit {0})). calls_of s.answered.items ++ calls_in s.opened.items x) r ∙ ap (λ x. calls_of s.answered.items ++ x) call in
@@ -273,7 +273,7 @@ answers_it s t head o reply replies kept opens payload call spells f none e r d 
         reading = subst IsReading (sym f) kept.reading;
         none_lost = λ over. let was = kept.none_lost (sym e ∙ over) in (was.0, ap (λ (h : History). h.is_spent) f ∙ was.1);
         spells = subst SpellsRequest (sym empty) tt;
-        head = subst (λ (x : Option OpenRequest). IsHeadOf x t.head) (sym empty) (subst (λ (x : Option Head). IsHeadOf None x) (sym none) tt);
+        head = subst (λ (x : Option OpenRequest). IsHeadOf x t.head) (sym empty) (subst (λ (x : Option ReplyHead). IsHeadOf None x) (sym none) tt);
         room = subst (λ (x : Option OpenRequest). HasRoom x t.unsent.spare) (sym empty) tt;
         answers = subst (λ (x : Option SessionCause). AnswersBy x (state_inside t)) (sym e) (answered_answer s.ended (state_inside s) (state_inside t) o reply (λ bad. some_none o (sym opens ∙ kept.none_open bad)) kept.answers spells now);
         none_open = λ _. empty;

@@ -13,7 +13,7 @@ use Rattle.cap_session.specs.Session.{SessionState, OpenRequest, open_payload, H
 use Rattle.cap_session.specs.declared.session.SessionCause.TheVariants as causes
 use Rattle.cap_session.specs.declared.session.Session.TheInside.{Inside}
 use Rattle.cap_session.specs.declared.find.TheConstants.{FRAME_ROOM}
-use Rattle.cap_session.specs.declared.asked.Head.{Head}
+use Rattle.cap_session.specs.declared.asked.ReplyHead.{ReplyHead}
 use Rattle.cap_session.specs.declared.find.FoundPayload.{FoundPayload}
 use Rattle.cap_session.specs.declared.find.FoundPayload.TheVariants as found
 
@@ -25,19 +25,19 @@ abbrev pub AnswerLog : Type 0
 AnswerLog = List (Log Filled ReadResult × Log (Reply resources) (Unit {0}))
 
 -- the call of a request with a reply
-abbrev pub calls_in : PayloadLog → ReplyLog → List Call
+abbrev pub calls_in : PayloadLog → ReplyLog → List (Call resources)
 calls_in ((p, Ok x) ∷ []) ((r, u) ∷ []) = record { request = x.1; reply = r } ∷ []
 calls_in payloads replies = []
 
 abbrev pub answered_in : AnswerLog → List (List ℕ)
 answered_in log = flat_map (λ e. payloads_in e.0.items) log
 
-abbrev pub calls_of : AnswerLog → List Call
+abbrev pub calls_of : AnswerLog → List (Call resources)
 calls_of log = flat_map (λ e. calls_in e.0.items e.1.items) log
 
 -- the open request
-abbrev pub open_of : Option Head → PayloadLog → Option OpenRequest
-open_of (Some head) ((p, Ok x) ∷ []) = Some (record { payload = p.items; call_id = x.0; request = x.1 })
+abbrev pub open_of : Option ReplyHead → PayloadLog → Option OpenRequest
+open_of (Some head) ((p, Ok x) ∷ []) = Some (record { payload = p.items; head = x.0; request = x.1 })
 open_of head payloads = None
 
 -- each entry is a buffer before some of its first bytes were written out, and their number
@@ -56,17 +56,17 @@ abbrev pub HasRoom : Option OpenRequest → ℕ → Type 0
 HasRoom None spare = Unit {0}
 HasRoom (Some o) spare = FRAME_ROOM ≤ spare
 
--- what the head says is the open request's; there is none where no request is open
-abbrev pub IsHeadOf : Option OpenRequest → Option Head → Type 0
+-- the head and the kind are the open request's; there are none where no request is open
+abbrev pub IsHeadOf : Option OpenRequest → Option ReplyHead → Type 0
 IsHeadOf None None = Unit {0}
 IsHeadOf None (Some head) = ⊥
 IsHeadOf (Some o) None = ⊥
-IsHeadOf (Some o) (Some head) = (head.call_id ≡ o.call_id) × (head.kind ≡ kind_of o.request)
+IsHeadOf (Some o) (Some head) = (head.of_request ≡ o.head) × (head.kind ≡ kind_of o.request)
 
 -- the payload of the open request spells it
 abbrev pub SpellsRequest : Option OpenRequest → Type 0
 SpellsRequest None = Unit {0}
-SpellsRequest (Some o) = IsRequest o.payload o.call_id o.request
+SpellsRequest (Some o) = IsRequest o.payload o.head o.request
 
 -- The payloads that were given were answered, but for the open request's, and for one that was lost for want of memory.
 pub record IsKept (s : Inside) : Type 0 where
@@ -82,7 +82,7 @@ pub record IsKept (s : Inside) : Type 0 where
 
 -- some payloads that are no requests were answered
 pub record AnswersBad (h k : History) (u v : List ℕ) (old new : AnswerLog) (payloads : List (List ℕ)) (frames : List ℕ) : Type 0 where
-  pub answers : Answers payloads [] frames
+  pub answers : Answers {K = resources} payloads [] frames
   pub fed : k.fed ≡ h.fed
   pub unsent : v ≡ u ++ frames
   pub answered : answered_in new ≡ answered_in old ++ payloads
@@ -99,7 +99,7 @@ pub record AnswersAllBad (h k : History) (u v : List ℕ) (old new : AnswerLog) 
 -- what was found after some payloads that are no requests
 abbrev pub Finds : History → History → Filled → Filled → AnswerLog → AnswerLog → FoundPayload → Type 0
 Finds h k u v old new (found.Request head opened request) = (payloads : List (List ℕ)) × (frames : List ℕ) × (p : Filled) × AnswersBad h k u.items v.items old new payloads frames × (k.given ≡ h.given ++ (payloads ++ p.items ∷ [])) × (k.is_spent ≡ false)
-    × IsReading k × (opened.items ≡ (p, Ok (head.call_id, request)) ∷ []) × IsRequest p.items head.call_id request × (head.kind ≡ kind_of request) × (FRAME_ROOM ≤ v.spare)
+    × IsReading k × (opened.items ≡ (p, Ok (head.of_request, request)) ∷ []) × IsRequest p.items head.of_request request × (head.kind ≡ kind_of request) × (FRAME_ROOM ≤ v.spare)
 Finds h k u v old new found.Rest = AnswersAllBad h k u.items v.items old new × IsAtRest k
 Finds h k u v old new found.BadLength = (payloads : List (List ℕ)) × (frames : List ℕ) × (w : List ℕ) × AnswersBad h k u.items w old new payloads frames × (k.given ≡ h.given ++ payloads)
     × (v.items ≡ w ++ frame_of (fault_reply 40)) × IsReading k × IsAtFault k

@@ -4,6 +4,7 @@ use Rattle.cap_base.specs.Limits.{resources}
 use Rattle.cap_model.specs.declared.request.Request.{Request}
 use Rattle.cap_model.specs.News.{Reply}
 use Rattle.cap_frames.specs.Stream.{frame_of, frames_of, Tail, rest, fault, IsStream}
+use Rattle.cap_grammar.specs.declared.head.Head.{Head}
 use Rattle.cap_grammar.specs.Spelling.{IsRequest, IsReply, IsOfKind, kind_of, reply_bytes, fault_reply}
 use Rattle.cap_session.specs.Counted.{sent_count}
 use Rattle.cap_session.specs.Answers.{Call, Answers, IsAnswered}
@@ -19,7 +20,7 @@ use Rattle.cap_session.specs.declared.counted.Sent.TheVariants as sents
 -- a payload that was handed out as a request and is not answered yet
 pub record OpenRequest : Type 0 where
   pub payload : List ℕ
-  pub call_id : ℕ
+  pub head : Head
   pub request : Request resources
 
 -- the bytes that were fed, the payloads that were answered, the request that is open, the calls, the bytes of answers that were
@@ -28,7 +29,7 @@ pub record SessionState : Type 0 where
   pub fed : List ℕ
   pub answered : List (List ℕ)
   pub open_request : Option OpenRequest
-  pub calls : List Call
+  pub calls : List (Call resources)
   pub sent : List ℕ
   pub unsent : List ℕ
   pub ended : Option SessionCause
@@ -72,7 +73,7 @@ bytes_unanswered s = length s.fed - length (frames_of s.answered)
 
 -- What was fed and answered since: these bytes were fed, and some more payloads were answered, by these calls; and last these bytes, which
 -- answer no payload.
-pub record Continues (old new : SessionState) (more : List ℕ) (made : List Call) (last : List ℕ) : Type 0 where
+pub record Continues (old new : SessionState) (more : List ℕ) (made : List (Call resources)) (last : List ℕ) : Type 0 where
   pub payloads : List (List ℕ)
   pub frames : List ℕ
   pub fed : new.fed ≡ old.fed ++ more
@@ -94,19 +95,19 @@ after_bad_messages s payloads frames = record s { answered = s.answered ++ paylo
 
 -- It ends now, after some payloads that are no requests: a length that no frame has is answered, or memory was refused.
 abbrev pub EndsNow : SessionState → SessionState → SessionCause → Type 0
-EndsNow old new causes.BadLength = (payloads : List (List ℕ)) × (frames : List ℕ) × Answers payloads [] frames
+EndsNow old new causes.BadLength = (payloads : List (List ℕ)) × (frames : List ℕ) × Answers {K = resources} payloads [] frames
     × (new ≡ record (after_bad_messages old payloads (frames ++ frame_of (fault_reply 40))) { ended = Some causes.BadLength })
     × ((after : List ℕ) × IsStream new.fed new.answered (fault after))
-EndsNow old new causes.NoMemory = (payloads : List (List ℕ)) × (frames : List ℕ) × Answers payloads [] frames
+EndsNow old new causes.NoMemory = (payloads : List (List ℕ)) × (frames : List ℕ) × Answers {K = resources} payloads [] frames
     × (new ≡ record (after_bad_messages old payloads frames) { ended = Some causes.NoMemory })
 EndsNow old new causes.WriteFault = ⊥
 
 -- What comes next: after some payloads that are no requests a request, which is open then, or less than a frame, and then all payloads are
 -- answered; or the session has ended, before or now.
 abbrev pub NextGives : SessionState → SessionState → Next → Type 0
-NextGives old new (nexts.Request request) = (old.ended ≡ None) × (payloads : List (List ℕ)) × (frames : List ℕ) × (o : OpenRequest) × Answers payloads [] frames × (o.request ≡ request) × IsRequest o.payload o.call_id request
+NextGives old new (nexts.Request request) = (old.ended ≡ None) × (payloads : List (List ℕ)) × (frames : List ℕ) × (o : OpenRequest) × Answers {K = resources} payloads [] frames × (o.request ≡ request) × IsRequest o.payload o.head request
     × (new ≡ record (after_bad_messages old payloads frames) { open_request = Some o })
-NextGives old new nexts.Need = (old.ended ≡ None) × (payloads : List (List ℕ)) × (frames : List ℕ) × Answers payloads [] frames × (new ≡ after_bad_messages old payloads frames)
+NextGives old new nexts.Need = (old.ended ≡ None) × (payloads : List (List ℕ)) × (frames : List ℕ) × Answers {K = resources} payloads [] frames × (new ≡ after_bad_messages old payloads frames)
     × ((left : List ℕ) × IsStream new.fed new.answered (rest left))
 NextGives old new (nexts.Ended cause) = ((old.ended ≡ Some cause) × (new ≡ old)) ⊎ ((old.ended ≡ None) × EndsNow old new cause)
 
@@ -119,7 +120,7 @@ MayAnswer (Some o) reply = IsOfKind (kind_of o.request) reply
 
 -- the bytes of a reply to an open request
 abbrev pub answer_bytes : OpenRequest → Reply resources → List ℕ
-answer_bytes o reply = reply_bytes o.call_id (kind_of o.request) reply
+answer_bytes o reply = reply_bytes o.head (kind_of o.request) reply
 
 -- the open request was answered
 abbrev pub with_answer : SessionState → Option OpenRequest → Reply resources → SessionState
@@ -132,7 +133,7 @@ after_answer s reply = with_answer s s.open_request reply
 -- the payload of the open request spells it, and the answer spells the reply
 abbrev pub SpellsAnswer : Option OpenRequest → Reply resources → Type 0
 SpellsAnswer None reply = ⊥
-SpellsAnswer (Some o) reply = IsRequest o.payload o.call_id o.request × IsReply (answer_bytes o reply) o.call_id (kind_of o.request) reply
+SpellsAnswer (Some o) reply = IsRequest o.payload o.head o.request × IsReply (answer_bytes o reply) o.head (kind_of o.request) reply
 
 -- ---- writing out
 

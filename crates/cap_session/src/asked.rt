@@ -4,28 +4,28 @@ ghost use Rattle.cap_session.specs.Asked.{IsAsked, IsRefused, first_open, first_
 
 use cap_base::RESOURCES;
 use cap_frames::Frame;
-use cap_grammar::MessageFault;
+use cap_grammar::{Head, MessageFault};
 use cap_model::Request;
 use http_server::Log;
 use std::marker::Model;
 
-/// What was read from a payload: a call id and a request, if it is one.
-pub(crate) type ReadResult = Result<(u32, Request<RESOURCES>), MessageFault>;
+/// What was read from a payload: a head and a request, if it is one.
+pub(crate) type ReadResult = Result<(Head, Request<RESOURCES>), MessageFault>;
 
 /// A payload with what was read from it. It exists for contracts alone.
 pub(crate) type ReadPayload = Log<Frame, ReadResult>;
 
-/// What the reply to a request repeats of it.
+/// What the reply to a request repeats of it: its head and its kind.
 #[derive(Clone, Copy)]
-pub(crate) struct Head {
-    pub(crate) call_id: u32,
+pub(crate) struct ReplyHead {
+    pub(crate) of_request: Head,
     pub(crate) kind: u8,
 }
 
 /// What is kept of a payload that is a request, beside the request. Contracts see it as an open request.
 #[derive(Drop)]
 pub(crate) struct Asked {
-    head: Head,
+    head: ReplyHead,
     // It exists for contracts alone.
     opened: ReadPayload,
 }
@@ -43,15 +43,15 @@ impl Model for Asked {
 
 impl Asked {
     /// What is kept of a payload from which a request was read.
-    pub(crate) fn new(head: Head, opened: ReadPayload) -> Asked
+    pub(crate) fn new(head: ReplyHead, opened: ReadPayload) -> Asked
         requires { IsAsked opened.items head }
         ensures { result ≡ first_open opened.items }
     {
         Asked { head, opened }
     }
 
-    /// The head of the request, and the payload for contracts.
-    pub(crate) fn parts(self) -> (Head, ReadPayload)
+    /// The head and the kind of the request, and the payload for contracts.
+    pub(crate) fn parts(self) -> (ReplyHead, ReadPayload)
         ensures { HasParts self result.0 result.1.items }
     {
         let Asked { head, opened } = self;

@@ -1,10 +1,12 @@
 //! What comes next in a stream (`find`), and the frame of a reply, written in place (`put_reply`).
-ghost use Rattle.std.specs.Prelude.{◌≡◌, ◌+◌, ◌++◌, OnOk, OnErr, false, ◌≤◌};
+ghost use Rattle.std.specs.Prelude.{◌≡◌, ◌+◌, ◌++◌, OnOk, OnErr, true, false, ◌≤◌};
+ghost use Rattle.cap_base.specs.Limits.{resources};
 ghost use Rattle.cap_frames.specs.Stream.{frame_of};
 ghost use Rattle.cap_grammar.specs.Spelling.{IsKind, IsOfKind, IsReply, reply_bytes, fault_reply};
+ghost use Rattle.cap_grammar.specs.Versions.{is_version};
 ghost use Rattle.cap_session.specs.Kept.{Finds, EndsWith};
 
-use crate::asked::{Head, ReadPayload};
+use crate::asked::{ReadPayload, ReplyHead};
 use crate::payloads::Payloads;
 use bytes::BytesMut;
 use cap_base::RESOURCES;
@@ -23,7 +25,7 @@ pub(crate) type Answered = Log<ReadPayload, Log<OwnedReply<RESOURCES>, ()>>;
 
 /// What comes next.
 pub(crate) enum FoundPayload {
-    Request(Head, ReadPayload, Request<RESOURCES>),
+    Request(ReplyHead, ReadPayload, Request<RESOURCES>),
     /// Less than a frame.
     Rest,
     /// A length that no frame has.
@@ -50,12 +52,15 @@ pub(crate) fn find(
             Err(FrameFault::NoMemory) => return FoundPayload::NoMemory,
         };
         match read {
-            Ok((call_id, request)) => {
+            Ok((head, request)) => {
                 if unsent.reserve(FRAME_ROOM).is_err() {
                     return FoundPayload::NoMemory;
                 }
-                let kind = kind(&request);
-                return FoundPayload::Request(Head { call_id, kind }, opened, request);
+                let head = ReplyHead {
+                    of_request: head,
+                    kind: kind(&request),
+                };
+                return FoundPayload::Request(head, opened, request);
             }
             Err(MessageFault::Bad) => {
                 let Ok(()) = put_fault(BAD_MESSAGE, unsent) else {
@@ -91,18 +96,19 @@ fn put_fault(status: u8, unsent: &mut BytesMut) -> Result<(), NoMemory>
     Ok(())
 }
 
-/// Appends the frame of a reply to the request of this head. All room has been made.
-pub(crate) fn put_reply(head: Head, reply: &OwnedReply<RESOURCES>, unsent: &mut BytesMut)
+/// Appends the frame of a reply to the request of this head and kind. All room has been made.
+pub(crate) fn put_reply(head: ReplyHead, reply: &OwnedReply<RESOURCES>, unsent: &mut BytesMut)
+    requires version { is_version resources head.of_request.version ≡ true }
     requires table { IsKind head.kind }
     requires kind { IsOfKind head.kind reply.now }
     requires room { FRAME_ROOM ≤ unsent.old.spare }
     ensures appends { unsent.new.items
-        ≡ unsent.old.items ++ frame_of (reply_bytes head.call_id head.kind reply.now) }
-    ensures spells { IsReply (reply_bytes head.call_id head.kind reply.now)
-        head.call_id head.kind reply.now }
+        ≡ unsent.old.items ++ frame_of (reply_bytes head.of_request head.kind reply.now) }
+    ensures spells { IsReply (reply_bytes head.of_request head.kind reply.now)
+        head.of_request head.kind reply.now }
     ensures spare { unsent.old.spare ≤ unsent.new.spare + FRAME_ROOM }
 {
     let start = open_frame(unsent);
-    write_reply(head.call_id, head.kind, &reply.view(), unsent);
+    write_reply(head.of_request, head.kind, &reply.view(), unsent);
     close_frame(start, unsent);
 }

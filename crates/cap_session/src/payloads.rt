@@ -4,7 +4,7 @@ ghost use Rattle.cap_frames.specs.History.{IsReading, after_feed};
 ghost use Rattle.cap_session.specs.Ahead.{HasGiven, HasRequests};
 ghost use Rattle.cap_session.specs.Payloads.{GivesNext, ReadsAhead, IsParted, IsOfParts};
 
-use crate::asked::{Asked, Head, ReadPayload, ReadResult, Refused};
+use crate::asked::{Asked, ReadPayload, ReadResult, Refused, ReplyHead};
 use cap_base::RESOURCES;
 use cap_frames::{FrameFault, Framer};
 use cap_grammar::{kind, read_request};
@@ -104,7 +104,7 @@ impl Payloads {
                 unreachable!()
             };
             let (head, opened) = asked.parts();
-            return Ok(Some((opened, Ok((head.call_id, request)))));
+            return Ok(Some((opened, Ok((head.of_request, request)))));
         }
         if let Some(refused) = self.ahead.refused.take() {
             return Ok(Some(refused.parts()));
@@ -177,9 +177,11 @@ fn read_all(
         let read = read_request(alloc, payload.as_slice());
         let opened = Log::new().and(&payload, &read);
         match read {
-            Ok((call_id, request)) => {
-                let kind = kind(&request);
-                let head = Head { call_id, kind };
+            Ok((head, request)) => {
+                let head = ReplyHead {
+                    of_request: head,
+                    kind: kind(&request),
+                };
                 asked.push_back_reserved(Asked::new(head, opened));
                 requests.push_back_reserved(request);
             }

@@ -8,7 +8,7 @@ ghost use Rattle.cap_session.specs.Kept.{answered_in, calls_of, sent_in, resting
 ghost use Rattle.cap_session.specs.Ahead.{HasGiven, HasRequests};
 ghost use Rattle.cap_session.specs.Session.{new_session, FeedGives, NextGives, MayAnswer, after_answer, SpellsAnswer, after_sent, IsSession, bytes_unanswered};
 
-use crate::asked::{Head, ReadPayload};
+use crate::asked::{ReadPayload, ReplyHead};
 use crate::batch::Batch;
 use crate::counted::{Counted, Sent};
 use crate::find::{Answered, FRAME_ROOM, FoundPayload, find, put_reply};
@@ -58,8 +58,8 @@ pub enum Next {
 pub struct Session {
     pub(crate) payloads: Payloads,
     pub(crate) unsent: BytesMut,
-    // That of the open request.
-    pub(crate) head: Option<Head>,
+    // What the reply to the open request repeats of it.
+    pub(crate) head: Option<ReplyHead>,
     pub(crate) ended: Option<SessionCause>,
     // These exist for contracts alone.
     pub(crate) opened: ReadPayload,

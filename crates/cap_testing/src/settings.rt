@@ -63,7 +63,7 @@ fn make_calls(alloc: Global, cluster: &mut Cluster<RESOURCES>, calls: &[Call<'_>
 
 /// Makes a call. `None` if it is no request or is refused, or an allocation fails.
 pub fn make_call(alloc: Global, cluster: &mut Cluster<RESOURCES>, call: &Call<'_>) -> Option<()> {
-    match frame(alloc, 1, call) {
+    match frame(alloc, 2, 1, call) {
         Ok(bytes) => make_request(alloc, cluster, bytes.get(4..)?),
         Err(_) => None,
     }

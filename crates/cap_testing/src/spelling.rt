@@ -1,5 +1,6 @@
 //! The eleven requests as a client means them (`Call`), spelled into frames by hand (`frame`).
 
+use cap_base::RESOURCES;
 use std::alloc::{AllocError, Global};
 
 /// So many containers wanted for a key, of this resource each, at a place.
@@ -8,18 +9,19 @@ pub struct WantedContainers<'a> {
     pub priority: u32,
     pub request: u64,
     pub count: u32,
-    pub resource: [u64; 2],
+    pub resource: [u64; RESOURCES],
     pub place: &'a [u8],
 }
 
-/// A request as a client means it: texts of any bytes, and resources in MiB and vcores, whatever the engine makes of them.
+/// A request as a client means it: texts of any bytes, and resources in MiB, vcores and GPUs, whatever the engine makes of
+/// them.
 #[derive(Clone, Copy)]
 pub enum Call<'a> {
     Submit(&'a [u8], &'a [u8]),
     RegisterMaster(u64),
     Allocate(u64, u32, &'a [WantedContainers<'a>], &'a [u64]),
     FinishMaster(u64),
-    RegisterNode(&'a [u8], &'a [u8], [u64; 2]),
+    RegisterNode(&'a [u8], &'a [u8], [u64; RESOURCES]),
     Heartbeat(u64, u32, &'a [u64]),
     NodeGone(u64),
     QueueInfo(&'a [u8]),
@@ -28,19 +30,30 @@ pub enum Call<'a> {
     Refresh(&'a [u8]),
 }
 
-/// The frame of a call with this call id: its length in four bytes, then version 1, the kind, the call id and what the call holds.
-pub fn frame(alloc: Global, call_id: u32, call: &Call<'_>) -> Result<Vec<u8>, AllocError> {
-    let mut bytes = Vec::from_slice(alloc, &[0, 0, 0, 0, 1, kind_of(call)])?;
-    match put_rest(&mut bytes, call_id, call) {
+/// The frame of a call in this version, with this call id: its length in four bytes, then the version, the kind, the call id
+/// and what the call holds. Version 1 has no GPUs.
+pub fn frame(
+    alloc: Global,
+    version: u8,
+    call_id: u32,
+    call: &Call<'_>,
+) -> Result<Vec<u8>, AllocError> {
+    let mut bytes = Vec::from_slice(alloc, &[0, 0, 0, 0, version, kind_of(call)])?;
+    match put_rest(&mut bytes, version, call_id, call) {
         Ok(()) => Ok(bytes),
         Err(fault) => Err(fault),
     }
 }
 
 /// Puts what comes after the kind, and the length into the first four bytes.
-fn put_rest(bytes: &mut Vec<u8>, call_id: u32, call: &Call<'_>) -> Result<(), AllocError> {
+fn put_rest(
+    bytes: &mut Vec<u8>,
+    version: u8,
+    call_id: u32,
+    call: &Call<'_>,
+) -> Result<(), AllocError> {
     bytes.extend_from_slice(&call_id.to_be_bytes())?;
-    put_body(bytes, call)?;
+    put_body(bytes, version, call)?;
     let length = u32::try_from(bytes.len().saturating_sub(4)).unwrap_or(u32::MAX);
     if let Some(head) = bytes.first_chunk_mut::<4>() {
         *head = length.to_be_bytes();
@@ -64,7 +77,7 @@ fn kind_of(call: &Call<'_>) -> u8 {
     }
 }
 
-fn put_body(body: &mut Vec<u8>, call: &Call<'_>) -> Result<(), AllocError> {
+fn put_body(body: &mut Vec<u8>, version: u8, call: &Call<'_>) -> Result<(), AllocError> {
     match call {
         Call::Submit(path, user) => {
             put_text(body, path)?;
@@ -76,13 +89,13 @@ fn put_body(body: &mut Vec<u8>, call: &Call<'_>) -> Result<(), AllocError> {
         Call::Allocate(app, response, asks, releases) => {
             body.extend_from_slice(&app.to_be_bytes())?;
             body.extend_from_slice(&response.to_be_bytes())?;
-            put_asks(body, asks)?;
+            put_asks(body, version, asks)?;
             put_numbers(body, releases)
         }
         Call::RegisterNode(host, rack, total) => {
             put_text(body, host)?;
             put_text(body, rack)?;
-            put_amounts(body, *total)
+            put_amounts(body, version, *total)
         }
         Call::Heartbeat(node, response, ended) => {
             body.extend_from_slice(&node.to_be_bytes())?;
@@ -109,10 +122,18 @@ fn put_text(body: &mut Vec<u8>, text: &[u8]) -> Result<(), AllocError> {
     body.extend_from_slice(text)
 }
 
-fn put_amounts(body: &mut Vec<u8>, amounts: [u64; 2]) -> Result<(), AllocError> {
-    let [memory, vcores] = amounts;
+fn put_amounts(
+    body: &mut Vec<u8>,
+    version: u8,
+    amounts: [u64; RESOURCES],
+) -> Result<(), AllocError> {
+    let [memory, vcores, gpus] = amounts;
     body.extend_from_slice(&memory.to_be_bytes())?;
-    body.extend_from_slice(&vcores.to_be_bytes())
+    body.extend_from_slice(&vcores.to_be_bytes())?;
+    if version == 1 {
+        return Ok(());
+    }
+    body.extend_from_slice(&gpus.to_be_bytes())
 }
 
 /// How many there are, in two bytes.
@@ -129,13 +150,17 @@ fn put_numbers(body: &mut Vec<u8>, numbers: &[u64]) -> Result<(), AllocError> {
     Ok(())
 }
 
-fn put_asks(body: &mut Vec<u8>, asks: &[WantedContainers<'_>]) -> Result<(), AllocError> {
+fn put_asks(
+    body: &mut Vec<u8>,
+    version: u8,
+    asks: &[WantedContainers<'_>],
+) -> Result<(), AllocError> {
     put_length(body, asks.len())?;
     for ask in asks {
         body.extend_from_slice(&ask.priority.to_be_bytes())?;
         body.extend_from_slice(&ask.request.to_be_bytes())?;
         body.extend_from_slice(&ask.count.to_be_bytes())?;
-        put_amounts(body, ask.resource)?;
+        put_amounts(body, version, ask.resource)?;
         put_text(body, ask.place)?;
     }
     Ok(())

@@ -80,13 +80,13 @@ sealed_then x y = record { entries = y.entries; full = y.full; serves = serves_t
 -- ---- what comes next
 
 -- payloads that are no requests were answered, and last came these bytes
-bad_then : (b new : SessionState) (t : Sitting) (payloads : List (List ℕ)) (frames last : List ℕ) (o : Option OpenRequest) (c : Option SessionCause) → Answers payloads [] frames
+bad_then : (b new : SessionState) (t : Sitting) (payloads : List (List ℕ)) (frames last : List ℕ) (o : Option OpenRequest) (c : Option SessionCause) → Answers {K = resources} payloads [] frames
     → new ≡ record b { answered = b.answered ++ payloads; unsent = b.unsent ++ (frames ++ last); open_request = o; ended = c } → Serves b new t t last []
 bad_then b new t payloads frames last o c answers now = serves_quiet b new t [] last
     (continues_bad b new payloads frames last answers (ap (λ (x : SessionState). x.fed) now) (ap (λ (x : SessionState). x.answered) now) (ap (λ (x : SessionState). x.calls) now) (ap (λ (x : SessionState). x.sent) now) (ap (λ (x : SessionState). x.unsent) now))
 
 -- and no more bytes
-bad_only : (b new : SessionState) (t : Sitting) (payloads : List (List ℕ)) (frames : List ℕ) (o : Option OpenRequest) (c : Option SessionCause) → Answers payloads [] frames → new ≡ record b { answered = b.answered ++ payloads; unsent = b.unsent ++ frames; open_request = o; ended = c } → Serves b new t t [] []
+bad_only : (b new : SessionState) (t : Sitting) (payloads : List (List ℕ)) (frames : List ℕ) (o : Option OpenRequest) (c : Option SessionCause) → Answers {K = resources} payloads [] frames → new ≡ record b { answered = b.answered ++ payloads; unsent = b.unsent ++ frames; open_request = o; ended = c } → Serves b new t t [] []
 bad_only b new t payloads frames o c answers now =
     bad_then b new t payloads frames [] o c answers (now ∙ ap (λ (x : List ℕ). record b { answered = b.answered ++ payloads; unsent = b.unsent ++ x; open_request = o; ended = c }) (sym (append-nil frames)))
 

@@ -1,6 +1,7 @@
 -- Calls of a session, and the receipts of the seat that made them.
 use Rattle.std.proofs.Common.{◌≡◌, ℕ, List, [], ◌++◌, refl, ap, sym, ◌∙◌, append_assoc, append-nil, take, drop}
 use Rattle.std.proofs.lemmas.List.{take-append-drop}
+use Rattle.cap_base.specs.Limits.{resources}
 use Rattle.cap_session.specs.Answers.{Call}
 use Rattle.cap_session.specs.Counted.{sent_count}
 use Rattle.cap_session.specs.Session.{SessionState, Continues, all_answers, after_sent}
@@ -12,7 +13,7 @@ use Rattle.cap_shared.specs.declared.history.Moment.{Moment}
 use Rattle.cap_shared.specs.declared.history.Sitting.{Sitting}
 use Rattle.cap_workers.specs.Sessions.{HaveReceipts, none_made, made, starved, Serves}
 
-pub receipts_then : {cs ds : List Call} {ms ns : List Moment} → HaveReceipts cs ms → HaveReceipts ds ns → HaveReceipts (cs ++ ds) (ms ++ ns)
+pub receipts_then : {cs ds : List (Call resources)} {ms ns : List Moment} → HaveReceipts cs ms → HaveReceipts ds ns → HaveReceipts (cs ++ ds) (ms ++ ns)
 receipts_then none_made y = y
 receipts_then (made {call} found x) y = made {call = call} found (receipts_then x y)
 receipts_then (starved x) y = starved (receipts_then x y)

@@ -16,21 +16,21 @@ use Rattle.cap_shared.specs.declared.history.Moment.TheVariants.{Noted}
 use Rattle.cap_shared.specs.declared.history.Sitting.{Sitting}
 use Rattle.cap_workers.specs.Sessions.{HaveReceipts, Serves, IsSealed}
 
-abbrev pub requests_of : List Call → List (Request resources)
+abbrev pub requests_of : List (Call resources) → List (Request resources)
 requests_of calls = map (λ call. call.request) calls
 
-abbrev pub replies_of : List Call → List (Reply resources)
+abbrev pub replies_of : List (Call resources) → List (Reply resources)
 replies_of calls = map (λ call. call.reply) calls
 
 -- each reply is a refusal or one of its request's kind
-pub data AreOfKind : List Call → Type 0 where
+pub data AreOfKind : List (Call resources) → Type 0 where
   none_asked : AreOfKind []
-  asked : {call : Call} {calls : List Call} → IsOfKind (kind_of call.request) call.reply → AreOfKind calls → AreOfKind (call ∷ calls)
+  asked : {call : Call resources} {calls : List (Call resources)} → IsOfKind (kind_of call.request) call.reply → AreOfKind calls → AreOfKind (call ∷ calls)
 
 -- The first of these requests were called, with these replies, and the others are left. The seat has a receipt for each of these calls that found
 -- memory, and was answered nothing else but the note.
 pub record CallsMade (all left : List (Request resources)) (replies : List (Reply resources)) (before after : Sitting) (note : List Moment) : Type 0 where
-  pub calls : List Call
+  pub calls : List (Call resources)
   pub moments : List Moment
   pub receipts : HaveReceipts calls moments
   pub kinds : AreOfKind calls
@@ -49,14 +49,14 @@ CallsAll limit all left replies before after None = (left ≡ []) × CallsMade a
 CallsAll limit all left replies before after (Some back) = (entries : List Entry) × (length entries ≡ limit) × CallsMade all (back ∷ left) replies before after (Noted entries (answer.SealedCall back) ∷ [])
 
 -- these calls are of the first requests, with these replies
-pub record IsAnsweredBy (opens : List OpenRequest) (replies : List (Reply resources)) (calls : List Call) : Type 0 where
+pub record IsAnsweredBy (opens : List OpenRequest) (replies : List (Reply resources)) (calls : List (Call resources)) : Type 0 where
   pub left : List (Request resources)
   pub kinds : AreOfKind calls
   pub requests : asked_requests opens ≡ requests_of calls ++ left
   pub replies_are : replies ≡ replies_of calls
 
 -- the payloads of these calls were answered
-pub record AnsweredAll (old new : BatchState) (calls : List Call) : Type 0 where
+pub record AnsweredAll (old new : BatchState) (calls : List (Call resources)) : Type 0 where
   pub continues : Continues old.session new.session [] calls []
   pub left : asked_requests old.asked ≡ requests_of calls ++ asked_requests new.asked
   pub open_same : new.session.open_request ≡ old.session.open_request

@@ -33,16 +33,16 @@ pending_request (Some o) = Some o.request
 -- ---- what was answered
 
 -- The calls are, in order, the receipts, none of which says that no memory was found; a call that is answered so has no receipt.
-pub data HaveReceipts : List Call → List Moment → Type 0 where
+pub data HaveReceipts : List (Call resources) → List Moment → Type 0 where
   none_made : HaveReceipts [] []
-  made : {call : Call} {calls : List Call} {moments : List Moment} {at : ℕ} → is_no_memory call.reply ≡ false → HaveReceipts calls moments → HaveReceipts (call ∷ calls) (Entered (receipt.Call at call.request call.reply) ∷ moments)
-  starved : {request : Request resources} {calls : List Call} {moments : List Moment} → HaveReceipts calls moments → HaveReceipts (record { request = request; reply = reply.Refused refusal.NoMemory } ∷ calls) moments
+  made : {call : Call resources} {calls : List (Call resources)} {moments : List Moment} {at : ℕ} → is_no_memory call.reply ≡ false → HaveReceipts calls moments → HaveReceipts (call ∷ calls) (Entered (receipt.Call at call.request call.reply) ∷ moments)
+  starved : {request : Request resources} {calls : List (Call resources)} {moments : List Moment} → HaveReceipts calls moments → HaveReceipts (record { request = request; reply = reply.Refused refusal.NoMemory } ∷ calls) moments
 
 -- Some of the payloads that were not answered yet were, by calls of the seat, and last came these bytes. The seat has a receipt for each of these
 -- calls that found memory, and was answered nothing else but the note.
 pub record Serves (old new : SessionState) (before after : Sitting) (last : List ℕ) (note : List Moment) : Type 0 where
   pub more : List ℕ
-  pub calls : List Call
+  pub calls : List (Call resources)
   pub moments : List Moment
   pub continues : Continues old new more calls last
   pub receipts : HaveReceipts calls moments

@@ -1,7 +1,8 @@
 //! The requests of a session that have come, called together under one lock, and answered (`answer_batch`).
 ghost use Rattle.std.specs.Prelude.{◌≡◌, ◌≤◌, List, IfNone, length, vec_capacity, [], None};
-ghost use Rattle.cap_workers.specs.Batches.{CallsAll, IsCalled, IsAnsweredBy, AnsweredAll, IsBatchMade};
+ghost use Rattle.cap_base.specs.Limits.{resources};
 ghost use Rattle.cap_session.specs.Answers.{Call};
+ghost use Rattle.cap_workers.specs.Batches.{CallsAll, IsCalled, IsAnsweredBy, AnsweredAll, IsBatchMade};
 
 use cap_base::RESOURCES;
 use cap_model::{OwnedReply, Refusal, ReplyWith, Request};
@@ -82,8 +83,9 @@ fn call_one<J: Naming>(
 /// Answers the first requests with these replies.
 fn answer_calls(batch: &mut Batch, replies: &[OwnedReply<RESOURCES>])
     requires none_open { batch.old.session.open_request ≡ None }
-    requires calls { (calls : List Call) × IsAnsweredBy batch.old.asked replies.now calls }
-    ensures { (calls : List Call) → IsAnsweredBy batch.old.asked replies.now calls
+    requires calls { (calls : List (Call resources))
+        × IsAnsweredBy batch.old.asked replies.now calls }
+    ensures { (calls : List (Call resources)) → IsAnsweredBy batch.old.asked replies.now calls
         → AnsweredAll batch.old batch.new calls }
 {
     for reply in replies {

@@ -168,7 +168,7 @@ hears_done c (steps.Commit w) dids.Idle old new before after heard o a = same_he
 
 -- ---- what was answered for what was heard
 
-pub is_heard : (heard : Hearing) (calls : List Call) (o : Option Connection) → Agrees heard o → HasAnswersAt calls o → IsHeard heard calls (output_from o) (is_open_connection o)
+pub is_heard : (heard : Hearing) (calls : List (Call resources)) (o : Option Connection) → Agrees heard o → HasAnswersAt calls o → IsHeard heard calls (output_from o) (is_open_connection o)
 is_heard unopened calls None a has = (has, refl, refl)
 is_heard unopened calls (Some is) a has = absurd a
 is_heard (live taken) calls None a has = absurd a
@@ -179,19 +179,19 @@ is_heard (over taken) calls None a has = absurd a
 is_heard (over taken) calls (Some is) a has =
     subst (λ (x : List ℕ). IsHeard (over x) calls is.session.unsent (is_open_standing is.standing)) a.1 (over_heard is.standing is.session.fed calls is.session.unsent a.0 has.answers)
   where
-    over_heard : (standing : Standing) (taken : List ℕ) (calls : List Call) (output : List ℕ) → IsOver standing → AnswersAs standing taken calls output → IsHeard (over taken) calls output (is_open_standing standing)
+    over_heard : (standing : Standing) (taken : List ℕ) (calls : List (Call resources)) (output : List ℕ) → IsOver standing → AnswersAs standing taken calls output → IsHeard (over taken) calls output (is_open_standing standing)
     over_heard standings.Open taken calls output is has = absurd is
     over_heard standings.Ended taken calls output is has = (rest has.0, has.1, refl)
     over_heard standings.Faulted taken calls output is has = (fault has.0, has.1, refl)
     over_heard standings.Starved taken calls output is has = absurd is
 
 -- a beginning of the payloads is one also with more bytes
-some_more : (taken piece : List ℕ) (calls : List Call) (output : List ℕ) → IsBytes piece → AnswersSome taken calls output → AnswersSome (taken ++ piece) calls output
+some_more : (taken piece : List ℕ) (calls : List (Call resources)) (output : List ℕ) → IsBytes piece → AnswersSome taken calls output → AnswersSome (taken ++ piece) calls output
 some_more taken piece calls output fits has =
     let on = stream_goes_on taken piece (has.0 ++ has.1) has.2 has.3 fits in
     (has.0, has.1 ++ on.0, on.1, subst (λ (x : List (List ℕ)). IsStream (taken ++ piece) x on.1) (append_assoc has.0 has.1 on.0) on.2, has.4)
 
-cut_short : (by : ℕ) (piece : List ℕ) (from to : Flat resources) (before after : List (Event resources)) (heard : Hearing) (calls : List Call) (was is : Connection) → was.standing ≡ standings.Open → Agrees heard (Some was) → is.standing ≡ standings.Starved → Feeds by piece from to before after was is → HasAnswers calls is
+cut_short : (by : ℕ) (piece : List ℕ) (from to : Flat resources) (before after : List (Event resources)) (heard : Hearing) (calls : List (Call resources)) (was is : Connection) → was.standing ≡ standings.Open → Agrees heard (Some was) → is.standing ≡ standings.Starved → Feeds by piece from to before after was is → HasAnswers calls is
     → IsCutShort piece heard calls is.session.unsent (is_open_standing is.standing)
 cut_short by piece from to before after unopened calls was is lives a starved f has = absurd a
 cut_short by piece from to before after (over taken) calls was is lives a starved f has = absurd (subst IsOver lives a.0)
@@ -207,11 +207,11 @@ cut_short by piece from to before after (live taken) calls was is lives a starve
     (subst (λ (x : List ℕ). AnswersSome (x ++ piece) calls is.session.unsent) a.1 all, ap is_open_standing starved)
 
 -- nothing changed
-still_heard : (c : ℕ) (old new : WorldState) (heard : Hearing) (calls : List Call) → new ≡ old → Agrees heard (connection_at c old.connections) → HasAnswersAt calls (connection_at c new.connections) → IsHeard heard calls (output_of c new) (is_open c new)
+still_heard : (c : ℕ) (old new : WorldState) (heard : Hearing) (calls : List (Call resources)) → new ≡ old → Agrees heard (connection_at c old.connections) → HasAnswersAt calls (connection_at c new.connections) → IsHeard heard calls (output_of c new) (is_open c new)
 still_heard c old new heard calls e a has =
     is_heard heard calls (connection_at c new.connections) (subst (λ (x : WorldState). Agrees heard (connection_at c x.connections)) (sym e) a) has
 
-pub heard_starved : (c : ℕ) (step : Step) (old new : WorldState) (before after : List (Event resources)) (heard : Hearing) (calls : List Call) → Starves step old new before after → Agrees heard (connection_at c old.connections) → HasAnswersAt calls (connection_at c new.connections)
+pub heard_starved : (c : ℕ) (step : Step) (old new : WorldState) (before after : List (Event resources)) (heard : Hearing) (calls : List (Call resources)) → Starves step old new before after → Agrees heard (connection_at c old.connections) → HasAnswersAt calls (connection_at c new.connections)
     → IsHeardBefore (Some step) c heard calls (output_of c new) (is_open c new)
 heard_starved c (steps.Open d) old new before after heard calls s a has = still_heard c old new heard calls s.1 a has
 heard_starved c (steps.End d) old new before after heard calls s a has = absurd s

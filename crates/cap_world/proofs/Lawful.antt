@@ -34,11 +34,11 @@ Goes old new before after = (more : List (Event resources)) × (after ≡ before
 
 -- ---- what a connection sees of more events
 
-pub own_calls : (c : ℕ) (calls : List Call) → calls_by c (as_events c calls) ≡ calls
+pub own_calls : (c : ℕ) (calls : List (Call resources)) → calls_by c (as_events c calls) ≡ calls
 own_calls c [] = refl
-own_calls c (x ∷ xs) = rw (eq-eqb c c refl) (ap (λ (ys : List Call). x ∷ ys) (own_calls c xs))
+own_calls c (x ∷ xs) = rw (eq-eqb c c refl) (ap (λ (ys : List (Call resources)). x ∷ ys) (own_calls c xs))
 
-pub other_calls : (c d : ℕ) (calls : List Call) → (c == d) ≡ false → calls_by d (as_events c calls) ≡ []
+pub other_calls : (c d : ℕ) (calls : List (Call resources)) → (c == d) ≡ false → calls_by d (as_events c calls) ≡ []
 other_calls c d [] e = refl
 other_calls c d (x ∷ xs) e = rw e (other_calls c d xs e)
 
@@ -48,7 +48,7 @@ calls_more c events more = filter_map-append (call_by c) events more
 -- ---- steps that add nothing
 
 keeps : (old new : WorldState) → new.cluster ≡ old.cluster
-    → ((c : ℕ) (calls : List Call) → HasAnswersAt calls (connection_at c old.connections) → HasAnswersAt calls (connection_at c new.connections))
+    → ((c : ℕ) (calls : List (Call resources)) → HasAnswersAt calls (connection_at c old.connections) → HasAnswersAt calls (connection_at c new.connections))
     → (opening : Flat resources) (events : List (Event resources)) → IsLawful opening events old → IsLawful opening (events ++ []) new
 keeps old new e each opening events w = record {
   run = rw (append-nil events, e) w.run;
@@ -56,13 +56,13 @@ keeps old new e each opening events w = record {
 }
 
 -- no connection changes
-same_connections : (old new : WorldState) → new.connections ≡ old.connections → (c : ℕ) (calls : List Call) → HasAnswersAt calls (connection_at c old.connections) → HasAnswersAt calls (connection_at c new.connections)
+same_connections : (old new : WorldState) → new.connections ≡ old.connections → (c : ℕ) (calls : List (Call resources)) → HasAnswersAt calls (connection_at c old.connections) → HasAnswersAt calls (connection_at c new.connections)
 same_connections old new e c calls a = subst (λ (x : List (ℕ × Connection)). HasAnswersAt calls (connection_at c x)) (sym e) a
 
 -- one connection changes, so that what was answered stays so
 keeps_one : (c : ℕ) (old new : List (ℕ × Connection)) (is : Connection) → Changes c is old new
-    → ((calls : List Call) → HasAnswersAt calls (connection_at c old) → HasAnswers calls is)
-    → (d : ℕ) (calls : List Call) → HasAnswersAt calls (connection_at d old) → HasAnswersAt calls (connection_at d new)
+    → ((calls : List (Call resources)) → HasAnswersAt calls (connection_at c old) → HasAnswers calls is)
+    → (d : ℕ) (calls : List (Call resources)) → HasAnswersAt calls (connection_at d old) → HasAnswersAt calls (connection_at d new)
 keeps_one c old new is change one d calls a =
     elim (cases_Bool (c == d)) [
       | inl t ↦
@@ -71,18 +71,18 @@ keeps_one c old new is change one d calls a =
       | inr f ↦ rw (change d, f) a
     ]
 
-opens : (calls : List Call) → calls ≡ [] → HasAnswers calls new_connection
+opens : (calls : List (Call resources)) → calls ≡ [] → HasAnswers calls new_connection
 opens calls e =
     let empty : IsStream [] [] (rest []) = written_is_read [] (All-nil IsPayload) (All-nil IsBytes) in
     record { made = sym e; answers = ([], ([], empty, ([], rw e nothing, refl))) }
 
-ends_so : (was : Connection) → was.standing ≡ standings.Open → (calls : List Call) → HasAnswers calls was → HasAnswers calls (record was { standing = standings.Ended })
+ends_so : (was : Connection) → was.standing ≡ standings.Open → (calls : List (Call resources)) → HasAnswers calls was → HasAnswers calls (record was { standing = standings.Ended })
 ends_so was live calls has = record { made = has.made; answers = subst (λ (s : Standing). AnswersAs s was.session.fed calls was.session.unsent) live has.answers }
 
 -- ---- bytes
 
 fed_own : (c : ℕ) (piece : List ℕ) (old new : List (ℕ × Connection)) (from to : Flat resources) (before after : List (Event resources)) (was is : Connection) → connection_at c old ≡ Some was → was.standing ≡ standings.Open → Changes c is old new → (f : Feeds c piece from to before after was is)
-    → (calls : List Call) → HasAnswersAt calls (connection_at c old) → HasAnswersAt (calls ++ f.serves.calls) (connection_at c new)
+    → (calls : List (Call resources)) → HasAnswersAt calls (connection_at c old) → HasAnswersAt (calls ++ f.serves.calls) (connection_at c new)
 fed_own c piece old new from to before after was is at live change f calls a =
     rw (change c, eq-eqb c c refl) (answered_more c piece calls from to before after was is (rw at at a) f)
 

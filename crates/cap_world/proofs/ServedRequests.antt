@@ -47,7 +47,7 @@ serves_then {by} {a} {b} {c} {before} x y = record {
 -- ---- what comes next
 
 -- a session after payloads that are no requests, and last these bytes
-bad_then : (s t : SessionState) (payloads : List (List ℕ)) (frames last : List ℕ) (o : Option OpenRequest) (c : Option SessionCause) → Answers payloads [] frames
+bad_then : (s t : SessionState) (payloads : List (List ℕ)) (frames last : List ℕ) (o : Option OpenRequest) (c : Option SessionCause) → Answers {K = resources} payloads [] frames
     → t ≡ record s { answered = s.answered ++ payloads; unsent = s.unsent ++ (frames ++ last); open_request = o; ended = c } → Continues s t [] [] last
 bad_then s t payloads frames last o c answers now =
     continues_bad s t payloads frames last answers (ap (λ (x : SessionState). x.fed) now) (ap (λ (x : SessionState). x.answered) now) (ap (λ (x : SessionState). x.calls) now) (ap (λ (x : SessionState). x.sent) now) (ap (λ (x : SessionState). x.unsent) now)
@@ -168,7 +168,7 @@ answers_as standings.Starved s last stands session empty =
     (s.answered, open_payload s.open_request ++ session.stream.0, session.stream.1, session.stream.2, subst (λ (x : List ℕ). Answers s.answered s.calls x) all (answers_unless s.ended s stands.0 session.answers))
 
 -- a connection that is fed has answers for all its bytes
-pub answered_more : (by : ℕ) (piece : List ℕ) (calls : List Call) (from to : Flat resources) (before after : List (Event resources)) (old new : Connection) → HasAnswers calls old → (f : Feeds by piece from to before after old new) → HasAnswers (calls ++ f.serves.calls) new
+pub answered_more : (by : ℕ) (piece : List ℕ) (calls : List (Call resources)) (from to : Flat resources) (before after : List (Event resources)) (old new : Connection) → HasAnswers calls old → (f : Feeds by piece from to before after old new) → HasAnswers (calls ++ f.serves.calls) new
 answered_more by piece calls from to before after old new has f =
-    let made : new.session.calls ≡ calls ++ f.serves.calls = f.serves.continues.calls ∙ ap (λ (x : List Call). x ++ f.serves.calls) has.made in
-    record { made = made; answers = subst (λ (x : List Call). AnswersAs new.standing new.session.fed x new.session.unsent) made (answers_as new.standing new.session f.last f.stands f.session f.sent) }
+    let made : new.session.calls ≡ calls ++ f.serves.calls = f.serves.continues.calls ∙ ap (λ (x : List (Call resources)). x ++ f.serves.calls) has.made in
+    record { made = made; answers = subst (λ (x : List (Call resources)). AnswersAs new.standing new.session.fed x new.session.unsent) made (answers_as new.standing new.session f.last f.stands f.session f.sent) }

@@ -1,5 +1,6 @@
 -- A connection, as far as anybody can see it.
 use Rattle.std.specs.Prelude.{◌≡◌, ℕ, List, [], Bool, true, false, None}
+use Rattle.cap_base.specs.Limits.{resources}
 use Rattle.cap_frames.specs.Stream.{rest, fault}
 use Rattle.cap_session.specs.Answers.{Call}
 use Rattle.cap_session.specs.Session.{SessionState, new_session}
@@ -22,16 +23,17 @@ is_open_standing standings.Ended = false
 is_open_standing standings.Faulted = false
 is_open_standing standings.Starved = false
 
--- What the calls answered for the bytes that a connection took, by how it stands: all payloads, with less than a frame left, while it is
--- open and after its end; all of them and the fault where a length came that no frame has; a beginning where memory was refused.
-abbrev pub AnswersAs : Standing → List ℕ → List Call → List ℕ → Type 0
-AnswersAs standings.Open taken calls output = (left : List ℕ) × AnswersAll taken (rest left) calls output
-AnswersAs standings.Ended taken calls output = (left : List ℕ) × AnswersAll taken (rest left) calls output
-AnswersAs standings.Faulted taken calls output = (after : List ℕ) × AnswersAll taken (fault after) calls output
-AnswersAs standings.Starved taken calls output = AnswersSome taken calls output
+module _ {K : ℕ} where
+  -- What the calls answered for the bytes that a connection took, by how it stands: all payloads, with less than a frame left, while it is
+  -- open and after its end; all of them and the fault where a length came that no frame has; a beginning where memory was refused.
+  abbrev pub AnswersAs : Standing → List ℕ → List (Call K) → List ℕ → Type 0
+  AnswersAs standings.Open taken calls output = (left : List ℕ) × AnswersAll taken (rest left) calls output
+  AnswersAs standings.Ended taken calls output = (left : List ℕ) × AnswersAll taken (rest left) calls output
+  AnswersAs standings.Faulted taken calls output = (after : List ℕ) × AnswersAll taken (fault after) calls output
+  AnswersAs standings.Starved taken calls output = AnswersSome taken calls output
 
 -- the calls are those of its session, and answered the connection so
-pub record HasAnswers (calls : List Call) (connection : Connection) : Type 0 where
+pub record HasAnswers (calls : List (Call resources)) (connection : Connection) : Type 0 where
   pub made : connection.session.calls ≡ calls
   pub answers : AnswersAs connection.standing connection.session.fed calls connection.session.unsent
 

@@ -1,6 +1,5 @@
 -- What each connection hears of a list of steps, and the headline over all of them.
 use Rattle.std.specs.Prelude.{◌≡◌, ◌⊎◌, ℕ, List, [], ◌∷◌, ◌++◌, Option, Some, None, Bool, true, false, ◌==◌, if◌then◌else◌, take, slice_get, MatchBool}
-use Rattle.cap_base.specs.Limits.{resources}
 use Rattle.cap_model.specs.declared.event.Event.{Event}
 use Rattle.cap_model.specs.Flat.{Flat}
 use Rattle.cap_model.specs.Events.{Run}
@@ -56,33 +55,34 @@ abbrev pub Hears : ℕ → List Step → Hearing → Hearing → Type 0
 Hears c [] old new = old ≡ new
 Hears c (step ∷ steps) old new = (mid : Hearing) × HearsStep c step old mid × Hears c steps mid new
 
--- what a connection was answered for what it heard, and whether it is open
-abbrev pub IsHeard : Hearing → List Call → List ℕ → Bool → Type 0
-IsHeard unopened calls output is_open = (calls ≡ []) × (output ≡ []) × (is_open ≡ false)
-IsHeard (live taken) calls output is_open = (tail : Tail) × AnswersAll taken tail calls output × (is_open ≡ true)
-IsHeard (over taken) calls output is_open = (tail : Tail) × AnswersAll taken tail calls output × (is_open ≡ false)
+module _ {K : ℕ} where
+  -- what a connection was answered for what it heard, and whether it is open
+  abbrev pub IsHeard : Hearing → List (Call K) → List ℕ → Bool → Type 0
+  IsHeard unopened calls output is_open = (calls ≡ []) × (output ≡ []) × (is_open ≡ false)
+  IsHeard (live taken) calls output is_open = (tail : Tail) × AnswersAll taken tail calls output × (is_open ≡ true)
+  IsHeard (over taken) calls output is_open = (tail : Tail) × AnswersAll taken tail calls output × (is_open ≡ false)
 
--- the same where memory was refused in the next piece: a beginning of the payloads was answered, and the connection has ended
-abbrev pub IsCutShort : List ℕ → Hearing → List Call → List ℕ → Bool → Type 0
-IsCutShort piece unopened calls output is_open = IsHeard unopened calls output is_open
-IsCutShort piece (over taken) calls output is_open = IsHeard (over taken) calls output is_open
-IsCutShort piece (live taken) calls output is_open = AnswersSome (taken ++ piece) calls output × (is_open ≡ false)
+  -- the same where memory was refused in the next piece: a beginning of the payloads was answered, and the connection has ended
+  abbrev pub IsCutShort : List ℕ → Hearing → List (Call K) → List ℕ → Bool → Type 0
+  IsCutShort piece unopened calls output is_open = IsHeard unopened calls output is_open
+  IsCutShort piece (over taken) calls output is_open = IsHeard (over taken) calls output is_open
+  IsCutShort piece (live taken) calls output is_open = AnswersSome (taken ++ piece) calls output × (is_open ≡ false)
 
--- by the step that was refused memory, if any
-abbrev pub IsHeardBefore : Option Step → ℕ → Hearing → List Call → List ℕ → Bool → Type 0
-IsHeardBefore None c heard calls output is_open = IsHeard heard calls output is_open
-IsHeardBefore (Some (steps.Open d)) c heard calls output is_open = IsHeard heard calls output is_open
-IsHeardBefore (Some (steps.End d)) c heard calls output is_open = IsHeard heard calls output is_open
-IsHeardBefore (Some (steps.Copy w)) c heard calls output is_open = IsHeard heard calls output is_open
-IsHeardBefore (Some (steps.Propose w start)) c heard calls output is_open = IsHeard heard calls output is_open
-IsHeardBefore (Some (steps.Commit w)) c heard calls output is_open = IsHeard heard calls output is_open
-IsHeardBefore (Some (steps.Bytes d piece)) c heard calls output is_open = MatchBool (d == c) (IsCutShort piece.now heard calls output is_open) (IsHeard heard calls output is_open)
+  -- by the step that was refused memory, if any
+  abbrev pub IsHeardBefore : Option Step → ℕ → Hearing → List (Call K) → List ℕ → Bool → Type 0
+  IsHeardBefore None c heard calls output is_open = IsHeard heard calls output is_open
+  IsHeardBefore (Some (steps.Open d)) c heard calls output is_open = IsHeard heard calls output is_open
+  IsHeardBefore (Some (steps.End d)) c heard calls output is_open = IsHeard heard calls output is_open
+  IsHeardBefore (Some (steps.Copy w)) c heard calls output is_open = IsHeard heard calls output is_open
+  IsHeardBefore (Some (steps.Propose w start)) c heard calls output is_open = IsHeard heard calls output is_open
+  IsHeardBefore (Some (steps.Commit w)) c heard calls output is_open = IsHeard heard calls output is_open
+  IsHeardBefore (Some (steps.Bytes d piece)) c heard calls output is_open = MatchBool (d == c) (IsCutShort piece.now heard calls output is_open) (IsHeard heard calls output is_open)
 
 -- The headline, over what is seen from outside: the opening cluster, the steps and how many of them were made, the events, the closing
 -- cluster, and by number each connection's output and whether it is open. Whatever the steps, the events are one run of the flat cluster
 -- from the opening to the close; and each connection's output answers, by its calls among the events, the payloads and the tail of the
 -- pieces that found it open, joined. Where a piece was refused memory, which ends the run of the steps, it answers a beginning of the
 -- payloads and no tail.
-pub record IsHeadline (opening : Flat resources) (steps : List Step) (done : ℕ) (events : List (Event resources)) (closing : Flat resources) (output : ℕ → List ℕ) (is_open : ℕ → Bool) : Type 0 where
+pub record IsHeadline {K : ℕ} (opening : Flat K) (steps : List Step) (done : ℕ) (events : List (Event K)) (closing : Flat K) (output : ℕ → List ℕ) (is_open : ℕ → Bool) : Type 0 where
   pub run : Run opening events closing
   pub each : (c : ℕ) → (heard : Hearing) × Hears c (take done steps) unopened heard × IsHeardBefore (slice_get steps done) c heard (calls_by c events) (output c) (is_open c)

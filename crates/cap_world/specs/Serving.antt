@@ -29,7 +29,7 @@ standing_of causes.WriteFault = standings.Starved
 -- What it did to feed these bytes to a session and answer requests of it: one call a request, the calls as events of the connection, the
 -- cluster's run over them, and last these bytes, which answer no payload.
 pub record Serves (by : ℕ) (more : List ℕ) (old new : SessionState) (from to : Flat resources) (before after : List (Event resources)) (last : List ℕ) : Type 0 where
-  pub calls : List Call
+  pub calls : List (Call resources)
   pub continues : Continues old new more calls last
   pub events : after ≡ before ++ as_events by calls
   pub run : Run from (as_events by calls) to

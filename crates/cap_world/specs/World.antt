@@ -65,7 +65,7 @@ abbrev pub Changes : {X : Type 0} → ℕ → X → List (ℕ × X) → List (�
 Changes c value old new = (d : ℕ) → lookup (nat_eq d) new ≡ (if c == d then Some value else lookup (nat_eq d) old)
 
 -- what the calls of a connection answered it, if it was ever opened; else it has none
-abbrev pub HasAnswersAt : List Call → Option Connection → Type 0
+abbrev pub HasAnswersAt : List (Call resources) → Option Connection → Type 0
 HasAnswersAt calls None = calls ≡ []
 HasAnswersAt calls (Some connection) = HasAnswers calls connection
 

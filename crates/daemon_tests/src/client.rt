@@ -69,7 +69,7 @@ pub fn is_taken(stream: &TcpStream, bytes: &[u8], times: u32) -> bool {
 
 /// Makes a call with call id 1, and reads the payload of its reply.
 pub fn call(alloc: Global, stream: &TcpStream, call: &Call<'_>) -> io::Result<Vec<u8>> {
-    send(stream, frame(alloc, 1, call)?.as_slice())?;
+    send(stream, frame(alloc, 1, 1, call)?.as_slice())?;
     let mut payload = Vec::new(alloc);
     payload.resize(reply_length(stream)?, 0)?;
     receive(stream, payload.as_mut_slice())?;

@@ -70,7 +70,12 @@ impl Client for Starving<'_> {
     fn talk<
         H: Net<Listener = TcpListener, Stream = TcpStream> + Threads + Wait + Clock + Eprint + Sync,
     >(&self, rt: &H, alloc: Global, port: u16) -> io::Result<bool> {
-        let node = frame(alloc, 1, &Call::RegisterNode(b"n1", b"/r1", [8192, 8]))?;
+        let node = frame(
+            alloc,
+            1,
+            1,
+            &Call::RegisterNode(b"n1", b"/r1", [8192, 8, 0]),
+        )?;
         let (head, rest) = node.as_slice().split_at(node.len().min(4));
         let first = connect(rt, port)?;
         send(&first, head)?;

@@ -20,7 +20,7 @@ const TEN: &[WantedContainers<'_>] = &[WantedContainers {
     priority: 1,
     request: 1,
     count: 10,
-    resource: [1024, 1],
+    resource: [1024, 1, 0],
     place: b"*",
 }];
 
@@ -48,7 +48,7 @@ impl Master {
     /// Registers two nodes and itself: four calls.
     fn register(&self, alloc: Global, stream: &TcpStream) -> io::Result<()> {
         for &host in &[b"n1", b"n2"] {
-            let node = Call::RegisterNode(host.as_slice(), b"/r1", [8192, 8]);
+            let node = Call::RegisterNode(host.as_slice(), b"/r1", [8192, 8, 0]);
             let _node = self.call(alloc, stream, &node)?;
         }
         let _app = self.call(alloc, stream, &Call::Submit(b"root.a", b"ann"))?;

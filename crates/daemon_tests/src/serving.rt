@@ -1,7 +1,7 @@
 //! Tests of connections in the daemon: many at once, calls while a worker is held, a change of epochs.
 
 use crate::client::{
-    ASK, are_answered, are_answers, call, connect, is_answered, is_taken, receive, send,
+    ASK, are_answered, are_answers, ask_last, call, connect, is_answered, is_taken, receive, send,
 };
 use crate::gates::{GateOf, Holding, Mark, Meeting};
 use crate::side::{Client, ends};
@@ -26,7 +26,27 @@ enum Visit {
     Crowd(usize),
     /// A node is registered, and the cluster, which is asked for five times, has that node each time.
     OneNode,
+    /// Requests of either version on one connection are answered in their own.
+    BothVersions,
 }
+
+/// RegisterNode of `n1` in `/r1` with (8192, 8, 2) and call id 2 in version 2; ClusterInfo with call id 3 in versions 2, 1
+/// and 3.
+const IN_VERSIONS: &[u8] = &[
+    0, 0, 0, 37, 2, 5, 0, 0, 0, 2, 2, 110, 49, 3, 47, 114, 49, 0, 0, 0, 0, 0, 0, 32, 0, 0, 0, 0, 0,
+    0, 0, 0, 8, 0, 0, 0, 0, 0, 0, 0, 2, 0, 0, 0, 6, 2, 10, 0, 0, 0, 3, 0, 0, 0, 6, 1, 10, 0, 0, 0,
+    3, 0, 0, 0, 6, 3, 10, 0, 0, 0, 3,
+];
+
+/// Node 1; the cluster with its GPUs and without; and the fault reply with status 41, since there is no version 3.
+const ANSWERED_IN_VERSIONS: &[u8] = &[
+    0, 0, 0, 15, 2, 5, 0, 0, 0, 2, 0, 0, 0, 0, 0, 0, 0, 0, 1, 0, 0, 0, 67, 2, 10, 0, 0, 0, 3, 0, 0,
+    0, 0, 1, 0, 0, 0, 0, 0, 0, 0, 0, 0, 0, 0, 0, 0, 0, 32, 0, 0, 0, 0, 0, 0, 0, 0, 8, 0, 0, 0, 0,
+    0, 0, 0, 2, 0, 0, 0, 0, 0, 0, 0, 0, 0, 0, 0, 0, 0, 0, 0, 0, 0, 0, 0, 0, 0, 0, 0, 0, 0, 0, 0,
+    51, 1, 10, 0, 0, 0, 3, 0, 0, 0, 0, 1, 0, 0, 0, 0, 0, 0, 0, 0, 0, 0, 0, 0, 0, 0, 32, 0, 0, 0, 0,
+    0, 0, 0, 0, 8, 0, 0, 0, 0, 0, 0, 0, 0, 0, 0, 0, 0, 0, 0, 0, 0, 0, 0, 0, 7, 1, 0, 0, 0, 0, 0,
+    41,
+];
 
 fn is_second_answered(alloc: Global, first: &TcpStream, second: &TcpStream) -> io::Result<bool> {
     Ok(are_answered(alloc, second, 1)? && is_answered(first)?)
@@ -55,7 +75,7 @@ fn is_crowd_answered<H: Net<Listener = TcpListener, Stream = TcpStream>>(
 }
 
 fn has_one_node(alloc: Global, stream: &TcpStream) -> io::Result<bool> {
-    let node = Call::RegisterNode(b"n1", b"/r1", [8192, 8]);
+    let node = Call::RegisterNode(b"n1", b"/r1", [8192, 8, 0]);
     let _number = call(alloc, stream, &node)?;
     for _ in 0..5 {
         send(stream, &ASK)?;
@@ -80,6 +100,10 @@ impl Client for Visit {
             }
             Visit::Crowd(count) => is_crowd_answered(rt, alloc, port, count),
             Visit::OneNode => has_one_node(alloc, &connect(rt, port)?),
+            Visit::BothVersions => {
+                let answer = ask_last(alloc, &connect(rt, port)?, IN_VERSIONS)?;
+                Ok(answer.as_slice() == ANSWERED_IN_VERSIONS)
+            }
         }
     }
 }
@@ -98,6 +122,13 @@ fn connections_are_answered(rt: HostRuntime) {
             "closed epochs=1 entries=128",
         ),
         (1, 4, None, Visit::OneNode, "closed epochs=2 entries=6"),
+        (
+            1,
+            4096,
+            None,
+            Visit::BothVersions,
+            "closed epochs=1 entries=3",
+        ),
     ] {
         let sizes = Sizes {
             workers: 1,

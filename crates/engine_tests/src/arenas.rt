@@ -20,8 +20,8 @@ yarn.scheduler.capacity.root.g.q.capacity=[memory=4096,vcores=4]
 
 /// Two nodes, and application 1 of `u1` in `root.g.q`, which asks for three containers of (1024, 1).
 const CALLS: [Call<'static>; 5] = [
-    Call::RegisterNode(b"n1", b"/r1", [4096, 4]),
-    Call::RegisterNode(b"n2", b"/r1", [4096, 4]),
+    Call::RegisterNode(b"n1", b"/r1", [4096, 4, 0]),
+    Call::RegisterNode(b"n2", b"/r1", [4096, 4, 0]),
     Call::Submit(b"root.g.q", b"u1"),
     Call::RegisterMaster(1),
     Call::Allocate(
@@ -31,7 +31,7 @@ const CALLS: [Call<'static>; 5] = [
             priority: 1,
             request: 0,
             count: 3,
-            resource: [1024, 1],
+            resource: [1024, 1, 0],
             place: b"*",
         }],
         &[],

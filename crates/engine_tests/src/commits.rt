@@ -12,7 +12,7 @@ const ONE: WantedContainers<'static> = WantedContainers {
     priority: 1,
     request: 0,
     count: 1,
-    resource: [1024, 1],
+    resource: [1024, 1, 0],
     place: b"*",
 };
 
@@ -20,7 +20,7 @@ const ASKS_OF_1: &[WantedContainers<'static>] = &[
     ONE,
     WantedContainers {
         priority: 2,
-        resource: [3072, 1],
+        resource: [3072, 1, 0],
         ..ONE
     },
     WantedContainers {
@@ -32,12 +32,12 @@ const ASKS_OF_1: &[WantedContainers<'static>] = &[
 
 const ASKS_OF_2: &[WantedContainers<'static>] = &[
     WantedContainers {
-        resource: [3072, 1],
+        resource: [3072, 1, 0],
         ..ONE
     },
     WantedContainers {
         priority: 2,
-        resource: [2048, 1],
+        resource: [2048, 1, 0],
         place: b"/r2",
         ..ONE
     },
@@ -58,8 +58,8 @@ const CALLS: [Call<'static>; 9] = [
     Call::Allocate(1, 0, ASKS_OF_1, &[]),
     Call::RegisterMaster(2),
     Call::Allocate(2, 0, ASKS_OF_2, &[]),
-    Call::RegisterNode(b"n1", b"/r1", [8192, 8]),
-    Call::RegisterNode(b"n2", b"/r2", [1024, 1]),
+    Call::RegisterNode(b"n1", b"/r1", [8192, 8, 0]),
+    Call::RegisterNode(b"n2", b"/r2", [1024, 1, 0]),
 ];
 
 /// A proposal for the ask of an application and priority on a node.
@@ -81,15 +81,17 @@ fn proposal(
     })
 }
 
-/// Why a proposal is rejected, if it is.
+/// Why a proposal is rejected, if it is, in the cluster of these property lines after these calls.
 fn reason(
     alloc: Global,
+    before: (&[u8], &[Call<'_>]),
     kind: ProposalKind,
     of: (u64, u32, u64),
     resource: [u64; RESOURCES],
 ) -> Option<Option<Reason>> {
+    let (lines, calls) = before;
     let proposal = proposal(kind, of, resource)?;
-    let cluster = cluster_after(alloc, SMALL_QUEUES, &CALLS)?;
+    let cluster = cluster_after(alloc, lines, calls)?;
     Some(cluster.reason(&proposal))
 }
 
@@ -138,7 +140,58 @@ const REASONS: [(
 #[test]
 fn proposals_are_rejected_for_the_first_reason(rt: HostRuntime) {
     for &(kind, of, resource, answer) in &REASONS {
-        let given = reason(rt.alloc(), kind, of, resource);
+        let given = reason(rt.alloc(), (SMALL_QUEUES, &CALLS), kind, of, resource);
+        assert!(rt; given == Some(answer), "{kind:?} {of:?}");
+    }
+}
+
+/// The same queues with GPUs.
+const GPU_QUEUES: &[u8] = b"yarn.scheduler.capacity.root.queues=a,b
+yarn.scheduler.capacity.root.a.capacity=[memory=1024,vcores=1,yarn.io/gpu=1]
+yarn.scheduler.capacity.root.a.maximum-capacity=[memory=2048,vcores=2,yarn.io/gpu=2]
+yarn.scheduler.capacity.root.b.capacity=[memory=2048,vcores=8,yarn.io/gpu=1]
+";
+
+/// A container with a GPU, wanted anywhere.
+const WITH_GPU: &[WantedContainers<'static>] = &[WantedContainers {
+    resource: [1024, 1, 1],
+    ..ONE
+}];
+
+/// Application 1 in `root.a` and application 2 in `root.b` ask for it, and there are two nodes, with two GPUs and with none.
+const GPU_CALLS: [Call<'static>; 8] = [
+    Call::Submit(b"root.a", b"u1"),
+    Call::Submit(b"root.b", b"u2"),
+    Call::RegisterMaster(1),
+    Call::Allocate(1, 0, WITH_GPU, &[]),
+    Call::RegisterMaster(2),
+    Call::Allocate(2, 0, WITH_GPU, &[]),
+    Call::RegisterNode(b"n1", b"/r1", [8192, 8, 2]),
+    Call::RegisterNode(b"n2", b"/r1", [8192, 8, 0]),
+];
+
+/// Settings, a proposal of it for an application on a node, and why it is rejected, if it is.
+const GPU_REASONS: [(&[u8], ProposalKind, u64, u64, Option<Reason>); 7] = [
+    (
+        SMALL_QUEUES,
+        GRANT,
+        1,
+        1,
+        Some(Reason::OverMaximum { level: 1 }),
+    ),
+    (SMALL_QUEUES, GRANT, 2, 1, Some(Reason::OverUser)),
+    (SMALL_QUEUES, GRANT, 1, 2, Some(Reason::NoRoom)),
+    (GPU_QUEUES, GRANT, 1, 1, None),
+    (GPU_QUEUES, GRANT, 2, 1, None),
+    (GPU_QUEUES, GRANT, 1, 2, Some(Reason::NoRoom)),
+    (GPU_QUEUES, RESERVE, 1, 2, Some(Reason::NeverFits)),
+];
+
+#[test]
+fn settings_without_gpus_give_none_away(rt: HostRuntime) {
+    for &(lines, kind, app, node, answer) in &GPU_REASONS {
+        let of = (app, 1, node);
+        let given = reason(rt.alloc(), (lines, &GPU_CALLS), kind, of, [1024, 1, 1]);
         assert!(rt; given == Some(answer), "{kind:?} {of:?}");
     }
 }

@@ -6,15 +6,17 @@ use cap_messages::{
 };
 use std::alloc::Global;
 
-/// Bytes that are no reply: none, refusals of kinds that no request has, one of property lines without its line or without what is wrong there,
-/// and a fault of another status.
-const NO_REPLIES: [&[u8]; 6] = [
+/// Bytes that are no reply: none, refusals of kinds that no request has, one of property lines without its line or without what
+/// is wrong there, a fault of another status, one in version 2, and a refusal in version 3.
+const NO_REPLIES: [&[u8]; 8] = [
     &[],
     &[1, 0, 0, 0, 0, 0, 20],
     &[1, 12, 0, 0, 0, 0, 20],
     &[1, 11, 0, 0, 0, 0, 17],
     &[1, 11, 0, 0, 0, 0, 17, 0, 0, 0, 1],
     &[1, 0, 0, 0, 0, 0, 42],
+    &[2, 0, 0, 0, 0, 0, 41],
+    &[3, 10, 0, 0, 0, 0, 20],
 ];
 
 /// Whether bytes are no request.

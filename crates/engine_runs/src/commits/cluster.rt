@@ -14,13 +14,13 @@ pub const KEY: Key = Key {
 };
 
 /// What each container has.
-pub const CONTAINER: [u64; 2] = [1024, 1];
+pub const CONTAINER: [u64; RESOURCES] = [1024, 1, 0];
 
 /// What each node has, room for 65,536 containers.
-const NODE: [u64; 2] = [1 << 26, 1 << 16];
+const NODE: [u64; RESOURCES] = [1 << 26, 1 << 16, 0];
 
 /// What the last node has, less than a container.
-const SMALL_NODE: [u64; 2] = [512, 1];
+const SMALL_NODE: [u64; RESOURCES] = [512, 1, 0];
 
 /// What each application asks for under its key: 70,000 containers anywhere.
 const ASKS: &[WantedContainers<'static>] = &[WantedContainers {
@@ -95,7 +95,7 @@ fn join(
     alloc: Global,
     cluster: &mut Cluster<RESOURCES>,
     number: u64,
-    total: [u64; 2],
+    total: [u64; RESOURCES],
 ) -> Option<()> {
     let mut host = String::new(alloc);
     write!(host, "n{number}").ok()?;

@@ -81,13 +81,12 @@ fn in_turn(index: u64, count: u64) -> Option<u64> {
 
 /// A proposal like that of the grant of this index.
 fn proposal(size: &Size, index: u64, kind: ProposalKind) -> Option<Proposal<RESOURCES>> {
-    let [memory, vcores] = CONTAINER;
     Some(Proposal {
         kind,
         app: in_turn(index, size.applications)?,
         key: KEY,
         node: in_turn(index, size.nodes)?,
-        resource: Resource::new([memory, vcores, 0])?,
+        resource: Resource::new(CONTAINER)?,
     })
 }
 

@@ -68,7 +68,7 @@ pub fn proposal(
 
 /// A call as the engine reads it.
 pub fn request(alloc: Global, call: &Call<'_>) -> Option<Request<RESOURCES>> {
-    let bytes = frame(alloc, 1, call).ok()?;
+    let bytes = frame(alloc, 2, 1, call).ok()?;
     let (_, request) = read_request(alloc, bytes.get(4..)?).ok()?;
     Some(request)
 }
@@ -80,7 +80,7 @@ fn ask_for_keys(alloc: Global, app: u64, response: u32, count: u64) -> Option<Re
             priority: 7,
             request,
             count: 1,
-            resource: [1024, 1],
+            resource: [1024, 1, 0],
             place: b"*",
         })
         .ok()?;
@@ -220,7 +220,7 @@ fn make_node(alloc: Global, cluster: &mut Cluster<RESOURCES>, number: u32) -> Op
     make_call(
         alloc,
         cluster,
-        &Call::RegisterNode(host.as_bytes(), b"/r1", [1, 1]),
+        &Call::RegisterNode(host.as_bytes(), b"/r1", [1, 1, 0]),
     )
 }
 

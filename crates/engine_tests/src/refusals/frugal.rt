@@ -26,7 +26,7 @@ const ASK_TOO_LARGE: Step = Step::Call(Call::Allocate(
     1,
     0,
     &[WantedContainers {
-        resource: [9000, 1],
+        resource: [9000, 1, 0],
         ..ONE
     }],
     &[],
@@ -40,9 +40,9 @@ const ALLOCATE_AT_1: Step = Step::Call(Call::Allocate(1, 1, &[ONE], &[]));
 const ALLOCATE_OF_9: Step = Step::Call(Call::Allocate(9, 0, &[ONE], &[]));
 
 /// More than all nodes may have.
-const NODE_TOO_LARGE: Step = Step::Call(Call::RegisterNode(b"n2", b"/r1", [1 << 40, 1]));
+const NODE_TOO_LARGE: Step = Step::Call(Call::RegisterNode(b"n2", b"/r1", [1 << 40, 1, 0]));
 
-const NODE_OF_NOTHING: Step = Step::Call(Call::RegisterNode(b"n1", b"/r1", [0, 0]));
+const NODE_OF_NOTHING: Step = Step::Call(Call::RegisterNode(b"n1", b"/r1", [0, 0, 0]));
 
 static ROWS: [Row; 48] = [
     // A call, and the status that refuses it.

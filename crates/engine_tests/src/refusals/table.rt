@@ -43,19 +43,19 @@ pub const ONE: WantedContainers<'static> = WantedContainers {
     priority: 1,
     request: 0,
     count: 1,
-    resource: [1024, 1],
+    resource: [1024, 1, 0],
     place: b"*",
 };
 
 /// Room for three of them.
 const LARGE: WantedContainers<'static> = WantedContainers {
     request: 1,
-    resource: [3072, 1],
+    resource: [3072, 1, 0],
     ..ONE
 };
 
 /// Node 1, of (8192, 8).
-pub const NODE: Step = Step::Call(Call::RegisterNode(b"n1", b"/r1", [8192, 8]));
+pub const NODE: Step = Step::Call(Call::RegisterNode(b"n1", b"/r1", [8192, 8, 0]));
 
 /// Application 1 of `u1` in `root.a`, and its master.
 pub const SUBMIT: Step = Step::Call(Call::Submit(b"root.a", b"u1"));
@@ -149,7 +149,7 @@ const ASKS_OF_1: &[WantedContainers<'static>] = &[
     ONE,
     WantedContainers {
         priority: 2,
-        resource: [3072, 1],
+        resource: [3072, 1, 0],
         ..ONE
     },
     WantedContainers {
@@ -161,12 +161,12 @@ const ASKS_OF_1: &[WantedContainers<'static>] = &[
 
 const ASKS_OF_2: &[WantedContainers<'static>] = &[
     WantedContainers {
-        resource: [3072, 1],
+        resource: [3072, 1, 0],
         ..ONE
     },
     WantedContainers {
         priority: 2,
-        resource: [2048, 1],
+        resource: [2048, 1, 0],
         place: b"/r2",
         ..ONE
     },
@@ -181,7 +181,7 @@ const ALLOCATE_1: Step = Step::Call(Call::Allocate(1, 0, ASKS_OF_1, &[]));
 const ALLOCATE_2: Step = Step::Call(Call::Allocate(2, 0, ASKS_OF_2, &[]));
 
 /// Node 2, of (1024, 1).
-const NODE_2: Step = Step::Call(Call::RegisterNode(b"n2", b"/r2", [1024, 1]));
+const NODE_2: Step = Step::Call(Call::RegisterNode(b"n2", b"/r2", [1024, 1, 0]));
 
 static ASKED: &[Step] = &[
     SUBMIT, SUBMIT_2, MASTER, ALLOCATE_1, MASTER_2, ALLOCATE_2, NODE, NODE_2,

@@ -20,15 +20,15 @@ fn filled(alloc: Global, nodes: usize, count: u32) -> Option<Cluster<RESOURCES>>
         priority: 1,
         request: 0,
         count,
-        resource: [1024, 1],
+        resource: [1024, 1, 0],
         place: b"*",
     }];
     let calls = [
         Call::Submit(b"root.a", b"u1"),
         Call::RegisterMaster(1),
         Call::Allocate(1, 0, &asks, &[]),
-        Call::RegisterNode(b"n1", b"/r1", [8192, 8]),
-        Call::RegisterNode(b"n2", b"/r1", [8192, 8]),
+        Call::RegisterNode(b"n1", b"/r1", [8192, 8, 0]),
+        Call::RegisterNode(b"n2", b"/r1", [8192, 8, 0]),
     ];
     cluster_after(alloc, TWO_QUEUES, first(&calls, nodes.saturating_add(3)))
 }

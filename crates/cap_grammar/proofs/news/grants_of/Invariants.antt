@@ -1,7 +1,8 @@
 use Rattle.std.proofs.Common.{◌≡◌, map}
-use Rattle.cap_grammar.specs.Shown.{amounts_spelled, shown_grant}
+use Rattle.cap_grammar.specs.Shown.{shown_grant}
+use Rattle.cap_grammar.specs.Versions.{amounts_in}
 use Rattle.cap_grammar.proofs.news.grants_of.Given as goal
 
 -- what is read of each grant's amounts is shown
 abbrev pub invariant-loop : goal.invariant-loop
-invariant-loop l = map (shown_grant amounts_spelled) l.grants.items ≡ l.grants.items
+invariant-loop l = map (shown_grant (amounts_in l.version)) l.grants.items ≡ l.grants.items

@@ -1,12 +1,15 @@
 use Rattle.std.proofs.Common.{subst, sym}
 use Rattle.std.specs.List.{AllByRecursion}
 use Rattle.std.proofs.lemmas.List.{drop_all}
+use Rattle.cap_base.specs.Limits.{resources}
 use Rattle.cap_grammar.specs.Spelling.{FitsGrant}
+use Rattle.cap_grammar.specs.Versions.{amounts_in}
+use Rattle.cap_grammar.proofs.VersionLaws.{three_at_most}
 use Rattle.cap_grammar.proofs.Lengths.{length_grants}
 use Rattle.cap_grammar.proofs.news.put_grants.Goals as goal
 
 pub returns-clause-fits : goal.returns-clause-fits
-returns-clause-fits c = c.loop-told.invariant.fits (subst (AllByRecursion FitsGrant) (sym (drop_all c.loop-told.told-index c.args.grants.now c.loop-told-test.false)) tt)
+returns-clause-fits c = c.loop-told.invariant.fits (subst (AllByRecursion (FitsGrant resources)) (sym (drop_all c.loop-told.told-index c.args.grants.now c.loop-told-test.false)) tt)
 
 pub returns-clause-len : goal.returns-clause-len
-returns-clause-len c = length_grants c.args.grants.now (returns-clause-fits c)
+returns-clause-len c = length_grants (amounts_in c.args.version) c.args.grants.now (three_at_most c.args.version) (returns-clause-fits c)

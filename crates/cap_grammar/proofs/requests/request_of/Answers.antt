@@ -1,4 +1,4 @@
-use Rattle.std.proofs.Common.{◌≡◌, ap, Err}
+use Rattle.std.proofs.Common.{◌≡◌, ◌∙◌, sym, ap, Err}
 use Rattle.std.proofs.lemmas.Result.{err_from_is_err_and}
 use Rattle.cap_grammar.specs.declared.fault.MessageFault.TheVariants.{NoMemory}
 use Rattle.cap_grammar.proofs.ItemLaws.{carries_items}
@@ -8,5 +8,4 @@ pub returns-in_err-request-clause-memory : goal.returns-in_err-request-clause-me
 returns-in_err-request-clause-memory c = λ is.
     let back = err_from_is_err_and c.from_residual-in_err-request.result c.from_residual-in_err-request.ensures.1 in
     let same : c.in_err-request.field-0.0 ≡ NoMemory = cc (back.1, back.2, is) in
-    let first = c.if-version-ne1.false in
-    carries_items _ _ _ c.in_ok-version.ensures first (c.in_err-request.ensures.memory (ap Err same))
+    carries_items _ _ _ c.in_ok-version.ensures (sym c.has_version.ensures ∙ c.if-not-has_version.false) (c.in_err-request.ensures.memory (ap Err same))

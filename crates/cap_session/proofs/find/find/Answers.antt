@@ -1,6 +1,7 @@
 use Rattle.std.proofs.Common.{◌≡◌, [], ◌∷◌, Err, ap, refl, subst, ◌∙◌}
 use Rattle.cap_grammar.specs.declared.fault.MessageFault.{MessageFault}
 use Rattle.cap_grammar.specs.declared.fault.MessageFault.TheVariants.{Bad}
+use Rattle.cap_base.specs.Limits.{resources}
 use Rattle.cap_grammar.specs.Spelling.{IsNoRequest}
 use Rattle.cap_session.specs.Asked.{ReadResult, IsReadFrom}
 use Rattle.cap_session.proofs.SessionSteps.{bad_none, bad_more, starved_after}
@@ -15,7 +16,7 @@ loop-next-preserved c =
     let (opened, gift) = rw c.in-Ok-Some.field-0-is at c.in-Ok-Some.ensures.gives in
     let p = opened.payload in
     let is : next.1 ≡ Err Bad = c.in-Err-Bad.is ∙ ap (λ (e : MessageFault). Err e) (rw c.in-Err-Bad.is at c.in-Err-Bad.field-0-is) in
-    let bad : IsNoRequest p.items = subst (λ (r : ReadResult). IsReadFrom p.items r) is opened.reads in
+    let bad : IsNoRequest resources p.items = subst (λ (r : ReadResult). IsReadFrom p.items r) is opened.reads in
     bad_more c.next.new.self c.put_fault.new.unsent.items c.and.result.items p Bad next.0 c.new.result c.loop-next.invariant gift bad c.in-Ok-put_fault.ensures.ok (opened.one ∙ ap (λ (r : ReadResult). (p, r) ∷ []) is) c.new.ensures c.and.ensures
 
 pub returns-in-Err-NoMemory-read : goal.returns-in-Err-NoMemory-read

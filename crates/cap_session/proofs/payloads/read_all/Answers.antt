@@ -11,9 +11,9 @@ pub loop-alloc-preserved : goal.loop-alloc-preserved
 loop-alloc-preserved c =
     let p = c.in-Ok-Some.payload in
     let gift : c.next.new.self ≡ after_gift c.loop-alloc.framer p.items = rw c.in-Ok-Some.field-0-is at c.in-Ok-Some.ensures.frame in
-    let is : c.read_request-read.result ≡ Ok (c.in-Ok.call_id, c.in-Ok.request) = cc (c.in-Ok.is, c.in-Ok.call_id-is, c.in-Ok.request-is) in
+    let is : c.read_request-read.result ≡ Ok (c.in-Ok.head, c.in-Ok.request) = cc (c.in-Ok.is, c.in-Ok.head-is, c.in-Ok.request-is) in
     let one = c.and-opened.ensures ∙ ap₂ (λ (x : PayloadLog) (r : ReadResult). x ++ (p, r) ∷ []) c.new.ensures is in
-    let o : OpenRequest = record { payload = p.items; call_id = c.in-Ok.call_id; request = c.in-Ok.request } in
+    let o : OpenRequest = record { payload = p.items; head = c.in-Ok.head; request = c.in-Ok.request } in
     let made : c.new-in-Ok.result ≡ o = c.new-in-Ok.ensures ∙ ap first_open one in
     let asked = c.push_back_reserved.ensures.items ∙ ap₂ (λ (x : List OpenRequest) (y : OpenRequest). x ++ y ∷ []) c.reserve.ensures.items made in
     let requests = c.push_back_reserved-in-Ok.ensures.items ∙ ap (λ (x : List (Request resources)). x ++ c.in-Ok.request ∷ []) c.reserve-else-is_err.ensures.items in (

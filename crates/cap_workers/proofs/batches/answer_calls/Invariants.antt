@@ -1,8 +1,9 @@
 use Rattle.std.proofs.Common.{List, take}
+use Rattle.cap_base.specs.Limits.{resources}
 use Rattle.cap_session.specs.Answers.{Call}
 use Rattle.cap_workers.specs.Batches.{IsAnsweredBy, AnsweredAll}
 use Rattle.cap_workers.proofs.batches.answer_calls.Given as goal
 
 -- the first calls were answered
 abbrev pub invariant-loop-reply : goal.invariant-loop-reply
-invariant-loop-reply l = (calls : List Call) → IsAnsweredBy l.fn.batch.asked l.fn.replies calls → AnsweredAll l.fn.batch l.batch (take l.reply-index calls)
+invariant-loop-reply l = (calls : List (Call resources)) → IsAnsweredBy l.fn.batch.asked l.fn.replies calls → AnsweredAll l.fn.batch l.batch (take l.reply-index calls)

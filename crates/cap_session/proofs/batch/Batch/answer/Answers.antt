@@ -9,7 +9,7 @@ use Rattle.cap_session.specs.Ahead.{HasGiven}
 use Rattle.cap_session.specs.Kept.{answered_in, calls_in, calls_of}
 use Rattle.cap_session.specs.Batch.{session_inside}
 use Rattle.cap_session.specs.declared.batch.Batch.TheInside.{Inside}
-use Rattle.cap_session.proofs.Answering.{answered_answer}
+use Rattle.cap_session.proofs.Answering.{answered_answer, is_answer}
 use Rattle.cap_session.proofs.Logs.{answered_more, calls_more}
 use Rattle.cap_session.proofs.ReadingAhead.{takes_asked}
 use Rattle.cap_session.proofs.batch.Batch.answer.Goals as goal
@@ -27,9 +27,9 @@ invariant_of-self c =
     let payload : payloads_in opened.items ≡ o.payload ∷ [] = ap payloads_in has.one ∙ ap (λ (x : List ℕ). x ∷ []) (sym has.payload_is) in
     let answered : answered_in t.answered.items ≡ answered_in b.answered.items ++ o.payload ∷ [] = ap answered_in c.and-self-inside.ensures ∙ answered_more b.answered.items opened c.and.result ∙ ap (λ (x : List (List ℕ)). answered_in b.answered.items ++ x) payload in
     let call : calls_in opened.items c.and.result.items ≡ record { request = o.request; reply = reply } ∷ [] = ap₂ calls_in has.one replies in
-    let calls : calls_of t.answered.items ≡ calls_of b.answered.items ++ record { request = o.request; reply = reply } ∷ [] = ap calls_of c.and-self-inside.ensures ∙ calls_more b.answered.items opened c.and.result ∙ ap (λ (x : List Call). calls_of b.answered.items ++ x) call in
-    let spells : SpellsAnswer (Some o) reply = (has.reads, rw (has.call_id, ← has.kind) c.put_reply.ensures.spells) in
-    let unsent : t.unsent.items ≡ b.unsent.items ++ frame_of (answer_bytes o reply) = rw (has.call_id, ← has.kind) c.put_reply.ensures.appends in
+    let calls : calls_of t.answered.items ≡ calls_of b.answered.items ++ record { request = o.request; reply = reply } ∷ [] = ap calls_of c.and-self-inside.ensures ∙ calls_more b.answered.items opened c.and.result ∙ ap (λ (x : List (Call resources)). calls_of b.answered.items ++ x) call in
+    let spells : SpellsAnswer (Some o) reply = (has.reads, rw (has.head_is, ← has.kind) c.put_reply.ensures.spells) in
+    let unsent : t.unsent.items ≡ b.unsent.items ++ frame_of (answer_bytes o reply) = c.put_reply.ensures.appends ∙ ap (λ (x : List ℕ). b.unsent.items ++ frame_of x) (is_answer o c.parts-opened.result.0.of_request c.parts-opened.result.0.kind reply has.head_is has.kind) in
     let now : session_inside t ≡ with_answer (session_inside b) (Some o) reply = cc in
     record {
       has = subst (λ (x : List (List ℕ)). HasGiven x t.ahead) (sym answered) (takes_asked b.ahead t.ahead (answered_in b.answered.items) o c.self.invariant.has was refl refl);

@@ -1,7 +1,9 @@
-use Rattle.std.proofs.Common.{refl, ◌∙◌, ap, sym, subst, ◌≡◌, ◌++◌, ◌∷◌, [], Option, None, Some}
+use Rattle.std.proofs.Common.{refl, ◌∙◌, ap, sym, subst, ◌≡◌, ◌++◌, ◌∷◌, [], Option, None, Some, List, ℕ}
+use Rattle.cap_frames.specs.Stream.{frame_of}
 use Rattle.cap_session.specs.Session.{SessionState, OpenRequest, after_answer, SpellsAnswer}
 use Rattle.cap_session.specs.Kept.{IsKept, SpellsRequest, state_inside}
 use Rattle.cap_session.specs.declared.session.Session.TheInside.{Inside}
+use Rattle.cap_session.proofs.Answering.{is_answer}
 use Rattle.cap_session.proofs.SessionSteps.{opens, answers_it}
 use Rattle.cap_session.proofs.session.Session.answer.Goals as goal
 
@@ -9,7 +11,7 @@ use Rattle.cap_session.proofs.session.Session.answer.Goals as goal
 abbrev after : goal.After-self-2-1 → Inside
 after c = record c.self.inside { unsent = c.put_reply.new.unsent; head = None; answered = c.and-self-inside.result }
 
--- the reply is spelled under the open request's call id and kind
+-- the reply is spelled under the open request's head and kind
 spelled : (c : goal.After-self-2-1) → let o = (opens c.self.inside c.in-Some.head c.self.invariant c.in-Some.is).0 in SpellsAnswer (Some o) c.args.reply.now
 spelled c =
     let at = opens c.self.inside c.in-Some.head c.self.invariant c.in-Some.is in
@@ -19,7 +21,7 @@ done : (c : goal.After-self-2-1) → IsKept (after c) × (state_inside (after c)
 done c =
     let at = opens c.self.inside c.in-Some.head c.self.invariant c.in-Some.is in
     answers_it c.self.inside (after c) c.in-Some.head at.0 c.args.reply.now c.and.result c.self.invariant at.1 at.4 (at.5 c.args.reply.now) (spelled c) refl refl refl (c.and.ensures ∙ ap (λ x. x ++ (c.args.reply.now, tt) ∷ []) c.new.ensures) c.and-self-inside.ensures refl
-    (rw (← at.2, ← at.3) c.put_reply.ensures.appends)
+    (c.put_reply.ensures.appends ∙ ap (λ (x : List ℕ). c.self.inside.unsent.items ++ frame_of x) (is_answer at.0 c.in-Some.head.of_request c.in-Some.head.kind c.args.reply.now (sym at.2) at.3))
 
 pub invariant_of-self : goal.invariant_of-self
 invariant_of-self c = (done c).0
