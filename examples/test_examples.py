@@ -8,8 +8,9 @@ from xml.etree import ElementTree
 
 HERE = os.path.dirname(os.path.abspath(__file__))
 sys.path.insert(0, os.path.join(HERE, "..", "clients", "python"))
-from capsched import Ask, Connection, Resource  # noqa: E402
+from capsched import Ask, ClusterReport, Connection, QueueReport, Resource  # noqa: E402
 from serving import PROGRAM, serve  # noqa: E402
+from watch import Seen, picture, screen  # noqa: E402
 
 
 def run(*words, text=None):
@@ -49,6 +50,20 @@ class FromHadoop(unittest.TestCase):
                 ran = run(sys.executable, f"{HERE}/from_hadoop.py", file.name)
                 self.assertEqual((ran.returncode, ran.stdout), (2, ""), text)
                 self.assertIn(file.name, ran.stderr)
+
+
+class WatchGpus(unittest.TestCase):
+    def test_gpus_are_shown_where_nodes_have_some(self):
+        used, total = Resource(2048, 2, 1), Resource(8192, 8, 2)
+        queues = [QueueReport(True, False, Resource(0, 0), None, used, 1), QueueReport(True, True, Resource(4096, 4, 2), None, used, 1)]
+        seen = Seen(0.0, ClusterReport(1, 1, 2, total, used), queues)
+        lines = screen(["root", "root.train"], seen, False)
+        self.assertEqual(lines[0], "nodes 1   applications 1   containers 2   memory 2048 of 8192 MiB   vcores 2 of 8   GPUs 1 of 2")
+        self.assertEqual([line.split("  ")[-1].strip() for line in lines[2:5]], ["GPUs of its maximum", *["##########.......... 1 of 2"] * 2])
+        drawing = picture(["root", "root.train"], [seen])
+        self.assertIn("root.train: GPUs: use 1; guarantee 2; maximum none", drawing)
+        without = Seen(0.0, ClusterReport(1, 1, 2, Resource(8192, 8), Resource(2048, 2)), queues)
+        self.assertNotIn("GPU", "\n".join(screen(["root", "root.train"], without, False)) + picture(["root", "root.train"], [without]))
 
 
 class Watch(unittest.TestCase):

@@ -17,6 +17,7 @@ sys.path.insert(0, os.path.join(os.path.dirname(os.path.abspath(__file__)), ".."
 from capsched import ClusterInfo, ClusterReport, Connection, QueueInfo, QueueReport, Resource  # noqa: E402
 
 BAR = 20
+TITLES = {"memory": "memory in MiB", "vcores": "vcores", "gpus": "GPUs"}
 WITHIN, OVER, FULL, STOPPED, RESET = "\033[32m", "\033[33m", "\033[31m", "\033[2m", "\033[0m"
 
 
@@ -80,14 +81,16 @@ class Amount:
         return "".join(cells)
 
 
-def amounts(path, report, cluster):
-    """Memory and vcores of a queue. What the nodes have is `root`'s, which has no guarantee of its own."""
+def resources(clusters):
+    """The resources that are shown: GPUs where the nodes have had some."""
+    return ["memory", "vcores"] + ["gpus"] * any(it.total.gpus for it in clusters)
+
+
+def amounts(names, path, report, cluster):
+    """These resources of a queue. What the nodes have is `root`'s, which has no guarantee of its own."""
     guaranteed = cluster.total if path == "root" else report.guaranteed
-    maximum = report.maximum or Resource(None, None)
-    return [
-        Amount(getattr(report.used, name), getattr(guaranteed, name), getattr(maximum, name), getattr(cluster.total, name))
-        for name in ("memory", "vcores")
-    ]
+    maximum = report.maximum or Resource(None, None, None)
+    return [Amount(*(getattr(it, name) for it in (report.used, guaranteed, maximum, cluster.total))) for name in names]
 
 
 def screen(paths, seen, has_colour):
@@ -96,19 +99,21 @@ def screen(paths, seen, has_colour):
     def coloured(text, colour):
         return f"{colour}{text}{RESET}" if has_colour else text
 
-    cluster = seen.cluster
+    cluster, names = seen.cluster, resources([seen.cluster])
     used, total = cluster.used, cluster.total
     lines = [
         f"nodes {cluster.nodes}   applications {cluster.applications}   containers {cluster.containers}   "
-        f"memory {used.memory} of {total.memory} MiB   vcores {used.vcores} of {total.vcores}",
+        f"memory {used.memory} of {total.memory} MiB   vcores {used.vcores} of {total.vcores}"
+        + (f"   GPUs {used.gpus} of {total.gpus}" if "gpus" in names else ""),
         "",
     ]
     width = max(len(row) for row in (f"{'  ' * path.count('.')}{path.rpartition('.')[2]}" for path in paths))
-    lines.append(f"{'queue':{max(width, 5)}}  {'state':7}  {'apps':>5}  {'memory of its maximum':{BAR + 24}}  vcores of its maximum")
+    heads = (f"{TITLES[name].split()[0]} of its maximum".ljust(BAR + 24) for name in names)
+    lines.append(f"{'queue':{max(width, 5)}}  {'state':7}  {'apps':>5}  {'  '.join(heads)}".rstrip())
     for path, report in zip(paths, seen.queues):
         name = f"{'  ' * path.count('.')}{path.rpartition('.')[2]}"
         cells = []
-        for amount in amounts(path, report, cluster):
+        for amount in amounts(names, path, report, cluster):
             colour = FULL if amount.is_full() else OVER if amount.is_over_guarantee() else WITHIN
             cells.append(f"{coloured(amount.bar(), colour)} {f'{amount.used} of {amount.most}':23}")
         state = "RUNNING" if report.running else coloured("STOPPED", STOPPED)
@@ -164,20 +169,20 @@ class Chart:
 
 
 def picture(paths, history):
-    """Each queue's use over time as SVG: memory at the left, vcores at the right, a row a queue."""
-    rows = []
+    """Each queue's use over time as SVG: memory at the left, vcores and then GPUs beside it, a row a queue."""
+    rows, names = [], resources([seen.cluster for seen in history])
     for n, path in enumerate(paths):
-        over_time = [amounts(path, seen.queues[n], seen.cluster) for seen in history]
-        for column, name in enumerate(("memory in MiB", "vcores")):
+        over_time = [amounts(names, path, seen.queues[n], seen.cluster) for seen in history]
+        for column, name in enumerate(names):
             amounts_over_time = [it[column] for it in over_time]
             guarantee = "of the nodes" if path == "root" else "guarantee"
-            chart = Chart(f"{path}: {name}", guarantee, [seen.at for seen in history], amounts_over_time, 20 + 560 * column, 40 + 150 * n)
+            chart = Chart(f"{path}: {TITLES[name]}", guarantee, [seen.at for seen in history], amounts_over_time, 20 + 560 * column, 40 + 150 * n)
             rows += chart.svg()
-    height = 40 + 150 * len(paths)
+    height, width = 40 + 150 * len(paths), 20 + 560 * len(names)
     seconds = history[-1].at - history[0].at
     return "\n".join([
-        f'<svg xmlns="http://www.w3.org/2000/svg" viewBox="0 0 1140 {height}" font-family="sans-serif" font-size="12">',
-        f'<rect width="1140" height="{height}" fill="white"/>',
+        f'<svg xmlns="http://www.w3.org/2000/svg" viewBox="0 0 {width} {height}" font-family="sans-serif" font-size="12">',
+        f'<rect width="{width}" height="{height}" fill="white"/>',
         *rows,
         f'<text x="20" y="{height - 12}">use of each queue over {seconds:.0f} s</text>',
         "</svg>",

@@ -3,8 +3,8 @@
 
 A folder has the program's words in `args`, one a line. In `cases` are the standard inputs, each after a line `== NAME` and up to the line feed in front of the next
 such line. In `answers` stands under the same lines what the program must print, then what it must leave on standard error, each line after `! `, and the exit
-status. Then come the scripts of limits.py and, but for the program without it, the daemons of daemon.py. With words of its own
-this runs the programs that they name, else the one that `./capsched` builds.
+status. Then come the scripts of limits.py and, but for the program without it, the daemons of daemon.py, and the cases of runs/replay that served.py plays
+through a daemon. With words of its own this runs the programs that they name, else the one that `./capsched` builds.
 """
 import difflib
 import io
@@ -15,6 +15,7 @@ import sys
 sys.dont_write_bytecode = True
 import daemon
 import limits
+import served
 
 HERE = os.path.dirname(os.path.abspath(__file__))
 TOP = os.path.dirname(HERE)
@@ -27,11 +28,11 @@ def read(path):
         return file.read()
 
 
-def cases_of(folder):
-    """The cases of a folder: their names and inputs."""
-    text = read(f"{folder}/cases")
+def cases_of(folder, file="cases"):
+    """The cases of a folder: their names and inputs, or with `answers` what each is answered but for its last line feed."""
+    text = read(f"{folder}/{file}")
     if not text.startswith(MARK):
-        sys.exit(f"{folder}/cases does not begin with a line '== NAME'")
+        sys.exit(f"{folder}/{file} does not begin with a line '== NAME'")
     return [case.partition(b"\n")[::2] for case in text[len(MARK) :].split(b"\n" + MARK)]
 
 
@@ -72,6 +73,8 @@ def main():
         print(f"{os.path.relpath(program, TOP)} limits: {limits.check(program)} scripts are answered as they must be")
         if os.path.basename(program).partition(".")[0] != OFFLINE:
             print(f"{os.path.relpath(program, TOP)} daemon: {daemon.check(program)} cases end as they must")
+            replayed = [cases_of(f"{HERE}/replay", file) for file in ("cases", "answers")]
+            print(f"{os.path.relpath(program, TOP)} served: {served.check(program, *replayed)} cases of replay are answered as they must be")
 
 
 if __name__ == "__main__":

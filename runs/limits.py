@@ -16,19 +16,19 @@ from capsched import Allocate, Ask, ClusterInfo, FinishMaster, Heartbeat, NodeGo
 
 PROPERTY = "yarn.scheduler.capacity"
 ONE_LEAF = f"{PROPERTY}.root.queues=a"
-SMALL, LARGE = Resource(1024, 1), Resource(2048, 2)
-INFO = frame(ClusterInfo().payload(1)).hex()
+SMALL, LARGE, WITH_GPU = Resource(1024, 1), Resource(2048, 2), Resource(1024, 1, 1)
+INFO = frame(ClusterInfo().payload(1, 1)).hex()
 EMPTY = "out 1 00000033010a0000000100" + "00" * 44  # what a ClusterInfo is answered where there is nothing
 
 
-def sent(request, call_id=1):
+def sent(request, call_id=1, version=1):
     """The line on which connection 1 brings a request."""
-    return f"bytes 1 {frame(request.payload(call_id)).hex()}"
+    return f"bytes 1 {frame(request.payload(call_id, version)).hex()}"
 
 
-def told(kind, status, body="", call_id=1):
+def told(kind, status, body="", call_id=1, version=1):
     """The line on which connection 1 is answered."""
-    payload = f"01{kind.KIND:02x}{call_id:08x}{status:02x}{body}"
+    payload = f"{version:02x}{kind.KIND:02x}{call_id:08x}{status:02x}{body}"
     return f"out 1 {len(payload) // 2:08x}{payload}"
 
 
@@ -122,21 +122,52 @@ def entered(app=1):
     return [(sent(Submit("root.a", "u")), [told(Submit, 0, f"{app:016x}")]), *registered(app)]
 
 
-def allocated(app, response, asks=(), releases=(), ignored=0):
+def allocated(app, response, asks=(), releases=(), ignored=0, version=1):
     """An Allocate without news, the response id of whose reply is one more."""
-    reply = told(Allocate, 0, f"{response + 1:08x}{ignored:04x}0000", call_id=response)
-    return sent(Allocate(app, response, asks, releases), response), [reply]
+    reply = told(Allocate, 0, f"{response + 1:08x}{ignored:04x}0000", response, version)
+    return sent(Allocate(app, response, asks, releases), response, version), [reply]
 
 
 def check_allocates(program):
     """An Allocate with as many asks and releases as it may have, an application with as many keys, and many Allocates in a row."""
     asks = [Ask(1, request, 1, SMALL) for request in range(1, 258)]
-    most = [allocated(1, 0, asks[:256], range(1, 1025), ignored=1024)]
-    yield is_answered("256 asks and 1,024 releases", program, ONE_LEAF, [*entered(), *most])
+    with_gpus = [Ask(1, request, 1, WITH_GPU) for request in range(1, 257)]
+    for version, most in ((1, asks[:256]), (2, with_gpus)):
+        steps = [*entered(), allocated(1, 0, most, range(1, 1025), 1024, version)]
+        yield is_answered(f"256 asks and 1,024 releases in version {version}", program, ONE_LEAF, steps)
     full, one_more = allocated(1, 0, asks[:256]), (sent(Allocate(1, 1, asks[256:])), [told(Allocate, 10)])
     in_place = allocated(1, 1, [Ask(1, 3, 0, SMALL), asks[256]])
     yield is_answered("256 keys", program, ONE_LEAF, [*entered(), full, one_more, in_place])
     yield is_answered("10,000 Allocates", program, ONE_LEAF, [*entered(), *(allocated(1, response) for response in range(10_000))])
+
+
+def check_longest_reply(program):
+    """64 grants on a host of 64 bytes, and 64 ends: told in version 2, and the same once more in version 1."""
+    settings = f"{ONE_LEAF}\n{PROPERTY}.root.a.capacity=[memory=131072,vcores=128,yarn.io/gpu=128]"
+    host, asked, first, later = "n" * 64, [Ask(1, 0, 64, WITH_GPU)], range(1, 65), range(65, 129)
+    node = RegisterNode(host, "/r1", Resource(131_072, 128, 128))
+    steps = [(sent(node, version=2), [told(RegisterNode, 0, f"{1:016x}", version=2)]), *entered()]
+    steps += [allocated(1, 0, asked, version=2), *granted(first)]
+    steps += [news(2, 1, first, (), host, asked), *granted(later)]
+    steps += [(sent(Heartbeat(1, 0, first)), [told(Heartbeat, 0, f"{1:08x}{0:04x}{64:08x}")])]
+    longest, in_version_1 = news(2, 2, later, first, host), news(1, 2, later, first, host)
+    assert [len(printed[0]) - len("out 1 ") for _, printed in (longest, in_version_1)] == [2 * (4 + 8_079), 2 * (4 + 7_567)]
+    yield is_answered("a reply of 8,079 bytes", program, settings, [*steps, longest, in_version_1])
+
+
+def granted(containers):
+    """Turns of worker 0, who is granted these containers for one ask on one node."""
+    proposed = ("propose 0 0", ["proposed 0 grant 1 1 0 1 1024 1 1"])
+    turns = ((proposed, ("commit 0", [f"done 0 grant {container}"])) for container in containers)
+    return [("copy 0", ["copied 0"]), *chain.from_iterable(turns)]
+
+
+def news(version, response, grants, ends, host, asks=()):
+    """An Allocate of application 1 that is told of grants on node 1, and of containers that have ended there."""
+    amounts = (1024, 1, 1)[: 1 + version]
+    told_grants = "".join(grant(container, 1, host, amounts) for container in grants)
+    body = f"{response + 1:08x}0000{len(grants):02x}{told_grants}{len(ends):02x}" + "".join(f"{container:016x}02" for container in ends)
+    return sent(Allocate(1, response, asks), 1, version), [told(Allocate, 0, body, 1, version)]
 
 
 def check_streams(program):
@@ -194,14 +225,13 @@ def kept(app):
 
 def told_of_grants(app, first):
     """The next Allocate of the application: it asks for the large ones, and is told of its first 64 containers."""
-    grants = "".join(grant(node) for node in range(first + 1, first + 65))
+    grants = "".join(grant(node, node, f"n{node}", (1024, 1)) for node in range(first + 1, first + 65))
     return sent(Allocate(app, 1, [Ask(2, 0, 256, LARGE)])), [told(Allocate, 0, f"{2:08x}000040{grants}00")]
 
 
-def grant(node):
-    """What an application is told of the small container of a node, which has its number."""
-    host = f"n{node}".encode()
-    return f"{node:016x}{1:08x}{0:016x}{node:016x}{len(host):02x}{host.hex()}{1024:016x}{1:016x}"
+def grant(container, node, host, amounts):
+    """What an application is told of a container that it has for its ask of priority 1."""
+    return f"{container:016x}{1:08x}{0:016x}{node:016x}{len(host):02x}{host.encode().hex()}" + "".join(f"{amount:016x}" for amount in amounts)
 
 
 def cluster_info(apps, nodes, containers, memory, vcores):
@@ -211,7 +241,7 @@ def cluster_info(apps, nodes, containers, memory, vcores):
     return sent(ClusterInfo()), [told(ClusterInfo, 0, body)]
 
 
-CHECKS = (check_settings, check_nodes, check_applications, check_allocates, check_streams, check_refreshes, check_reservations)
+CHECKS = (check_settings, check_nodes, check_applications, check_allocates, check_longest_reply, check_streams, check_refreshes, check_reservations)
 
 
 def check(program):

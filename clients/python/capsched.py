@@ -10,7 +10,8 @@
 Each call of a connection sends one request and waits for its reply; a refusal is raised as `Refused`, with its number and its name. To have several
 requests in flight, `send` them and ask each `Pending` for its `result` later: replies come in the order of the requests.
 
-Memory is counted in MiB, vcores in whole ones. The bytes are those of docs/FORMATS.md, version 1, which have no amounts of `yarn.io/gpu`."""
+Memory is counted in MiB, vcores and GPUs in whole ones. The bytes are those of docs/FORMATS.md. A connection speaks version 2 of them, or with `version=1` the
+one before, which has no GPUs: there no request can name any, and in replies they are left out. The scheduler answers each request in its own version."""
 from __future__ import annotations
 
 import queue
@@ -23,7 +24,7 @@ from dataclasses import dataclass, field
 from enum import IntEnum
 from typing import Any, ClassVar, Deque, Generic, List, NamedTuple, Optional, Sequence, Tuple, Type, TypeVar
 
-VERSION = 1
+VERSION = 2  # what a connection speaks where nothing else is said
 PAYLOAD_MAX = 65_536
 TEXT_MAX = 65_526
 AMOUNT_MAX = 1 << 40
@@ -110,13 +111,15 @@ class Cause(IntEnum):
 
 @dataclass(frozen=True)
 class Resource:
-    """Memory in MiB and vcores, each 0 to 2^40."""
+    """Memory in MiB, vcores, and GPUs (`yarn.io/gpu`), each 0 to 2^40."""
 
     memory: int
     vcores: int
+    gpus: int = 0
 
     def __str__(self) -> str:
-        return f"[{self.memory} MiB, {self.vcores} vcore{'s' * (self.vcores != 1)}]"
+        gpus = f", {self.gpus} GPU{'s' * (self.gpus != 1)}" if self.gpus else ""
+        return f"[{self.memory} MiB, {self.vcores} vcore{'s' * (self.vcores != 1)}{gpus}]"
 
 
 @dataclass(frozen=True)
@@ -204,10 +207,12 @@ class ClusterReport:
 
 
 class Fields:
-    """The fields of a message, big-endian: each `put` adds some at the end, each `take` reads the next."""
+    """The fields of a message of a version, big-endian: each `put` adds some at the end, each `take` reads the next."""
 
-    def __init__(self, data: bytes = b""):
-        self.data, self.at = data, 0
+    def __init__(self, version: int, data: bytes = b""):
+        if version not in (1, 2):
+            raise ValueError(f"a message is of version 1 or 2, and not {version}")
+        self.version, self.data, self.at = version, data, 0
 
     def put(self, form: str, *values: Any) -> Fields:
         try:
@@ -223,9 +228,12 @@ class Fields:
         return self.put(f"B{len(data)}s", len(data), data)
 
     def put_resource(self, resource: Resource) -> Fields:
-        if not 0 <= resource.memory <= AMOUNT_MAX or not 0 <= resource.vcores <= AMOUNT_MAX:
+        amounts = (resource.memory, resource.vcores, resource.gpus)
+        if not all(0 <= amount <= AMOUNT_MAX for amount in amounts):
             raise ValueError(f"an amount is 0 to 2^40: {resource}")
-        return self.put("QQ", resource.memory, resource.vcores)
+        if self.version == 1 and resource.gpus:
+            raise ValueError(f"version 1 has no GPUs: {resource}")
+        return self.put("QQ", *amounts[:2]) if self.version == 1 else self.put("QQQ", *amounts)
 
     def put_numbers(self, numbers: Sequence[int]) -> Fields:
         check_count(numbers, 1024)
@@ -250,7 +258,7 @@ class Fields:
         return self.take(f"{self.take('B')}s").decode("ascii", "replace")
 
     def take_resource(self) -> Resource:
-        return Resource(*self.take("QQ"))
+        return Resource(*self.take("QQ" if self.version == 1 else "QQQ"))
 
     def take_grant(self) -> Grant:
         return Grant(*self.take("QIQQ"), self.take_text(), self.take_resource())
@@ -293,6 +301,9 @@ class Head(NamedTuple):
     call_id: int
 
 
+FAULT = Head(1, 0, 0)  # of the answer to what is no request, whatever the version
+
+
 @dataclass(frozen=True)
 class Request(Generic[T]):
     """A request: what it says (`put_body`), and what it is answered (`take_body`)."""
@@ -305,19 +316,20 @@ class Request(Generic[T]):
     def take_body(self, fields: Fields) -> T:
         raise NotImplementedError
 
-    def payload(self, call_id: int) -> bytes:
-        """The request's bytes under a call id, without the length of the frame. ValueError where a part does not fit its field."""
-        fields = Fields().put("BBI", VERSION, self.KIND, call_id)
+    def payload(self, call_id: int, version: int = VERSION) -> bytes:
+        """The request's bytes under a call id, without the length of the frame. ValueError where a part does not fit its field, or the version has no GPUs."""
+        fields = Fields(version).put("BBI", version, self.KIND, call_id)
         self.put_body(fields)
         return fields.data
 
-    def reply(self, payload: bytes, call_id: int) -> T:
-        """What the payload of a reply says, under the call id of the request. `Refused` where it is a refusal, `BadReply` where it is no such reply."""
-        fields = Fields(payload)
+    def reply(self, payload: bytes, call_id: int, version: int = VERSION) -> T:
+        """What the payload of a reply says, under the call id and the version of the request. `Refused` where it is a refusal, `BadReply` where it is no such
+        reply."""
+        fields = Fields(version, payload)
         head, status = Head(*fields.take("BBI")), fields.take("B")
-        is_fault = head == (VERSION, 0, 0) and status in (Refusal.BadLength, Refusal.BadRequest)
-        if not is_fault and head != (VERSION, self.KIND, call_id):
-            raise BadReply(f"{payload.hex()} is no reply to call {call_id} of kind {self.KIND}")
+        is_fault = head == FAULT and status in (Refusal.BadLength, Refusal.BadRequest)
+        if not is_fault and head != (version, self.KIND, call_id):
+            raise BadReply(f"{payload.hex()} is no reply of version {version} to call {call_id} of kind {self.KIND}")
         if status:
             refusal = member(Refusal, status)
             fault = fields.take_fault() if refusal is Refusal.BadSettings else None
@@ -506,37 +518,38 @@ def frame(payload: bytes) -> bytes:
 class Pending(Generic[T]):
     """A request that was sent, and its reply once it has come."""
 
-    def __init__(self, connection: Connection, request: Request[T], call_id: int):
-        self._connection, self._request, self._call_id = connection, request, call_id
+    def __init__(self, connection: Connection, request: Request[T], call_id: int, version: int):
+        self._connection, self._request, self._call_id, self._version = connection, request, call_id, version
         self._payload: Optional[bytes] = None
 
     def result(self) -> T:
         """What the request is answered. Waits until the reply has come. `Refused` where it was refused, `Ended` where the connection ended before."""
         while self._payload is None:
             self._connection._receive_next()
-        return self._request.reply(self._payload, self._call_id)
+        return self._request.reply(self._payload, self._call_id, self._version)
 
 
 class Connection:
     """One connection: requests go out with rising call ids, and replies come in, in the same order. It is not to be shared by threads."""
 
-    def __init__(self, stream: Any):
-        """`stream` has `send(bytes)`, `receive(count) -> bytes`, fewer than `count` where it has ended, and `close()`."""
-        self._stream, self._call_id = stream, 0
+    def __init__(self, stream: Any, version: int = VERSION):
+        """`stream` has `send(bytes)`, `receive(count) -> bytes`, fewer than `count` where it has ended, and `close()`. `version` is 1 or 2: what the requests
+        are spelled in, from the next one on where it is set later."""
+        self._stream, self._call_id, self.version = stream, 0, version
         self._waiting: Deque[Pending[Any]] = deque()
 
     @classmethod
-    def to_port(cls, port: int, host: str = "127.0.0.1", timeout: Optional[float] = None) -> Connection:
+    def to_port(cls, port: int, host: str = "127.0.0.1", timeout: Optional[float] = None, version: int = VERSION) -> Connection:
         """A connection to `capsched serve`. OSError where nobody listens there; with a timeout, in seconds, also where a reply takes longer."""
-        return cls(SocketStream(socket.create_connection((host, port), timeout)))
+        return cls(SocketStream(socket.create_connection((host, port), timeout)), version)
 
     def send(self, request: Request[T]) -> Pending[T]:
         """Sends a request and does not wait for its reply. Where 64 wait already, the oldest is received first: neither side so waits for the other to read."""
         while len(self._waiting) >= IN_FLIGHT:
             self._receive_next()
         self._call_id = self._call_id % 0xFFFF_FFFF + 1
-        self._stream.send(frame(request.payload(self._call_id)))
-        pending = Pending(self, request, self._call_id)
+        self._stream.send(frame(request.payload(self._call_id, self.version)))
+        pending = Pending(self, request, self._call_id, self.version)
         self._waiting.append(pending)
         return pending
 
@@ -647,12 +660,12 @@ class Replay:
         for line in settings:
             self._write(f"conf {line}")
 
-    def connect(self) -> Connection:
+    def connect(self, version: int = VERSION) -> Connection:
         """Opens the next connection."""
         stream = ReplayStream(self, len(self._streams) + 1)
         self._streams.append(stream)
         self.step(f"open {len(self._streams)}")
-        return Connection(stream)
+        return Connection(stream, version)
 
     def copy(self, worker: int) -> None:
         """A worker, 0 to 63, copies the cluster."""

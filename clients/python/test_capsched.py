@@ -16,7 +16,9 @@ from serving import PROGRAM, TOP, serve
 SETTINGS = ["yarn.scheduler.capacity.root.queues=default", "yarn.scheduler.capacity.root.default.capacity=[memory=4096,vcores=4]"]
 NONE, SMALL, LARGE = Resource(0, 0), Resource(1024, 1), Resource(8192, 8)
 ASKED = Ask(1, 0, 2, Resource(1000, 1))
-# the exchange of docs/FORMATS.md, by call id
+WITH_GPU, WITH_GPUS = Resource(1024, 1, 1), Resource(8192, 8, 2)
+GPU_SETTINGS = ["yarn.scheduler.capacity.root.queues=default", "yarn.scheduler.capacity.root.default.capacity=[memory=4096,vcores=4,yarn.io/gpu=2]"]
+# the exchange of docs/FORMATS.md in version 1, by call id
 EXCHANGE = {
     1: (RegisterNode("n1", "/r1", LARGE), 1),
     2: (Submit("root.default", "u1"), 1),
@@ -34,10 +36,22 @@ EXCHANGE = {
 }
 
 
-def documented():
-    """The exchange as docs/FORMATS.md spells it: by call id the request and the reply, each with its length."""
+# and in version 2
+EXCHANGE_2 = {
+    1: (RegisterNode("n1", "/r1", WITH_GPUS), 1),
+    2: (Submit("root.default", "u1"), 1),
+    3: (RegisterMaster(1), Allocations(SMALL, Resource(8192, 4, 2**40))),
+    4: (Allocate(1, 0, [Ask(1, 0, 1, WITH_GPU)]), AllocateReply(1, 0, [], [])),
+    5: (Allocate(1, 1), AllocateReply(2, 0, [Grant(1, 1, 0, 1, "n1", WITH_GPU)], [])),
+    6: (QueueInfo("root.default"), QueueReport(True, True, Resource(4096, 4, 2), None, WITH_GPU, 1)),
+    7: (ClusterInfo(), ClusterReport(1, 1, 1, WITH_GPUS, WITH_GPU)),
+}
+
+
+def documented(version):
+    """The exchange as docs/FORMATS.md spells it in a version: by call id the request and the reply, each with its length."""
     with open(f"{TOP}/docs/FORMATS.md", encoding="utf-8") as it:
-        messages = it.read().split("\n## Messages\n")[1].split("\n### Bounds\n")[0]
+        messages = it.read().split("\n## Messages\n")[1].split("\n### Bounds\n")[0].split("\n### The same in version 2\n")[version - 1]
     found, into = {}, None
     for line in messages.splitlines():
         cells = [cell.strip() for cell in line.strip("|").split("|")] if line.startswith("|") else []
@@ -55,56 +69,84 @@ def documented():
 
 class Bytes(unittest.TestCase):
     def test_requests_and_replies_are_as_documented(self):
-        found = documented()
-        self.assertEqual(sorted(found), sorted(EXCHANGE))
-        for call_id, (request, result) in EXCHANGE.items():
-            sent, answered = found[call_id]
-            self.assertEqual(frame(request.payload(call_id)).hex(), sent.hex(), request)
-            self.assertEqual(int.from_bytes(answered[:4], "big"), len(answered) - 4, request)
-            self.assertEqual(request.reply(answered[4:], call_id), result)
+        for version, exchange in ((1, EXCHANGE), (2, EXCHANGE_2)):
+            found = documented(version)
+            self.assertEqual(sorted(found), sorted(exchange))
+            for call_id, (request, result) in exchange.items():
+                sent, answered = found[call_id]
+                self.assertEqual(frame(request.payload(call_id, version)).hex(), sent.hex(), request)
+                self.assertEqual(int.from_bytes(answered[:4], "big"), len(answered) - 4, request)
+                self.assertEqual(request.reply(answered[4:], call_id, version), result)
+
+    def test_version_2_where_nothing_is_said(self):
+        self.assertEqual(ClusterInfo().payload(3).hex(), "020a00000003")
+        self.assertEqual(ClusterInfo().payload(3, 1).hex(), "010a00000003")
+        with self.assertRaises(ValueError):
+            ClusterInfo().payload(3, 3)
+
+    def test_version_1_has_no_gpus(self):
+        for request in (RegisterNode("n1", "/r1", WITH_GPUS), Allocate(1, 0, [Ask(1, 0, 1, WITH_GPU)])):
+            request.payload(1, 2)
+            with self.assertRaisesRegex(ValueError, "version 1 has no GPUs"):
+                request.payload(1, 1)
+
+    def test_resources_in_words(self):
+        for resource, words in ((SMALL, "[1024 MiB, 1 vcore]"), (WITH_GPU, "[1024 MiB, 1 vcore, 1 GPU]"), (WITH_GPUS, "[8192 MiB, 8 vcores, 2 GPUs]")):
+            self.assertEqual(str(resource), words)
 
     def test_a_refusal_has_its_number_and_name(self):
-        with self.assertRaises(Refused) as raised:
-            Submit("root.default", "u1").reply(bytes.fromhex("01010000000e03"), 14)
-        self.assertEqual((raised.exception.refusal, raised.exception.refusal.value), (Refusal.QueueStopped, 3))
-        self.assertEqual(str(raised.exception), "Submit: QueueStopped (3)")
+        for version in (1, 2):
+            with self.assertRaises(Refused) as raised:
+                Submit("root.default", "u1").reply(bytes.fromhex(f"0{version}010000000e03"), 14, version)
+            self.assertEqual((raised.exception.refusal, raised.exception.refusal.value), (Refusal.QueueStopped, 3))
+            self.assertEqual(str(raised.exception), "Submit: QueueStopped (3)")
 
     def test_a_refusal_of_property_lines_has_its_fault(self):
         with self.assertRaises(Refused) as raised:
-            Refresh("").reply(bytes.fromhex("010b0000000a" + "11" + "00000000" + "0a"), 10)
+            Refresh("").reply(bytes.fromhex("020b0000000a" + "11" + "00000000" + "0a"), 10)
         self.assertEqual((raised.exception.refusal, raised.exception.fault), (Refusal.BadSettings, Fault(0, SettingsFault.NoChild)))
         self.assertEqual(str(raised.exception), "Refresh: BadSettings (17), line 0: NoChild (10)")
         for bad in ("11", "11" + "00000000", "11" + "00000000" + "0b", "11" + "00000000" + "0a" + "00", "12" + "00"):
             with self.assertRaises(BadReply, msg=bad):
-                Refresh("").reply(bytes.fromhex("010b0000000a" + bad), 10)
+                Refresh("").reply(bytes.fromhex("020b0000000a" + bad), 10)
 
     def test_property_lines_to_the_longest_payload(self):
-        self.assertEqual(frame(Refresh("").payload(10)).hex(), "0000000a010b0000000a00000000")
+        self.assertEqual(frame(Refresh("").payload(10)).hex(), "0000000a020b0000000a00000000")
         self.assertEqual(len(Refresh("#" * 65526).payload(1)), 65536)
 
     def test_faults_answer_any_request(self):
-        for status, refusal in (("28", Refusal.BadLength), ("29", Refusal.BadRequest)):
+        for version, status, refusal in ((1, "28", Refusal.BadLength), (1, "29", Refusal.BadRequest), (2, "28", Refusal.BadLength), (2, "29", Refusal.BadRequest)):
             with self.assertRaises(Refused) as raised:
-                ClusterInfo().reply(bytes.fromhex("010000000000" + status), 7)
+                ClusterInfo().reply(bytes.fromhex("010000000000" + status), 7, version)
             self.assertEqual(raised.exception.refusal, refusal)
+            with self.assertRaises(BadReply):
+                ClusterInfo().reply(bytes.fromhex("020000000000" + status), 7, version)
 
     def test_other_bytes_are_no_reply(self):
-        good = "010400000009" + "00" + "00000000"
-        for bad in ("020400000009" + "0000000000", "010500000009" + "0000000000", "010400000008" + "0000000000", good[:-2], good + "00", "01040000000911", "010000000000" + "03", "01040000000903" + "00"):
-            with self.assertRaises(BadReply, msg=bad):
-                FinishMaster(1).reply(bytes.fromhex(bad), 9)
-        self.assertEqual(FinishMaster(1).reply(bytes.fromhex(good), 9), 0)
+        for version, other in (("01", "02"), ("02", "01")):
+            good = version + "0400000009" + "00" + "00000000"
+            for bad in (
+                other + "0400000009" + "0000000000", "030400000009" + "0000000000", version + "0500000009" + "0000000000", version + "0400000008" + "0000000000",
+                good[:-2], good + "00", version + "040000000911", "010000000000" + "03", version + "040000000903" + "00",
+            ):
+                with self.assertRaises(BadReply, msg=bad):
+                    FinishMaster(1).reply(bytes.fromhex(bad), 9, int(version))
+            self.assertEqual(FinishMaster(1).reply(bytes.fromhex(good), 9, int(version)), 0)
 
     def test_what_no_field_holds_is_not_sent(self):
         most = Ask(2**32 - 1, 2**64 - 1, 2**32 - 1, Resource(2**40, 2**40), "r" * 64)
-        self.assertEqual(len(Allocate(1, 0, [most] * 256, [1] * 1024).payload(1)), 6 + 8 + 4 + 2 + 256 * 97 + 2 + 1024 * 8)
+        self.assertEqual(len(Allocate(1, 0, [most] * 256, [1] * 1024).payload(1, 1)), 6 + 8 + 4 + 2 + 256 * 97 + 2 + 1024 * 8)
+        most = Ask(2**32 - 1, 2**64 - 1, 2**32 - 1, Resource(2**40, 2**40, 2**40), "r" * 64)
+        self.assertEqual(len(Allocate(1, 0, [most] * 256, [1] * 1024).payload(1)), 6 + 8 + 4 + 2 + 256 * 105 + 2 + 1024 * 8)
         bad = [
             Submit("", "u"), Submit("r" * 256, "u"), Submit("root.a", "a b"), Submit("root.ä", "u"), Submit("root", "u" * 65), RegisterMaster(2**64), RegisterMaster(-1),
-            RegisterNode("n", "/r", Resource(2**40 + 1, 1)), RegisterNode("n", "/r", Resource(1, -1)), Allocate(1, 2**32), Allocate(1, 0, [ASKED] * 257), Heartbeat(1, 0, [1] * 1025), Refresh("#" * 65527),
+            RegisterNode("n", "/r", Resource(2**40 + 1, 1)), RegisterNode("n", "/r", Resource(1, -1)), RegisterNode("n", "/r", Resource(1, 1, 2**40 + 1)),
+            Allocate(1, 2**32), Allocate(1, 0, [ASKED] * 257), Heartbeat(1, 0, [1] * 1025), Refresh("#" * 65527),
         ]
         for request in bad:
-            with self.assertRaises(ValueError, msg=request):
-                request.payload(1)
+            for version in (1, 2):
+                with self.assertRaises(ValueError, msg=request):
+                    request.payload(1, version)
 
 
 class Replayed(unittest.TestCase):
@@ -113,9 +155,42 @@ class Replayed(unittest.TestCase):
         self.addCleanup(replay.close)
         return replay
 
+    def test_the_documented_exchange_in_version_2(self):
+        replay = self.cluster(GPU_SETTINGS)
+        connection = replay.connect()
+        for call_id, (request, result) in EXCHANGE_2.items():
+            if call_id == 5:
+                self.assertEqual(replay.turn(0), ["done", "0", "grant", "1"])
+            self.assertEqual(connection.call(request), result, request)
+
+    def test_either_version_on_one_connection(self):
+        replay = self.cluster(GPU_SETTINGS)
+        connection = replay.connect(version=1)
+        connection.register_node("n1", "/r1", LARGE)
+        with self.assertRaises(ValueError):
+            connection.register_node("n2", "/r1", WITH_GPUS)
+        connection.version = 2
+        connection.register_node("n2", "/r1", WITH_GPUS)
+        pending = [connection.send(ClusterInfo())]
+        connection.version = 1
+        pending.append(connection.send(ClusterInfo()))
+        self.assertEqual([it.result().total for it in pending], [Resource(16384, 16, 2), Resource(16384, 16)])
+
+    def test_a_kept_reply_in_the_other_version(self):
+        replay = self.cluster(GPU_SETTINGS)
+        old, new = replay.connect(version=1), replay.connect()
+        new.register_node("n1", "/r1", WITH_GPUS)
+        app = new.submit("root.default", "u1")
+        self.assertEqual(old.register_master(app).maximum, Resource(8192, 4))
+        new.allocate(app, 0, [Ask(1, 0, 1, WITH_GPU)])
+        replay.copy(0)
+        self.assertEqual(replay.propose(0), "grant 1 1 0 1 1024 1 1".split())
+        replay.commit(0)
+        self.assertEqual([it.allocate(app, 1).grants[0].resource for it in (old, new, old)], [SMALL, WITH_GPU, SMALL])
+
     def test_the_documented_exchange(self):
         replay = self.cluster()
-        node, master = replay.connect(), replay.connect()
+        node, master = replay.connect(version=1), replay.connect(version=1)
         on_node = (RegisterNode, Heartbeat, NodeGone)
         for call_id, (request, result) in EXCHANGE.items():
             if call_id == 5:
@@ -171,10 +246,10 @@ class Replayed(unittest.TestCase):
 class Served(unittest.TestCase):
     """Against the daemon, on 127.0.0.1 alone."""
 
-    def serve(self, connections):
+    def serve(self, connections, lines=SETTINGS):
         settings = tempfile.NamedTemporaryFile("w", suffix=".conf")
         self.addCleanup(settings.close)
-        settings.write("\n".join(SETTINGS))
+        settings.write("\n".join(lines))
         settings.flush()
         return serve(self, settings.name, connections)
 
@@ -198,6 +273,22 @@ class Served(unittest.TestCase):
                 master.allocate(app, response)
             self.assertEqual(raised.exception.refusal, Refusal.UnknownApplication)
         self.assertRegex(daemon.stdout.readline(), r"^closed epochs=1 entries=\d+\n$")
+        self.assertEqual(daemon.wait(20), 0)
+
+    def test_a_container_with_a_gpu_beside_a_client_of_version_1(self):
+        port, daemon = self.serve(2, GPU_SETTINGS)
+        with Connection.to_port(port, timeout=20) as new, Connection.to_port(port, timeout=20, version=1) as old:
+            new.register_node("n1", "/r1", WITH_GPUS)
+            app = new.submit("root.default", "ann")
+            self.assertEqual(new.register_master(app).maximum, Resource(8192, 4, 2**40))
+            response, grants = new.allocate(app, 0, [Ask(1, 0, 1, WITH_GPU)]).response, []
+            while not grants:
+                before, reply = response, new.allocate(app, response)
+                response, grants = reply.response, reply.grants
+            self.assertEqual([it.resource for it in grants], [WITH_GPU])
+            self.assertEqual([it.resource for it in old.allocate(app, before).grants], [SMALL])
+            self.assertEqual((new.queue_info("root.default").used, old.queue_info("root.default").used), (WITH_GPU, SMALL))
+            self.assertEqual((new.cluster_info().total, old.cluster_info().total), (WITH_GPUS, LARGE))
         self.assertEqual(daemon.wait(20), 0)
 
     def test_many_requests_in_flight(self):
