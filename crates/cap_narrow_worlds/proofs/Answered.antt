@@ -1,0 +1,87 @@
+-- What answers payloads by some calls answers them, in the grammar of two resources, by these calls without the third.
+use Rattle.std.proofs.Common.{◌≡◌, ℕ, Bool, true, false, List, [], ◌∷◌, ◌++◌, refl, sym, subst, append-nil}
+use Rattle.std.specs.Prelude.{Option, Some, None, ◌==◌, map, MatchBool, if◌then◌else◌}
+use Rattle.std.specs.List.{All}
+use Rattle.std.proofs.lemmas.List.Elements.{All-nil, All-cons, All-head, All-tail}
+use Rattle.cap_base.specs.Limits.{resources}
+use Rattle.cap_frames.specs.Stream.{Tail}
+use Rattle.cap_grammar.specs.Spelling.{kind_of, IsReply}
+use Rattle.cap_session.specs.Answers.{Call, Answers, nothing, replied, refused}
+use Rattle.cap_world.specs.declared.step.Step.{Step}
+use Rattle.cap_world.specs.declared.step.Step.TheVariants as steps
+use Rattle.cap_world.specs.Answers.{AnswersAll, AnswersSome}
+use Rattle.cap_world.specs.Hearing.{Hearing, unopened, live, over, IsHeard, IsCutShort, IsHeardBefore}
+use Rattle.cap_narrow_worlds.specs.Worlds.{IsNotOfVersion2, HaveNoVersion2, HeardNoVersion2, brought_to}
+use Rattle.cap_narrow_worlds.proofs.Calls.{narrow_call, CallSpellsNone}
+use Rattle.cap_narrow_worlds.proofs.Spelled.{request_narrow, reply_narrow, none_narrow, kind_narrow}
+
+-- calls, and that none of them spells any of the third resource
+abbrev Narrowed : (List (Call 2) → Type 0) → List (Call resources) → Type 0
+Narrowed Answered calls = Answered (map narrow_call calls) × All CallSpellsNone calls
+
+answers_narrow : {payloads : List (List ℕ)} {calls : List (Call resources)} {output : List ℕ} → All IsNotOfVersion2 payloads → Answers payloads calls output → Narrowed (λ cs. Answers payloads cs output) calls
+answers_narrow all nothing = (nothing, All-nil CallSpellsNone)
+answers_narrow all (replied {payload} {bytes} {payloads} {head} {call} {calls} {output} is spells later) =
+    let version = All-head IsNotOfVersion2 payload payloads all head call.request is in
+    let request = request_narrow payload head call.request version is in
+    let rest = answers_narrow (All-tail IsNotOfVersion2 payload payloads all) later in (
+      replied {call = narrow_call call} request.0
+          (subst (λ (kind : ℕ). IsReply bytes head kind (narrow_call call).reply) (sym (kind_narrow call.request)) (reply_narrow bytes head (kind_of call.request) call.reply version spells)) rest.0,
+      All-cons CallSpellsNone call calls request.1 rest.1,
+    )
+answers_narrow all (refused {payload} {payloads} {calls} {output} is later) =
+    let rest = answers_narrow (All-tail IsNotOfVersion2 payload payloads all) later in
+    (refused (none_narrow payload is) rest.0, rest.1)
+
+-- all payloads of some bytes, or a beginning of them
+all_narrow : (taken : List ℕ) (tail : Tail) (calls : List (Call resources)) (output : List ℕ) → HaveNoVersion2 taken → AnswersAll taken tail calls output → Narrowed (λ cs. AnswersAll taken tail cs output) calls
+all_narrow taken tail calls output none (payloads, stream, (frames, answers, is)) =
+    let narrowed = answers_narrow (none payloads tail stream) answers in
+    ((payloads, stream, (frames, narrowed.0, is)), narrowed.1)
+
+first_all : (xs ys : List (List ℕ)) → All IsNotOfVersion2 (xs ++ ys) → All IsNotOfVersion2 xs
+first_all [] ys all = All-nil IsNotOfVersion2
+first_all (x ∷ xs) ys all = All-cons IsNotOfVersion2 x xs (All-head IsNotOfVersion2 x (xs ++ ys) all) (first_all xs ys (All-tail IsNotOfVersion2 x (xs ++ ys) all))
+
+some_narrow : (taken : List ℕ) (calls : List (Call resources)) (output : List ℕ) → HaveNoVersion2 taken → AnswersSome taken calls output → Narrowed (λ cs. AnswersSome taken cs output) calls
+some_narrow taken calls output none (payloads, later, tail, stream, answers) =
+    let narrowed = answers_narrow (first_all payloads later (none (payloads ++ later) tail stream)) answers in
+    ((payloads, later, tail, stream, narrowed.0), narrowed.1)
+
+-- ---- what a connection heard
+
+no_calls : (calls : List (Call resources)) → calls ≡ [] → (map narrow_call calls ≡ []) × All CallSpellsNone calls
+no_calls [] is = (refl, All-nil CallSpellsNone)
+no_calls (call ∷ calls) is = absurd (cc is)
+
+heard_narrow : (heard : Hearing) (calls : List (Call resources)) (output : List ℕ) (is_open : Bool) → HeardNoVersion2 [] heard → IsHeard heard calls output is_open → Narrowed (λ cs. IsHeard heard cs output is_open) calls
+heard_narrow unopened calls output is_open none (is, empty, closed) =
+    let no = no_calls calls is in ((no.0, empty, closed), no.1)
+heard_narrow (live taken) calls output is_open none (tail, answers, opens) =
+    let all = all_narrow taken tail calls output (subst HaveNoVersion2 (append-nil taken) none) answers in
+    ((tail, all.0, opens), all.1)
+heard_narrow (over taken) calls output is_open none (tail, answers, closed) =
+    let all = all_narrow taken tail calls output none answers in
+    ((tail, all.0, closed), all.1)
+
+cut_narrow : (piece : List ℕ) (heard : Hearing) (calls : List (Call resources)) (output : List ℕ) (is_open : Bool) → HeardNoVersion2 piece heard → IsCutShort piece heard calls output is_open → Narrowed (λ cs. IsCutShort piece heard cs output is_open) calls
+cut_narrow piece unopened calls output is_open none is = heard_narrow unopened calls output is_open none is
+cut_narrow piece (over taken) calls output is_open none is = heard_narrow (over taken) calls output is_open none is
+cut_narrow piece (live taken) calls output is_open none (answers, closed) =
+    let some = some_narrow (taken ++ piece) calls output none answers in
+    ((some.0, closed), some.1)
+
+-- by the step that was refused memory, if any
+pub before_narrow : (refused : Option Step) (c : ℕ) (heard : Hearing) (calls : List (Call resources)) (output : List ℕ) (is_open : Bool) → HeardNoVersion2 (brought_to c refused) heard → IsHeardBefore refused c heard calls output is_open → Narrowed (λ cs. IsHeardBefore refused c heard cs output is_open) calls
+before_narrow None c heard calls output is_open none is = heard_narrow heard calls output is_open none is
+before_narrow (Some (steps.Open d)) c heard calls output is_open none is = heard_narrow heard calls output is_open none is
+before_narrow (Some (steps.End d)) c heard calls output is_open none is = heard_narrow heard calls output is_open none is
+before_narrow (Some (steps.Copy w)) c heard calls output is_open none is = heard_narrow heard calls output is_open none is
+before_narrow (Some (steps.Propose w start)) c heard calls output is_open none is = heard_narrow heard calls output is_open none is
+before_narrow (Some (steps.Commit w)) c heard calls output is_open none is = heard_narrow heard calls output is_open none is
+before_narrow (Some (steps.Bytes d piece)) c heard calls output is_open none is = own (d == c) none is
+  where
+    own : (b : Bool) → HeardNoVersion2 (if b then piece.now else []) heard → MatchBool b (IsCutShort piece.now heard calls output is_open) (IsHeard heard calls output is_open) →
+        Narrowed (λ cs. MatchBool b (IsCutShort piece.now heard cs output is_open) (IsHeard heard cs output is_open)) calls
+    own true none is = cut_narrow piece.now heard calls output is_open none is
+    own false none is = heard_narrow heard calls output is_open none is

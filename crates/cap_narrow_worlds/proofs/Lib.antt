@@ -1,0 +1,4 @@
+pub mod Spelled
+pub mod Calls
+pub mod Answered
+pub mod Worlds

@@ -1,0 +1,41 @@
+-- Worlds in which nobody speaks of the third resource.
+use Rattle.std.proofs.Common.{ℕ, List, length, subst, sym, ap, ◌∙◌}
+use Rattle.std.specs.Prelude.{option_map, slice_get}
+use Rattle.cap_model.specs.Sight.{sight_of}
+use Rattle.cap_model.specs.Candidates.{choice_from}
+use Rattle.cap_session.specs.Answers.{Call}
+use Rattle.cap_world.specs.Answers.{calls_by}
+use Rattle.cap_world.specs.World.{is_open, output_of}
+use Rattle.cap_world.specs.Hearing.{IsHeardBefore}
+use Rattle.cap_world.proofs.Running.{made_steps_have_the_headline}
+use Rattle.cap_world.specs.WorkerLaws.{ProposalsAreOfCopies}
+use Rattle.cap_narrow.specs.Clusters.{narrow_proposal}
+use Rattle.cap_narrow.proofs.Sights.{sights_narrow, sights_show_none}
+use Rattle.cap_narrow.proofs.Choices.{choices_narrow}
+use Rattle.cap_narrow.proofs.Steps.{runs_narrow}
+use Rattle.cap_narrow_worlds.specs.Laws.{TwoResourcesAreKept, ProposalsAreOfTwoResources}
+use Rattle.cap_narrow_worlds.proofs.Calls.{calls_narrow, events_ask_none}
+use Rattle.cap_narrow_worlds.proofs.Answered.{before_narrow}
+
+pub two_resources_are_kept : TwoResourcesAreKept
+two_resources_are_kept opening steps done events closing output is_open none hear raise headline =
+    let refused = slice_get steps done in
+    let narrowed = λ (c : ℕ).
+    let h = headline.each c in
+    before_narrow refused c h.0 (calls_by c events) (output c) (is_open c) (hear c h.0 h.1) h.2 in
+    let run = runs_narrow 2 events opening closing none (events_ask_none events (λ c. (narrowed c).1) raise) headline.run in (
+      record {
+        run = run.0;
+        each = λ c.
+            let h = headline.each c in
+            (h.0, h.1, subst (λ (calls : List (Call 2)). IsHeardBefore refused c h.0 calls (output c) (is_open c)) (sym (calls_narrow c events)) (narrowed c).0);
+      },
+      run.1,
+    )
+
+pub proposals_are_of_two_resources : ProposalsAreOfCopies → ProposalsAreOfTwoResources
+proposals_are_of_two_resources of_copies opening earlier others w start old new events before after none hear raise few no_copy made copied =
+    let headline = made_steps_have_the_headline opening earlier old events made in
+    let none' = (two_resources_are_kept opening earlier (length earlier) events old.cluster (λ c. output_of c old) (λ c. is_open c old) none hear raise headline).1 in
+    ap (option_map (narrow_proposal 2)) (of_copies w start others old new before after few no_copy copied)
+    ∙ sym (ap (λ sight. choice_from sight start) (sights_narrow 2 old.cluster) ∙ choices_narrow 2 (sight_of old.cluster) start (sights_show_none 2 old.cluster none'))
