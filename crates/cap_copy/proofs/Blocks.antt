@@ -14,7 +14,8 @@ use Rattle.cap_base.proofs.lists.Filters.{map_twice}
 use Rattle.cap_model.proofs.lists.Numbered.{rising_from_low}
 use Rattle.cap_base.proofs.lists.Tests.{same_test}
 use Rattle.cap_copy.specs.Entries.{ask_entries, ask_entry, asks_at, asks_of}
-use Rattle.cap_copy.specs.Snapshot.{AskEntry, asks_for}
+use Rattle.cap_copy.specs.AskEntry.{AskEntry}
+use Rattle.cap_copy.specs.Snapshot.{asks_for}
 use Rattle.cap_copy.proofs.LoopSteps.{slice_get_in}
 
 module _ {A : Type 0} (num : A → ℕ) where

@@ -87,22 +87,22 @@ user_added K rows held queues more users more_users u leaf at is users_are start
     }
 
 -- the limits of the applications that stand first in an order are stored
-pub record AreSet (K : ℕ) (rows : List Row) (registered : List HeldApp) (order : List ℕ) (k : ℕ) (queues : List QueueUse) (users : List StoredUser) (of : List ℕ) : Type 0 where
-  pub count : length of ≡ length registered
+pub record AreSet (K : ℕ) (rows : List Row) (waiting : List HeldApp) (order : List ℕ) (k : ℕ) (queues : List QueueUse) (users : List StoredUser) (of : List ℕ) : Type 0 where
+  pub count : length of ≡ length waiting
   pub ways : All (λ u. (u.start ≤ u.end) × (u.end ≤ length queues)) users
   pub set : (j : ℕ) → j < k → (get_or of (get_or order j 0) 0 < length users)
-      × (slice_get (map (limit_of K rows) registered) (get_or order j 0) ≡ Some (limit_at queues (get_or users (get_or of (get_or order j 0) 0) no_user)))
+      × (slice_get (map (limit_of K rows) waiting) (get_or order j 0) ≡ Some (limit_at queues (get_or users (get_or of (get_or order j 0) 0) no_user)))
 
 -- two applications of one leaf and one user have the same limits
-pub same_limits : (K : ℕ) (rows : List Row) (registered : List HeldApp) (i j : ℕ) (a b : HeldApp) → slice_get registered i ≡ Some a → slice_get registered j ≡ Some b → a.account.position ≡ b.account.position → a.app.user ≡ b.app.user →
-    slice_get (map (limit_of K rows) registered) i ≡ slice_get (map (limit_of K rows) registered) j
-same_limits K rows registered i j a b ai bj p u =
-    slice_get-map (limit_of K rows) registered i ∙ ap (option_map (limit_of K rows)) ai
+pub same_limits : (K : ℕ) (rows : List Row) (waiting : List HeldApp) (i j : ℕ) (a b : HeldApp) → slice_get waiting i ≡ Some a → slice_get waiting j ≡ Some b → a.account.position ≡ b.account.position → a.app.user ≡ b.app.user →
+    slice_get (map (limit_of K rows) waiting) i ≡ slice_get (map (limit_of K rows) waiting) j
+same_limits K rows waiting i j a b ai bj p u =
+    slice_get-map (limit_of K rows) waiting i ∙ ap (option_map (limit_of K rows)) ai
     ∙ (λ k. Some (option_map_or (limit_in K (map queue_use (items_to (path_at (p k) rows) rows)) (u k)) (item_at (p k) rows) no_limit))
-    ∙ sym (slice_get-map (limit_of K rows) registered j ∙ ap (option_map (limit_of K rows)) bj)
+    ∙ sym (slice_get-map (limit_of K rows) waiting j ∙ ap (option_map (limit_of K rows)) bj)
 
-module _ (K : ℕ) (rows : List Row) (registered : List HeldApp) (order : List ℕ) where
-  pub none_set : (queues : List QueueUse) (users : List StoredUser) (of : List ℕ) → length of ≡ length registered → users ≡ [] → AreSet K rows registered order 0 queues users of
+module _ (K : ℕ) (rows : List Row) (waiting : List HeldApp) (order : List ℕ) where
+  pub none_set : (queues : List QueueUse) (users : List StoredUser) (of : List ℕ) → length of ≡ length waiting → users ≡ [] → AreSet K rows waiting order 0 queues users of
   none_set queues users of count e = record {
     count = count;
     ways = subst (All (λ u. (u.start ≤ u.end) × (u.end ≤ length queues))) (sym e) (λ k d lt. absurd (omega (arith, lt)));
@@ -110,7 +110,7 @@ module _ (K : ℕ) (rows : List Row) (registered : List HeldApp) (order : List �
   }
 
   -- a user more
-  module _ (k : ℕ) (queues more : List QueueUse) (users more_users : List StoredUser) (of : List ℕ) (held : HeldApp) (i : ℕ) (at : slice_get registered i ≡ Some held) (added : IsUserAdded K rows held queues more users more_users) (are : AreSet K rows registered order k queues users of) where
+  module _ (k : ℕ) (queues more : List QueueUse) (users more_users : List StoredUser) (of : List ℕ) (held : HeldApp) (i : ℕ) (at : slice_get waiting i ≡ Some held) (added : IsUserAdded K rows held queues more users more_users) (are : AreSet K rows waiting order k queues users of) where
     many : length more_users ≡ length users + 1
     many = ap length added.users_are ∙ Rattle.std.proofs.Common.length-append users (added.user ∷ [])
 
@@ -125,7 +125,7 @@ module _ (K : ℕ) (rows : List Row) (registered : List HeldApp) (order : List �
         let w = are.ways j no_user lt in
         ap (limit_at more) (earlier j lt) ∙ ap (λ q. limit_at q (get_or users j no_user)) added.queues_are ∙ way_stays queues added.way (get_or users j no_user) (w.0) (w.1)
 
-    pub set_with_more : AreSet K rows registered order k more more_users of
+    pub set_with_more : AreSet K rows waiting order k more more_users of
     set_with_more = record {
       count = are.count;
       ways = subst (All (λ u. (u.start ≤ u.end) × (u.end ≤ length more))) (sym added.users_are)
@@ -133,19 +133,19 @@ module _ (K : ℕ) (rows : List Row) (registered : List HeldApp) (order : List �
       set = λ j lt. let s = are.set j lt in ((let l = s.0 in omega (arith, l, many)), s.1 ∙ ap (λ l. Some l) (sym (stays (get_or of (get_or order j 0) 0) (s.0))));
     }
 
-  last_user : (queues more : List QueueUse) (users more_users : List StoredUser) (held : HeldApp) (i : ℕ) → slice_get registered i ≡ Some held → IsUserAdded K rows held queues more users more_users → IsLast K rows registered more more_users i
+  last_user : (queues more : List QueueUse) (users more_users : List StoredUser) (held : HeldApp) (i : ℕ) → slice_get waiting i ≡ Some held → IsUserAdded K rows held queues more users more_users → IsLast K rows waiting more more_users i
   last_user queues more users more_users held i at added =
       let many : length more_users ≡ length users + 1 = ap length added.users_are ∙ Rattle.std.proofs.Common.length-append users (added.user ∷ []) in
       let back : length users ≡ length more_users - 1 = omega (arith, many) in
       let there : get_or more_users (length more_users - 1) no_user ≡ added.user = ap (λ n. get_or more_users n no_user) (sym back) ∙ ap (λ us. get_or us (length users) no_user) added.users_are ∙ get_or-append_seam users added.user [] no_user in
-      (omega (arith, many), slice_get-map (limit_of K rows) registered i ∙ ap (option_map (limit_of K rows)) at ∙ ap (λ l. Some l) (sym added.limit) ∙ ap (λ (u : StoredUser). Some (limit_at more u)) (sym there))
+      (omega (arith, many), slice_get-map (limit_of K rows) waiting i ∙ ap (option_map (limit_of K rows)) at ∙ ap (λ l. Some l) (sym added.limit) ∙ ap (λ (u : StoredUser). Some (limit_at more u)) (sym there))
 
   -- the last user is that of the next index in the order
-  module _ (k : ℕ) (queues : List QueueUse) (users : List StoredUser) (of : List ℕ) (are : AreSet K rows registered order k queues users of) (last : IsLast K rows registered queues users (get_or order k 0)) (within : get_or order k 0 < length registered) where
+  module _ (k : ℕ) (queues : List QueueUse) (users : List StoredUser) (of : List ℕ) (are : AreSet K rows waiting order k queues users of) (last : IsLast K rows waiting queues users (get_or order k 0)) (within : get_or order k 0 < length waiting) where
     here : get_or (set of (get_or order k 0) (length users - 1)) (get_or order k 0) 0 ≡ length users - 1
     here = get_or-set_same of (get_or order k 0) (length users - 1) 0 (let c = are.count in omega (arith, c, within))
 
-    pub set_more : AreSet K rows registered order (k + 1) queues users (set of (get_or order k 0) (length users - 1))
+    pub set_more : AreSet K rows waiting order (k + 1) queues users (set of (get_or order k 0) (length users - 1))
     set_more = record {
       count = length-set of (get_or order k 0) (length users - 1) ∙ are.count;
       ways = are.ways;
@@ -153,15 +153,15 @@ module _ (K : ℕ) (rows : List Row) (registered : List HeldApp) (order : List �
     }
       where
         own : (j : ℕ) → get_or order j 0 ≡ get_or order k 0 → (get_or (set of (get_or order k 0) (length users - 1)) (get_or order j 0) 0 < length users)
-            × (slice_get (map (limit_of K rows) registered) (get_or order j 0) ≡ Some (limit_at queues (get_or users (get_or (set of (get_or order k 0) (length users - 1)) (get_or order j 0) 0) no_user)))
+            × (slice_get (map (limit_of K rows) waiting) (get_or order j 0) ≡ Some (limit_at queues (get_or users (get_or (set of (get_or order k 0) (length users - 1)) (get_or order j 0) 0) no_user)))
         own j e =
             let at : get_or (set of (get_or order k 0) (length users - 1)) (get_or order j 0) 0 ≡ length users - 1 = ap (λ i. get_or (set of (get_or order k 0) (length users - 1)) i 0) e ∙ here in (
               let l = last.0 in omega (arith, at, l),
-              ap (slice_get (map (limit_of K rows) registered)) e ∙ last.1 ∙ ap (λ n. Some (limit_at queues (get_or users n no_user))) (sym at),
+              ap (slice_get (map (limit_of K rows) waiting)) e ∙ last.1 ∙ ap (λ n. Some (limit_at queues (get_or users n no_user))) (sym at),
             )
 
         other : (j : ℕ) → (get_or order j 0 ≡ get_or order k 0 → ⊥) → j < k + 1 → (get_or (set of (get_or order k 0) (length users - 1)) (get_or order j 0) 0 < length users)
-            × (slice_get (map (limit_of K rows) registered) (get_or order j 0) ≡ Some (limit_at queues (get_or users (get_or (set of (get_or order k 0) (length users - 1)) (get_or order j 0) 0) no_user)))
+            × (slice_get (map (limit_of K rows) waiting) (get_or order j 0) ≡ Some (limit_at queues (get_or users (get_or (set of (get_or order k 0) (length users - 1)) (get_or order j 0) 0) no_user)))
         other j apart lt =
             let before : j < k = elim (cases_lt j k) [ inl l ↦ l | inr g ↦ absurd (let e : j ≡ k = omega (arith, lt, g) in apart (ap (λ n. get_or order n 0) e)) ] in
             let same : get_or (set of (get_or order k 0) (length users - 1)) (get_or order j 0) 0 ≡ get_or of (get_or order j 0) 0 = get_or-set_other of (get_or order k 0) (get_or order j 0) (length users - 1) 0 apart in
@@ -169,50 +169,50 @@ module _ (K : ℕ) (rows : List Row) (registered : List HeldApp) (order : List �
             (let l = s.0 in omega (arith, l, same), s.1 ∙ ap (λ n. Some (limit_at queues (get_or users n no_user))) (sym same))
 
         by : (j : ℕ) (b : Bool) → (get_or order j 0 == get_or order k 0) ≡ b → j < k + 1 → (get_or (set of (get_or order k 0) (length users - 1)) (get_or order j 0) 0 < length users)
-            × (slice_get (map (limit_of K rows) registered) (get_or order j 0) ≡ Some (limit_at queues (get_or users (get_or (set of (get_or order k 0) (length users - 1)) (get_or order j 0) 0) no_user)))
+            × (slice_get (map (limit_of K rows) waiting) (get_or order j 0) ≡ Some (limit_at queues (get_or users (get_or (set of (get_or order k 0) (length users - 1)) (get_or order j 0) 0) no_user)))
         by j true e lt = own j (eqb-true (get_or order j 0) (get_or order k 0) e)
         by j false e lt = other j (λ same. let u = eq-eqb (get_or order j 0) (get_or order k 0) same in absurd (cc (e, u))) lt
 
   -- the last user is that of the next index, as before or as one more
-  pub seen_more : (k : ℕ) (queues more : List QueueUse) (users more_users : List StoredUser) (of : List ℕ) → AreSet K rows registered order k queues users of → IsUserSeen K rows registered (get_or order k 0) queues more users more_users →
-      get_or order k 0 < length registered → AreSet K rows registered order (k + 1) more more_users (set of (get_or order k 0) (length more_users - 1))
+  pub seen_more : (k : ℕ) (queues more : List QueueUse) (users more_users : List StoredUser) (of : List ℕ) → AreSet K rows waiting order k queues users of → IsUserSeen K rows waiting (get_or order k 0) queues more users more_users →
+      get_or order k 0 < length waiting → AreSet K rows waiting order (k + 1) more more_users (set of (get_or order k 0) (length more_users - 1))
   seen_more k queues more users more_users of are seen within =
-      let grown : AreSet K rows registered order k more more_users of = elim seen.grown [
-        | inl same ↦ subst (λ qs. AreSet K rows registered order k qs more_users of) (sym (same.0)) (subst (λ us. AreSet K rows registered order k queues us of) (sym (same.1)) are)
+      let grown : AreSet K rows waiting order k more more_users of = elim seen.grown [
+        | inl same ↦ subst (λ qs. AreSet K rows waiting order k qs more_users of) (sym (same.0)) (subst (λ us. AreSet K rows waiting order k queues us of) (sym (same.1)) are)
         | inr one ↦ set_with_more k queues more users more_users of one.held (get_or order k 0) one.at one.added are
       ] in
       set_more k more more_users of grown seen.last within
 
-  pub last_stays : (k : ℕ) (queues : List QueueUse) (users : List StoredUser) → IsLast K rows registered queues users (get_or order k 0) → IsLast K rows registered queues users (get_or order (k + 1 - 1) 0)
-  last_stays k queues users last = let e : k ≡ k + 1 - 1 = omega arith in subst (λ n. IsLast K rows registered queues users (get_or order n 0)) e last
+  pub last_stays : (k : ℕ) (queues : List QueueUse) (users : List StoredUser) → IsLast K rows waiting queues users (get_or order k 0) → IsLast K rows waiting queues users (get_or order (k + 1 - 1) 0)
+  last_stays k queues users last = let e : k ≡ k + 1 - 1 = omega arith in subst (λ n. IsLast K rows waiting queues users (get_or order n 0)) e last
 
   -- the last user stays where the application of the next index has the same leaf and user, and else is added
-  pub seen_same : (k : ℕ) (queues : List QueueUse) (users : List StoredUser) (a b : HeldApp) → 0 < k → IsLast K rows registered queues users (get_or order (k - 1) 0) → slice_get registered (get_or order (k - 1) 0) ≡ Some a → slice_get registered (get_or order k 0) ≡ Some b →
-      a.account.position ≡ b.account.position → a.app.user ≡ b.app.user → IsUserSeen K rows registered (get_or order k 0) queues queues users users
+  pub seen_same : (k : ℕ) (queues : List QueueUse) (users : List StoredUser) (a b : HeldApp) → 0 < k → IsLast K rows waiting queues users (get_or order (k - 1) 0) → slice_get waiting (get_or order (k - 1) 0) ≡ Some a → slice_get waiting (get_or order k 0) ≡ Some b →
+      a.account.position ≡ b.account.position → a.app.user ≡ b.app.user → IsUserSeen K rows waiting (get_or order k 0) queues queues users users
   seen_same k queues users a b some last ai bi p u = record {
-    last = (last.0, sym (same_limits K rows registered (get_or order (k - 1) 0) (get_or order k 0) a b ai bi p u) ∙ last.1);
+    last = (last.0, sym (same_limits K rows waiting (get_or order (k - 1) 0) (get_or order k 0) a b ai bi p u) ∙ last.1);
     grown = inl (refl, refl);
   }
 
-  pub seen_added : (k : ℕ) (queues more : List QueueUse) (users more_users : List StoredUser) (held : HeldApp) → slice_get registered (get_or order k 0) ≡ Some held → IsUserAdded K rows held queues more users more_users →
-      IsUserSeen K rows registered (get_or order k 0) queues more users more_users
+  pub seen_added : (k : ℕ) (queues more : List QueueUse) (users more_users : List StoredUser) (held : HeldApp) → slice_get waiting (get_or order k 0) ≡ Some held → IsUserAdded K rows held queues more users more_users →
+      IsUserSeen K rows waiting (get_or order k 0) queues more users more_users
   seen_added k queues more users more_users held at added = record {
     last = last_user queues more users more_users held (get_or order k 0) at added;
     grown = inr (record { held = held; at = at; added = added });
   }
 
   -- all are stored at the end
-  module _ (n : ℕ) (queues : List QueueUse) (users : List StoredUser) (of : List ℕ) (le : length order ≤ n) (each : IsEachOnce (length registered) order) (are : AreSet K rows registered order n queues users of) where
+  module _ (n : ℕ) (queues : List QueueUse) (users : List StoredUser) (of : List ℕ) (le : length order ≤ n) (each : IsEachOnce (length waiting) order) (are : AreSet K rows waiting order n queues users of) where
     place : (xs : List ℕ) (i : ℕ) → IsIn i xs → (j : ℕ) × (j < length xs) × (get_or xs j 0 ≡ i)
     place [] i m = absurd m
     place (x ∷ xs) i (inl e) = (0, omega arith, e)
     place (x ∷ xs) i (inr m) = let r = place xs i m in (suc (r.0), (let l = r.1 in omega (arith, l)), r.2)
 
-    is_set : (i : ℕ) → i < length registered → (get_or of i 0 < length users) × (slice_get (map (limit_of K rows) registered) i ≡ Some (limit_at queues (get_or users (get_or of i 0) no_user)))
+    is_set : (i : ℕ) → i < length waiting → (get_or of i 0 < length users) × (slice_get (map (limit_of K rows) waiting) i ≡ Some (limit_at queues (get_or users (get_or of i 0) no_user)))
     is_set i lt =
         let member : IsIn i order = (of_filter (λ j. j == i) order i (subst (IsIn i) (sym (each.each i lt)) (inl refl))).1 in
         let p = place order i member in
-        subst (λ x. (get_or of x 0 < length users) × (slice_get (map (limit_of K rows) registered) x ≡ Some (limit_at queues (get_or users (get_or of x 0) no_user)))) (p.2) (are.set (p.0) (let l = p.1 in omega (arith, l, le)))
+        subst (λ x. (get_or of x 0 < length users) × (slice_get (map (limit_of K rows) waiting) x ≡ Some (limit_at queues (get_or users (get_or of x 0) no_user)))) (p.2) (are.set (p.0) (let l = p.1 in omega (arith, l, le)))
 
     pub all_stored : AreStored queues users of
     all_stored = record {
@@ -220,17 +220,17 @@ module _ (K : ℕ) (rows : List Row) (registered : List HeldApp) (order : List �
       ways = are.ways;
     }
 
-    pub all_are : limits_in queues users of ≡ map (limit_of K rows) registered
+    pub all_are : limits_in queues users of ≡ map (limit_of K rows) waiting
     all_are =
         let long = length-map of (λ j. limit_at queues (get_or users j no_user)) in
-        let many = length-map registered (limit_of K rows) in
+        let many = length-map waiting (limit_of K rows) in
         let c = are.count in
-        ext_get_or no_limit (limits_in queues users of) (map (limit_of K rows) registered) (omega (arith, long, many, c))
+        ext_get_or no_limit (limits_in queues users of) (map (limit_of K rows) waiting) (omega (arith, long, many, c))
         (λ i lt.
-        let inside : i < length registered = omega (arith, lt, long, c) in
+        let inside : i < length waiting = omega (arith, lt, long, c) in
         get_or_from_slice_get (limits_in queues users of) i (limit_at queues (get_or users (get_or of i 0) no_user)) no_limit
         (slice_get-map (λ j. limit_at queues (get_or users j no_user)) of i ∙ ap (option_map (λ j. limit_at queues (get_or users j no_user))) (slice_get-get_or of i 0 (omega (arith, lt, long))))
-        ∙ sym (get_or_from_slice_get (map (limit_of K rows) registered) i (limit_at queues (get_or users (get_or of i 0) no_user)) no_limit (is_set i inside).1))
+        ∙ sym (get_or_from_slice_get (map (limit_of K rows) waiting) i (limit_at queues (get_or users (get_or of i 0) no_user)) no_limit (is_set i inside).1))
 
 -- the queues on the way of the application at an index are there
 pub way_of : (queues : List QueueUse) (users : List StoredUser) (of : List ℕ) (limits : List Limit) → AreStored queues users of → limits_in queues users of ≡ limits → (k : ℕ) → k < length limits → (i : ℕ) (u v : StoredUser) → i ≡ get_or of k i → v ≡ get_or users i v → u ≡ v → (u.start ≤ u.end) × (u.end ≤ length queues)

@@ -9,7 +9,7 @@ use Rattle.std.proofs.lemmas.Grind.{flat_map-append}
 use Rattle.std.proofs.lemmas.Option.{get_or_from_slice_get, slice_get_within, same_Some}
 use Rattle.cap_model.specs.Flat.{App, NodeTable}
 use Rattle.cap_base.proofs.lists.Members.{IsIn}
-use Rattle.cap_copy.specs.Entries.{ask_entries, asks_at, asks_of, registered_of}
+use Rattle.cap_copy.specs.Entries.{ask_entries, asks_at, asks_of, is_waiting, waiting_of}
 
 module _ {A : Type 0} where
   pub one_more : (xs : List A) (i : ℕ) (x : A) → slice_get xs i ≡ Some x → take (i + 1) xs ≡ take i xs ++ x ∷ []
@@ -30,9 +30,9 @@ module _ {A : Type 0} where
   slice_get_in (y ∷ xs) zero x e = inl (same_Some y x e)
   slice_get_in (y ∷ xs) (suc i) x e = inr (slice_get_in xs i x e)
 
--- one more application is among the registered where it has registered
-pub registered_more : (active : List App) (i : ℕ) (app : App) → slice_get active i ≡ Some app → registered_of (take (i + 1) active) ≡ registered_of (take i active) ++ cond app.registered (app ∷ []) []
-registered_more active i app e = ap registered_of (one_more active i app e) ∙ filter-append (λ (a : App). a.registered) (take i active) (app ∷ [])
+-- one more application is among those that wait where it waits
+pub waiting_more : (active : List App) (i : ℕ) (app : App) → slice_get active i ≡ Some app → waiting_of (take (i + 1) active) ≡ waiting_of (take i active) ++ cond (is_waiting app) (app ∷ []) []
+waiting_more active i app e = ap waiting_of (one_more active i app e) ∙ filter-append is_waiting (take i active) (app ∷ [])
 
 -- the asks of one more application
 pub asks_more : (nodes : NodeTable) (apps : List App) (order : List ℕ) (k i : ℕ) (app : App) → slice_get order k ≡ Some i → slice_get apps i ≡ Some app →

@@ -25,7 +25,8 @@ use Rattle.cap_tree.specs.Service.{levels_at}
 use Rattle.cap_tree.specs.ServiceOrder.{AreInOrder, position_nth, waiting_cmp}
 use Rattle.cap_asks.specs.Accounts.{AreAfter, AreKept, is_before}
 use Rattle.cap_copy.specs.Entries.{ask_entries, ask_entry, asks_at, asks_of}
-use Rattle.cap_copy.specs.Snapshot.{AreServedInOrder, AskEntry, Seen, served_cmp, sight_in}
+use Rattle.cap_copy.specs.AskEntry.{AskEntry}
+use Rattle.cap_copy.specs.Snapshot.{AreServedInOrder, Seen, served_cmp, sight_in}
 use Rattle.cap_copy.proofs.Blocks.{rising_apart}
 
 not_after_then : (a b : Ordering) → is_gt a ≡ false → is_gt b ≡ false → is_gt (ordering_then a b) ≡ false

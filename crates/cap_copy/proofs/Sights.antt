@@ -1,10 +1,11 @@
 -- A snapshot of the parts of a cluster is whole, and its sight is that of the parts.
-use Rattle.std.proofs.Common.{◌≡◌, ℕ, suc, ◌<◌, ◌≤◌, List, [], ◌∷◌, refl, sym, subst, ◌∙◌, ap, inl, inr, length, arith}
-use Rattle.std.specs.Prelude.{Option, Some, None, IsSome, bytes_eq, cond, count_by, drop, filter, find, map, option_map, unwrap_or, ◌==◌}
+use Rattle.std.proofs.Common.{◌≡◌, ℕ, suc, ◌<◌, ◌≤◌, Bool, true, false, ◌&&◌, List, [], ◌∷◌, refl, sym, subst, ◌∙◌, ap, inl, inr, length, arith}
+use Rattle.std.specs.Prelude.{Option, Some, None, IsSome, bytes_eq, cond, count_by, drop, filter, find, map, not, option_map, unwrap_or, ◌==◌}
 use Rattle.std.specs.List.{All, slice_get}
 use Rattle.std.specs.Option.{option_map_or}
+use Rattle.std.proofs.lemmas.Bool.{and_parts, eqb-true}
 use Rattle.std.proofs.lemmas.Bool.Decides.{nat_tests}
-use Rattle.std.proofs.lemmas.List.{drop-map, length-map}
+use Rattle.std.proofs.lemmas.List.{drop-map, length-map, nil_from_length}
 use Rattle.std.proofs.lemmas.Option.{same_Some, slice_get-map, slice_get_within}
 use Rattle.cap_model.specs.Asks.{Ask, same_key}
 use Rattle.cap_model.specs.Bounds.{AreApart}
@@ -16,8 +17,8 @@ use Rattle.cap_base.specs.Paths.{is_under}
 use Rattle.cap_model.specs.Sight.{AppSight, NodeSight, QueueSight, app_sight, queues_to, seen_app, still_wanted}
 use Rattle.cap_laws.proofs.bounds.Wanting.{nodes_on, on_nodes}
 use Rattle.cap_model.proofs.calls.KeptAsks.{same_key_itself}
-use Rattle.cap_base.proofs.lists.Filters.{filter_mapped, find_mapped_at, length-kept, map_twice}
-use Rattle.cap_base.proofs.lists.Members.{IsIn, each_of, found, in_map, of_each, of_filter, of_map}
+use Rattle.cap_base.proofs.lists.Filters.{filter_mapped, filter_none, find_mapped_at, length-kept, map_twice}
+use Rattle.cap_base.proofs.lists.Members.{IsIn, each_of, found, in_filter, in_map, of_each, of_filter, of_map}
 use Rattle.cap_model.proofs.lists.Numbered.{found_by_number, rising_kept}
 use Rattle.cap_base.proofs.lists.Sums.{sum_by_map}
 use Rattle.cap_base.proofs.lists.Tests.{value_of}
@@ -31,11 +32,14 @@ use Rattle.cap_tree.proofs.RowPaths.{at_position}
 use Rattle.cap_asks.specs.Apps.{account_of, position_of}
 use Rattle.cap_asks.specs.Accounts.{Account, AreKept, HeldApp}
 use Rattle.cap_asks.proofs.Keeping.{before_not_same}
-use Rattle.cap_copy.specs.Entries.{ask_entries, registered_of, wanted_of}
+use Rattle.cap_copy.specs.Entries.{ask_entries, is_waiting, registered_of, waiting_of, wanted_of}
 use Rattle.cap_copy.specs.Limits.{IsEachOnce, limit_in, limit_of, no_limit, queue_use}
-use Rattle.cap_copy.specs.Snapshot.{AskEntry, IsAskEntry, IsLimitOf, IsSnapshot, QueueUse, Seen, asks_for, queue_seen, sight_in}
+use Rattle.cap_copy.specs.declared.ranges.AskRange.{AskRange}
+use Rattle.cap_copy.specs.AskEntry.{AskEntry}
+use Rattle.cap_copy.specs.AskRanges.{AreOfApps, AreRanges}
+use Rattle.cap_copy.specs.Snapshot.{AreSkips, IsAskEntry, IsLimitOf, IsSnapshot, QueueUse, Seen, asks_for, queue_seen, sight_in}
 use Rattle.cap_copy.specs.Taking.{IsSnapshotOf, node_seen}
-use Rattle.cap_copy.proofs.Blocks.{asks_for_is}
+use Rattle.cap_copy.proofs.Blocks.{asks_for_is, rising_apart}
 use Rattle.cap_copy.proofs.Found.{row_found}
 use Rattle.cap_copy.proofs.ServedAsks.{after_in, all_in_order, ask_in, levels_of, once}
 use Rattle.cap_copy.proofs.LoopSteps.{slice_get_in}
@@ -55,88 +59,109 @@ asked_by_key (x ∷ asks) ask k (inr m) =
     ap (λ b. cond b (Some x) (ask_at ask.key asks)) (before_not_same x.key ask.key (after_in x.key asks ask k.1 m)) ∙ asked_by_key asks ask k.2 m
 
 -- an application and its account, of an application in a list of these
-held_at : (registered : List HeldApp) (i : ℕ) (app : App) → slice_get (map (λ r. r.app) registered) i ≡ Some app → (held : HeldApp) × (slice_get registered i ≡ Some held) × (held.app ≡ app)
-held_at registered i app e = by (slice_get registered i) refl (sym (slice_get-map (λ (r : HeldApp). r.app) registered i) ∙ e)
+held_at : (waiting : List HeldApp) (i : ℕ) (app : App) → slice_get (map (λ r. r.app) waiting) i ≡ Some app → (held : HeldApp) × (slice_get waiting i ≡ Some held) × (held.app ≡ app)
+held_at waiting i app e = by (slice_get waiting i) refl (sym (slice_get-map (λ (r : HeldApp). r.app) waiting i) ∙ e)
   where
-    by : (o : Option HeldApp) → slice_get registered i ≡ o → option_map (λ (r : HeldApp). r.app) o ≡ Some app → (held : HeldApp) × (slice_get registered i ≡ Some held) × (held.app ≡ app)
+    by : (o : Option HeldApp) → slice_get waiting i ≡ o → option_map (λ (r : HeldApp). r.app) o ≡ Some app → (held : HeldApp) × (slice_get waiting i ≡ Some held) × (held.app ≡ app)
     by None at h = absurd (cc h)
     by (Some held) at h = (held, at, same_Some held.app app h)
 
--- the parts of a cluster: its registered applications with their accounts, and the order in which they are served
-pub record AreParts (K : ℕ) (rows : List Row) (apps : AppTable) (accounts : List (ℕ × Account)) (nodes : NodeTable) (registered : List HeldApp) (order : List ℕ) : Type 0 where
+-- the parts of a cluster: its applications that wait with their accounts, and the order in which they are served
+pub record AreParts (K : ℕ) (rows : List Row) (apps : AppTable) (accounts : List (ℕ × Account)) (nodes : NodeTable) (waiting : List HeldApp) (order : List ℕ) : Type 0 where
   pub rows_are : AreRows rows
   pub rising : IsRising 1 (map (λ app. app.number) apps.active) apps.next
-  pub kept : All (λ r. AreKept r.app.asks) registered
+  pub kept : All (λ r. AreKept r.app.asks) waiting
   pub placed : All (λ app. IsAt rows app.leaf (position_of app.number accounts)) apps.active
   pub numbers : IsRising 1 (map (λ node. node.number) nodes.present) nodes.next_node
   pub apart : AreApart nodes.reserved
   pub there : All (λ r. IsSome (node_in nodes r.node)) nodes.reserved
-  pub apps_are : map (λ r. r.app) registered ≡ registered_of apps.active
-  pub accounts_are : All (λ r. account_of r.app.number accounts ≡ Some r.account) registered
-  pub served : IsServiceOrder rows (map (λ r. r.account.position) registered) order
+  pub apps_are : map (λ r. r.app) waiting ≡ waiting_of apps.active
+  pub accounts_are : All (λ r. account_of r.app.number accounts ≡ Some r.account) waiting
+  pub served : IsServiceOrder rows (map (λ r. r.account.position) waiting) order
 
 -- the position of an application is that in its account
 pub position_is : (accounts : List (ℕ × Account)) (held : HeldApp) → account_of held.app.number accounts ≡ Some held.account → position_of held.app.number accounts ≡ held.account.position
 position_is accounts held e = ap (λ (o : Option Account). option_map_or (λ x. x.position) o []) e
 
--- what is registered is placed where the active are
-pub placed_all : (rows : List Row) (accounts : List (ℕ × Account)) (active : List App) (registered : List HeldApp) → map (λ r. r.app) registered ≡ registered_of active →
-    All (λ r. account_of r.app.number accounts ≡ Some r.account) registered → All (λ app. IsAt rows app.leaf (position_of app.number accounts)) active → All (λ r. IsAt rows r.app.leaf r.account.position) registered
-placed_all rows accounts active registered apps_are accounts_are placed =
-    of_each (λ r. IsAt rows r.app.leaf r.account.position) registered
+-- what waits is placed where the active are
+pub placed_all : (rows : List Row) (accounts : List (ℕ × Account)) (active : List App) (waiting : List HeldApp) → map (λ r. r.app) waiting ≡ waiting_of active →
+    All (λ r. account_of r.app.number accounts ≡ Some r.account) waiting → All (λ app. IsAt rows app.leaf (position_of app.number accounts)) active → All (λ r. IsAt rows r.app.leaf r.account.position) waiting
+placed_all rows accounts active waiting apps_are accounts_are placed =
+    of_each (λ r. IsAt rows r.app.leaf r.account.position) waiting
     (λ held m.
-    let member : IsIn held.app (registered_of active) = subst (IsIn held.app) apps_are (in_map (λ (r : HeldApp). r.app) registered held m) in
-    let at = each_of (λ app. IsAt rows app.leaf (position_of app.number accounts)) active placed held.app (of_filter (λ (a : App). a.registered) active held.app member).1 in
-    subst (IsAt rows held.app.leaf) (position_is accounts held (each_of (λ r. account_of r.app.number accounts ≡ Some r.account) registered accounts_are held m)) at)
+    let member : IsIn held.app (waiting_of active) = subst (IsIn held.app) apps_are (in_map (λ (r : HeldApp). r.app) waiting held m) in
+    let at = each_of (λ app. IsAt rows app.leaf (position_of app.number accounts)) active placed held.app (of_filter is_waiting active held.app member).1 in
+    subst (IsAt rows held.app.leaf) (position_is accounts held (each_of (λ r. account_of r.app.number accounts ≡ Some r.account) waiting accounts_are held m)) at)
 
-module _ (K : ℕ) (rows : List Row) (apps : AppTable) (accounts : List (ℕ × Account)) (nodes : NodeTable) (registered : List HeldApp) (order : List ℕ) where
+module _ (K : ℕ) (rows : List Row) (apps : AppTable) (accounts : List (ℕ × Account)) (nodes : NodeTable) (waiting : List HeldApp) (order skips : List ℕ) (ranges : List AskRange) where
   -- what a snapshot of the parts sees
   abbrev pub taken : Seen
   taken = record {
     rows = rows;
     apps = map app_sight (registered_of apps.active);
-    limits = map (limit_of K rows) registered;
-    asks = ask_entries nodes (registered_of apps.active) order;
+    limits = map (limit_of K rows) waiting;
+    asks = ask_entries nodes (waiting_of apps.active) order;
+    ranges = ranges;
     nodes = map (node_seen K nodes) nodes.present;
+    skips = skips;
     live = length nodes.live;
     next_container = nodes.next_container;
   }
 
   abbrev positions : List (List ℕ)
-  positions = map (λ r. r.account.position) registered
+  positions = map (λ r. r.account.position) waiting
 
-  module _ (parts : AreParts K rows apps accounts nodes registered order) where
-    rising : IsRising 1 (map (λ app. app.number) (registered_of apps.active)) apps.next
-    rising = rising_kept (λ (app : App). app.number) (λ (app : App). app.registered) 1 apps.active apps.next parts.rising
+  -- the numbers of the applications that wait
+  numbers_are : map (λ r. r.app) waiting ≡ waiting_of apps.active → map (λ (r : HeldApp). r.app.number) waiting ≡ map (λ (app : App). app.number) (waiting_of apps.active)
+  numbers_are same = sym (map_twice (λ (app : App). app.number) (λ (r : HeldApp). r.app) waiting) ∙ ap (map (λ (app : App). app.number)) same
 
-    held_of : (i : ℕ) (app : App) → slice_get (registered_of apps.active) i ≡ Some app → (held : HeldApp) × (slice_get registered i ≡ Some held) × (held.app ≡ app)
-    held_of i app at = held_at registered i app (ap (λ list. slice_get list i) parts.apps_are ∙ at)
+  -- each ask has the index of its application
+  pub of_apps : map (λ r. r.app) waiting ≡ waiting_of apps.active → AreOfApps (map (λ (r : HeldApp). r.app.number) waiting) (ask_entries nodes (waiting_of apps.active) order)
+  of_apps same j e at =
+      let x = (ask_in nodes (waiting_of apps.active) order e (slice_get_in (ask_entries nodes (waiting_of apps.active) order) j e at)).2 in
+      let i = (ask_in nodes (waiting_of apps.active) order e (slice_get_in (ask_entries nodes (waiting_of apps.active) order) j e at)).0 in
+      subst (λ (y : AskEntry). slice_get (map (λ (r : HeldApp). r.app.number) waiting) y.index ≡ Some y.app) x.is
+      (ap (λ ns. slice_get ns i) (numbers_are same) ∙ slice_get-map (λ (app : App). app.number) (waiting_of apps.active) i ∙ ap (option_map (λ (app : App). app.number)) x.at)
 
-    kept : (i : ℕ) (app : App) → slice_get (registered_of apps.active) i ≡ Some app → AreKept app.asks
+  module _ (parts : AreParts K rows apps accounts nodes waiting order) where
+    rising : IsRising 1 (map (λ app. app.number) (waiting_of apps.active)) apps.next
+    rising = rising_kept (λ (app : App). app.number) is_waiting 1 apps.active apps.next parts.rising
+
+    held_of : (i : ℕ) (app : App) → slice_get (waiting_of apps.active) i ≡ Some app → (held : HeldApp) × (slice_get waiting i ≡ Some held) × (held.app ≡ app)
+    held_of i app at = held_at waiting i app (ap (λ list. slice_get list i) parts.apps_are ∙ at)
+
+    kept : (i : ℕ) (app : App) → slice_get (waiting_of apps.active) i ≡ Some app → AreKept app.asks
     kept i app at =
         let h = held_of i app at in
-        subst (λ (a : App). AreKept a.asks) (h.2) (each_of (λ (r : HeldApp). AreKept r.app.asks) registered parts.kept (h.0) (slice_get_in registered i (h.0) (h.1)))
+        subst (λ (a : App). AreKept a.asks) (h.2) (each_of (λ (r : HeldApp). AreKept r.app.asks) waiting parts.kept (h.0) (slice_get_in waiting i (h.0) (h.1)))
 
-    placed : (i : ℕ) (held : HeldApp) → slice_get registered i ≡ Some held → IsAt rows held.app.leaf held.account.position
+    placed : (i : ℕ) (held : HeldApp) → slice_get waiting i ≡ Some held → IsAt rows held.app.leaf held.account.position
     placed i held at =
-        each_of (λ r. IsAt rows r.app.leaf r.account.position) registered (placed_all rows accounts apps.active registered parts.apps_are parts.accounts_are parts.placed) held (slice_get_in registered i held at)
+        each_of (λ r. IsAt rows r.app.leaf r.account.position) waiting (placed_all rows accounts apps.active waiting parts.apps_are parts.accounts_are parts.placed) held (slice_get_in waiting i held at)
 
-    position_at : (i : ℕ) (held : HeldApp) → slice_get registered i ≡ Some held → position_nth i positions ≡ held.account.position
+    position_at : (i : ℕ) (held : HeldApp) → slice_get waiting i ≡ Some held → position_nth i positions ≡ held.account.position
     position_at i held at =
-        ap (λ (o : Option (List ℕ)). option_map_or (λ p. p) o []) (slice_get-map (λ (r : HeldApp). r.account.position) registered i ∙ ap (option_map (λ (r : HeldApp). r.account.position)) at)
+        ap (λ (o : Option (List ℕ)). option_map_or (λ p. p) o []) (slice_get-map (λ (r : HeldApp). r.account.position) waiting i ∙ ap (option_map (λ (r : HeldApp). r.account.position)) at)
 
-    asks_are : (i : ℕ) (app : App) → slice_get (registered_of apps.active) i ≡ Some app → asks_for app.number (ask_entries nodes (registered_of apps.active) order) ≡ app.asks
+    asks_are : (i : ℕ) (app : App) → slice_get (waiting_of apps.active) i ≡ Some app → asks_for app.number (ask_entries nodes (waiting_of apps.active) order) ≡ app.asks
     asks_are i app at =
-        let within = slice_get_within registered i ((held_of i app at).0) ((held_of i app at).1) in
-        let places = length-map registered (λ (r : HeldApp). r.account.position) in
-        asks_for_is nodes (registered_of apps.active) apps.next rising order i app at (parts.served.each i (omega (arith, within, places)))
+        let within = slice_get_within waiting i ((held_of i app at).0) ((held_of i app at).1) in
+        let places = length-map waiting (λ (r : HeldApp). r.account.position) in
+        asks_for_is nodes (waiting_of apps.active) apps.next rising order i app at (parts.served.each i (omega (arith, within, places)))
 
-    found_app : (i : ℕ) (app : App) → slice_get (registered_of apps.active) i ≡ Some app → seen_app (sight_in K taken) app.number ≡ Some (app_sight app)
+    -- what waits has registered
+    has_registered : (app : App) → IsIn app (waiting_of apps.active) → IsIn app (registered_of apps.active)
+    has_registered app m =
+        let w = of_filter is_waiting apps.active app m in
+        in_filter (λ (a : App). a.registered) apps.active app (w.1) (and_parts app.registered (not (length app.asks == 0)) (w.0)).0
+
+    found_app : (i : ℕ) (app : App) → slice_get (waiting_of apps.active) i ≡ Some app → seen_app (sight_in K taken) app.number ≡ Some (app_sight app)
     found_app i app at =
         find_mapped_at app_sight (λ (a : AppSight). a.number == app.number) (registered_of apps.active)
-        ∙ ap (option_map app_sight) (found_by_number (λ (a : App). a.number) 1 (registered_of apps.active) apps.next app rising (slice_get_in (registered_of apps.active) i app at))
+        ∙ ap (option_map app_sight) (found_by_number (λ (a : App). a.number) 1 (registered_of apps.active) apps.next app
+        (rising_kept (λ (a : App). a.number) (λ (a : App). a.registered) 1 apps.active apps.next parts.rising) (has_registered app (slice_get_in (waiting_of apps.active) i app at)))
 
-    levels_are : (i : ℕ) (app : App) → slice_get (registered_of apps.active) i ≡ Some app → levels_of K taken app.number ≡ levels_at (position_nth i positions) rows
+    levels_are : (i : ℕ) (app : App) → slice_get (waiting_of apps.active) i ≡ Some app → levels_of K taken app.number ≡ levels_at (position_nth i positions) rows
     levels_are i app at =
         let h = held_of i app at in
         let leaf = path_at (h.0).account.position rows in
@@ -186,14 +211,14 @@ module _ (K : ℕ) (rows : List Row) (apps : AppTable) (accounts : List (ℕ × 
 
     entry_is : (e : AskEntry) → IsIn e taken.asks → IsAskEntry K taken e
     entry_is e m =
-        let x = (ask_in nodes (registered_of apps.active) order e m).2 in
-        let i = (ask_in nodes (registered_of apps.active) order e m).0 in
+        let x = (ask_in nodes (waiting_of apps.active) order e m).2 in
+        let i = (ask_in nodes (waiting_of apps.active) order e m).0 in
         let h = held_of i x.app x.at in
         subst (IsAskEntry K taken) x.is (record {
           app = app_sight x.app;
           found = found_app i x.app x.at;
           limit = limit_of K rows (h.0);
-          at = slice_get-map (limit_of K rows) registered i ∙ ap (option_map (limit_of K rows)) (h.1);
+          at = slice_get-map (limit_of K rows) waiting i ∙ ap (option_map (limit_of K rows)) (h.1);
           is = subst (λ (a : App). IsLimitOf (sight_in K taken) (app_sight a) (limit_of K rows (h.0))) (h.2) (limit_is (h.0) (placed i (h.0) (h.1)));
           asked = asked_by_key x.app.asks x.ask (kept i x.app x.at) x.member;
           wanted = wanted_is x.app.number x.ask;
@@ -213,43 +238,79 @@ module _ (K : ℕ) (rows : List Row) (apps : AppTable) (accounts : List (ℕ × 
         ∙ ap (option_map (node_seen K nodes)) (found_by_number (λ (a : ClusterNode). a.number) 1 nodes.present nodes.next_node (y.0) parts.numbers (y.1))
         )
 
+    -- of one number there is one application
+    same_app : (a b : App) → IsIn a apps.active → IsIn b apps.active → a.number ≡ b.number → a ≡ b
+    same_app a b m n e =
+        same_Some a b (
+        sym (found_by_number (λ (x : App). x.number) 1 apps.active apps.next a parts.rising m)
+        ∙ ap (λ k. find (λ (x : App). x.number == k) apps.active) e
+        ∙ found_by_number (λ (x : App). x.number) 1 apps.active apps.next b parts.rising n
+        )
+
+    -- no ask is one of an application without asks
+    not_of : (app : App) → IsIn app apps.active → app.asks ≡ [] → (e : AskEntry) → IsIn e taken.asks → e.app == app.number ≡ false
+    not_of app m none e n = by (e.app == app.number) refl
+      where
+        by : (b : Bool) → e.app == app.number ≡ b → b ≡ false
+        by false h = refl
+        by true h =
+            let r = ask_in nodes (waiting_of apps.active) order e n in
+            let x = r.2 in
+            let active = (of_filter is_waiting apps.active x.app (slice_get_in (waiting_of apps.active) (r.0) x.app x.at)).1 in
+            let number : x.app.number ≡ app.number = ap (λ (y : AskEntry). y.app) x.is ∙ eqb-true e.app app.number h in
+            absurd (subst (λ asks. IsIn x.ask asks) (ap (λ (a : App). a.asks) (same_app x.app app active m number) ∙ none) x.member)
+
+    -- the asks of a registered application, be there none
+    shown : (app : App) → IsIn app (registered_of apps.active) → asks_for app.number taken.asks ≡ app.asks
+    shown app m = by (length app.asks == 0) refl (of_filter (λ (a : App). a.registered) apps.active app m)
+      where
+        by : (b : Bool) → length app.asks == 0 ≡ b → (app.registered ≡ true) × IsIn app apps.active → asks_for app.number taken.asks ≡ app.asks
+        by true e r =
+            let none = nil_from_length app.asks (eqb-true (length app.asks) 0 e) in
+            ap (map (λ (x : AskEntry). x.ask)) (filter_none (λ (x : AskEntry). x.app == app.number) taken.asks (not_of app (r.1) none)) ∙ sym none
+        by false e r =
+            let at = index_in (waiting_of apps.active) app (in_filter is_waiting apps.active app (r.1) (λ i. r.0 i && not (e i))) in
+            asks_are (at.0) app (at.1)
+
     app_whole : (a : AppSight) → IsIn a taken.apps → asks_for a.number taken.asks ≡ a.asks
     app_whole a m =
         let x = of_map app_sight (registered_of apps.active) a m in
-        let at = index_in (registered_of apps.active) (x.0) (x.1) in
-        subst (λ (b : AppSight). asks_for b.number taken.asks ≡ b.asks) (x.2) (asks_are (at.0) (x.0) (at.1))
+        subst (λ (b : AppSight). asks_for b.number taken.asks ≡ b.asks) (x.2) (shown (x.0) (x.1))
 
-    pub is_whole : IsSnapshot K taken
-    is_whole = record {
+    pub is_whole : AreSkips taken.nodes skips → AreRanges taken.asks ranges → map (λ (b : AskRange). b.app) ranges ≡ map (λ (r : HeldApp). r.app.number) waiting → IsSnapshot K taken
+    is_whole are_skips are_ranges same = record {
       entries = of_each (IsAskEntry K taken) taken.asks entry_is;
       whole = of_each (λ a. asks_for a.number taken.asks ≡ a.asks) taken.apps app_whole;
-      order = all_in_order K taken nodes (registered_of apps.active) apps.next rising positions levels_are kept order (once order each_once) parts.served.sorted;
+      order = all_in_order K taken nodes (waiting_of apps.active) apps.next rising positions levels_are kept order (once order each_once) parts.served.sorted;
       nodes = of_each (λ x. find (λ y. y.number == x.number) taken.nodes ≡ Some x) taken.nodes node_found;
+      skips = are_skips;
+      ranges = are_ranges;
+      apart = λ i j b d h e f. rising_apart (λ (r : AskRange). r.app) 1 ranges apps.next i j b d (subst (λ ns. IsRising 1 ns apps.next) (sym (same ∙ numbers_are parts.apps_are)) rising) e f h;
     }
 
     pub is_of_parts : IsSnapshotOf K rows apps nodes taken
     is_of_parts = record { rows = refl; sight = refl; numbers = parts.numbers }
 
--- no more are registered than are active
-pub few_registered : (active : List App) (registered : List HeldApp) (most : ℕ) → map (λ r. r.app) registered ≡ registered_of active → length active ≤ most → length registered ≤ most
-few_registered active registered most e h =
+-- no more wait than are active
+pub few_waiting : (active : List App) (waiting : List HeldApp) (most : ℕ) → map (λ r. r.app) waiting ≡ waiting_of active → length active ≤ most → length waiting ≤ most
+few_waiting active waiting most e h =
     let same = ap length e in
-    omega (arith, same, length-map registered (λ (r : HeldApp). r.app), length-kept (λ (app : App). app.registered) active, h)
+    omega (arith, same, length-map waiting (λ (r : HeldApp). r.app), length-kept is_waiting active, h)
 
--- what waits for the registered applications waits at their leaves
-pub waiters_placed : (rows : List Row) (registered : List HeldApp) (waiting : List Waiter) → map (λ w. w.steps) waiting ≡ map (λ r. r.account.position) registered → All (λ r. IsAt rows r.app.leaf r.account.position) registered →
-    All (λ w. IsPosition rows w.steps) waiting
-waiters_placed rows registered waiting same placed =
-    of_each (λ (w : Waiter). IsPosition rows w.steps) waiting
+-- applications that wait do so at their leaves
+pub waiters_placed : (rows : List Row) (waiting : List HeldApp) (waiters : List Waiter) → map (λ w. w.steps) waiters ≡ map (λ r. r.account.position) waiting → All (λ r. IsAt rows r.app.leaf r.account.position) waiting →
+    All (λ w. IsPosition rows w.steps) waiters
+waiters_placed rows waiting waiters same placed =
+    of_each (λ (w : Waiter). IsPosition rows w.steps) waiters
     (λ w m.
-    let x = of_map (λ (r : HeldApp). r.account.position) registered w.steps (subst (IsIn w.steps) same (in_map (λ (v : Waiter). v.steps) waiting w m)) in
-    subst (IsPosition rows) (x.2) (each_of (λ (r : HeldApp). IsAt rows r.app.leaf r.account.position) registered placed (x.0) (x.1)).present)
+    let x = of_map (λ (r : HeldApp). r.account.position) waiting w.steps (subst (IsIn w.steps) same (in_map (λ (v : Waiter). v.steps) waiters w m)) in
+    subst (IsPosition rows) (x.2) (each_of (λ (r : HeldApp). IsAt rows r.app.leaf r.account.position) waiting placed (x.0) (x.1)).present)
 
-pub positions_there : (rows : List Row) (registered : List HeldApp) → All (λ r. IsAt rows r.app.leaf r.account.position) registered → All (λ r. IsPosition rows r.account.position) registered
-positions_there rows registered placed = λ k d lt. (placed k d lt).present
+pub positions_there : (rows : List Row) (waiting : List HeldApp) → All (λ r. IsAt rows r.app.leaf r.account.position) waiting → All (λ r. IsPosition rows r.account.position) waiting
+positions_there rows waiting placed = λ k d lt. (placed k d lt).present
 
 -- an order of service has each index once
-pub each_once_in : (rows : List Row) (registered : List HeldApp) (order : List ℕ) → IsServiceOrder rows (map (λ r. r.account.position) registered) order → IsEachOnce (length registered) order
-each_once_in rows registered order served =
-    let long = length-map registered (λ (r : HeldApp). r.account.position) in
+pub each_once_in : (rows : List Row) (waiting : List HeldApp) (order : List ℕ) → IsServiceOrder rows (map (λ r. r.account.position) waiting) order → IsEachOnce (length waiting) order
+each_once_in rows waiting order served =
+    let long = length-map waiting (λ (r : HeldApp). r.account.position) in
     subst (λ n. IsEachOnce n order) long (record { within = served.within; each = served.each })

@@ -1,14 +1,22 @@
 -- What a snapshot keeps of the parts of a cluster.
-use Rattle.std.specs.Prelude.{ℕ, ◌-◌, List, [], filter, flat_map, length, map}
+use Rattle.std.specs.Prelude.{ℕ, ◌-◌, ◌==◌, Bool, ◌&&◌, not, List, [], filter, flat_map, length, map}
 use Rattle.std.specs.List.{slice_get}
 use Rattle.std.specs.Option.{option_map_or}
 use Rattle.cap_model.specs.Asks.{Ask}
 use Rattle.cap_model.specs.Flat.{App, NodeTable, is_for}
-use Rattle.cap_copy.specs.Snapshot.{AskEntry}
+use Rattle.cap_copy.specs.AskEntry.{AskEntry}
 
 -- the applications whose masters have registered
 abbrev pub registered_of : List App → List App
 registered_of active = filter (λ app. app.registered) active
+
+-- an application waits for containers where its master has registered, and it has asks
+abbrev pub is_waiting : App → Bool
+is_waiting app = app.registered && not (length app.asks == 0)
+
+-- the applications that wait
+abbrev pub waiting_of : List App → List App
+waiting_of active = filter is_waiting active
 
 -- how many containers an ask of an application wants beyond those that there are reservations for
 abbrev pub wanted_of : NodeTable → ℕ → Ask → ℕ

@@ -1,3 +1,5 @@
+pub mod AskEntry
+pub mod AskRanges
 pub mod Entries
 pub mod Limits
 pub mod Sizes

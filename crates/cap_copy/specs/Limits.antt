@@ -63,19 +63,19 @@ pub record IsUserAdded (K : ℕ) (rows : List Row) (held : HeldApp) (queues more
 
 -- the last user is that of the application at an index
 abbrev pub IsLast : ℕ → List Row → List HeldApp → List QueueUse → List StoredUser → ℕ → Type 0
-IsLast K rows registered queues users i =
-    (0 < length users) × (slice_get (map (limit_of K rows) registered) i ≡ Some (limit_at queues (slice_index_or users (length users - 1) no_user)))
+IsLast K rows waiting queues users i =
+    (0 < length users) × (slice_get (map (limit_of K rows) waiting) i ≡ Some (limit_at queues (slice_index_or users (length users - 1) no_user)))
 
 -- a user more, that of the application at an index
-pub record IsOneMore (K : ℕ) (rows : List Row) (registered : List HeldApp) (i : ℕ) (queues more_queues : List QueueUse) (users more_users : List StoredUser) : Type 0 where
+pub record IsOneMore (K : ℕ) (rows : List Row) (waiting : List HeldApp) (i : ℕ) (queues more_queues : List QueueUse) (users more_users : List StoredUser) : Type 0 where
   pub held : HeldApp
-  pub at : slice_get registered i ≡ Some held
+  pub at : slice_get waiting i ≡ Some held
   pub added : IsUserAdded K rows held queues more_queues users more_users
 
 -- the last user is that of the application at an index, as before or as one more
-pub record IsUserSeen (K : ℕ) (rows : List Row) (registered : List HeldApp) (i : ℕ) (queues more_queues : List QueueUse) (users more_users : List StoredUser) : Type 0 where
-  pub last : IsLast K rows registered more_queues more_users i
-  pub grown : ((more_queues ≡ queues) × (more_users ≡ users)) ⊎ IsOneMore K rows registered i queues more_queues users more_users
+pub record IsUserSeen (K : ℕ) (rows : List Row) (waiting : List HeldApp) (i : ℕ) (queues more_queues : List QueueUse) (users more_users : List StoredUser) : Type 0 where
+  pub last : IsLast K rows waiting more_queues more_users i
+  pub grown : ((more_queues ≡ queues) × (more_users ≡ users)) ⊎ IsOneMore K rows waiting i queues more_queues users more_users
 
 -- each of so many indexes stands there once
 pub record IsEachOnce (n : ℕ) (order : List ℕ) : Type 0 where

@@ -1,5 +1,5 @@
 -- What a snapshot keeps, and the sight that it is.
-use Rattle.std.specs.Prelude.{◌≡◌, ℕ, ◌==◌, Bool, false, ◌&&◌, List, [], ◌∷◌, Option, Some, map, filter, find}
+use Rattle.std.specs.Prelude.{◌≡◌, ℕ, ◌+◌, ◌<◌, ◌≤◌, ◌==◌, Bool, false, ◌&&◌, List, [], ◌∷◌, length, slice_index, Option, Some, IsSome, map, filter, find}
 use Rattle.std.specs.List.{All, list_all, slice_get}
 use Rattle.std.specs.Ordering.{is_gt}
 use Rattle.std.specs.declared.cmp.Ordering.{Ordering}
@@ -12,6 +12,9 @@ use Rattle.cap_model.specs.Admission.{NodeProposal}
 use Rattle.cap_base.specs.LimitTests.{fits_maximum, fits_user_limit}
 use Rattle.cap_model.specs.Choice.{rank_cmp, rank_of}
 use Rattle.cap_tree.specs.Queue.{use_of, user_row}
+use Rattle.cap_copy.specs.AskEntry.{AskEntry}
+use Rattle.cap_copy.specs.declared.ranges.AskRange.{AskRange}
+use Rattle.cap_copy.specs.AskRanges.{AreApart, AreRanges}
 use Rattle.cap_tree.specs.Rows.{Row, settings_of_row}
 
 -- how much a queue may use, and how much is used in it and under it
@@ -27,23 +30,17 @@ pub record Limit : Type 0 where
   pub guaranteed : List ℕ
   pub used : List ℕ
 
--- an ask of a registered application: the application's number and its index among the applications, the ask, and how many containers
--- it wants beyond those that room is reserved for
-pub record AskEntry : Type 0 where
-  pub app : ℕ
-  pub index : ℕ
-  pub ask : Ask
-  pub wanted : ℕ
-
--- a snapshot: for contracts alone the rows of the tree and the registered applications as a proposal sees them; the limits of these
--- applications, the nodes in order of number, how many containers are live, the number of the next, and the asks of all applications in
--- the order in which they are served
+-- a snapshot: for contracts alone the rows of the tree and the registered applications as a proposal sees them; the limits of those that
+-- have asks, the nodes in order of number, of each how many from it on hold reservations, how many containers are live, the number of
+-- the next, the asks of all applications in the order in which they are served, and where those of each lie
 pub record Seen : Type 0 where
   pub rows : List Row
   pub apps : List AppSight
   pub limits : List Limit
   pub asks : List AskEntry
+  pub ranges : List AskRange
   pub nodes : List NodeSight
+  pub skips : List ℕ
   pub live : ℕ
   pub next_container : ℕ
 
@@ -107,9 +104,22 @@ pub record IsAskEntry (K : ℕ) (seen : Seen) (e : AskEntry) : Type 0 where
 abbrev pub AreFound : List NodeSight → Type 0
 AreFound nodes = All (λ node. find (λ m. m.number == node.number) nodes ≡ Some node) nodes
 
+-- from a node on so many hold reservations, one after another
+pub record IsSkip (nodes : List NodeSight) (index n : ℕ) : Type 0 where
+  pub within : index + n ≤ length nodes
+  pub hold : (i : ℕ) (node : NodeSight) → index ≤ i → i < index + n → slice_get nodes i ≡ Some node → IsSome node.reservation
+
+-- this is so many of each node
+pub record AreSkips (nodes : List NodeSight) (skips : List ℕ) : Type 0 where
+  pub count : length skips ≡ length nodes
+  pub each : (index : ℕ) → index < length nodes → IsSkip nodes index (slice_index skips index)
+
 -- a snapshot whose asks are those of its applications, in the order of service, and whose nodes are found by their numbers
 pub record IsSnapshot (K : ℕ) (seen : Seen) : Type 0 where
   pub entries : All (IsAskEntry K seen) seen.asks
   pub whole : All (λ app. asks_for app.number seen.asks ≡ app.asks) seen.apps
   pub order : AreServedInOrder K seen seen.asks
   pub nodes : AreFound seen.nodes
+  pub skips : AreSkips seen.nodes seen.skips
+  pub ranges : AreRanges seen.asks seen.ranges
+  pub apart : AreApart seen.ranges

@@ -5,8 +5,8 @@ ghost use Rattle.cap_base.specs.Limits.{resources_max};
 ghost use Rattle.cap_asks.specs.Accounts.{AreKept};
 ghost use Rattle.cap_copy.specs.Entries.{ask_entries, asks_of, wanted_of};
 
-use crate::registered::Registered;
 use crate::seen::SeenAsk;
+use crate::waiting::Waiting;
 use cap_asks::App;
 use cap_model::{Ask, NoMemory};
 use cap_nodes::Nodes;
@@ -17,20 +17,20 @@ use std::alloc::Allocator;
 pub(crate) fn seen_asks<const K: usize, B: Allocator + Copy>(
     alloc: B,
     order: &[u32],
-    registered: &[Registered<'_, K>],
+    waiting: &[Waiting<'_, K>],
     nodes: &Nodes<K>,
 ) -> Result<Vec<SeenAsk<K>, B>, NoMemory>
     requires resources { K ≤ resources_max }
-    requires within { All (λ i. i < length registered.now) order.now }
+    requires within { All (λ i. i < length waiting.now) order.now }
     ensures entries { IfOk result (λ asks.
-        asks.items ≡ ask_entries nodes.now (map (λ r. r.app) registered.now) order.now) }
-    ensures kept { All (λ r. AreKept r.app.asks) registered.now }
+        asks.items ≡ ask_entries nodes.now (map (λ r. r.app) waiting.now) order.now) }
+    ensures kept { All (λ r. AreKept r.app.asks) waiting.now }
 {
-    let Ok(mut asks) = Vec::with_capacity(alloc, count_asks(registered)) else {
+    let Ok(mut asks) = Vec::with_capacity(alloc, count_asks(waiting)) else {
         return Err(NoMemory);
     };
     for index in order {
-        match add_asks(&mut asks, *index, registered[*index as usize].app(), nodes) {
+        match add_asks(&mut asks, *index, waiting[*index as usize].app(), nodes) {
             Ok(()) => {}
             Err(NoMemory) => return Err(NoMemory),
         }
@@ -73,12 +73,12 @@ fn wanted<const K: usize>(app: u64, ask: &Ask<K>, nodes: &Nodes<K>) -> u32
 }
 
 /// How many asks the applications have together. The asks of each are in order of key.
-fn count_asks<const K: usize>(registered: &[Registered<'_, K>]) -> usize
+fn count_asks<const K: usize>(waiting: &[Waiting<'_, K>]) -> usize
     requires { K ≤ resources_max }
-    ensures { All (λ r. AreKept r.app.asks) registered.now }
+    ensures { All (λ r. AreKept r.app.asks) waiting.now }
 {
     let mut count = 0usize;
-    for seen in registered {
+    for seen in waiting {
         count = count.saturating_add(seen.app().asks().len());
     }
     count

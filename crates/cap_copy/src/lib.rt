@@ -3,12 +3,14 @@
 
 mod asks;
 mod nodes;
-mod registered;
+mod ranges;
 mod seen;
 mod seen_limits;
 mod snapshot;
 mod taking;
+mod waiting;
 
+pub use ranges::AskRange;
 pub use seen::{SeenAsk, SeenNode};
 pub use snapshot::Snapshot;
 pub use taking::copy_tree;

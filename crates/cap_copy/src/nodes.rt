@@ -1,5 +1,7 @@
-//! The nodes of a snapshot, in order of number and in one piece of memory (`seen_nodes`).
+//! The nodes of a snapshot, in order of number and in one piece of memory (`seen_nodes`), and which of them hold reservations one
+//! after another (`skips_of`).
 ghost use Rattle.std.specs.Prelude.{◌≡◌, IfOk, map};
+ghost use Rattle.cap_copy.specs.Snapshot.{AreSkips};
 ghost use Rattle.cap_copy.specs.Taking.{node_seen};
 
 use crate::seen::SeenNode;
@@ -29,4 +31,30 @@ pub(crate) fn seen_nodes<const K: usize, B: Allocator + Copy>(
         });
     }
     Ok(seen)
+}
+
+/// For each node how many from it on hold reservations, one after another: 0 for one that holds none. An error means that an allocation
+/// failed.
+pub(crate) fn skips_of<const K: usize, B: Allocator + Copy>(
+    alloc: B,
+    nodes: &[SeenNode<K>],
+) -> Result<Vec<usize, B>, NoMemory>
+    ensures { IfOk result (λ skips. AreSkips nodes.now skips.items) }
+{
+    let Ok(mut skips) = Vec::from_elem(alloc, 0, nodes.len()) else {
+        return Err(NoMemory);
+    };
+    let mut index = nodes.len();
+    let mut skip = 0;
+    while index > 0 {
+        index -= 1;
+        let node = &nodes[index];
+        skip = if node.reservation.is_some() {
+            skip + 1
+        } else {
+            0
+        };
+        skips[index] = skip;
+    }
+    Ok(skips)
 }

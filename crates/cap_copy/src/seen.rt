@@ -15,7 +15,7 @@ pub struct SeenAsk<const K: usize> {
 }
 
 impl<const K: usize> Model for SeenAsk<K> {
-    ghost use Rattle.cap_copy.specs.Snapshot.{AskEntry};
+    ghost use Rattle.cap_copy.specs.AskEntry.{AskEntry};
 
     ghost Value = { AskEntry };
 
@@ -30,7 +30,7 @@ impl<const K: usize> SeenAsk<K> {
         self.app
     }
 
-    /// The index of its application among those that are registered.
+    /// The index of its application among the registered ones that have asks.
     pub fn index(&self) -> usize
         ensures { result ≡ self.now.index }
     {

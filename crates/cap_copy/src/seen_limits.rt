@@ -7,7 +7,7 @@ ghost use Rattle.cap_copy.specs.Limits.{IsEachOnce, IsLast, IsUserAdded, IsUserS
 ghost use Rattle.cap_copy.specs.Snapshot.{stays_within};
 ghost use Rattle.cap_tree.specs.Spot.{IsPosition};
 
-use crate::registered::Registered;
+use crate::waiting::Waiting;
 use cap_asks::App;
 use cap_model::NoMemory;
 use cap_tree::{Queue, QueueTree};
@@ -111,21 +111,21 @@ impl<const K: usize, B: Allocator + Copy> SeenLimits<K, B> {
 pub(crate) fn limits_of<const K: usize, B: Allocator + Copy>(
     alloc: B,
     tree: &QueueTree<K, Global>,
-    registered: &[Registered<'_, K>],
+    waiting: &[Waiting<'_, K>],
     order: &[u32],
 ) -> Result<SeenLimits<K, B>, NoMemory>
     requires resources { K ≤ resources_max }
-    requires placed { All (λ r. IsPosition tree.now r.account.position) registered.now }
-    requires each { IsEachOnce (length registered.now) order.now }
-    ensures { IfOk result (λ limits. limits ≡ map (limit_of K tree.now) registered.now) }
+    requires placed { All (λ r. IsPosition tree.now r.account.position) waiting.now }
+    requires each { IsEachOnce (length waiting.now) order.now }
+    ensures { IfOk result (λ limits. limits ≡ map (limit_of K tree.now) waiting.now) }
 {
     let mut queues = Vec::new(alloc);
     let mut users = Vec::new(alloc);
-    let Ok(mut of) = Vec::from_elem(alloc, 0, registered.len()) else {
+    let Ok(mut of) = Vec::from_elem(alloc, 0, waiting.len()) else {
         return Err(NoMemory);
     };
     for i in 0..order.len() {
-        match see_user(&mut queues, &mut users, tree, registered, order, i) {
+        match see_user(&mut queues, &mut users, tree, waiting, order, i) {
             Ok(()) => {}
             Err(NoMemory) => return Err(NoMemory),
         }
@@ -140,20 +140,20 @@ fn see_user<const K: usize, B: Allocator + Copy>(
     queues: &mut Vec<SeenQueue<K>, B>,
     users: &mut Vec<SeenUser<K>, B>,
     tree: &QueueTree<K, Global>,
-    registered: &[Registered<'_, K>],
+    waiting: &[Waiting<'_, K>],
     order: &[u32],
     i: usize,
 ) -> Result<(), NoMemory>
-    requires placed { All (λ r. IsPosition tree.now r.account.position) registered.now }
-    requires within { All (λ j. j < length registered.now) order.now }
+    requires placed { All (λ r. IsPosition tree.now r.account.position) waiting.now }
+    requires within { All (λ j. j < length waiting.now) order.now }
     requires inside { i < length order.now }
-    requires last { 0 < i → IsLast K tree.now registered.now queues.old.items users.old.items
+    requires last { 0 < i → IsLast K tree.now waiting.now queues.old.items users.old.items
         (slice_index_or order.now (i - 1) 0) }
-    ensures { OnOk result (IsUserSeen K tree.now registered.now (slice_index_or order.now i 0)
+    ensures { OnOk result (IsUserSeen K tree.now waiting.now (slice_index_or order.now i 0)
         queues.old.items queues.new.items users.old.items users.new.items) }
 {
-    let app = registered[order[i] as usize].app();
-    if i > 0 && shares_limits(registered[order[i - 1] as usize].app(), app) {
+    let app = waiting[order[i] as usize].app();
+    if i > 0 && shares_limits(waiting[order[i - 1] as usize].app(), app) {
         return Ok(());
     }
     match add_user(queues, users, tree, app) {

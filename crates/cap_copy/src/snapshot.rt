@@ -1,9 +1,11 @@
 //! The snapshot of a cluster that a worker proposes on, and its reads (`Snapshot`).
-ghost use Rattle.std.specs.Prelude.{◌≡◌, ◌<◌, Some, length};
+ghost use Rattle.std.specs.Prelude.{◌≡◌, ◌<◌, ◌≤◌, Some, length};
 ghost use Rattle.std.specs.List.{slice_get};
 ghost use Rattle.cap_base.specs.Cascade.{holds_of};
-ghost use Rattle.cap_copy.specs.Snapshot.{IsSnapshot, stays_within};
+ghost use Rattle.cap_copy.specs.AskRanges.{AreInside};
+ghost use Rattle.cap_copy.specs.Snapshot.{IsSkip, IsSnapshot, stays_within};
 
+use crate::ranges::{AskRange, range_of};
 use crate::seen::{SeenAsk, SeenNode};
 use crate::seen_limits::SeenLimits;
 use cap_asks::Apps;
@@ -20,7 +22,9 @@ use std::marker::Model;
 pub struct Snapshot<const K: usize, B: Allocator> {
     pub(crate) limits: SeenLimits<K, B>,
     pub(crate) asks: Vec<SeenAsk<K>, B>,
+    pub(crate) ranges: Vec<AskRange, B>,
     pub(crate) nodes: Vec<SeenNode<K>, B>,
+    pub(crate) skips: Vec<usize, B>,
     pub(crate) live: usize,
     pub(crate) next_container: u64,
     // This is for contracts alone, and takes no room.
@@ -42,7 +46,9 @@ impl<const K: usize, B: Allocator> Model for Snapshot<K, B> {
       apps = apps_in s.sources.items;
       limits = s.limits;
       asks = s.asks.items;
+      ranges = s.ranges.items;
       nodes = s.nodes.items;
+      skips = s.skips.items;
       live = s.live;
       next_container = s.next_container;
     } };
@@ -52,7 +58,9 @@ impl<const K: usize, B: Allocator> Model for Snapshot<K, B> {
       apps = apps_in s.sources.items;
       limits = s.limits;
       asks = s.asks.items;
+      ranges = s.ranges.items;
       nodes = s.nodes.items;
+      skips = s.skips.items;
       live = s.live;
       next_container = s.next_container;
     }) };
@@ -75,6 +83,14 @@ impl<const K: usize, B: Allocator + Copy> Snapshot<K, B> {
         &self.nodes[index]
     }
 
+    /// How many nodes from the one at an index on hold reservations, one after another: where it holds none, 0.
+    pub fn skip(&self, index: usize) -> usize
+        requires { index < length self.now.nodes }
+        ensures { IsSkip self.now.nodes index result }
+    {
+        self.skips[index]
+    }
+
     /// How many asks there are. Each is of one of the applications, and none is served after one that follows it.
     pub fn ask_count(&self) -> usize
         ensures count { result ≡ length self.now.asks }
@@ -89,6 +105,22 @@ impl<const K: usize, B: Allocator + Copy> Snapshot<K, B> {
         ensures { slice_get self.now.asks index ≡ Some result.now }
     {
         &self.asks[index]
+    }
+
+    /// Where the asks of an application lie among all asks: from `start` on, up to `end`. Both are 0 where it has none.
+    pub fn asks_of(&self, app: u64) -> AskRange
+        ensures within { result.end ≤ length self.now.asks }
+        ensures inside { AreInside self.now.asks app result.start result.end }
+        ensures whole { IsSnapshot K self.now }
+    {
+        match range_of(&self.ranges, app) {
+            Some(range) => range,
+            None => AskRange {
+                app,
+                start: 0,
+                end: 0,
+            },
+        }
     }
 
     /// Whether the use of the ask's queues and user stays within their limits with `old` taken away and what is asked for

@@ -10,10 +10,11 @@ ghost use Rattle.cap_copy.specs.Sizes.{CopyFitsInMemory};
 ghost use Rattle.cap_copy.specs.Taking.{IsSnapshotOf};
 
 use crate::asks::seen_asks;
-use crate::nodes::seen_nodes;
-use crate::registered::{registered_apps, waiters};
+use crate::nodes::{seen_nodes, skips_of};
+use crate::ranges::ranges_of;
 use crate::seen_limits::limits_of;
 use crate::snapshot::Snapshot;
+use crate::waiting::{waiters, waiting_apps};
 use cap_asks::Apps;
 use cap_model::NoMemory;
 use cap_nodes::Nodes;
@@ -43,34 +44,44 @@ impl<const K: usize, B: Allocator + Copy> Snapshot<K, B> {
     {
         apps.numbers_rise();
         nodes.numbers_rise();
-        let registered = match registered_apps(alloc, apps) {
-            Ok(registered) => registered,
-            Err(NoMemory) => return Err(NoMemory),
-        };
-        let waiting = match waiters(alloc, &registered) {
+        let waiting = match waiting_apps(alloc, apps) {
             Ok(waiting) => waiting,
             Err(NoMemory) => return Err(NoMemory),
         };
-        let order = match tree.service_order(alloc, &waiting) {
+        let places = match waiters(alloc, &waiting) {
+            Ok(places) => places,
+            Err(NoMemory) => return Err(NoMemory),
+        };
+        let order = match tree.service_order(alloc, &places) {
             Ok(order) => order,
             Err(NoMemory) => return Err(NoMemory),
         };
-        let limits = match limits_of(alloc, tree, &registered, &order) {
+        let limits = match limits_of(alloc, tree, &waiting, &order) {
             Ok(limits) => limits,
             Err(NoMemory) => return Err(NoMemory),
         };
-        let asks = match seen_asks(alloc, &order, &registered, nodes) {
+        let asks = match seen_asks(alloc, &order, &waiting, nodes) {
             Ok(asks) => asks,
+            Err(NoMemory) => return Err(NoMemory),
+        };
+        let ranges = match ranges_of(alloc, &waiting, &asks) {
+            Ok(ranges) => ranges,
             Err(NoMemory) => return Err(NoMemory),
         };
         let present = match seen_nodes(alloc, nodes) {
             Ok(present) => present,
             Err(NoMemory) => return Err(NoMemory),
         };
+        let skips = match skips_of(alloc, &present) {
+            Ok(skips) => skips,
+            Err(NoMemory) => return Err(NoMemory),
+        };
         Ok(Snapshot {
             limits,
             asks,
+            ranges,
             nodes: present,
+            skips,
             live: nodes.live_count(),
             next_container: nodes.next_container(),
             sources: Log::new().and(tree, apps),

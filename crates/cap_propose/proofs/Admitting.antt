@@ -17,7 +17,8 @@ use Rattle.cap_model.specs.Sight.{Sight, AppSight, NodeSight, seen_node, seen_qu
 use Rattle.cap_model.specs.Admission.{NodeProposal, IsAdmissible, NeedsOf, asks_resource, fits_free, fits_total, is_grant, is_wanted, leaf_path, node_reservation, proposed_ask, stays_in_maxima, stays_in_user_limit, suits_place, takes_place, use_after, user_name}
 use Rattle.cap_base.specs.LimitTests.{fits_maximum, fits_user_limit}
 use Rattle.cap_base.proofs.lists.Tests.{bytes_itself}
-use Rattle.cap_copy.specs.Snapshot.{AskEntry, IsAskEntry, QueueUse, Seen, sight_in, stays_within}
+use Rattle.cap_copy.specs.AskEntry.{AskEntry}
+use Rattle.cap_copy.specs.Snapshot.{IsAskEntry, QueueUse, Seen, sight_in, stays_within}
 use Rattle.cap_propose.specs.Proposing.{IsSeenNode, IsAdmittedAs, IsClosed, IsOpen, has_numbers, is_in_limits, kind_beside, kind_by_room, proposal_of, room_back, room_kind, takes}
 use Rattle.cap_propose.proofs.WithinLimits.{all_mapped, same_exchange}
 

@@ -18,7 +18,8 @@ use Rattle.cap_model.specs.Candidates.{choice_on}
 use Rattle.cap_laws.proofs.choice.Choosing.{choice_is_computed}
 use Rattle.cap_model.proofs.choice.Orders.{rank_cmp_total, not_after_itself}
 use Rattle.cap_base.proofs.lists.Members.{IsIn, each_of, found, of_filter, of_map}
-use Rattle.cap_copy.specs.Snapshot.{AskEntry, Seen, IsSnapshot, IsAskEntry, AreServedInOrder, asks_for, served_cmp, sight_in}
+use Rattle.cap_copy.specs.AskEntry.{AskEntry}
+use Rattle.cap_copy.specs.Snapshot.{Seen, IsSnapshot, IsAskEntry, AreServedInOrder, asks_for, served_cmp, sight_in}
 use Rattle.cap_propose.specs.Proposing.{IsAdmittedAs, IsSeenNode, proposal_of}
 use Rattle.cap_propose.proofs.Unique.{one_on_node}
 

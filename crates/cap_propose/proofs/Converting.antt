@@ -2,7 +2,7 @@
 use Rattle.std.proofs.Common.{◌≡◌, ℕ, ◌+◌, ◌<◌, ◌≤◌, Bool, true, false, cond, length, Some, None, refl, sym, ◌∙◌, ap, subst, inl, inr, arith}
 use Rattle.std.specs.Prelude.{◌&&◌, ◌==◌, option_and_then, unwrap_or}
 use Rattle.std.specs.List.{slice_get}
-use Rattle.std.proofs.lemmas.Bool.{and_parts, cases_lt}
+use Rattle.std.proofs.lemmas.Bool.{and_parts, cases_Bool, cases_lt}
 use Rattle.std.proofs.lemmas.Bool.Decides.{nat_tests}
 use Rattle.cap_model.specs.declared.proposal.ProposalKind.{ProposalKind}
 use Rattle.cap_model.specs.declared.proposal.ProposalKind.TheVariants.{Grant}
@@ -13,7 +13,9 @@ use Rattle.cap_model.specs.Sight.{AppSight, NodeSight, seen_app}
 use Rattle.cap_model.specs.Admission.{IsAdmissible}
 use Rattle.cap_model.specs.Candidates.{choice_on}
 use Rattle.cap_model.proofs.calls.KeptAsks.{same_key_is}
-use Rattle.cap_copy.specs.Snapshot.{AskEntry, IsAskEntry, IsSnapshot, Seen, sight_in}
+use Rattle.cap_copy.specs.AskEntry.{AskEntry}
+use Rattle.cap_copy.specs.AskRanges.{AreInside}
+use Rattle.cap_copy.specs.Snapshot.{IsAskEntry, IsSnapshot, Seen, sight_in}
 use Rattle.cap_propose.specs.Proposing.{AreForOthers, IsAdmittedAs, IsSeenNode, kind_beside, proposal_of}
 use Rattle.cap_propose.proofs.Admitting.{without_room}
 use Rattle.cap_propose.proofs.Choosing.{NoneBefore, entry_is, first_chosen, none_chosen}
@@ -42,8 +44,15 @@ module _ (K : ℕ) (seen : Seen) (r : Reservation) where
       let ask : e.ask ≡ f.ask = ap (λ o. unwrap_or o e.ask) (sym (own_ask e is h) ∙ own_ask f is_f g) in
       λ i. record { kind = k; app = app i; key = (ask i).key; node = n; resource = (ask i).resource }
 
-  pub none_yet : AreForOthers seen r 0
-  none_yet index e h at = absurd (omega (arith, h))
+  -- the asks of other applications are for others
+  elsewhere : (start end : ℕ) → AreInside seen.asks r.app start end → (i : ℕ) (e : AskEntry) → slice_get seen.asks i ≡ Some e → ((start ≤ i) × (i < end) → ⊥) → is_for e.app e.ask.key r ≡ false
+  elsewhere start end inside i e at outside = elim (cases_Bool (is_for e.app e.ask.key r)) [
+    | inl own ↦ absurd (outside (inside i e at (sym (own_app e own))))
+    | inr other ↦ other
+  ]
+
+  pub none_yet : (start end : ℕ) → AreInside seen.asks r.app start end → AreForOthers seen r start
+  none_yet start end inside i e h at = elsewhere start end inside i e at (λ within. let from = within.0 in absurd (omega (arith, h, from)))
 
   pub one_other_more : (i : ℕ) (e : AskEntry) → slice_get seen.asks i ≡ Some e → is_for e.app e.ask.key r ≡ false → AreForOthers seen r i → AreForOthers seen r (i + 1)
   one_other_more i e at other all j f h there = elim (cases_lt j i) [
@@ -54,8 +63,11 @@ module _ (K : ℕ) (seen : Seen) (r : Reservation) where
         subst (λ x. is_for x.app x.ask.key r ≡ false) same other
   ]
 
-  pub all_others : (i : ℕ) → length seen.asks ≤ i → AreForOthers seen r i → AreForOthers seen r (length seen.asks)
-  all_others i le all j f h there = all j f (omega (arith, le, h)) there
+  pub all_others : (start end i : ℕ) → AreInside seen.asks r.app start end → end ≤ i → AreForOthers seen r i → AreForOthers seen r (length seen.asks)
+  all_others start end i inside le all j f h there = elim (cases_lt j i) [
+    | inl below ↦ all j f below there
+    | inr past ↦ elsewhere start end inside j f there (λ within. let to = within.1 in absurd (omega (arith, past, le, to)))
+  ]
 
   pub it_is_for : (i : ℕ) (e : AskEntry) → slice_get seen.asks i ≡ Some e → is_for e.app e.ask.key r ≡ true → (f : AskEntry) → slice_get seen.asks i ≡ Some f → is_for f.app f.ask.key r ≡ true
   it_is_for i e at h f there = subst (λ x. is_for x.app x.ask.key r ≡ true) (ap (λ o. unwrap_or o e) (sym at ∙ there)) h

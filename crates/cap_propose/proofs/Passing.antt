@@ -1,14 +1,16 @@
 -- The nodes of the ring without a reservation that are passed over, since no ask is admitted there.
-use Rattle.std.proofs.Common.{◌≡◌, ℕ, ◌+◌, ◌<◌, ◌≤◌, true, false, length, Some, None, refl, sym, ◌∙◌, ap, subst, inl, inr, arith}
-use Rattle.std.specs.Prelude.{Option, IsSome, not, option_map, unwrap_or}
+use Rattle.std.proofs.Common.{◌≡◌, ℕ, ◌+◌, ◌-◌, ◌<◌, ◌≤◌, true, false, cond, length, Some, None, refl, sym, ◌∙◌, ap, subst, inl, inr, arith}
+use Rattle.std.specs.Prelude.{Option, IsSome, nat_lt, not, option_map, unwrap_or}
 use Rattle.std.specs.List.{slice_get}
 use Rattle.std.proofs.lemmas.Bool.{cases_lt}
+use Rattle.std.proofs.lemmas.Bool.Decides.{nat_tests}
 use Rattle.std.proofs.lemmas.Option.{slice_get_within}
 use Rattle.cap_model.specs.Sight.{NodeSight}
 use Rattle.cap_model.specs.Admission.{NodeProposal}
 use Rattle.cap_model.specs.Candidates.{choice_on}
 use Rattle.cap_model.specs.declared.proposal.ProposalKind.{ProposalKind}
-use Rattle.cap_copy.specs.Snapshot.{AskEntry, IsAskEntry, IsSnapshot, Seen, sight_in}
+use Rattle.cap_copy.specs.AskEntry.{AskEntry}
+use Rattle.cap_copy.specs.Snapshot.{IsAskEntry, IsSkip, IsSnapshot, Seen, sight_in}
 use Rattle.cap_propose.specs.Proposing.{ArePassed, IsAdmittedAs, IsChosenAt, IsClosed, IsOpen, IsPassed, IsProposed, IsSeenNode, TakesAt, kind_by_room, node_after, proposal_by_room, proposal_of, ring_index, takes}
 use Rattle.cap_propose.proofs.Admitting.{holds_none, not_taken, room_there}
 use Rattle.cap_propose.proofs.Choosing.{NoneBefore, entry_is, first_chosen, node_is, none_chosen}
@@ -40,6 +42,46 @@ module _ (K : ℕ) (seen : Seen) (first : ℕ) where
   -- one node more, at the index that the ring has there
   pub node_at : (turn index count : ℕ) (node : NodeSight) → count ≡ length seen.nodes → index ≡ ring_index first turn count → slice_get seen.nodes index ≡ Some node → node_after seen first turn ≡ Some node
   node_at turn index count node count_is index_is at = ap (slice_get seen.nodes) (sym (index_is ∙ ap (ring_index first turn) count_is)) ∙ at
+
+  -- the nodes after one that the ring does not begin again before
+  further : (turn d n : ℕ) → ring_index first turn n + d < n → ring_index first (turn + d) n ≡ ring_index first turn n + d
+  further turn d n h = elim (cases_lt turn (n - first)) [
+    | inl below ↦
+        let test : nat_lt turn (n - first) ≡ true = grind (arith, nat_tests, below) in
+        let within : first + turn + d < n = subst (λ b. cond b (first + turn) (turn - (n - first)) + d < n) test h in
+        let later : nat_lt (turn + d) (n - first) ≡ true = grind (arith, nat_tests, within) in
+        let same : first + (turn + d) ≡ first + turn + d = omega arith in
+        ap (λ b. cond b (first + (turn + d)) (turn + d - (n - first))) later ∙ same ∙ sym (ap (λ b. cond b (first + turn) (turn - (n - first)) + d) test)
+    | inr past ↦
+        let test : nat_lt turn (n - first) ≡ false = grind (arith, nat_tests, past) in
+        let later : nat_lt (turn + d) (n - first) ≡ false = grind (arith, nat_tests, past) in
+        let same : turn + d - (n - first) ≡ turn - (n - first) + d = omega (arith, past) in
+        ap (λ b. cond b (first + (turn + d)) (turn + d - (n - first))) later ∙ same ∙ sym (ap (λ b. cond b (first + turn) (turn - (n - first)) + d) test)
+  ]
+
+  -- so many nodes more, which hold reservations
+  pub held_more : (e : AskEntry) (turn more index count skip : ℕ) → count ≡ length seen.nodes → index ≡ ring_index first turn count → IsSkip seen.nodes index skip → more ≤ skip → IsPassed K seen first turn e → IsPassed K seen first (turn + more) e
+  held_more e turn more index count skip count_is index_is s few p t node h there unreserved = elim (cases_lt t turn) [
+    | inl below ↦ p t node below there unreserved
+    | inr past ↦
+        let n = length seen.nodes in
+        let here : index ≡ ring_index first turn n = index_is ∙ ap (ring_index first turn) count_is in
+        let t_is : turn + (t - turn) ≡ t = omega (arith, past) in
+        let inside : index + (t - turn) < index + skip = omega (arith, h, past, few) in
+        let before : index + (t - turn) < n = let w = s.within in omega (arith, inside, w) in
+        let at : ring_index first t n ≡ index + (t - turn) =
+        ap (λ x. ring_index first x n) (sym t_is) ∙ further turn (t - turn) n (subst (λ i. i + (t - turn) < n) here before) ∙ ap (λ i. i + (t - turn)) (sym here) in
+        let held = s.hold (index + (t - turn)) node (omega arith) inside (ap (slice_get seen.nodes) (sym at) ∙ there) in
+        absurd (cc (rw unreserved at held))
+  ]
+
+  -- all nodes, where each holds a reservation
+  pub all_held : (n m : ℕ) → n ≡ length seen.nodes → IsSkip seen.nodes 0 n → ArePassed K seen first m (length seen.asks)
+  all_held n m count s j e inside at turn node h there unreserved =
+      let index = ring_index first turn (length seen.nodes) in
+      let within = slice_get_within seen.nodes index node there in
+      let held = s.hold index node (omega arith) (omega (arith, within, count)) there in
+      absurd (cc (rw unreserved at held))
 
   module _ (whole : IsSnapshot K seen) (e : AskEntry) (is : IsAskEntry K seen e) where
     pub one_node_more : (turn index count : ℕ) (node : NodeSight) → count ≡ length seen.nodes → index ≡ ring_index first turn count → slice_get seen.nodes index ≡ Some node →

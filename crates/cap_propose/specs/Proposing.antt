@@ -13,7 +13,8 @@ use Rattle.cap_model.specs.Sight.{Sight, NodeSight, seen_node}
 use Rattle.cap_model.specs.Admission.{NodeProposal, IsAdmissible, takes_place}
 use Rattle.cap_model.specs.Choice.{IsNodeChoice, IsChoiceFrom}
 use Rattle.cap_model.specs.Candidates.{choice_on}
-use Rattle.cap_copy.specs.Snapshot.{AskEntry, Seen, sight_in, stays_within}
+use Rattle.cap_copy.specs.AskEntry.{AskEntry}
+use Rattle.cap_copy.specs.Snapshot.{Seen, sight_in, stays_within}
 
 -- the proposal of an ask on the node of a number
 abbrev pub proposal_of : ProposalKind → ℕ → AskEntry → NodeProposal

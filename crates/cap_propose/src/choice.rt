@@ -66,7 +66,8 @@ struct Taker {
 }
 
 /// The nearest node that holds no reservation and takes an ask, in the ring from the node at index `first` on. Where there is none,
-/// all nodes come before it. The limits of an ask are tested once for all these nodes, since they don't depend on the node.
+/// all nodes come before it, and where each node holds a reservation no ask is looked at. The limits of an ask are tested once for all
+/// these nodes, since they don't depend on the node.
 fn nearest_taker<const K: usize, B: Allocator + Copy>(
     snapshot: &Snapshot<K, B>,
     first: usize,
@@ -81,6 +82,9 @@ fn nearest_taker<const K: usize, B: Allocator + Copy>(
         turn: snapshot.node_count(),
         ask: 0,
     };
+    if snapshot.skip(0) == nearest.turn {
+        return nearest;
+    }
     for index in 0..snapshot.ask_count() {
         if nearest.turn == 0 {
             return nearest;
@@ -97,7 +101,8 @@ fn nearest_taker<const K: usize, B: Allocator + Copy>(
     nearest
 }
 
-/// How many nodes of the ring come before the first that takes the ask; `None` if none of the first `end` nodes takes it.
+/// How many nodes of the ring come before the first that takes the ask; `None` if none of the first `end` nodes takes it. Nodes that
+/// hold reservations are passed over together.
 fn first_taker<const K: usize, B: Allocator + Copy>(
     snapshot: &Snapshot<K, B>,
     first: usize,
@@ -111,11 +116,19 @@ fn first_taker<const K: usize, B: Allocator + Copy>(
     ensures { IsFirstTaker K snapshot.now first end ask.now result }
 {
     let count = snapshot.node_count();
-    for turn in 0..end {
-        let node = snapshot.node(wrapped(first, turn, count));
+    let mut turn = 0;
+    while turn < end {
+        let index = wrapped(first, turn, count);
+        let skip = snapshot.skip(index);
+        if skip > 0 {
+            turn += skip.min(end - turn);
+            continue;
+        }
+        let node = snapshot.node(index);
         if takes(node, ask) {
             return Some(turn);
         }
+        turn += 1;
     }
     None
 }
@@ -141,7 +154,7 @@ fn conversion<const K: usize, B: Allocator + Copy>(
     Some(proposal(kind, node, ask))
 }
 
-/// The index of the ask that the reservation is for, if it is still among the asks.
+/// The index of the ask that the reservation is for, if it is still among the asks. It looks at the asks of its application alone.
 fn reserved_ask<const K: usize, B: Allocator + Copy>(
     snapshot: &Snapshot<K, B>,
     reservation: &Reservation<K>,
@@ -150,7 +163,8 @@ fn reserved_ask<const K: usize, B: Allocator + Copy>(
     ensures first { IsReservedAsk snapshot.now reservation.now result }
     ensures whole { IsSnapshot K snapshot.now }
 {
-    for index in 0..snapshot.ask_count() {
+    let asks = snapshot.asks_of(reservation.app());
+    for index in asks.start..asks.end {
         if is_for(reservation, snapshot.ask(index)) {
             return Some(index);
         }

@@ -4,4 +4,4 @@ use Rattle.cap_asks.specs.Accounts.{AreKept}
 use Rattle.cap_copy.proofs.asks.count_asks.Given as goal
 
 abbrev pub invariant-loop-seen : goal.invariant-loop-seen
-invariant-loop-seen g l = All (λ r. AreKept r.app.asks) (take l.seen-index l.registered)
+invariant-loop-seen g l = All (λ r. AreKept r.app.asks) (take l.seen-index l.waiting)

@@ -13,20 +13,20 @@ pub loop-index-preserved : goal.loop-index-preserved
 loop-index-preserved g c =
     let k = c.loop-index.index-index in
     let i = get_or c.args.order.now k 0 in
-    let held = c.index-registered-index.result in
-    let within : i < length c.args.registered.now = c.requires.within k 0 c.loop-index-test.true in
-    let at : slice_get (map (λ (r : HeldApp). r.app) c.args.registered.now) i ≡ Some held.app =
-    slice_get-map (λ (r : HeldApp). r.app) c.args.registered.now i ∙ ap (option_map (λ (r : HeldApp). r.app)) (slice_get_read c.args.registered.now (length c.args.registered.now) i held refl within c.index-registered-index.is) in
+    let held = c.index-waiting-index.result in
+    let within : i < length c.args.waiting.now = c.requires.within k 0 c.loop-index-test.true in
+    let at : slice_get (map (λ (r : HeldApp). r.app) c.args.waiting.now) i ≡ Some held.app =
+    slice_get-map (λ (r : HeldApp). r.app) c.args.waiting.now i ∙ ap (option_map (λ (r : HeldApp). r.app)) (slice_get_read c.args.waiting.now (length c.args.waiting.now) i held refl within c.index-waiting-index.is) in
     c.in-Ok-add_asks.ensures
     ∙ (λ j. c.loop-index.invariant j ++ asks_of c.args.nodes.now i ((c.app.ensures j).app))
-    ∙ sym (asks_more c.args.nodes.now (map (λ (r : HeldApp). r.app) c.args.registered.now) c.args.order.now k i held.app (slice_get-get_or c.args.order.now k 0 c.loop-index-test.true) at)
+    ∙ sym (asks_more c.args.nodes.now (map (λ (r : HeldApp). r.app) c.args.waiting.now) c.args.order.now k i held.app (slice_get-get_or c.args.order.now k 0 c.loop-index-test.true) at)
 
-pub bounds-registered-index : goal.bounds-registered-index
-bounds-registered-index g c = c.requires.within c.loop-index.index-index 0 c.loop-index-test.true
+pub bounds-waiting-index : goal.bounds-waiting-index
+bounds-waiting-index g c = c.requires.within c.loop-index.index-index 0 c.loop-index-test.true
 
 pub add_asks-requires : goal.add_asks-requires
 add_asks-requires g c = (search seen_ask_by_nodes, (omega arith, (search)))
 
 pub returns-clause-entries : goal.returns-clause-entries
 returns-clause-entries g c =
-    c.loop-index.invariant ∙ ap (ask_entries c.args.nodes.now (map (λ r. r.app) c.args.registered.now)) (take_all c.loop-index.index-index c.args.order.now c.loop-index-test.false)
+    c.loop-index.invariant ∙ ap (ask_entries c.args.nodes.now (map (λ r. r.app) c.args.waiting.now)) (take_all c.loop-index.index-index c.args.order.now c.loop-index-test.false)

@@ -1,6 +1,7 @@
-use Rattle.std.proofs.Common.{arith, ◌<◌, ◌≤◌, length, subst}
+use Rattle.std.proofs.Common.{◌≡◌, arith, ◌<◌, ◌≤◌, length, subst}
+use Rattle.cap_copy.specs.Snapshot.{IsSkip}
 use Rattle.cap_propose.proofs.Choosing.{entry_is}
-use Rattle.cap_propose.proofs.Passing.{one_ask_more, all_asks, at_most, chosen_there, closed_passed}
+use Rattle.cap_propose.proofs.Passing.{one_ask_more, all_asks, all_held, at_most, chosen_there, closed_passed}
 use Rattle.cap_propose.specs.Proposing.{IsFirstTaker}
 use Rattle.cap_propose.proofs.choice.nearest_taker.Goals as goal
 
@@ -70,3 +71,10 @@ returns-clause-passed g c =
     let test = c.loop-index-test.false in
     let all : length c.args.snapshot.now.asks ≤ c.loop-index.index = omega (arith, count, test) in
     all_asks g.row.K c.args.snapshot.now c.args.first c.loop-index.nearest.turn c.loop-index.index all c.loop-index.invariant.1
+
+pub returns-then-skip-nearest-clause-passed : goal.returns-then-skip-nearest-clause-passed
+returns-then-skip-nearest-clause-passed g c =
+    let seen = c.args.snapshot.now in
+    let count = c.node_count.ensures.count in
+    let n : c.node_count.result ≡ length seen.nodes = count in
+    all_held g.row.K seen c.args.first c.node_count.result c.node_count.result n (subst (IsSkip seen.nodes 0) c.if-skip-nearest.true c.skip.ensures)

@@ -1,19 +1,25 @@
-use Rattle.std.proofs.Common.{◌∙◌, sym, arith, ◌<◌, ◌≤◌, length}
-use Rattle.cap_propose.proofs.Converting.{all_others, it_is_for, one_other_more}
+use Rattle.std.proofs.Common.{◌∙◌, sym, arith, subst, ◌<◌, length}
+use Rattle.cap_copy.specs.AskRanges.{AreInside}
+use Rattle.cap_propose.proofs.Converting.{all_others, it_is_for, none_yet, one_other_more}
 use Rattle.cap_propose.proofs.choice.reserved_ask.Goals as goal
+
+pub loop-index-init : goal.loop-index-init
+loop-index-init g c =
+    let asks = c.asks_of-asks in
+    none_yet g.row.K c.args.snapshot.now c.args.reservation.now asks.result.start asks.result.end (subst (λ app. AreInside c.args.snapshot.now.asks app asks.result.start asks.result.end) c.app.ensures asks.ensures.inside)
 
 pub ask-requires : goal.ask-requires
 ask-requires g c =
-    let count = c.ask_count-index-end.ensures.count in
+    let most = c.asks_of-asks.ensures.within in
     let test = c.loop-index-test.true in
-    let within : c.loop-index.index < length c.args.snapshot.now.asks = omega (arith, count, test) in
+    let within : c.loop-index.index < length c.args.snapshot.now.asks = omega (arith, most, test) in
     (c.requires.snapshot, (c.requires.ask, within))
 
 pub returns-then-is_for-clause-first : goal.returns-then-is_for-clause-first
 returns-then-is_for-clause-first g c =
-    let count = c.ask_count-index-end.ensures.count in
+    let most = c.asks_of-asks.ensures.within in
     let test = c.loop-index-test.true in
-    let within : c.loop-index.index < length c.args.snapshot.now.asks = omega (arith, count, test) in
+    let within : c.loop-index.index < length c.args.snapshot.now.asks = omega (arith, most, test) in
     (within, c.loop-index.invariant, it_is_for g.row.K c.args.snapshot.now c.args.reservation.now c.loop-index.index c.ask.result.now c.ask.ensures (sym c.is_for.ensures ∙ c.if-is_for.true))
 
 pub loop-index-preserved : goal.loop-index-preserved
@@ -22,7 +28,6 @@ loop-index-preserved g c =
 
 pub returns-clause-first : goal.returns-clause-first
 returns-clause-first g c =
-    let count = c.ask_count-index-end.ensures.count in
-    let test = c.loop-index-test.false in
-    let all : length c.args.snapshot.now.asks ≤ c.loop-index.index = omega (arith, count, test) in
-    all_others g.row.K c.args.snapshot.now c.args.reservation.now c.loop-index.index all c.loop-index.invariant
+    let asks = c.asks_of-asks in
+    all_others g.row.K c.args.snapshot.now c.args.reservation.now asks.result.start asks.result.end c.loop-index.index
+    (subst (λ app. AreInside c.args.snapshot.now.asks app asks.result.start asks.result.end) c.app.ensures asks.ensures.inside) c.loop-index-test.false c.loop-index.invariant

@@ -7,13 +7,13 @@ use Rattle.cap_asks.specs.Accounts.{HeldApp}
 use Rattle.cap_tree.specs.ServedWaiters.{AreNumbered, Waiter}
 use Rattle.cap_tree.proofs.Served.{numbered_more}
 use Rattle.cap_copy.proofs.LoopSteps.{map_more}
-use Rattle.cap_copy.proofs.registered.waiters.Goals as goal
+use Rattle.cap_copy.proofs.waiting.waiters.Goals as goal
 
 pub loop-index-preserved : goal.loop-index-preserved
 loop-index-preserved g c =
     let i = c.loop-index.index in
-    let held = c.index-registered-index.result in
-    let at : slice_get c.args.registered.now i ≡ Some held = slice_get_read c.args.registered.now (length c.args.registered.now) i held refl c.loop-index-test.true c.index-registered-index.is in
+    let held = c.index-apps-index.result in
+    let at : slice_get c.args.apps.now i ≡ Some held = slice_get_read c.args.apps.now (length c.args.apps.now) i held refl c.loop-index-test.true c.index-apps-index.is in
     let old = c.loop-index.invariant in
     let steps : c.as_slice.result.now ≡ held.account.position = c.as_slice.ensures ∙ c.position.ensures ∙ ap (λ (h : HeldApp). h.account.position) c.app-app.ensures in
     let many : length c.loop-index.waiting.items ≡ i = (let n = old.count in omega (arith, n)) in
@@ -22,7 +22,7 @@ loop-index-preserved g c =
           ap (map (λ (w : Waiter). w.steps)) c.push_reserved.ensures.items
           ∙ map_push (λ (w : Waiter). w.steps) c.loop-index.waiting.items c.new.result
           ∙ (λ k. old.steps k ++ (ap (λ (w : Waiter). w.steps) c.new.ensures ∙ steps) k ∷ [])
-          ∙ sym (map_more (λ (r : HeldApp). r.account.position) c.args.registered.now i held at);
+          ∙ sym (map_more (λ (r : HeldApp). r.account.position) c.args.apps.now i held at);
       numbered = subst (AreNumbered 0) (sym c.push_reserved.ensures.items) (numbered_more 0 c.loop-index.waiting.items c.new.result old.numbered (let e = ap (λ (w : Waiter). w.index) c.new.ensures in omega (arith, e, many)));
       count = omega arith;
       room = omega arith;

@@ -1,9 +1,9 @@
-//! The registered applications of a cluster, by reference, and where they wait (`Registered`, `waiters`).
+//! The applications of a cluster that wait for containers, by reference, and where they wait (`Waiting`, `waiters`).
 ghost use Rattle.std.specs.Prelude.{◌≡◌, ◌≤◌, Some, IfOk, length, map};
 ghost use Rattle.std.specs.List.{All};
-ghost use Rattle.cap_base.specs.Limits.{applications_max};
+ghost use Rattle.cap_base.specs.Limits.{applications_max, resources_max};
 ghost use Rattle.cap_asks.specs.Apps.{account_of};
-ghost use Rattle.cap_copy.specs.Entries.{registered_of};
+ghost use Rattle.cap_copy.specs.Entries.{is_waiting, waiting_of};
 ghost use Rattle.cap_tree.specs.ServedWaiters.{AreNumbered};
 
 use cap_asks::{App, Apps};
@@ -12,21 +12,21 @@ use cap_tree::Waiter;
 use std::alloc::Allocator;
 use std::marker::Model;
 
-/// A registered application.
+/// An application that waits for containers: it has registered, and has asks.
 #[derive(Drop)]
-pub(crate) struct Registered<'a, const K: usize> {
+pub(crate) struct Waiting<'a, const K: usize> {
     app: &'a App<K>,
 }
 
-impl<'a, const K: usize> Model for Registered<'a, K> {
+impl<'a, const K: usize> Model for Waiting<'a, K> {
     ghost use Rattle.cap_asks.specs.Accounts.{HeldApp};
 
     ghost Value = { HeldApp };
 
-    ghost view = { λ r. r.app.now };
+    ghost view = { λ w. w.app.now };
 }
 
-impl<'a, const K: usize> Registered<'a, K> {
+impl<'a, const K: usize> Waiting<'a, K> {
     /// The application.
     pub(crate) fn app(&self) -> &'a App<K>
         ensures { result.now ≡ self.now }
@@ -35,13 +35,14 @@ impl<'a, const K: usize> Registered<'a, K> {
     }
 }
 
-/// The registered applications, in order of number, in one piece of memory. An error means that an allocation failed.
-pub(crate) fn registered_apps<'a, const K: usize, B: Allocator + Copy>(
+/// The applications that wait, in order of number, in one piece of memory. An error means that an allocation failed.
+pub(crate) fn waiting_apps<'a, const K: usize, B: Allocator + Copy>(
     alloc: B,
     apps: &'a Apps<K>,
-) -> Result<Vec<Registered<'a, K>, B>, NoMemory>
+) -> Result<Vec<Waiting<'a, K>, B>, NoMemory>
+    requires { K ≤ resources_max }
     ensures apps { IfOk result (λ seen.
-        map (λ r. r.app) seen.items ≡ registered_of apps.now.table.active) }
+        map (λ r. r.app) seen.items ≡ waiting_of apps.now.table.active) }
     ensures accounts { IfOk result (λ seen. All
         (λ r. account_of r.app.number apps.now.accounts ≡ Some r.account) seen.items) }
 {
@@ -50,28 +51,36 @@ pub(crate) fn registered_apps<'a, const K: usize, B: Allocator + Copy>(
     };
     for index in 0..apps.count() {
         let app = apps.nth(index);
-        if app.is_registered() {
-            seen.push_reserved(Registered { app });
+        if is_waiting(app) {
+            seen.push_reserved(Waiting { app });
         }
     }
     Ok(seen)
 }
 
+/// Whether an application waits for containers: it has registered, and has asks.
+fn is_waiting<const K: usize>(app: &App<K>) -> bool
+    requires { K ≤ resources_max }
+    ensures { result ≡ is_waiting app.now.app }
+{
+    app.is_registered() && !app.asks().is_empty()
+}
+
 /// Where the applications wait, each under its index, in one piece of memory. An error means that an allocation failed.
 pub(crate) fn waiters<'a, const K: usize, B: Allocator + Copy>(
     alloc: B,
-    registered: &'a [Registered<'a, K>],
+    apps: &'a [Waiting<'a, K>],
 ) -> Result<Vec<Waiter<'a>, B>, NoMemory>
-    requires { length registered.now ≤ applications_max }
+    requires { length apps.now ≤ applications_max }
     ensures steps { IfOk result (λ waiting.
-        map (λ w. w.steps) waiting.items ≡ map (λ r. r.account.position) registered.now) }
+        map (λ w. w.steps) waiting.items ≡ map (λ r. r.account.position) apps.now) }
     ensures numbered { IfOk result (λ waiting. AreNumbered 0 waiting.items) }
 {
-    let Ok(mut waiting) = Vec::with_capacity(alloc, registered.len()) else {
+    let Ok(mut waiting) = Vec::with_capacity(alloc, apps.len()) else {
         return Err(NoMemory);
     };
-    for index in 0..registered.len() as u32 {
-        let app = registered[index as usize].app();
+    for index in 0..apps.len() as u32 {
+        let app = apps[index as usize].app();
         waiting.push_reserved(Waiter::new(index, app.position().as_slice()));
     }
     Ok(waiting)
