@@ -1,9 +1,9 @@
 #!/usr/bin/env bash
-# Counts the instructions of seven works by valgrind's callgrind, from the difference of two sizes: a ClusterInfo on one of 16 connections, a heartbeat, an
+# Counts the instructions of eight works by valgrind's callgrind, from the difference of two sizes: a ClusterInfo on one of 16 connections, a heartbeat, an
 # allocate of 20 asks among 256 applications, a queue that is opened from its lines and shown, a Refresh of 1,024 queues, a turn of a worker (it copies, proposes and commits) in a cluster of
-# 512 nodes, 64 leaf queues and 256 applications, and one of 32 workers that all copy the same state first. Prints them a request, with those that clear and copy
-# memory apart, of which callgrind counts about one a byte; fails where both together are past the bound beside each. Needs valgrind, a package of most
-# distributions. Counts depend a little on the C library and the processor.
+# 512 nodes, 64 leaf queues and 256 applications, one of 32 workers that all copy the same state first, and one where each node holds a reservation, 2,048 asks are open
+# and nothing is admissible (it copies and proposes). Prints them a request, with those that clear and copy memory apart, of which callgrind counts about one a byte;
+# fails where both together are past the bound beside each. Needs valgrind, a package of most distributions. Counts depend a little on the C library and the processor.
 . "$(dirname "${BASH_SOURCE[0]}")/common.sh"
 need_valgrind
 build_capsched
@@ -129,6 +129,42 @@ turn() { turns "$1" 1; }
 # n turns of 32 workers that all copy the same state
 turn_of_32() { turns $(($1 / 32)) 32; }
 
+# 512 nodes, each with a container and a reservation, and 256 applications in 64 leaf queues with 8 asks each, of which no node has room for one; then n turns
+turn_of_full_farm() {
+  awk -v n="$1" '
+    function text(path,  i, hex) {
+      for (i = 1; i <= length(path); i++) hex = hex sprintf("%02x", index(ascii, substr(path, i, 1)) + 31)
+      return sprintf("%02x", length(path)) hex
+    }
+    function request(body) { printf "bytes 1 %08x%s\n", length(body) / 2, body }
+    function ask(id, count, mb, vcores) { return sprintf("%08x%016x%08x%016x%016x", 1, id, count, mb, vcores) "012a" }
+    function commits(  i) { for (i = 0; i < 512; i++) print "copy 0\npropose 0 " i "\ncommit 0" }
+    BEGIN {
+      for (i = 32; i < 127; i++) ascii = ascii sprintf("%c", i)
+      for (i = 1; i <= 64; i++) leaves = leaves (i > 1 ? "," : "") "q" i
+      print "conf yarn.scheduler.capacity.root.queues=" leaves
+      for (i = 1; i <= 64; i++) {
+        print "conf yarn.scheduler.capacity.root.q" i ".capacity=[memory=65536,vcores=64]"
+        print "conf yarn.scheduler.capacity.root.q" i ".user-limit-factor=64"
+      }
+      print "open 1"
+      for (i = 1; i <= 512; i++) request(sprintf("0105%08x", i) text("n" i) text("/r1") sprintf("%016x%016x", 2048, 2))
+      for (i = 1; i <= 256; i++) {
+        request(sprintf("0101%08x", i) text("root.q" ((i - 1) % 64 + 1)) text("u1"))
+        request(sprintf("0102%08x%016x", i, i))
+      }
+      request(sprintf("0103%08x%016x%08x0001", 1, 1, 0) ask(9, 512, 1024, 1) "0000")
+      commits()
+      for (i = 1; i <= 256; i++) {
+        asks = ""
+        for (k = 1; k <= 8; k++) asks = asks ask(k, 9999, 2048, 2)
+        request(sprintf("0103%08x%016x%08x0008", i, i, i == 1) asks "0000")
+      }
+      commits()
+      for (i = 0; i < n; i++) print "copy 0\npropose 0 " i
+    }'
+}
+
 broken=0
 # measure WORK SIZE BOUND ANSWERS: of a work at a size and at twice the size, where so many lines of output match
 measure() {
@@ -150,4 +186,5 @@ measure queue 480 40000 '^out 1 000000[0-9a-f]\{2\}0108[0-9a-f]\{8\}00'
 measure refresh 8 30000000 '^out 1 00000007010b[0-9a-f]\{8\}00'
 measure turn 512 250000 '^done 0 grant'
 measure turn_of_32 512 250000 '^done [0-9]* grant'
+measure turn_of_full_farm 64 750000 '^proposed 0 none'
 exit "$broken"
