@@ -1,8 +1,6 @@
-#!/usr/bin/env python3
 """Plays cases of runs/replay through `capsched serve`: a client for each connection sends the pieces of its lines `bytes`, and must read what its lines `out` say.
 
-Those cases are played in which no worker has a step and no ask is taken, so that the daemon's own workers find nothing to do. With words this runs the
-programs that they name, else the one that `./capsched` builds.
+Those cases are played in which no worker has a step and no ask is taken, so that the daemon's own workers find nothing to do. check.py calls this.
 """
 import os
 import socket
@@ -114,9 +112,10 @@ def talk(port, name, steps):
 def check(program, cases, answers):
     """Plays those of these cases that can be. The result is how many they are."""
     played = 0
-    for (name, given), text in zip(cases, answers):
+    for (name, given), (_, text) in zip(cases, answers):
         found = steps_of(given, text)
         if found and found[1]:
             play(program, name.decode(), *found)
             played += 1
+    daemon.expect(played > 0, "cases of replay", "none can be played")
     return played
