@@ -1,5 +1,5 @@
 -- Lists of queues that are trees.
-use Rattle.std.specs.Prelude.{◌≡◌, ℕ, ◌+◌, Bool, true, false, not, ◌&&◌, is_some, if◌then◌else◌, List, [], ◌∷◌, ◌++◌, map, find, count_by, ◌==◌, bytes_eq}
+use Rattle.std.specs.Prelude.{◌≡◌, ℕ, Bool, true, false, not, ◌&&◌, is_some, if◌then◌else◌, List, [], ◌∷◌, ◌++◌, map, find, count_by, ◌==◌, bytes_eq}
 use Rattle.std.specs.List.{All, list_any, list_all}
 use Rattle.cap_base.specs.Texts.{dot}
 use Rattle.cap_base.specs.Settings.{QueueRow}

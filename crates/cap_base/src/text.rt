@@ -3,10 +3,12 @@ ghost use Rattle.std.specs.Prelude.{◌≡◌, ◌↔◌, length, IfSome, IsSome
 ghost use Rattle.std.specs.List.{list_all};
 ghost use Rattle.cap_base.specs.Texts.{star, is_graphic, is_text};
 
+use std::hash::{Hash, Hasher};
 use std::marker::Model;
 
-/// A text of a message: 1 to `MAX` bytes, each from 0x21 to 0x7E, held inline. Contracts see it as its bytes.
-#[derive(Clone, Copy, Debug, PartialEq, Eq, Hash)]
+/// A text of a message: 1 to `MAX` bytes, each from 0x21 to 0x7E, held inline. Contracts see it as its bytes, which are
+/// what is compared and hashed, as of a `str`: never the room behind them.
+#[derive(Clone, Copy, Debug)]
 pub struct Text<const MAX: usize> {
     bytes: [u8; MAX],
     len: usize,
@@ -35,6 +37,41 @@ impl<const MAX: usize> Model for Text<MAX> {
       bytes = sym h.padding i;
       len = length_held MAX t.len t.bytes h i;
     } };
+}
+
+impl<const MAX: usize> PartialEq for Text<MAX> {
+    ghost use Rattle.std.specs.Prelude.{nat_eq};
+    ghost use Rattle.std.specs.Cmp.{partial_equiv_from_equiv};
+    ghost use Rattle.std.specs.Cmp.Lexicographic.{nat_list_eq_equiv, pointwise};
+
+    ghost eq = { λ s t. pointwise nat_eq s t };
+
+    ghost laws = { partial_equiv_from_equiv nat_list_eq_equiv };
+
+    fn eq(&self, other: &Self) -> bool {
+        self.as_bytes() == other.as_bytes()
+    }
+}
+
+impl<const MAX: usize> Eq for Text<MAX> {
+    ghost use Rattle.std.specs.Cmp.Lexicographic.{nat_list_eq_equiv};
+
+    ghost laws = { nat_list_eq_equiv };
+}
+
+impl<const MAX: usize> Hash for Text<MAX> {
+    ghost use Rattle.std.specs.Prelude.{◌∷◌, []};
+    ghost use Rattle.std.specs.Cmp.Rules.{hashing};
+    ghost use Rattle.std.proofs.Common.{rules};
+
+    ghost hash_input = { λ t. t ∷ (255 ∷ []) ∷ [] };
+
+    ghost respects_eq = { Prim.search (hashing, rules) };
+
+    fn hash<H: Hasher>(&self, state: &mut H) {
+        state.write(self.as_bytes());
+        state.write_u8(0xFF);
+    }
 }
 
 impl ShortText {
