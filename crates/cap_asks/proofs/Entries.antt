@@ -1,9 +1,14 @@
 -- The entries of a table by number.
-use Rattle.std.proofs.Common.{◌≡◌, ℕ, zero, suc, slice_get, ◌+◌, ◌≤◌, ◌<◌, Bool, true, false, cond, List, [], ◌∷◌, ◌++◌, map, refl, sym, ◌∙◌, ap, subst, arith}
+use Rattle.std.proofs.Common.{◌≡◌, ℕ, ◌+◌, ◌≤◌, ◌<◌, Bool, true, false, cond, List, [], ◌∷◌, ◌++◌, map, refl, sym, ◌∙◌, ap, subst, arith, nat_cmp}
 use Rattle.std.specs.Prelude.{Option, Some, None, is_some, IsSome, IfSome, option_and_then, nat_eq, not, find, filter, option_map, ◌==◌, if◌then◌else◌}
 use Rattle.std.specs.Option.{option_map_or}
-use Rattle.std.specs.Map.{lookup, set_value, remove_entry, values_of}
+use Rattle.std.specs.Map.{lookup, set_value, remove_entry}
+use Rattle.std.specs.BTreeMap.{insert_entry, is_at}
+use Rattle.std.specs.Cmp.{unsigned_ties, nat_cmp_is, nat_eq_equiv}
+use Rattle.std.specs.declared.cmp.Ordering.TheVariants.{Greater}
 use Rattle.std.proofs.lemmas.Bool.Decides.{nat_tests}
+use Rattle.std.proofs.lemmas.List.{map_push}
+use Rattle.std.proofs.lemmas.Map.{lookup-set_value}
 use Rattle.cap_model.specs.Flat.{App}
 use Rattle.cap_base.specs.Members.{IsRising}
 use Rattle.cap_model.specs.FinishMaster.{remove_app}
@@ -18,6 +23,13 @@ apps_of es = map (λ e. e.1.app) es
 
 abbrev pub accounts_of : List (ℕ × HeldApp) → List (ℕ × Account)
 accounts_of es = map (λ e. (e.0, e.1.account)) es
+
+-- the test of a map by number
+pub is_number : (n : ℕ) → is_at (nat_cmp n) ≡ nat_eq n
+is_number n i k = sym (unsigned_ties n k) i
+
+pub by_number : (n : ℕ) (es : List (ℕ × HeldApp)) {o : Option HeldApp} → o ≡ lookup (is_at (nat_cmp n)) es → lookup (nat_eq n) es ≡ o
+by_number n es e = ap (λ t. lookup t es) (sym (is_number n)) ∙ sym e
 
 -- the numbers of the rows are those of the entries
 number_is : (low n next : ℕ) (e : ℕ × HeldApp) (es : List (ℕ × HeldApp)) → AreNumbered low (e ∷ es) next → (e.1.app.number == n) ≡ nat_eq n e.0
@@ -57,17 +69,17 @@ none_changed low n next (e ∷ es) change h a = by (nat_eq n e.0) refl (none_cha
         ap (λ xs. e.1.app ∷ xs) (r (sym (ap (λ c. cond c (Some e.1) (lookup (nat_eq n) es)) b) ∙ a))
         ∙ sym (ap (λ c. cond c (change e.1.app) e.1.app ∷ changed_at n change (apps_of es)) (number_is low n next e es h ∙ b))
 
-above_absent : (low n next : ℕ) (es : List (ℕ × HeldApp)) → AreNumbered low es next → n < low → lookup (nat_eq n) es ≡ None
+pub above_absent : (low n next : ℕ) (es : List (ℕ × HeldApp)) → AreNumbered low es next → n < low → lookup (nat_eq n) es ≡ None
 above_absent low n next [] h l = refl
 above_absent low n next (e ∷ es) h l =
     let first = h.0 in
     ap (λ c. cond c (Some e.1) (lookup (nat_eq n) es)) (let b : nat_eq n e.0 ≡ false = grind (arith, nat_tests, first, l) in b) ∙ above_absent (e.0 + 1) n next es h.2 (omega (arith, first, l))
 
-some_is : (b : Bool) (x y : HeldApp) (o : Option HeldApp) → b ≡ true → cond b (Some x) o ≡ Some y → x ≡ y
+pub some_is : (b : Bool) (x y : HeldApp) (o : Option HeldApp) → b ≡ true → cond b (Some x) o ≡ Some y → x ≡ y
 some_is true x y o e f = cc
 some_is false x y o e f = absurd (cc e)
 
-same_number : (n : ℕ) (e : ℕ × HeldApp) → nat_eq n e.0 ≡ true → n ≡ e.0
+pub same_number : (n : ℕ) (e : ℕ × HeldApp) → nat_eq n e.0 ≡ true → n ≡ e.0
 same_number n e b = grind (arith, nat_tests, b)
 
 -- where there is, it alone changes
@@ -101,22 +113,27 @@ still_numbered low n next (e ∷ es) old new h a i = by (nat_eq n e.0) refl (sti
         (h.0, i ∙ ap (λ (o : HeldApp). o.app.number) (sym old_is) ∙ h.1, h.2)
     by false b r = (h.0, h.1, r (sym (ap (λ c. cond c (Some e.1) (lookup (nat_eq n) es)) b) ∙ a) i)
 
+-- what is found after a change
+found_set : (m n : ℕ) (es : List (ℕ × HeldApp)) (old new : HeldApp) → lookup (nat_eq n) es ≡ Some old → lookup (nat_eq m) (set_value (nat_eq n) es new) ≡ cond (nat_eq n m) (Some new) (lookup (nat_eq m) es)
+found_set m n es old new a = lookup-set_value nat_eq_equiv (nat_eq n) (λ x y. nat_eq_equiv.congr n x y) m new es (ap is_some a)
+
+pub found_after : (n : ℕ) (es : List (ℕ × HeldApp)) (old new : HeldApp) → lookup (nat_eq n) es ≡ Some old → lookup (nat_eq n) (set_value (nat_eq n) es new) ≡ Some new
+found_after n es old new a = found_set n n es old new a ∙ ap (λ c. cond c (Some new) (lookup (nat_eq n) es)) (nat_eq_equiv.refl n)
+
 -- its account alone changes
 account_after : (P : Bool → Option Account → Option Account → Type 0) (m n : ℕ) (es : List (ℕ × HeldApp)) (old new : HeldApp) → lookup (nat_eq n) es ≡ Some old → P true (Some old.account) (Some new.account) → ((o : Option Account) → P false o o)
     → P (m == n) (account_of m (accounts_of es)) (account_of m (accounts_of (set_value (nat_eq n) es new)))
-account_after P m n [] old new a here others = absurd (cc a)
-account_after P m n (e ∷ es) old new a here others = by (nat_eq n e.0) (nat_eq m e.0) refl refl (account_after P m n es old new)
+account_after P m n es old new a here others = by (nat_eq n m) refl
   where
-    by : (b c : Bool) → nat_eq n e.0 ≡ b → nat_eq m e.0 ≡ c
-        → (lookup (nat_eq n) es ≡ Some old → P true (Some old.account) (Some new.account) → ((o : Option Account) → P false o o) → P (m == n) (account_of m (accounts_of es)) (account_of m (accounts_of (set_value (nat_eq n) es new))))
-        → P (m == n) (cond (nat_eq m e.0) (Some e.1.account) (account_of m (accounts_of es))) (account_of m (accounts_of (cond b ((e.0, new) ∷ es) (e ∷ set_value (nat_eq n) es new))))
-    by true true s t rec =
-        let same : m == n ≡ true = grind (arith, nat_tests, s, t) in
-        let old_is = some_is (nat_eq n e.0) e.1 old (lookup (nat_eq n) es) s a in
-        rw (same, t, old_is) here
-    by true false s t rec = let other : m == n ≡ false = grind (arith, nat_tests, s, t) in rw (other, t) (others (account_of m (accounts_of es)))
-    by false true s t rec = let other : m == n ≡ false = grind (arith, nat_tests, s, t) in rw (other, t) (others (Some e.1.account))
-    by false false s t rec = rw t (rec (sym (ap (λ c. cond c (Some e.1) (lookup (nat_eq n) es)) s) ∙ a) here others)
+    after : (b : Bool) → nat_eq n m ≡ b → account_of m (accounts_of (set_value (nat_eq n) es new)) ≡ option_map (λ (x : HeldApp). x.account) (cond b (Some new) (lookup (nat_eq m) es))
+    after b e = account_found m (set_value (nat_eq n) es new) ∙ ap (option_map (λ (x : HeldApp). x.account)) (found_set m n es old new a ∙ ap (λ c. cond c (Some new) (lookup (nat_eq m) es)) e)
+
+    by : (b : Bool) → nat_eq n m ≡ b → P (m == n) (account_of m (accounts_of es)) (account_of m (accounts_of (set_value (nat_eq n) es new)))
+    by true e =
+        let same : m == n ≡ true = grind (arith, nat_tests, e) in
+        let is : m ≡ n = grind (arith, nat_tests, e) in
+        rw (same, after true e, account_found m es ∙ ap (option_map (λ (x : HeldApp). x.account)) (ap (λ k. lookup (nat_eq k) es) is ∙ a)) here
+    by false e = let other : m == n ≡ false = grind (arith, nat_tests, e) in rw (other, after false e ∙ sym (account_found m es)) (others (account_of m (accounts_of es)))
 
 pub one_uses : (n a g e : ℕ) (es : List (ℕ × HeldApp)) (old new : HeldApp) → lookup (nat_eq n) es ≡ Some old → TakesRoom a g e old.account new.account → UsesRoom n a g e (accounts_of es) (accounts_of (set_value (nat_eq n) es new))
 one_uses n a g e es old new found t =
@@ -135,17 +152,6 @@ one_uses n a g e es old new found t =
 -- the account of an application that is there
 pub account_there : (n : ℕ) (es : List (ℕ × HeldApp)) (old : HeldApp) → lookup (nat_eq n) es ≡ Some old → account_of n (accounts_of es) ≡ Some old.account
 account_there n es old found = account_found n es ∙ ap (option_map (λ (x : HeldApp). x.account)) found
-
--- and after a change
-pub found_after : (n : ℕ) (es : List (ℕ × HeldApp)) (old new : HeldApp) → lookup (nat_eq n) es ≡ Some old → lookup (nat_eq n) (set_value (nat_eq n) es new) ≡ Some new
-found_after n [] old new a = absurd (cc a)
-found_after n (e ∷ es) old new a = by (nat_eq n e.0) refl (found_after n es old new)
-  where
-    by : (b : Bool) → nat_eq n e.0 ≡ b → (lookup (nat_eq n) es ≡ Some old → lookup (nat_eq n) (set_value (nat_eq n) es new) ≡ Some new) → lookup (nat_eq n) (cond (nat_eq n e.0) ((e.0, new) ∷ es) (e ∷ set_value (nat_eq n) es new)) ≡ Some new
-    by true b r = ap (λ c. lookup (nat_eq n) (cond c ((e.0, new) ∷ es) (e ∷ set_value (nat_eq n) es new))) b ∙ ap (λ c. cond c (Some new) (lookup (nat_eq n) es)) b
-    by false b r =
-        ap (λ c. lookup (nat_eq n) (cond c ((e.0, new) ∷ es) (e ∷ set_value (nat_eq n) es new))) b
-        ∙ ap (λ c. cond c (Some e.1) (lookup (nat_eq n) (set_value (nat_eq n) es new))) b ∙ r (sym (ap (λ c. cond c (Some e.1) (lookup (nat_eq n) es)) b) ∙ a)
 
 -- its room is the table's
 pub has_rooms : (n a g e : ℕ) (es : List (ℕ × HeldApp)) (old : HeldApp) → lookup (nat_eq n) es ≡ Some old → HasRoom a g e old.account → HasRooms n a g e (accounts_of es)
@@ -231,32 +237,16 @@ pub table_without : (n next : ℕ) (es left : List (ℕ × HeldApp)) → AreNumb
 table_without n next es left h is = rw (is, apps_without 1 n next es h) refl
 
 -- without its account
-own_removed : (low n next : ℕ) (es : List (ℕ × HeldApp)) → AreNumbered low es next → lookup (nat_eq n) (remove_entry (nat_eq n) es) ≡ None
-own_removed low n next [] h = refl
-own_removed low n next (e ∷ es) h = by (nat_eq n e.0) refl (own_removed (e.0 + 1) n next es h.2)
-  where
-    by : (b : Bool) → nat_eq n e.0 ≡ b → lookup (nat_eq n) (remove_entry (nat_eq n) es) ≡ None → lookup (nat_eq n) (cond b es (e ∷ remove_entry (nat_eq n) es)) ≡ None
-    by true s r = let n_is = same_number n e s in above_absent (e.0 + 1) n next es h.2 (omega (arith, n_is))
-    by false s r = ap (λ c. cond c (Some e.1) (lookup (nat_eq n) (remove_entry (nat_eq n) es))) s ∙ r
-
-other_removed : (m n : ℕ) (es : List (ℕ × HeldApp)) → m == n ≡ false → lookup (nat_eq m) (remove_entry (nat_eq n) es) ≡ lookup (nat_eq m) es
-other_removed m n [] o = refl
-other_removed m n (e ∷ es) o = by (nat_eq n e.0) (nat_eq m e.0) refl refl (other_removed m n es o)
-  where
-    by : (b c : Bool) → nat_eq n e.0 ≡ b → nat_eq m e.0 ≡ c → lookup (nat_eq m) (remove_entry (nat_eq n) es) ≡ lookup (nat_eq m) es
-        → lookup (nat_eq m) (cond b es (e ∷ remove_entry (nat_eq n) es)) ≡ cond (nat_eq m e.0) (Some e.1) (lookup (nat_eq m) es)
-    by true true s t r = absurd (grind (arith, nat_tests, s, t, o))
-    by true false s t r = sym (ap (λ d. cond d (Some e.1) (lookup (nat_eq m) es)) t)
-    by false c s t r = ap (λ x. cond (nat_eq m e.0) (Some e.1) x) r
-
-pub account_left : (n next : ℕ) (es left : List (ℕ × HeldApp)) → AreNumbered 1 es next → left ≡ remove_entry (nat_eq n) es → IsLeft n (accounts_of es) (accounts_of left)
-account_left n next es left h is = rw is (record {
-  own = account_found n (remove_entry (nat_eq n) es) ∙ ap (option_map (λ (x : HeldApp). x.account)) (own_removed 1 n next es h);
-  others = λ m o. account_found m (remove_entry (nat_eq n) es) ∙ ap (option_map (λ (x : HeldApp). x.account)) (other_removed m n es o) ∙ sym (account_found m es);
-})
+pub account_left : (n : ℕ) (es left : List (ℕ × HeldApp)) → lookup (is_at (nat_cmp n)) left ≡ None → ((m : ℕ) → is_at (nat_cmp n) m ≡ false → lookup (is_at (nat_cmp m)) left ≡ lookup (is_at (nat_cmp m)) es) → IsLeft n (accounts_of es) (accounts_of left)
+account_left n es left own others = record {
+  own = account_found n left ∙ ap (option_map (λ (x : HeldApp). x.account)) (by_number n left (sym own));
+  others = λ m o.
+      let other : is_at (nat_cmp n) m ≡ false = ap (λ (t : ℕ → Bool). t m) (is_number n) ∙ grind (arith, nat_tests, o) in
+      account_found m left ∙ ap (option_map (λ (x : HeldApp). x.account)) (by_number m left (sym (others m other ∙ ap (λ t. lookup t es) (is_number m)))) ∙ sym (account_found m es);
+}
 
 -- one more
-low_below : (low next : ℕ) (es : List (ℕ × HeldApp)) → AreNumbered low es next → low ≤ next
+pub low_below : (low next : ℕ) (es : List (ℕ × HeldApp)) → AreNumbered low es next → low ≤ next
 low_below low next [] h = h
 low_below low next (e ∷ es) h = let first = h.0 in let rest = low_below (e.0 + 1) next es h.2 in omega (arith, first, rest)
 
@@ -288,6 +278,7 @@ other_pushed m n (e ∷ es) x o = ap (λ r. cond (nat_eq m e.0) (Some e.1) r) (o
 
 pub account_entered : (n : ℕ) (position : List ℕ) (es new : List (ℕ × HeldApp)) (x : HeldApp) → lookup (nat_eq n) es ≡ None → new ≡ es ++ (n, x) ∷ [] → x.account ≡ new_account position → IsEntered n position (accounts_of es) (accounts_of new)
 account_entered n position es new x none is account = rw is (record {
+  last = map_push (λ (e : ℕ × HeldApp). (e.0, e.1.account)) es (n, x) ∙ ap (λ a. accounts_of es ++ (n, a) ∷ []) account;
   absent = account_found n es ∙ ap (option_map (λ (h : HeldApp). h.account)) none;
   own = account_found n (es ++ (n, x) ∷ []) ∙ ap (option_map (λ (h : HeldApp). h.account)) (own_pushed n es x none) ∙ ap (λ a. Some a) account;
   others = λ m o. account_found m (es ++ (n, x) ∷ []) ∙ ap (option_map (λ (h : HeldApp). h.account)) (other_pushed m n es x o) ∙ sym (account_found m es);
@@ -319,31 +310,15 @@ same_apps n (e ∷ es) old new a is = by (nat_eq n e.0) refl (same_apps n es old
     by true b r = ap (λ x. x ∷ apps_of es) (is ∙ ap (λ (o : HeldApp). o.app) (sym (some_is (nat_eq n e.0) e.1 old (lookup (nat_eq n) es) b a)))
     by false b r = ap (λ xs. e.1.app ∷ xs) (r (sym (ap (λ c. cond c (Some e.1) (lookup (nat_eq n) es)) b) ∙ a) is)
 
--- the application at an index is the one of its number
-pub record IsNth (i low : ℕ) (es : List (ℕ × HeldApp)) (x : HeldApp) : Type 0 where
-  pub at : slice_get (apps_of es) i ≡ Some x.app
-  pub own : lookup (nat_eq x.app.number) es ≡ Some x
-  pub above : low ≤ x.app.number
+-- the last of all numbers goes last
+pub inserted_last : (low next : ℕ) (es : List (ℕ × HeldApp)) (x : HeldApp) → AreNumbered low es next → insert_entry nat_cmp es next x ≡ es ++ (next, x) ∷ []
+inserted_last low next [] x h = refl
+inserted_last low next (e ∷ es) x h =
+    let below = low_below (e.0 + 1) next es h.2 in
+    let greater : nat_cmp next e.0 ≡ Greater = sym (nat_cmp_is next e.0 Greater (omega (arith, below))) in
+    rw greater (ap (λ ys. e ∷ ys) (inserted_last (e.0 + 1) next es x h.2))
 
-pub nth_is : (i low next : ℕ) (es : List (ℕ × HeldApp)) (x : HeldApp) → AreNumbered low es next → slice_get (values_of es) i ≡ Some x → IsNth i low es x
-nth_is i low next [] x h e = absurd (cc e)
-nth_is zero low next (e ∷ es) x h at =
-    let is : e.1 ≡ x = cc at in
-    let number : x.app.number ≡ e.0 = ap (λ (y : HeldApp). y.app.number) (sym is) ∙ h.1 in
-    let own : nat_eq x.app.number e.0 ≡ true = grind (arith, nat_tests, number) in
-    let first = h.0 in
-    record {
-      at = ap (λ (y : HeldApp). Some y.app) is;
-      own = ap (λ c. cond c (Some e.1) (lookup (nat_eq x.app.number) es)) own ∙ at;
-      above = omega (arith, first, number);
-    }
-nth_is (suc i) low next (e ∷ es) x h at =
-    let later = nth_is i (e.0 + 1) next es x h.2 at in
-    let first = h.0 in
-    let above = later.above in
-    let other : nat_eq x.app.number e.0 ≡ false = grind (arith, nat_tests, above) in
-    record {
-      at = later.at;
-      own = ap (λ c. cond c (Some e.1) (lookup (nat_eq x.app.number) es)) other ∙ later.own;
-      above = omega (arith, first, above);
-    }
+-- and those before the last stay numbered without it
+pub numbered_front : (low next : ℕ) (es : List (ℕ × HeldApp)) (p : ℕ × HeldApp) → AreNumbered low (es ++ p ∷ []) next → AreNumbered low es p.0 × (p.1.app.number ≡ p.0)
+numbered_front low next [] p h = (h.0, h.1)
+numbered_front low next (e ∷ es) p h = let r = numbered_front (e.0 + 1) next es p h.2 in ((h.0, h.1, r.0), r.1)

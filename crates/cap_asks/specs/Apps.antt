@@ -1,5 +1,5 @@
 -- The table of active applications, with the account of each.
-use Rattle.std.specs.Prelude.{◌≡◌, ℕ, ◌+◌, ◌≤◌, List, [], ◌∷◌, ◌++◌, Option, Some, None, option_and_then, false, nat_eq, ◌==◌, if◌then◌else◌, option_map}
+use Rattle.std.specs.Prelude.{◌≡◌, ℕ, ◌+◌, ◌≤◌, Bool, ◌&&◌, not, nat_lt, filter, length, map, List, [], ◌∷◌, ◌++◌, Option, Some, None, option_and_then, false, nat_eq, ◌==◌, if◌then◌else◌, option_map}
 use Rattle.std.specs.Option.{option_map_or}
 use Rattle.std.specs.Map.{lookup}
 use Rattle.cap_model.specs.Flat.{AppTable, app_in, App}
@@ -14,11 +14,25 @@ use Rattle.cap_model.specs.Events.{take_one}
 use Rattle.cap_model.specs.Allocate.{after_telling}
 use Rattle.cap_model.specs.declared.replies.Reported.{Reported}
 
--- the active applications, the account of each by its number, and how many more there is room for
+-- the active applications, and the account of each by its number
 pub record HeldApps : Type 0 where
   pub table : AppTable
   pub accounts : List (ℕ × Account)
-  pub vacant : ℕ
+
+-- an application waits for containers where its master has registered, and it has asks
+abbrev pub is_waiting : App → Bool
+is_waiting app = app.registered && not (length app.asks == 0)
+
+-- the applications that wait
+abbrev pub waiting_of : List App → List App
+waiting_of active = filter is_waiting active
+
+-- numbers in order, with one more, or without it
+abbrev pub put_number : ℕ → Bool → List ℕ → List ℕ
+put_number n stands [] = if stands then n ∷ [] else []
+put_number n stands (m ∷ ms) =
+    let others = if m == n then ms else m ∷ ms in
+    if nat_lt m n then m ∷ put_number n stands ms else if stands then n ∷ others else others
 
 -- the account of one whose leaf is there in the tree: nothing is live, and it has no room yet
 abbrev pub new_account : List ℕ → Account
@@ -69,8 +83,9 @@ grant_room n accounts = option_map_or (λ a. a.grants) (account_of n accounts) 0
 abbrev pub end_room : ℕ → List (ℕ × Account) → ℕ
 end_room n accounts = option_map_or (λ a. a.ends) (account_of n accounts) 0
 
--- one more account, of an application whose leaf is there in the tree
+-- one more account, the last, of an application whose leaf is there in the tree
 pub record IsEntered (n : ℕ) (position : List ℕ) (old new : List (ℕ × Account)) : Type 0 where
+  pub last : new ≡ old ++ (n, new_account position) ∷ []
   pub absent : account_of n old ≡ None
   pub own : account_of n new ≡ Some (new_account position)
   pub others : (m : ℕ) → m == n ≡ false → account_of m new ≡ account_of m old
@@ -102,3 +117,9 @@ pub record HasRooms (n more_asks more_grants more_ends : ℕ) (accounts : List (
 abbrev pub AreNumbered : ℕ → List (ℕ × HeldApp) → ℕ → Type 0
 AreNumbered low [] next = low ≤ next
 AreNumbered low (e ∷ es) next = (low ≤ e.0) × (e.1.app.number ≡ e.0) × AreNumbered (e.0 + 1) es next
+
+-- besides, the numbers of those that wait, in memory that has room for all
+pub record AreIndexed (es : List (ℕ × HeldApp)) (next : ℕ) (numbers : List ℕ) (room : ℕ) : Type 0 where
+  pub numbered : AreNumbered 1 es next
+  pub waiting : numbers ≡ map (λ app. app.number) (waiting_of (map (λ e. e.1.app) es))
+  pub few : length es ≤ room

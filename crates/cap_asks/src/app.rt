@@ -9,7 +9,7 @@ ghost use Rattle.cap_model.specs.ResponseIds.{is_repeated, is_bad_id};
 ghost use Rattle.cap_model.specs.Submit.{new_app};
 ghost use Rattle.cap_asks.specs.Accounts.{AreKept, TakesRoom, HasRoom, repeated_numbers, with_numbers};
 ghost use Rattle.cap_model.specs.Reporting.{reported_of, news_most};
-ghost use Rattle.cap_asks.specs.Apps.{new_account};
+ghost use Rattle.cap_asks.specs.Apps.{is_waiting, new_account};
 
 use crate::asks::Asks;
 use crate::news::News;
@@ -145,6 +145,13 @@ impl<const K: usize> App<K> {
         ensures { result ≡ self.now.app.registered }
     {
         self.registered
+    }
+
+    /// Whether it waits for containers: its master has registered, and it has asks.
+    pub(crate) fn is_waiting(&self) -> bool
+        ensures { result ≡ is_waiting self.now.app }
+    {
+        self.registered && !self.asks.is_empty()
     }
 
     /// The response id that its master was given last, 0 before the first.

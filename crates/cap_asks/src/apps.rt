@@ -1,46 +1,49 @@
 //! The active applications by number, and the changes that calls make of one (`Apps`).
-ghost use Rattle.std.specs.Prelude.{◌≡◌, ◌+◌, ◌<◌, ◌≤◌, ◌++◌, ◌∷◌, [], true, Some, length, map, option_map, IfOk, OnOk, OnErr, IsOk, IsSome};
+ghost use Rattle.std.specs.Prelude.{◌≡◌, ℕ, List, ◌+◌, ◌<◌, ◌≤◌, ◌++◌, ◌∷◌, [], true, false, Some, filter, length, map, option_map, vec_capacity, IfOk, OnOk, OnErr, IsOk, IsSome};
 ghost use Rattle.cap_base.specs.Limits.{live_max, number_end};
-ghost use Rattle.std.specs.List.{slice_get};
+ghost use Rattle.std.specs.BTreeMap.{values};
+ghost use Rattle.std.specs.List.{All, slice_get};
 ghost use Rattle.std.specs.Option.{option_map_or};
 ghost use Rattle.cap_model.specs.Asking.{put_ask, reservations_left};
 ghost use Rattle.cap_model.specs.Events.{take_one};
 ghost use Rattle.cap_base.specs.Members.{IsRising};
 ghost use Rattle.cap_model.specs.Submit.{add_app};
 ghost use Rattle.cap_model.specs.FinishMaster.{remove_app};
-ghost use Rattle.cap_model.specs.Flat.{change_app, no_apps, app_in};
-ghost use Rattle.cap_asks.specs.Apps.{IsLeft, account_of, ask_room, live_of, UsesRoom, HasRooms, kept_of, KeepsNumbers, Enters, with_ask_put, with_one_less, with_waiting_grant, with_waiting_end, after_next_reply};
+ghost use Rattle.cap_model.specs.Flat.{AppTable, change_app, no_apps, app_in};
+ghost use Rattle.cap_asks.specs.Accounts.{Account};
+ghost use Rattle.cap_asks.specs.Apps.{is_waiting, waiting_of, put_number, IsLeft, account_of, ask_room, live_of, UsesRoom, HasRooms, kept_of, KeepsNumbers, Enters, with_ask_put, with_one_less, with_waiting_grant, with_waiting_end, after_next_reply};
 
 use crate::app::{App, Position};
+use crate::waiting::Waiting;
 use cap_model::{AllocateView, Ask, End, Grant, Key, NoMemory, PathText, Reported, ShortText};
-use indexmap::IndexMap;
-use std::alloc::Global;
+use std::alloc::{Allocator, Global};
+use std::collections::BTreeMap;
 use std::marker::Model;
 
-/// The active applications in order of number, and the number of the next. Contracts see the flat cluster's table, and beside it
-/// the account of each application, which says how many more asks, grants and ends it may take with no memory; and how many more
-/// applications may enter with none.
+/// The active applications in order of number, the number of the next, and the numbers of those that wait for containers, with room
+/// for all. Contracts see the flat cluster's table, and beside it the account of each application, which says how many more asks,
+/// grants and ends it may take with no memory.
 #[derive(Drop)]
 pub struct Apps<const K: usize> {
     alloc: Global,
-    active: IndexMap<u64, App<K>>,
+    active: BTreeMap<u64, App<K>>,
+    waiting: Vec<u64>,
     next: u64,
 }
 
 impl<const K: usize> Model for Apps<K> {
-    ghost use Rattle.std.specs.Prelude.{map};
-    ghost use Rattle.indexmap.specs.IndexMap.{spare};
-    ghost use Rattle.cap_asks.specs.Apps.{HeldApps, AreNumbered};
+    ghost use Rattle.std.specs.Prelude.{map, vec_capacity};
+    ghost use Rattle.cap_asks.specs.Apps.{HeldApps, AreIndexed};
 
     ghost Value = { HeldApps };
 
     ghost view = { λ t. record {
       table = record { active = map (λ e. e.1.app) t.active.entries; next = t.next };
       accounts = map (λ e. (e.0, e.1.account)) t.active.entries;
-      vacant = spare t.active;
     } };
 
-    ghost invariant = { λ t. AreNumbered 1 t.active.entries t.next };
+    ghost invariant = { λ t. AreIndexed t.active.entries t.next t.waiting.items
+        (vec_capacity t.waiting) };
 }
 
 impl<const K: usize> Apps<K> {
@@ -51,29 +54,14 @@ impl<const K: usize> Apps<K> {
     {
         Apps {
             alloc,
-            active: IndexMap::new(alloc),
+            active: BTreeMap::new(alloc),
+            waiting: Vec::new(alloc),
             next: 1,
         }
     }
 
-    /// Makes room for one more application, so that it enters with no memory. `NoMemory` changes no application and takes no room
-    /// away, and does not come where there is room.
-    pub fn reserve(&mut self) -> Result<(), NoMemory>
-        ensures table { self.new.table ≡ self.old.table }
-        ensures accounts { self.new.accounts ≡ self.old.accounts }
-        ensures vacant { self.old.vacant ≤ self.new.vacant }
-        ensures ok { OnOk result (1 ≤ self.new.vacant) }
-        ensures succeeds { 1 ≤ self.old.vacant → IsOk result }
-    {
-        match self.active.reserve(1) {
-            Ok(()) => {}
-            Err(_) => return Err(NoMemory),
-        }
-        Ok(())
-    }
-
     /// An application enters the leaf queue, which is at this position of the tree, for a user, under the next number, which is the
-    /// result. `NoMemory` changes no application, and does not come where there is room.
+    /// result. `NoMemory` changes no application.
     pub fn submit(
         &mut self,
         leaf: &PathText,
@@ -84,10 +72,14 @@ impl<const K: usize> Apps<K> {
         ensures number { IfOk result (λ number. number ≡ self.old.table.next) }
         ensures table { OnOk result (self.new.table ≡ add_app leaf.now user.now self.old.table) }
         ensures accounts { OnOk result (Enters position.items self.old self.new) }
-        ensures succeeds { 1 ≤ self.old.vacant → IsOk result }
         ensures table_stays { OnErr result (self.new.table ≡ self.old.table) }
         ensures accounts_stay { OnErr result (self.new.accounts ≡ self.old.accounts) }
     {
+        let waiting = self.waiting.len();
+        match self.waiting.reserve(self.active.len() - waiting + 1) {
+            Ok(()) => {}
+            Err(_) => return Err(NoMemory),
+        }
         let number = self.next;
         let app = App::new(self.alloc, number, leaf, position, user);
         match self.active.insert(number, app) {
@@ -96,6 +88,21 @@ impl<const K: usize> Apps<K> {
         }
         self.next = number + 1;
         Ok(number)
+    }
+
+    /// The application that was submitted last, just now, leaves again, and its number is the next one again. It takes no memory.
+    pub fn take_back(&mut self)
+        ensures table { (leaf user : List ℕ) (table : AppTable) →
+            self.old.table ≡ add_app leaf user table → self.new.table ≡ table }
+        ensures accounts { (number : ℕ) (account : Account) (accounts : List (ℕ × Account)) →
+            self.old.accounts ≡ accounts ++ (number, account) ∷ []
+            → self.new.accounts ≡ accounts }
+    {
+        let Some((number, _)) = self.active.pop_last() else {
+            return;
+        };
+        self.next = number;
+        set_waiting(&mut self.waiting, number, false);
     }
 
     /// The numbers rise from 1, and are below the next. This does nothing: it is there for what its clause says.
@@ -112,15 +119,72 @@ impl<const K: usize> Apps<K> {
         self.active.len()
     }
 
-    /// The active application at an index, in order of number.
-    pub fn nth(&self, index: usize) -> &App<K>
-        requires { index < length self.now.table.active }
-        ensures app { slice_get self.now.table.active index ≡ Some result.now.app }
-        ensures found { app_in self.now.table result.now.app.number ≡ Some result.now.app }
+    /// Those that wait for containers, in order of number, in one piece of memory. Where they are few beside the others, each is found by its
+    /// number; else all are read in a row. An error means that an allocation failed.
+    pub fn waiting<B: Allocator + Copy>(&self, alloc: B) -> Result<Vec<Waiting<'_, K>, B>, NoMemory>
+        ensures apps { IfOk result (λ waiting.
+            map (λ w. w.app) waiting.items ≡ waiting_of self.now.table.active) }
+        ensures accounts { IfOk result (λ waiting. All
+            (λ w. account_of w.app.number self.now.accounts ≡ Some w.account) waiting.items) }
+    {
+        if self.waiting.len() < self.active.len() / 8 {
+            self.find_waiting(alloc)
+        } else {
+            self.read_waiting(alloc)
+        }
+    }
+
+    /// Those that wait, each found by its number.
+    fn find_waiting<B: Allocator + Copy>(
+        &self,
+        alloc: B,
+    ) -> Result<Vec<Waiting<'_, K>, B>, NoMemory>
+        ensures apps { IfOk result (λ waiting.
+            map (λ w. w.app) waiting.items ≡ waiting_of self.now.table.active) }
+        ensures accounts { IfOk result (λ waiting. All
+            (λ w. account_of w.app.number self.now.accounts ≡ Some w.account) waiting.items) }
+    {
+        let count = self.waiting.len();
+        let Ok(mut waiting) = Vec::with_capacity(alloc, count) else {
+            return Err(NoMemory);
+        };
+        for index in 0..count {
+            let app = self.nth_waiting(index);
+            match waiting.push(Waiting::new(app)) {
+                Ok(()) => {}
+                Err(_) => return Err(NoMemory),
+            }
+        }
+        Ok(waiting)
+    }
+
+    /// Those of all applications that wait.
+    fn read_waiting<B: Allocator + Copy>(
+        &self,
+        alloc: B,
+    ) -> Result<Vec<Waiting<'_, K>, B>, NoMemory>
+        ensures apps { IfOk result (λ waiting.
+            map (λ w. w.app) waiting.items ≡ waiting_of self.now.table.active) }
+        ensures accounts { IfOk result (λ waiting. All
+            (λ w. account_of w.app.number self.now.accounts ≡ Some w.account) waiting.items) }
+    {
+        let Ok(mut waiting) = Vec::with_capacity(alloc, self.waiting.len()) else {
+            return Err(NoMemory);
+        };
+        match add_waiting(&self.active, &mut waiting) {
+            Ok(()) => Ok(waiting),
+            Err(NoMemory) => Err(NoMemory),
+        }
+    }
+
+    /// The application at an index among those that wait, in order of number. It costs no look at the others.
+    fn nth_waiting(&self, index: usize) -> &App<K>
+        requires { index < length (waiting_of self.now.table.active) }
+        ensures app { slice_get (waiting_of self.now.table.active) index ≡ Some result.now.app }
         ensures account { account_of result.now.app.number self.now.accounts
             ≡ Some result.now.account }
     {
-        &self.active[index]
+        &self.active[&self.waiting[index]]
     }
 
     /// The number of the next.
@@ -149,6 +213,7 @@ impl<const K: usize> Apps<K> {
             return;
         };
         app.register();
+        set_waiting(&mut self.waiting, n, app.is_waiting());
     }
 
     /// Makes room for so many more asks, grants and ends of an application, so that it takes them with no memory. `NoMemory`
@@ -189,6 +254,7 @@ impl<const K: usize> Apps<K> {
             return;
         };
         app.put_ask(ask);
+        set_waiting(&mut self.waiting, n, app.is_waiting());
     }
 
     /// One container less is wanted for this key of an application; an ask that comes to 0 is taken out. Where there is no such application
@@ -201,6 +267,7 @@ impl<const K: usize> Apps<K> {
             return;
         };
         app.take_one(key);
+        set_waiting(&mut self.waiting, n, app.is_waiting());
     }
 
     /// One more container of an application is live, whose grant waits to be reported to its master, last. It needs room that `room`
@@ -272,6 +339,48 @@ impl<const K: usize> Apps<K> {
         ensures table { self.new.table ≡ remove_app n self.old.table }
         ensures accounts { IsLeft n self.old.accounts self.new.accounts }
     {
-        self.active.shift_remove(&n);
+        self.active.remove(&n);
+        set_waiting(&mut self.waiting, n, false);
     }
+}
+
+/// The numbers of those that wait, with this one, or without it. It costs one binary search.
+fn set_waiting(waiting: &mut Vec<u64>, n: u64, waits: bool)
+    requires rising { (end : ℕ) × IsRising 1 waiting.old.items end }
+    requires room { length (put_number n waits waiting.old.items) ≤ vec_capacity waiting.old }
+    ensures items { waiting.new.items ≡ put_number n waits waiting.old.items }
+    ensures room { vec_capacity waiting.old ≤ vec_capacity waiting.new }
+{
+    match (waiting.binary_search(&n), waits) {
+        (Ok(index), false) => {
+            waiting.remove(index);
+        }
+        (Err(index), true) => {
+            let Ok(()) = waiting.insert(index, n) else {
+                unreachable!()
+            };
+        }
+        (Ok(_), true) => {}
+        (Err(_), false) => {}
+    }
+}
+
+/// Adds those of all applications that wait. An error means that an allocation failed, and comes only where there is too little room for
+/// all.
+fn add_waiting<'a, const K: usize, B: Allocator + Copy>(
+    active: &'a BTreeMap<u64, App<K>>,
+    waiting: &mut Vec<Waiting<'a, K>, B>,
+) -> Result<(), NoMemory>
+    ensures { OnOk result (waiting.new.items
+        ≡ waiting.old.items ++ filter (λ h. is_waiting h.app) (values active.now)) }
+{
+    for app in active.values() {
+        if app.is_waiting() {
+            match waiting.push(Waiting::new(app)) {
+                Ok(()) => {}
+                Err(_) => return Err(NoMemory),
+            }
+        }
+    }
+    Ok(())
 }

@@ -53,6 +53,13 @@ impl<const K: usize> Asks<K> {
         &self.items
     }
 
+    /// Whether there is none.
+    pub(crate) fn is_empty(&self) -> bool
+        ensures { result ≡ (length self.now.asks == 0) }
+    {
+        self.items.is_empty()
+    }
+
     /// The ask of this key, none where there is none.
     pub(crate) fn get(&self, key: &Key) -> Option<Ask<K>>
         ensures { result ≡ ask_at key.now self.now.asks }

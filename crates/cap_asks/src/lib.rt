@@ -5,7 +5,9 @@ mod app;
 mod apps;
 mod asks;
 mod news;
+mod waiting;
 
 pub use app::{App, Position};
 pub use apps::Apps;
 pub use cap_model::AllocateReply;
+pub use waiting::Waiting;

@@ -1,41 +1,30 @@
-use Rattle.std.proofs.Common.{[], ◌∷◌, ◌++◌, ap, sym, ◌∙◌, arith}
-use Rattle.cap_model.specs.Flat.{App}
+use Rattle.std.proofs.Common.{[], ◌∷◌, ◌++◌, ap, refl, arith}
 use Rattle.cap_asks.specs.Accounts.{Account}
-use Rattle.cap_asks.proofs.Entries.{apps_of, none_changed, one_changed, still_numbered, one_uses, it_has, it_has_none}
+use Rattle.cap_asks.specs.Apps.{is_waiting}
+use Rattle.cap_asks.proofs.Entries.{by_number, it_has, it_has_none}
+use Rattle.cap_asks.proofs.Waiters.{changed, unchanged}
 use Rattle.cap_asks.proofs.apps.Apps.add_end.Goals as goal
 
 pub returns-in_default-clause-table : goal.returns-in_default-clause-table
-returns-in_default-clause-table g c =
-    let same = ap (λ m. apps_of m.entries) c.get_mut.follows.holds-at-none ∙ none_changed 1 c.args.n c.self.inside.next c.self.inside.active.entries (λ app. record app { ends = app.ends ++ c.args.end.now ∷ [] }) c.self.invariant (sym c.in_default.ensures.value) in
-    rw (← c.self.view_is) (ap (λ xs. record { active = xs; next = c.self.inside.next }) same)
+returns-in_default-clause-table g c = rw (← c.self.view_is) (unchanged c.args.n (λ app. record app { ends = app.ends ++ c.args.end.now ∷ [] }) c.self.invariant c.in_default.ensures.value (ap (λ m. m.entries) c.get_mut.follows.holds-at-none))
 
 pub invariant_of-self-2 : goal.invariant_of-self-2
-invariant_of-self-2 g c =
-    let found = sym c.in-Some.ensures.value in
-    let entries = (c.get_mut.follows.holds c.add_end.new.self).0 in
-    rw entries (still_numbered 1 c.args.n c.self.inside.next c.self.inside.active.entries c.in-Some.app.now c.add_end.new.self c.self.invariant found (ap (λ (a : App). a.number) c.add_end.ensures.app))
+invariant_of-self-2 g c = (changed c.args.n (λ app. record app { ends = app.ends ++ c.args.end.now ∷ [] }) (λ app. refl) c.in-Some.app.now c.add_end.new.self c.self.invariant c.in-Some.ensures.value c.add_end.ensures.app c.add_end.ensures.account refl (c.get_mut.follows.holds c.add_end.new.self).0).stays (ap is_waiting c.add_end.ensures.app)
 
 pub returns-clause-table : goal.returns-clause-table
-returns-clause-table g c =
-    let found = sym c.in-Some.ensures.value in
-    let entries = (c.get_mut.follows.holds c.add_end.new.self).0 in
-    let same = ap apps_of entries ∙ one_changed 1 c.args.n c.self.inside.next c.self.inside.active.entries c.in-Some.app.now c.add_end.new.self (λ app. record app { ends = app.ends ++ c.args.end.now ∷ [] }) c.self.invariant found c.add_end.ensures.app in
-    rw (← c.self.view_is) (ap (λ xs. record { active = xs; next = c.self.inside.next }) same)
+returns-clause-table g c = rw (← c.self.view_is) (changed c.args.n (λ app. record app { ends = app.ends ++ c.args.end.now ∷ [] }) (λ app. refl) c.in-Some.app.now c.add_end.new.self c.self.invariant c.in-Some.ensures.value c.add_end.ensures.app c.add_end.ensures.account refl (c.get_mut.follows.holds c.add_end.new.self).0).table
 
 pub returns-clause-accounts : goal.returns-clause-accounts
-returns-clause-accounts g c =
-    let found = sym c.in-Some.ensures.value in
-    let entries = (c.get_mut.follows.holds c.add_end.new.self).0 in
-    rw (← c.self.view_is, entries) (one_uses c.args.n 0 0 1 c.self.inside.active.entries c.in-Some.app.now c.add_end.new.self found c.add_end.ensures.account)
+returns-clause-accounts g c = rw (← c.self.view_is) (changed c.args.n (λ app. record app { ends = app.ends ++ c.args.end.now ∷ [] }) (λ app. refl) c.in-Some.app.now c.add_end.new.self c.self.invariant c.in-Some.ensures.value c.add_end.ensures.app c.add_end.ensures.account refl (c.get_mut.follows.holds c.add_end.new.self).0).accounts
 
 pub add_end-requires : goal.add_end-requires
 add_end-requires g c =
-    let live = it_has (λ (a : Account). a.live) c.args.n c.self.inside.active.entries c.in-Some.app.now (sym c.in-Some.ensures.value) in
+    let live = it_has (λ (a : Account). a.live) c.args.n c.self.inside.active.entries c.in-Some.app.now (by_number c.args.n c.self.inside.active.entries c.in-Some.ensures.value) in
     let some = rw (← c.self.view_is) at c.requires in
     omega (arith, live, some)
 
 pub returns-in_default-clause-accounts : goal.returns-in_default-clause-accounts
 returns-in_default-clause-accounts g c =
-    let none = it_has_none (λ (a : Account). a.live) c.args.n c.self.inside.active.entries (sym c.in_default.ensures.value) in
+    let none = it_has_none (λ (a : Account). a.live) c.args.n c.self.inside.active.entries (by_number c.args.n c.self.inside.active.entries c.in_default.ensures.value) in
     let some = rw (← c.self.view_is) at c.requires in
     absurd (omega (arith, none, some))

@@ -1,36 +1,25 @@
-use Rattle.std.proofs.Common.{[], ◌∷◌, ◌++◌, ap, sym, ◌∙◌, arith}
-use Rattle.cap_model.specs.Flat.{App}
+use Rattle.std.proofs.Common.{[], ◌∷◌, ◌++◌, ap, refl, arith}
 use Rattle.cap_asks.specs.Accounts.{Account}
-use Rattle.cap_asks.proofs.Entries.{apps_of, none_changed, one_changed, still_numbered, one_uses, it_has, it_has_none, had_room}
+use Rattle.cap_asks.specs.Apps.{is_waiting}
+use Rattle.cap_asks.proofs.Entries.{by_number, it_has, it_has_none, had_room}
+use Rattle.cap_asks.proofs.Waiters.{changed, unchanged}
 use Rattle.cap_asks.proofs.apps.Apps.add_grant.Goals as goal
 
 pub returns-in_default-clause-table : goal.returns-in_default-clause-table
-returns-in_default-clause-table g c =
-    let same = ap (λ m. apps_of m.entries) c.get_mut.follows.holds-at-none ∙ none_changed 1 c.args.n c.self.inside.next c.self.inside.active.entries (λ app. record app { grants = app.grants ++ c.args.grant.now ∷ [] }) c.self.invariant (sym c.in_default.ensures.value) in
-    rw (← c.self.view_is) (ap (λ xs. record { active = xs; next = c.self.inside.next }) same)
+returns-in_default-clause-table g c = rw (← c.self.view_is) (unchanged c.args.n (λ app. record app { grants = app.grants ++ c.args.grant.now ∷ [] }) c.self.invariant c.in_default.ensures.value (ap (λ m. m.entries) c.get_mut.follows.holds-at-none))
 
 pub invariant_of-self-2 : goal.invariant_of-self-2
-invariant_of-self-2 g c =
-    let found = sym c.in-Some.ensures.value in
-    let entries = (c.get_mut.follows.holds c.add_grant.new.self).0 in
-    rw entries (still_numbered 1 c.args.n c.self.inside.next c.self.inside.active.entries c.in-Some.app.now c.add_grant.new.self c.self.invariant found (ap (λ (a : App). a.number) c.add_grant.ensures.app))
+invariant_of-self-2 g c = (changed c.args.n (λ app. record app { grants = app.grants ++ c.args.grant.now ∷ [] }) (λ app. refl) c.in-Some.app.now c.add_grant.new.self c.self.invariant c.in-Some.ensures.value c.add_grant.ensures.app c.add_grant.ensures.account refl (c.get_mut.follows.holds c.add_grant.new.self).0).stays (ap is_waiting c.add_grant.ensures.app)
 
 pub returns-clause-table : goal.returns-clause-table
-returns-clause-table g c =
-    let found = sym c.in-Some.ensures.value in
-    let entries = (c.get_mut.follows.holds c.add_grant.new.self).0 in
-    let same = ap apps_of entries ∙ one_changed 1 c.args.n c.self.inside.next c.self.inside.active.entries c.in-Some.app.now c.add_grant.new.self (λ app. record app { grants = app.grants ++ c.args.grant.now ∷ [] }) c.self.invariant found c.add_grant.ensures.app in
-    rw (← c.self.view_is) (ap (λ xs. record { active = xs; next = c.self.inside.next }) same)
+returns-clause-table g c = rw (← c.self.view_is) (changed c.args.n (λ app. record app { grants = app.grants ++ c.args.grant.now ∷ [] }) (λ app. refl) c.in-Some.app.now c.add_grant.new.self c.self.invariant c.in-Some.ensures.value c.add_grant.ensures.app c.add_grant.ensures.account refl (c.get_mut.follows.holds c.add_grant.new.self).0).table
 
 pub returns-clause-accounts : goal.returns-clause-accounts
-returns-clause-accounts g c =
-    let found = sym c.in-Some.ensures.value in
-    let entries = (c.get_mut.follows.holds c.add_grant.new.self).0 in
-    rw (← c.self.view_is, entries) (one_uses c.args.n 0 1 0 c.self.inside.active.entries c.in-Some.app.now c.add_grant.new.self found c.add_grant.ensures.account)
+returns-clause-accounts g c = rw (← c.self.view_is) (changed c.args.n (λ app. record app { grants = app.grants ++ c.args.grant.now ∷ [] }) (λ app. refl) c.in-Some.app.now c.add_grant.new.self c.self.invariant c.in-Some.ensures.value c.add_grant.ensures.app c.add_grant.ensures.account refl (c.get_mut.follows.holds c.add_grant.new.self).0).accounts
 
 pub add_grant-requires : goal.add_grant-requires
 add_grant-requires g c =
-    let found = sym c.in-Some.ensures.value in
+    let found = by_number c.args.n c.self.inside.active.entries c.in-Some.ensures.value in
     let live = it_has (λ (a : Account). a.live) c.args.n c.self.inside.active.entries c.in-Some.app.now found in
     let room = had_room c.args.n 0 1 _ c.self.inside.active.entries c.in-Some.app.now found (rw (← c.self.view_is) at c.requires.room) in
     let few = rw (← c.self.view_is) at c.requires.few in
@@ -39,6 +28,6 @@ add_grant-requires g c =
 
 pub returns-in_default-clause-accounts : goal.returns-in_default-clause-accounts
 returns-in_default-clause-accounts g c =
-    let none = it_has_none (λ (a : Account). a.grants) c.args.n c.self.inside.active.entries (sym c.in_default.ensures.value) in
+    let none = it_has_none (λ (a : Account). a.grants) c.args.n c.self.inside.active.entries (by_number c.args.n c.self.inside.active.entries c.in_default.ensures.value) in
     let some = (rw (← c.self.view_is) at c.requires.room).grants in
     absurd (omega (arith, none, some))

@@ -1,0 +1,26 @@
+use Rattle.std.proofs.Common.{◌≡◌, ◌++◌, ◌∷◌, [], ap, sym, subst, ◌∙◌, map, take}
+use Rattle.std.specs.Prelude.{Some}
+use Rattle.std.specs.List.{All}
+use Rattle.std.proofs.lemmas.List.{map_push, take_more}
+use Rattle.std.proofs.lemmas.List.Elements.{All-push}
+use Rattle.std.proofs.lemmas.Option.{get_or_from_slice_get, slice_get_within}
+use Rattle.cap_model.specs.Flat.{App}
+use Rattle.cap_asks.specs.Accounts.{HeldApp}
+use Rattle.cap_asks.specs.Apps.{account_of, waiting_of}
+use Rattle.cap_asks.proofs.apps.Apps.find_waiting.Goals as goal
+
+pub loop-index-preserved : goal.loop-index-preserved
+loop-index-preserved g c =
+    let waiting = waiting_of c.args.self.now.table.active in
+    let i = c.loop-index.index in
+    let held = c.nth_waiting-app.result.now in
+    let at = c.nth_waiting-app.ensures.app in
+    let items = c.in-Ok-push.ensures.items ∙ ap (λ (h : HeldApp). c.loop-index.waiting.items ++ h ∷ []) c.new.ensures in
+    let old = c.loop-index.invariant in
+    record {
+      apps =
+          ap (map (λ (h : HeldApp). h.app)) items ∙ map_push (λ (h : HeldApp). h.app) c.loop-index.waiting.items held
+          ∙ (λ j. old.apps j ++ held.app ∷ [])
+          ∙ sym (take_more waiting i held.app (slice_get_within waiting i held.app at) ∙ ap (λ (a : App). take i waiting ++ a ∷ []) (get_or_from_slice_get waiting i held.app held.app at));
+      accounts = subst (All (λ (h : HeldApp). account_of h.app.number c.args.self.now.accounts ≡ Some h.account)) (sym items) (All-push (λ (h : HeldApp). account_of h.app.number c.args.self.now.accounts ≡ Some h.account) c.loop-index.waiting.items held old.accounts c.nth_waiting-app.ensures.account);
+    }

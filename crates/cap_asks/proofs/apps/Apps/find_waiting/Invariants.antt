@@ -1,0 +1,11 @@
+use Rattle.std.proofs.Common.{◌≡◌, map, take}
+use Rattle.std.specs.Prelude.{Some}
+use Rattle.std.specs.List.{All}
+use Rattle.cap_asks.specs.Apps.{account_of, waiting_of}
+use Rattle.cap_asks.proofs.apps.Apps.find_waiting.Given as goal
+
+abbrev pub invariant-loop-index : goal.invariant-loop-index
+invariant-loop-index g l = record {
+  apps : map (λ w. w.app) l.waiting.items ≡ take l.index (waiting_of l.self.table.active);
+  accounts : All (λ w. account_of w.app.number l.self.accounts ≡ Some w.account) l.waiting.items;
+}
