@@ -1,16 +1,18 @@
 -- The table as nodes and containers come and go.
-use Rattle.std.proofs.Common.{◌≡◌, ℕ, ◌+◌, ◌≤◌, ◌<◌, Bool, true, false, cond, List, [], ◌∷◌, ◌++◌, length, map, not, sym, ap, ◌∙◌, arith, subst, refl, Option, Some, None}
-use Rattle.std.specs.Prelude.{filter, find, count_by, ◌==◌, IsSome, IfSome, slice_get, ◌||◌, option_and_then}
-use Rattle.std.specs.List.{All, sum_by, list_any, AllByRecursion}
+use Rattle.std.proofs.Common.{◌≡◌, ℕ, ◌+◌, ◌≤◌, Bool, true, false, cond, List, [], ◌∷◌, ◌++◌, length, map, not, sym, ap, ◌∙◌, arith, subst, refl, Option, Some, None}
+use Rattle.std.specs.Prelude.{filter, find, count_by, ◌==◌, IsSome, IfSome, slice_get, ◌||◌, option_and_then, option_map}
+use Rattle.std.specs.List.{All, sum, sum_by, list_any, AllByRecursion}
 use Rattle.std.proofs.lemmas.List.Elements.{All-from_recursion}
 use Rattle.cap_base.proofs.Amounts.{amounts_fit}
 use Rattle.std.proofs.lemmas.Bool.{eqb-true}
 use Rattle.std.proofs.lemmas.Bool.Decides.{nat_tests}
-use Rattle.std.proofs.lemmas.List.Sums.{length-filter, sum_by-cons}
-use Rattle.std.proofs.lemmas.List.{ext_get_or}
+use Rattle.std.proofs.lemmas.List.Sums.{length-filter, sum-map}
+use Rattle.std.proofs.lemmas.List.{map_push}
 use Rattle.std.proofs.lemmas.Option.{slice_get-map}
-use Rattle.cap_vector.specs.Vector.{amount, plus, less, Fits, IsWithin, amount_max, zeros}
+use Rattle.cap_vector.specs.Vector.{amount, by_amount, plus, less, Fits, IsWithin, amount_max, zeros}
 use Rattle.cap_base.specs.Amounts.{fits, sum_where}
+use Rattle.cap_base.proofs.lists.Members.{found}
+use Rattle.cap_base.proofs.lists.Filters.{filter_mapped, find_mapped_at, map_twice}
 use Rattle.cap_base.specs.Members.{IsRising}
 use Rattle.cap_model.specs.declared.replies.HeartbeatReply.{HeartbeatReply}
 use Rattle.cap_model.specs.Flat.{ClusterNode, Container}
@@ -18,8 +20,9 @@ use Rattle.cap_model.specs.RegisterNode.{sum_of_totals}
 use Rattle.cap_model.specs.Heartbeat.{after_beat}
 use Rattle.cap_nodes.specs.Tables.{IsSound, left_of}
 use Rattle.cap_nodes.specs.Loads.{Load, IsTied, AreTied, load_at, change_load, held_more, held_less, beaten_load, HasOne, reservation_of}
-use Rattle.cap_nodes.proofs.Numbered.{none_at_end, numbers-change}
-use Rattle.cap_nodes.proofs.Sums.{where-none, filter-none, none-filter, zeros-fit, where-less-own, where-had, sum-without, length-where, amount-where}
+use Rattle.cap_nodes.proofs.Numbered.{found-change, none_at_end, kept-change}
+use Rattle.cap_nodes.proofs.Presents.{not_none}
+use Rattle.cap_nodes.proofs.Sums.{where-none, filter-none, none-filter, zeros-fit, where-less-own, where-had, sum-without}
 use Rattle.cap_nodes.proofs.Ties.{is_found, all_changed, all_mapped, all_kept, all_each, all_pushed, still_there, there_pushed, tied_beside, tied_with, room_fits, untied_beside, untied_from, has_one}
 
 abbrev pub nodes_of : List Load → List ClusterNode
@@ -27,34 +30,16 @@ nodes_of loads = map (λ p. p.node) loads
 
 -- the node of a load
 pub node_of_load : (loads : List Load) (n : ℕ) (p : Load) → load_at loads n ≡ Some p → find (λ x. x.number == n) (nodes_of loads) ≡ Some p.node
-node_of_load [] n p there = absurd (cc there)
-node_of_load (q ∷ loads) n p there = by (q.node.number == n) there (node_of_load loads n p)
-  where
-    by : (b : Bool) → cond b (Some q) (load_at loads n) ≡ Some p → (load_at loads n ≡ Some p → find (λ x. x.number == n) (nodes_of loads) ≡ Some p.node) →
-        cond b (Some q.node) (find (λ x. x.number == n) (nodes_of loads)) ≡ Some p.node
-    by true h more = let e : q ≡ p = cc h in ap (λ (x : Load). Some x.node) e
-    by false h more = more h
+node_of_load loads n p at = find_mapped_at (λ (q : Load). q.node) (λ x. x.number == n) loads ∙ ap (option_map (λ (q : Load). q.node)) at
 
 pub node_of_none : (loads : List Load) (n : ℕ) → load_at loads n ≡ None → find (λ x. x.number == n) (nodes_of loads) ≡ None
-node_of_none [] n there = refl
-node_of_none (q ∷ loads) n there = by (q.node.number == n) there (node_of_none loads n)
-  where
-    by : (b : Bool) → cond b (Some q) (load_at loads n) ≡ None → (load_at loads n ≡ None → find (λ x. x.number == n) (nodes_of loads) ≡ None) →
-        cond b (Some q.node) (find (λ x. x.number == n) (nodes_of loads)) ≡ None
-    by true h more = absurd (cc h)
-    by false h more = more h
+node_of_none loads n at = find_mapped_at (λ (q : Load). q.node) (λ x. x.number == n) loads ∙ ap (option_map (λ (q : Load). q.node)) at
 
 -- the load of a number after it changed
 pub load_changed : (f : Load → Load) → ((p : Load) → (f p).node.number ≡ p.node.number) → (loads : List Load) (n : ℕ) (p : Load) → load_at loads n ≡ Some p → load_at (change_load n f loads) n ≡ Some (f p)
-load_changed f same [] n p there = absurd (cc there)
-load_changed f same (q ∷ loads) n p there = by (q.node.number == n) refl (load_changed f same loads n p) there
-  where
-    by : (b : Bool) → q.node.number == n ≡ b → (load_at loads n ≡ Some p → load_at (change_load n f loads) n ≡ Some (f p)) → cond b (Some q) (load_at loads n) ≡ Some p →
-        cond ((cond b (f q) q).node.number == n) (Some (cond b (f q) q)) (load_at (change_load n f loads) n) ≡ Some (f p)
-    by true e more h =
-        let q_is : q ≡ p = cc h in
-        ap (λ m. cond (m == n) (Some (f q)) (load_at (change_load n f loads) n)) (same q) ∙ ap (λ c. cond c (Some (f q)) (load_at (change_load n f loads) n)) e ∙ ap (λ (x : Load). Some (f x)) q_is
-    by false e more h = ap (λ c. cond c (Some q) (load_at (change_load n f loads) n)) e ∙ more h
+load_changed f same loads n p at =
+    let t = (found (λ (q : Load). q.node.number == n) loads p at).1 in
+    found-change (λ (q : Load). q.node.number) n f same n loads ∙ ap (option_map (λ (q : Load). cond (q.node.number == n) (f q) q)) at ∙ ap (λ b. Some (cond b (f p) p)) t
 
 -- the reply that a node keeps is there in its place
 pub kept_shown : (loads : List Load) (n : ℕ) (reply : HeartbeatReply) → option_and_then (λ (p : Load). p.node.kept) (load_at loads n) ≡ Some reply →
@@ -64,10 +49,6 @@ kept_shown loads n reply h = by (load_at loads n) refl h
     by : (o : Option Load) → load_at loads n ≡ o → option_and_then (λ (p : Load). p.node.kept) o ≡ Some reply → option_and_then (λ (x : ClusterNode). x.kept) (find (λ x. x.number == n) (nodes_of loads)) ≡ Some reply
     by None e k = absurd (cc k)
     by (Some p) e k = ap (option_and_then (λ (x : ClusterNode). x.kept)) (node_of_load loads n p e) ∙ k
-
-some_is : (o : Option ClusterNode) → o ≡ None → IsSome o → ⊥
-some_is None e h = absurd (cc h)
-some_is (Some x) e h = absurd (cc e)
 
 -- a node that is there has a load
 pub record IsAt (loads : List Load) (n : ℕ) : Type 0 where
@@ -79,10 +60,10 @@ load_of_node loads n h = by (load_at loads n) refl
   where
     by : (o : Option Load) → load_at loads n ≡ o → IsAt loads n
     by (Some p) e = record { load = p; at = e }
-    by None e = absurd (some_is (find (λ x. x.number == n) (nodes_of loads)) (node_of_none loads n e) h)
+    by None e = absurd (not_none (find (λ x. x.number == n) (nodes_of loads)) (node_of_none loads n e) h)
 
 pub no_load : (loads : List Load) (n : ℕ) → load_at loads n ≡ None → IsSome (find (λ x. x.number == n) (nodes_of loads)) → ⊥
-no_load loads n e h = some_is (find (λ x. x.number == n) (nodes_of loads)) (node_of_none loads n e) h
+no_load loads n e h = not_none (find (λ x. x.number == n) (nodes_of loads)) (node_of_none loads n e) h
 
 pub is_at : (loads : List Load) (n : ℕ) (p : Load) → load_at loads n ≡ Some p → IsSome (load_at loads n)
 is_at loads n p e = rw e refl
@@ -99,12 +80,8 @@ module _ (K : ℕ) (loads : List Load) (live : List Container) (tied : AreTied K
   pub none_there : (n : ℕ) → load_at loads n ≡ None → AllByRecursion (λ (c : Container). (c.node == n) ≡ false) live
   none_there n e = all_each (λ (c : Container). IsSome (load_at loads c.node)) (λ (c : Container). (c.node == n) ≡ false) live (λ c h. by c h (c.node == n) refl) tied.homes
     where
-      none_some : (o : Option Load) → o ≡ None → IsSome o → ⊥
-      none_some None e h = absurd (cc h)
-      none_some (Some x) e h = absurd (cc e)
-
       by : (c : Container) → IsSome (load_at loads c.node) → (b : Bool) → (c.node == n) ≡ b → (c.node == n) ≡ false
-      by c h true is = absurd (none_some (load_at loads c.node) (ap (load_at loads) (eqb-true c.node n is) ∙ e) h)
+      by c h true is = absurd (not_none (load_at loads c.node) (ap (load_at loads) (eqb-true c.node n is) ∙ e) h)
       by c h false is = is
 
   pub live_of : (n : ℕ) (p : Load) → load_at loads n ≡ Some p → p.live ≡ length (filter (λ c. c.node == n) live)
@@ -215,29 +192,16 @@ module _ (K : ℕ) (loads : List Load) (live : List Container) (tied : AreTied K
 
 -- changes that leave the nodes as they are
 pub same_nodes : (n : ℕ) (change : Load → Load) (loads : List Load) → ((p : Load) → (change p).node ≡ p.node) → nodes_of (change_load n change loads) ≡ nodes_of loads
-same_nodes n change [] keeps = refl
-same_nodes n change (p ∷ loads) keeps = by (p.node.number == n) (same_nodes n change loads keeps)
-  where
-    by : (b : Bool) → nodes_of (change_load n change loads) ≡ nodes_of loads → (cond b (change p) p).node ∷ nodes_of (change_load n change loads) ≡ p.node ∷ nodes_of loads
-    by true e = rw (keeps p, e) refl
-    by false e = rw e refl
+same_nodes n change loads keeps = kept-change (λ (p : Load). p.node.number) (λ p. p.node) n change keeps loads
 
 pub nodes_pushed : (loads : List Load) (p : Load) → nodes_of (loads ++ p ∷ []) ≡ nodes_of loads ++ p.node ∷ []
-nodes_pushed [] p = refl
-nodes_pushed (q ∷ loads) p = ap (λ ns. q.node ∷ ns) (nodes_pushed loads p)
+nodes_pushed loads p = map_push (λ (q : Load). q.node) loads p
 
 pub nodes_kept : (n : ℕ) (loads : List Load) → nodes_of (filter (λ p. not (p.node.number == n)) loads) ≡ filter (λ x. not (x.number == n)) (nodes_of loads)
-nodes_kept n [] = refl
-nodes_kept n (q ∷ loads) = by (not (q.node.number == n)) (nodes_kept n loads)
-  where
-    by : (b : Bool) → nodes_of (filter (λ p. not (p.node.number == n)) loads) ≡ filter (λ x. not (x.number == n)) (nodes_of loads) →
-        nodes_of (cond b (q ∷ filter (λ p. not (p.node.number == n)) loads) (filter (λ p. not (p.node.number == n)) loads)) ≡ cond b (q.node ∷ filter (λ x. not (x.number == n)) (nodes_of loads)) (filter (λ x. not (x.number == n)) (nodes_of loads))
-    by true e = ap (λ ns. q.node ∷ ns) e
-    by false e = e
+nodes_kept n loads = sym (filter_mapped (λ (x : ClusterNode). not (x.number == n)) (λ (p : Load). p.node) loads)
 
 numbers_of_nodes : (loads : List Load) → map (λ (x : ClusterNode). x.number) (nodes_of loads) ≡ map (λ p. p.node.number) loads
-numbers_of_nodes [] = refl
-numbers_of_nodes (p ∷ loads) = ap (λ ns. p.node.number ∷ ns) (numbers_of_nodes loads)
+numbers_of_nodes loads = map_twice (λ (x : ClusterNode). x.number) (λ (p : Load). p.node) loads
 
 -- the nodes after a change of one
 abbrev changed : ℕ → (ClusterNode → ClusterNode) → List ClusterNode → List ClusterNode
@@ -258,28 +222,14 @@ nodes_beaten K n ignored live (p ∷ loads) all = by (p.node.number == n) refl (
     by false e more = rw more refl
 
 -- what the nodes have together after it
-totals_by : (K : ℕ) (f g : List ClusterNode) → ((i : ℕ) → sum_by (λ x. amount x.total i) f ≡ sum_by (λ x. amount x.total i) g) → sum_of_totals K f ≡ sum_of_totals K g
-totals_by K f g e =
-    ext_get_or 0 (sum_of_totals K f) (sum_of_totals K g) (omega (arith, length-where K (λ (x : ClusterNode). true) (λ x. x.total) f, length-where K (λ (x : ClusterNode). true) (λ x. x.total) g))
-    (λ i h.
-    let b : i < K = omega (arith, length-where K (λ (x : ClusterNode). true) (λ x. x.total) f) in
-    amount-where K (λ (x : ClusterNode). true) (λ x. x.total) f i b ∙ e i ∙ sym (amount-where K (λ (x : ClusterNode). true) (λ x. x.total) g i b))
-
 pub totals_beaten : (K n ignored : ℕ) (loads : List Load) → sum_of_totals K (nodes_of (change_load n (beaten_load ignored) loads)) ≡ sum_of_totals K (nodes_of loads)
-totals_beaten K n ignored loads = totals_by K (nodes_of (change_load n (beaten_load ignored) loads)) (nodes_of loads) (λ i. same i loads)
+totals_beaten K n ignored loads = λ i. by_amount K (λ k. same k i)
   where
-    same : (i : ℕ) (ps : List Load) → sum_by (λ x. amount x.total i) (nodes_of (change_load n (beaten_load ignored) ps)) ≡ sum_by (λ x. amount x.total i) (nodes_of ps)
-    same i [] = refl
-    same i (p ∷ ps) =
-        let h = λ (x : ClusterNode). amount x.total i in
-        sum_by-cons h (cond (p.node.number == n) (beaten_load ignored p) p).node (nodes_of (change_load n (beaten_load ignored) ps))
-        ∙ ap (λ m. h (cond (p.node.number == n) (beaten_load ignored p) p).node + m) (same i ps)
-        ∙ ap (λ m. m + sum_by h (nodes_of ps)) (head (p.node.number == n))
-        ∙ sym (sum_by-cons h p.node (nodes_of ps))
-      where
-        head : (b : Bool) → amount (cond b (beaten_load ignored p) p).node.total i ≡ amount p.node.total i
-        head true = refl
-        head false = refl
+    same : (k : ℕ) → sum_by (λ x. amount x.total k) (nodes_of (change_load n (beaten_load ignored) loads)) ≡ sum_by (λ x. amount x.total k) (nodes_of loads)
+    same k =
+        let h = λ (x : ClusterNode). amount x.total k in
+        let kept = kept-change (λ (p : Load). p.node.number) (λ p. h p.node) n (beaten_load ignored) (λ p. refl) loads in
+        sym (sum-map h (nodes_of (change_load n (beaten_load ignored) loads))) ∙ ap sum (map_twice h (λ (p : Load). p.node) (change_load n (beaten_load ignored) loads) ∙ kept ∙ sym (map_twice h (λ (p : Load). p.node) loads)) ∙ sum-map h (nodes_of loads)
 
 module _ (K next n : ℕ) (loads : List Load) (p : Load) (rising : IsRising 1 (map (λ q. q.node.number) loads) next) (there : load_at loads n ≡ Some p) where
   node_moved : (h : ClusterNode → ℕ) → sum_by h (nodes_of loads) ≡ sum_by h (filter (λ x. not (x.number == n)) (nodes_of loads)) + h p.node
@@ -332,7 +282,7 @@ rising_nodes loads next rising = subst (λ ns. IsRising 1 ns next) (sym (numbers
 -- the numbers rise after a change that leaves them
 pub rising_changed : (n : ℕ) (change : Load → Load) → ((p : Load) → (change p).node.number ≡ p.node.number) → (loads : List Load) (next : ℕ) → IsRising 1 (map (λ p. p.node.number) loads) next →
     IsRising 1 (map (λ p. p.node.number) (change_load n change loads)) next
-rising_changed n change keeps loads next rising = subst (λ ns. IsRising 1 ns next) (sym (numbers-change (λ (p : Load). p.node.number) n change keeps loads)) rising
+rising_changed n change keeps loads next rising = subst (λ ns. IsRising 1 ns next) (sym (kept-change (λ (p : Load). p.node.number) (λ p. p.node.number) n change keeps loads)) rising
 
 -- what is true of every table
 pub sound_table : (K : ℕ) (loads : List Load) (live reserved : List Container) (next_node next_container : ℕ) (total : List ℕ) →

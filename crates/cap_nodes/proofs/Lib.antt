@@ -9,4 +9,3 @@ pub mod Changes
 pub mod Walked
 pub mod Reserved
 pub mod Sizes
-pub mod NodeTotals

@@ -1,6 +1,6 @@
 -- Items by their numbers, which rise.
-use Rattle.std.proofs.Common.{◌≡◌, ℕ, ◌+◌, ◌≤◌, ◌<◌, Bool, true, false, List, [], ◌∷◌, ◌++◌, length, cond, not, map, refl, sym, ap, ◌∙◌, arith, Some, None}
-use Rattle.std.specs.Prelude.{find, filter, ◌==◌, nat_eq}
+use Rattle.std.proofs.Common.{◌≡◌, ℕ, ◌+◌, ◌≤◌, ◌<◌, Bool, true, false, List, [], ◌∷◌, ◌++◌, cond, not, map, refl, sym, ap, ◌∙◌, arith, Some, None}
+use Rattle.std.specs.Prelude.{find, filter, option_map, ◌==◌, nat_eq}
 use Rattle.std.specs.Ordering.{nat_cmp}
 use Rattle.std.specs.declared.cmp.Ordering.TheVariants.{Greater}
 use Rattle.std.specs.Map.{lookup, remove_entry, set_value, values_of}
@@ -8,7 +8,7 @@ use Rattle.std.specs.BTreeMap.{insert_entry, is_at}
 use Rattle.std.specs.Cmp.{unsigned_ties, nat_cmp_is}
 use Rattle.std.proofs.lemmas.Bool.Decides.{nat_tests}
 use Rattle.cap_base.specs.Members.{IsRising}
-use Rattle.cap_model.proofs.lists.Numbered.{rising_ends}
+use Rattle.cap_model.proofs.lists.Numbered.{find_changed, rising_ends}
 use Rattle.cap_nodes.specs.Loads.{tagged_items}
 
 -- the tests of maps by number
@@ -20,6 +20,15 @@ same_tie n k = sym (unsigned_ties n k) ∙ same_number n k
 
 greater : (n k : ℕ) → k < n → nat_cmp n k ≡ Greater
 greater n k h = sym (nat_cmp_is n k Greater h)
+
+-- where none passes a test, all stay without those that do
+pub none_gone : {X : Type 0} (t : X → Bool) (xs : List X) → None ≡ find t xs → filter (λ x. not (t x)) xs ≡ xs
+none_gone t [] e = refl
+none_gone t (x ∷ xs) e = by (t x) e (none_gone t xs)
+  where
+    by : (b : Bool) → None ≡ cond b (Some x) (find t xs) → (None ≡ find t xs → filter (λ y. not (t y)) xs ≡ xs) → cond (not b) (x ∷ filter (λ y. not (t y)) xs) (filter (λ y. not (t y)) xs) ≡ x ∷ xs
+    by true h more = absurd (cc h)
+    by false h more = ap (λ ys. x ∷ ys) (more h)
 
 module _ {X : Type 0} (num : X → ℕ) where
   pub values-tagged : (xs : List X) → values_of (tagged_items num xs) ≡ xs
@@ -88,15 +97,20 @@ module _ {X : Type 0} (num : X → ℕ) where
           rw (same (num x), e, later, here, keeps x) refl
       by false e more = rw (same (num x), e) (ap (λ ys. (num x, x) ∷ ys) (more (λ y h. is y (rw e h))))
 
-  pub numbers-change : (n : ℕ) (change : X → X) → ((x : X) → num (change x) ≡ num x) → (xs : List X) → map num (map (λ x. cond (num x == n) (change x) x) xs) ≡ map num xs
-  numbers-change n change keeps [] = refl
-  numbers-change n change keeps (x ∷ xs) = by (num x == n) (numbers-change n change keeps xs)
+  -- what a change of the item of a number keeps of each
+  pub kept-change : {Y : Type 0} (f : X → Y) (n : ℕ) (change : X → X) → ((x : X) → f (change x) ≡ f x) → (xs : List X) → map f (map (λ x. cond (num x == n) (change x) x) xs) ≡ map f xs
+  kept-change f n change keeps [] = refl
+  kept-change f n change keeps (x ∷ xs) = λ i. by (num x == n) i ∷ kept-change f n change keeps xs i
     where
-      by : (b : Bool) → map num (map (λ y. cond (num y == n) (change y) y) xs) ≡ map num xs →
-          num (cond b (change x) x) ∷ map num (map (λ y. cond (num y == n) (change y) y) xs) ≡ num x ∷ map num xs
-      by true e = rw (keeps x, e) refl
-      by false e = rw e refl
+      by : (b : Bool) → f (cond b (change x) x) ≡ f x
+      by true = keeps x
+      by false = refl
 
-  pub length-change : (n : ℕ) (change : X → X) (xs : List X) → length (map (λ x. cond (num x == n) (change x) x) xs) ≡ length xs
-  length-change n change [] = refl
-  length-change n change (x ∷ xs) = let e = length-change n change xs in omega (arith, e)
+  -- the item of a number after a change of one
+  pub found-change : (n : ℕ) (change : X → X) → ((x : X) → num (change x) ≡ num x) → (m : ℕ) (xs : List X) →
+      find (λ x. num x == m) (map (λ x. cond (num x == n) (change x) x) xs) ≡ option_map (λ x. cond (num x == n) (change x) x) (find (λ x. num x == m) xs)
+  found-change n change keeps m xs = find_changed num (λ x. cond (num x == n) (change x) x) (λ x. by x (num x == n)) m xs
+    where
+      by : (x : X) (b : Bool) → num (cond b (change x) x) ≡ num x
+      by x true = keeps x
+      by x false = refl

@@ -4,7 +4,7 @@ use Rattle.std.specs.Prelude.{filter, find, ◌==◌, ◌&&◌, ◌||◌, nat_lt
 use Rattle.std.proofs.lemmas.Bool.Decides.{nat_tests}
 use Rattle.cap_base.specs.Members.{IsRising}
 use Rattle.cap_model.specs.Flat.{Container}
-use Rattle.cap_model.proofs.lists.Numbered.{none_before}
+use Rattle.cap_model.proofs.lists.Numbered.{find_gone, find_others, none_before}
 use Rattle.cap_nodes.specs.Loads.{IsOwnerIndex, is_of, has_pair, HasMore, HasLess}
 
 find_pushed : (n : ℕ) (cs : List Container) (c : Container) → find (λ x. x.number == c.number) cs ≡ None →
@@ -21,21 +21,11 @@ find_pushed n (d ∷ cs) c fresh = by (d.number == c.number) (d.number == n) (c.
     by false false f h i j new later = later new ∙ ap (λ t. cond t (Some c) (find (λ x. x.number == n) cs)) j
 
 find_left : (n m : ℕ) (cs : List Container) → find (λ x. x.number == m) (filter (λ x. not (x.number == n)) cs) ≡ cond (n == m) None (find (λ x. x.number == m) cs)
-find_left n m [] = by (n == m)
+find_left n m cs = by (n == m) refl
   where
-    by : (b : Bool) → find (λ (x : Container). x.number == m) [] ≡ cond b None (find (λ (x : Container). x.number == m) [])
-    by true = refl
-    by false = refl
-find_left n m (c ∷ cs) = by (c.number == n) (c.number == m) (n == m) refl refl refl (find_left n m cs)
-  where
-    by : (b e f : Bool) → (c.number == n) ≡ b → (c.number == m) ≡ e → (n == m) ≡ f → find (λ x. x.number == m) (filter (λ x. not (x.number == n)) cs) ≡ cond (n == m) None (find (λ x. x.number == m) cs) →
-        find (λ x. x.number == m) (cond (not b) (c ∷ filter (λ x. not (x.number == n)) cs) (filter (λ x. not (x.number == n)) cs)) ≡ cond f None (cond e (Some c) (find (λ x. x.number == m) cs))
-    by true true true h i j same = same ∙ ap (λ t. cond t None (find (λ x. x.number == m) cs)) j
-    by true true false h i j same = absurd (grind (arith, nat_tests, h, i, j))
-    by true false f h i j same = same ∙ ap (λ t. cond t None (find (λ x. x.number == m) cs)) j
-    by false true true h i j same = absurd (grind (arith, nat_tests, h, i, j))
-    by false true false h i j same = rw i refl
-    by false false f h i j same = rw i (same ∙ ap (λ t. cond t None (find (λ x. x.number == m) cs)) j)
+    by : (b : Bool) → (n == m) ≡ b → find (λ x. x.number == m) (filter (λ x. not (x.number == n)) cs) ≡ cond b None (find (λ x. x.number == m) cs)
+    by true e = find_gone (λ (x : Container). x.number) n m e cs
+    by false e = find_others (λ (x : Container). x.number) n m e cs
 
 module _ (key : Container → ℕ) (live : List Container) (old : List (ℕ × ℕ)) (index : IsOwnerIndex key live old) where
   -- one more of the next number

@@ -1,17 +1,17 @@
 -- The one reservation that a node holds at most, dropped.
-use Rattle.std.proofs.Common.{◌≡◌, ℕ, ◌+◌, Bool, true, false, cond, List, [], ◌∷◌, map, Some, None, refl, sym, ◌∙◌, ap, arith}
-use Rattle.std.specs.Prelude.{filter, find, not, nat_lt, ◌==◌, ◌&&◌}
+use Rattle.std.proofs.Common.{◌≡◌, ℕ, ◌+◌, Bool, true, false, cond, List, [], ◌∷◌, map, Option, Some, None, refl, sym, ◌∙◌, ap, arith}
+use Rattle.std.specs.Prelude.{filter, find, option_map, not, nat_lt, ◌==◌, ◌&&◌}
 use Rattle.std.specs.List.{list_any}
 use Rattle.std.proofs.lemmas.Bool.Decides.{nat_tests}
 use Rattle.cap_model.specs.Flat.{Container, Reservation}
 use Rattle.cap_model.specs.Bounds.{AreApart}
 use Rattle.cap_base.specs.Members.{IsRising}
 use Rattle.cap_base.proofs.lists.Members.{found, none_in}
-use Rattle.cap_base.proofs.lists.Filters.{filter_whole}
+use Rattle.cap_base.proofs.lists.Filters.{filter_whole, find_mapped_at}
 use Rattle.cap_model.proofs.lists.Numbered.{rising_from_low}
-use Rattle.cap_nodes.specs.Loads.{reservation_of}
-use Rattle.cap_nodes.proofs.Numbered.{not_later}
-use Rattle.cap_nodes.proofs.Walked.{above_zero, first_kept}
+use Rattle.cap_nodes.specs.Loads.{made_after, reservation_of}
+use Rattle.cap_nodes.proofs.Numbered.{none_gone, not_later}
+use Rattle.cap_nodes.proofs.Walked.{above, above_zero, all_above, find_above, first_kept}
 
 -- whether a reservation is on another node
 abbrev pub is_elsewhere : ℕ → Reservation → Bool
@@ -19,13 +19,7 @@ is_elsewhere n r = not (r.node == n)
 
 -- where none is on a node, all are elsewhere
 pub all_elsewhere : (n : ℕ) (rs : List Reservation) → None ≡ find (λ (r : Reservation). r.node == n) rs → filter (is_elsewhere n) rs ≡ rs
-all_elsewhere n [] e = refl
-all_elsewhere n (r ∷ rs) e = by (r.node == n) e (all_elsewhere n rs)
-  where
-    by : (b : Bool) → None ≡ cond b (Some r) (find (λ (x : Reservation). x.node == n) rs) → (None ≡ find (λ (x : Reservation). x.node == n) rs → filter (is_elsewhere n) rs ≡ rs) →
-        cond (not b) (r ∷ filter (is_elsewhere n) rs) (filter (is_elsewhere n) rs) ≡ r ∷ rs
-    by true h more = absurd (cc h)
-    by false h more = ap (λ xs. r ∷ xs) (more h)
+all_elsewhere n rs e = none_gone (λ (r : Reservation). r.node == n) rs e
 
 pub others_elsewhere : (n m : ℕ) (rs : List Reservation) → n == m ≡ true → list_any (λ (s : Reservation). n == s.node) rs ≡ false → filter (is_elsewhere m) rs ≡ rs
 others_elsewhere n m rs t e =
@@ -54,6 +48,32 @@ taken_out n low (d ∷ ds) high r a c e = by (d.node == n) refl e (taken_out n (
         let other : (d.number == c.number) ≡ false = grind (arith, nat_tests, later) in
         rw other (ap (λ rs. reservation_of d ∷ rs) (more k))
 
+-- the reservations after the one on a node are those of the later containers
+none_after : (n : ℕ) (rs : List Reservation) → None ≡ find (λ (r : Reservation). r.node == n) rs → made_after n rs ≡ []
+none_after n [] e = refl
+none_after n (r ∷ rs) e = by (r.node == n) e (none_after n rs)
+  where
+    by : (b : Bool) → None ≡ cond b (Some r) (find (λ (x : Reservation). x.node == n) rs) → (None ≡ find (λ (x : Reservation). x.node == n) rs → made_after n rs ≡ []) → cond b rs (made_after n rs) ≡ []
+    by true h more = absurd (cc h)
+    by false h more = more h
+
+later_are : (n low : ℕ) (cs : List Container) (high : ℕ) → IsRising low (map (λ c. c.number) cs) high → (c : Container) → find (λ x. x.node == n) cs ≡ Some c → made_after n (map reservation_of cs) ≡ map reservation_of (above c.number cs)
+later_are n low [] high r c e = absurd (cc e)
+later_are n low (d ∷ ds) high r c e = by (d.node == n) e (later_are n (d.number + 1) ds high r.1 c)
+  where
+    by : (b : Bool) → cond b (Some d) (find (λ x. x.node == n) ds) ≡ Some c → (find (λ x. x.node == n) ds ≡ Some c → made_after n (map reservation_of ds) ≡ map reservation_of (above c.number ds)) →
+        cond b (map reservation_of ds) (made_after n (map reservation_of ds)) ≡ map reservation_of (above c.number (d ∷ ds))
+    by true h more =
+        let this : d ≡ c = cc h in
+        let same = ap (λ (x : Container). x.number) this in
+        let none : nat_lt c.number d.number ≡ false = grind (arith, nat_tests, same) in
+        rw (none, all_above c.number (d.number + 1) ds high r.1 (omega (arith, same))) refl
+    by false h more =
+        let m = (found (λ (x : Container). x.node == n) ds c h).0 in
+        let later = rising_from_low (λ (x : Container). x.number) (d.number + 1) ds high c r.1 m in
+        let none : nat_lt c.number d.number ≡ false = grind (arith, nat_tests, later) in
+        rw none (more h)
+
 module _ (n : ℕ) (cs : List Container) (high : ℕ) (r : IsRising 1 (map (λ c. c.number) cs) high) where
   pub one_dropped : AreApart (map reservation_of cs) → (c : Container) → find (λ d. d.node == n && nat_lt 0 d.number) cs ≡ Some c →
       map reservation_of (filter (λ d. not (d.number == c.number)) cs) ≡ filter (is_elsewhere n) (map reservation_of cs)
@@ -61,3 +81,14 @@ module _ (n : ℕ) (cs : List Container) (high : ℕ) (r : IsRising 1 (map (λ c
 
   pub none_dropped : None ≡ find (λ d. d.node == n && nat_lt 0 d.number) cs → filter (is_elsewhere n) (map reservation_of cs) ≡ map reservation_of cs
   none_dropped e = all_elsewhere n (map reservation_of cs) (first_kept (λ (x : Reservation). x.node == n) cs high r None e)
+
+  -- the next for a key after the one on a node
+  pub none_next : (t : Reservation → Bool) → None ≡ find (λ d. d.node == n && nat_lt 0 d.number) cs → None ≡ find t (made_after n (map reservation_of cs))
+  none_next t e = ap (find t) (sym (none_after n (map reservation_of cs) (first_kept (λ (x : Reservation). x.node == n) cs high r None e)))
+
+  pub next_kept : (t : Reservation → Bool) (c : Container) → find (λ d. d.node == n && nat_lt 0 d.number) cs ≡ Some c → (o : Option Container) → o ≡ find (λ d. t (reservation_of d) && nat_lt c.number d.number) cs →
+      option_map reservation_of o ≡ find t (made_after n (map reservation_of cs))
+  next_kept t c e o is =
+      ap (option_map reservation_of) (is ∙ find_above (λ (d : Container). t (reservation_of d)) c.number cs)
+      ∙ sym (find_mapped_at reservation_of t (above c.number cs))
+      ∙ ap (find t) (sym (later_are n 1 cs high r c (sym (above_zero (λ (x : Reservation). x.node == n) cs high r) ∙ e)))

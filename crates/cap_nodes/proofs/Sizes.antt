@@ -1,7 +1,13 @@
 -- The parts of a table of nodes are no larger than memory, as the table is.
-use Rattle.std.proofs.Common.{ℕ, arith}
+use Rattle.std.proofs.Common.{◌≡◌, ℕ, ◌<◌, ◌^◌, arith, refl, subst}
+use Rattle.std.specs.Borrow.{RattleType}
 use Rattle.std.specs.Mem.{FitsInMemory}
-use denote.Param.{number, param}
+use mathlib.Core.Option.{some}
+use mir.Syntax.{Sym, Ty, Tys}
+use mir.Syntax.Ty.{ty_struct}
+use prog.Memory.{size, field_at}
+use prog.Align.{field_in}
+use denote.Param.{layout, number, param}
 use Rattle.cap_vector.specs.contracts.vector.Amounts as amounts
 use Rattle.cap_model.specs.contracts.container.Container as container
 use Rattle.cap_nodes.specs.contracts.containers.Containers as containers
@@ -10,20 +16,28 @@ use Rattle.cap_nodes.specs.contracts.node.Node as node
 use Rattle.cap_nodes.specs.contracts.nodes.Nodes as nodes
 use Rattle.cap_nodes.specs.contracts.present.Present as present
 
-pub present_fits : (n : ℕ) → FitsInMemory (nodes.the_row (param 0 (number n))) → FitsInMemory (present.the_row (param 0 (number n)))
-present_fits n fits = omega (arith, fits)
+-- a field of a struct that fits
+field_fits : (τ σ : Ty) (k : ℕ) (ν : Sym) (τs : Tys) → τ ≡ ty_struct ν τs → (d : ℕ) → field_at 0 τs k ≡ some (σ, d) → size τ < 2 ^ 63 → size σ < 2 ^ 63
+field_fits τ σ k ν τs is d at fits = let w = field_in ν τs k σ d at in let whole : size (ty_struct ν τs) < 2 ^ 63 = subst (λ t. size t < 2 ^ 63) is fits in omega (arith, w, whole)
 
-pub containers_fit : (n : ℕ) → FitsInMemory (nodes.the_row (param 0 (number n))) → FitsInMemory (containers.the_row (param 0 (number n)))
-containers_fit n fits = omega (arith, fits)
+module _ (n : ℕ) (fits : FitsInMemory (nodes.the_row (param 0 (number n)))) where
+  abbrev K : RattleType
+  K = param 0 (number n)
 
-pub load_fits : (n : ℕ) → FitsInMemory (nodes.the_row (param 0 (number n))) → FitsInMemory (load.the_row (param 0 (number n)))
-load_fits n fits = let whole = present_fits n fits in omega (arith, whole)
+  pub present_fits : FitsInMemory (present.the_row K)
+  present_fits = field_fits (layout (nodes.the_row K)) (layout (present.the_row K)) 0 _ _ refl _ refl fits
 
-pub node_fits : (n : ℕ) → FitsInMemory (nodes.the_row (param 0 (number n))) → FitsInMemory (node.the_row (param 0 (number n)))
-node_fits n fits = let whole = load_fits n fits in omega (arith, whole)
+  pub containers_fit : FitsInMemory (containers.the_row K)
+  containers_fit = field_fits (layout (nodes.the_row K)) (layout (containers.the_row K)) 1 _ _ refl _ refl fits
 
-pub container_fits : (n : ℕ) → FitsInMemory (nodes.the_row (param 0 (number n))) → FitsInMemory (container.the_row (param 0 (number n)))
-container_fits n fits = let whole = containers_fit n fits in omega (arith, whole)
+  pub load_fits : FitsInMemory (load.the_row K)
+  load_fits = field_fits (layout (present.the_row K)) (layout (load.the_row K)) 2 _ _ refl _ refl present_fits
+
+  pub node_fits : FitsInMemory (node.the_row K)
+  node_fits = field_fits (layout (load.the_row K)) (layout (node.the_row K)) 0 _ _ refl _ refl load_fits
+
+  pub container_fits : FitsInMemory (container.the_row K)
+  container_fits = field_fits (layout (containers.the_row K)) (layout (container.the_row K)) 4 _ _ refl _ refl containers_fit
 
 pub amounts_fit : (n max : ℕ) → FitsInMemory (nodes.the_row (param 0 (number n))) → FitsInMemory (amounts.the_row (param 0 (number n)) (number max))
-amounts_fit n max fits = omega (arith, fits)
+amounts_fit n max fits = field_fits (layout (nodes.the_row (param 0 (number n)))) (layout (amounts.the_row (param 0 (number n)) (number max))) 3 _ _ refl _ refl fits

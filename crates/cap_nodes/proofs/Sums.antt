@@ -8,7 +8,7 @@ use Rattle.std.proofs.lemmas.List.{ext_get_or, get_or_past, get_or-replicate, le
 use Rattle.std.proofs.lemmas.Bool.{cases_lt}
 use Rattle.std.proofs.lemmas.List.Sums.{sum_by_push, sum_by-cons}
 use Rattle.std.proofs.lemmas.List.FromFn.{length-map-range_with_len}
-use Rattle.cap_vector.specs.Vector.{amount, plus, less, zeros, Fits, IsWithin}
+use Rattle.cap_vector.specs.Vector.{amount, by_amount, plus, less, zeros, Fits, IsWithin}
 use Rattle.cap_vector.proofs.AmountLemmas.{amount-plus, amount-less, amount-zeros, length-less}
 use Rattle.cap_base.specs.Amounts.{sum_where, part}
 use Rattle.cap_base.specs.Members.{IsRising}
@@ -53,13 +53,9 @@ module _ {X : Type 0} (K : ℕ) (t : X → Bool) (of : X → List ℕ) where
 
   pub where-push-other : (xs : List X) (x : X) → t x ≡ false → sum_where K t of (xs ++ x ∷ []) ≡ sum_where K t of xs
   where-push-other xs x e =
-      ext_get_or 0 (sum_where K t of (xs ++ x ∷ [])) (sum_where K t of xs) (omega (arith, length-where xs, length-where (xs ++ x ∷ [])))
-      (λ i h.
-      let b : i < K = omega (arith, length-where (xs ++ x ∷ [])) in
-      let h = λ (y : X). cond (t y) (amount (of y) i) 0 in
-      let z : h x ≡ 0 = ap (λ c. cond c (amount (of x) i) 0) e in
-      let p : part t of (xs ++ x ∷ []) i ≡ part t of xs i + h x = sum_by_push h xs x in
-      amount-where (xs ++ x ∷ []) i b ∙ (let q : part t of (xs ++ x ∷ []) i ≡ part t of xs i = omega (arith, p, z) in q) ∙ sym (amount-where xs i b))
+      let same : (k : ℕ) → part t of (xs ++ x ∷ []) k ≡ part t of xs k = λ k.
+      let z : cond (t x) (amount (of x) k) 0 ≡ 0 = ap (λ c. cond c (amount (of x) k) 0) e in let p = sum_by_push (λ y. cond (t y) (amount (of y) k) 0) xs x in omega (arith, p, z) in
+      λ i. by_amount K (λ k. same k i)
 
   pub where-push-own : (xs : List X) (x : X) → t x ≡ true → length (plus (sum_where K t of xs) (of x)) ≡ K → sum_where K t of (xs ++ x ∷ []) ≡ plus (sum_where K t of xs) (of x)
   where-push-own xs x e count =
@@ -74,13 +70,9 @@ module _ {X : Type 0} (K : ℕ) (t : X → Bool) (of : X → List ℕ) where
   -- the sums of all items and of those without one
   pub where-less-other : (xs ys : List X) (x : X) → ((h : X → ℕ) → sum_by h xs ≡ sum_by h ys + h x) → t x ≡ false → sum_where K t of ys ≡ sum_where K t of xs
   where-less-other xs ys x moved e =
-      ext_get_or 0 (sum_where K t of ys) (sum_where K t of xs) (omega (arith, length-where xs, length-where ys))
-      (λ i h.
-      let b : i < K = omega (arith, length-where ys) in
-      let h = λ (y : X). cond (t y) (amount (of y) i) 0 in
-      let z : h x ≡ 0 = ap (λ c. cond c (amount (of x) i) 0) e in
-      let p : part t of xs i ≡ part t of ys i + h x = moved h in
-      amount-where ys i b ∙ (let q : part t of ys i ≡ part t of xs i = omega (arith, p, z) in q) ∙ sym (amount-where xs i b))
+      let same : (k : ℕ) → part t of xs k ≡ part t of ys k = λ k.
+      let z : cond (t x) (amount (of x) k) 0 ≡ 0 = ap (λ c. cond c (amount (of x) k) 0) e in let p = moved (λ y. cond (t y) (amount (of y) k) 0) in omega (arith, p, z) in
+      sym (λ i. by_amount K (λ k. same k i))
 
   pub part-less : (xs ys : List X) (x : X) → ((h : X → ℕ) → sum_by h xs ≡ sum_by h ys + h x) → t x ≡ true → (i : ℕ) → part t of xs i ≡ part t of ys i + amount (of x) i
   part-less xs ys x moved e i =

@@ -1,6 +1,6 @@
 -- Nodes and what their containers hold, as a container comes and goes.
-use Rattle.std.proofs.Common.{◌≡◌, ℕ, ◌+◌, ◌-◌, ◌≤◌, ◌<◌, Bool, true, false, cond, List, [], ◌∷◌, ◌++◌, length, map, not, sym, ap, ◌∙◌, arith, subst, refl, Some}
-use Rattle.std.specs.Prelude.{filter, find, count_by, ◌==◌, IsSome}
+use Rattle.std.proofs.Common.{◌≡◌, ℕ, ◌+◌, ◌-◌, ◌≤◌, ◌<◌, Bool, true, false, cond, List, [], ◌∷◌, ◌++◌, length, map, not, sym, ap, ◌∙◌, arith, subst, refl, Option, Some, None}
+use Rattle.std.specs.Prelude.{filter, find, count_by, ◌==◌, IsSome, option_map}
 use Rattle.std.specs.List.{sum_by, AllByRecursion}
 use Rattle.std.proofs.lemmas.Option.{same_Some}
 use Rattle.std.proofs.lemmas.Bool.Decides.{nat_tests}
@@ -13,6 +13,7 @@ use Rattle.cap_base.specs.Members.{IsRising}
 use Rattle.cap_model.specs.Flat.{Container}
 use Rattle.cap_base.proofs.lists.Sums.{one_where}
 use Rattle.cap_nodes.specs.Loads.{Load, IsTied, load_at, change_load, held_more, held_less, CanHold, HasOne}
+use Rattle.cap_nodes.proofs.Numbered.{found-change}
 use Rattle.cap_nodes.proofs.Sums.{where-push-other, where-push-own, where-less-other, where-less-own, where-had, sum-without, count-push}
 
 -- what holds of each holds of the one that is found
@@ -74,16 +75,11 @@ all_pushed P (y ∷ xs) x all h = (all.0, all_pushed P xs x all.1 h)
 
 -- a load that is there is still there
 pub still_there : (loads : List Load) (n m : ℕ) (change : Load → Load) → ((p : Load) → (change p).node.number ≡ p.node.number) → IsSome (load_at loads m) → IsSome (load_at (change_load n change loads) m)
-still_there [] n m change keeps there = there
-still_there (q ∷ loads) n m change keeps there = by (q.node.number == n) (q.node.number == m) refl (keeps q) (λ later. still_there loads n m change keeps later) there
+still_there loads n m change keeps h = subst IsSome (sym (found-change (λ (p : Load). p.node.number) n change keeps m loads)) (by (load_at loads m) h)
   where
-    by : (b e : Bool) → (q.node.number == m) ≡ e → (change q).node.number ≡ q.node.number → (IsSome (load_at loads m) → IsSome (load_at (change_load n change loads) m)) →
-        IsSome (cond e (Some q) (load_at loads m)) →
-        IsSome (cond ((cond b (change q) q).node.number == m) (Some (cond b (change q) q)) (load_at (change_load n change loads) m))
-    by true true is k more h = let y : ((change q).node.number == m) ≡ true = ap (λ x. x == m) k ∙ is in rw y refl
-    by true false is k more h = let y : ((change q).node.number == m) ≡ false = ap (λ x. x == m) k ∙ is in rw y (more h)
-    by false true is k more h = rw is refl
-    by false false is k more h = rw is (more h)
+    by : (o : Option Load) → IsSome o → IsSome (option_map (λ (p : Load). cond (p.node.number == n) (change p) p) o)
+    by (Some p) k = refl
+    by None k = absurd (cc k)
 
 pub there_pushed : (loads : List Load) (p : Load) (m : ℕ) → IsSome (load_at loads m) → IsSome (load_at (loads ++ p ∷ []) m)
 there_pushed [] p m there = absurd (cc there)

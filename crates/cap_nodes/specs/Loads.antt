@@ -1,14 +1,15 @@
 -- The nodes with what their containers hold, and the live containers.
-use Rattle.std.specs.Prelude.{◌≡◌, ℕ, ◌+◌, ◌-◌, ◌<◌, ◌≤◌, List, length, not, ◌&&◌, ◌||◌, Option, None, Some, Bool, false, IsSome, map, find, count_by, ◌==◌, if◌then◌else◌, ◌++◌, ◌∷◌, []}
+use Rattle.std.specs.Prelude.{◌≡◌, ℕ, zero, suc, bytes_eq, ◌+◌, ◌-◌, ◌<◌, ◌≤◌, List, length, not, ◌&&◌, ◌||◌, Option, None, Some, Bool, false, IsSome, map, filter, find, count_by, ◌==◌, if◌then◌else◌, ◌++◌, ◌∷◌, []}
 use Rattle.std.specs.List.{AllByRecursion, list_any}
 use Rattle.std.specs.BTreeMap.{is_at}
-use Rattle.std.specs.Map.{values_of}
+use Rattle.std.specs.Map.{lookup, values_of}
 use Rattle.std.specs.Ordering.{nat_cmp, ordering_then}
 use Rattle.std.specs.declared.cmp.Ordering.{Ordering}
 use Rattle.cap_vector.specs.Vector.{Fits, IsWithin, amount_max, plus, less, zeros}
-use Rattle.cap_base.specs.Limits.{live_max}
+use Rattle.cap_base.specs.Limits.{live_max, nodes_max}
 use Rattle.cap_base.specs.Amounts.{sum_where}
 use Rattle.cap_base.specs.Members.{IsRising}
+use Rattle.cap_base.specs.Texts.{is_text}
 use Rattle.cap_model.specs.Flat.{ClusterNode, Container, NodeTable, Reservation, change_node, containers_on, is_for}
 use Rattle.cap_model.specs.Heartbeat.{after_beat}
 use Rattle.cap_model.specs.declared.ask.Key.{Key}
@@ -66,6 +67,15 @@ reservation_of c = record { app = c.app; key = c.key; node = c.node; resource = 
 abbrev pub is_kept_for : ℕ → Key → Container → Bool
 is_kept_for app key c = is_for app key (reservation_of c)
 
+-- the keys of the reservations for an application
+abbrev pub keys_reserved_by : ℕ → List Reservation → List Key
+keys_reserved_by app reserved = map (λ r. r.key) (filter (λ r. r.app == app) reserved)
+
+-- the reservations that were made after the one that a node holds
+abbrev pub made_after : ℕ → List Reservation → List Reservation
+made_after n [] = []
+made_after n (r ∷ rs) = if r.node == n then rs else made_after n rs
+
 -- the nodes with one more of K resources, of the next number, which holds nothing, and with one of them changed
 abbrev pub add_load : ℕ → List ℕ → List ℕ → List ℕ → LoadTable → LoadTable
 add_load K host rack total table =
@@ -94,6 +104,26 @@ pub record HasOne (resource : List ℕ) (p : Load) : Type 0 where
 -- items by their numbers
 abbrev pub tagged_items : {X : Type 0} → (X → ℕ) → List X → List (ℕ × X)
 tagged_items num xs = map (λ x. (num x, x)) xs
+
+-- the entries are the loads by number, which rise and are few
+abbrev pub IsPresent : List (ℕ × Load) → ℕ → Type 0
+IsPresent entries next =
+    (entries ≡ tagged_items (λ p. p.node.number) (values_of entries))
+    × IsRising 1 (map (λ p. p.node.number) (values_of entries)) next
+    × (length (values_of entries) ≤ nodes_max)
+
+-- a count that is kept only where there are some, and hosts with one of this count in place of the old
+abbrev pub some_count : ℕ → Option ℕ
+some_count zero = None
+some_count (suc n) = Some (suc n)
+
+abbrev pub HasCount : List ℕ → ℕ → List (List ℕ × ℕ) → List (List ℕ × ℕ) → Type 0
+HasCount host count old new = (h : List ℕ) → lookup (bytes_eq h) new ≡ (if bytes_eq host h then some_count count else lookup (bytes_eq h) old)
+
+-- each host with how many loads are of nodes that have it, and nothing that is no host
+pub record AreHosts (entries : List (List ℕ × ℕ)) (loads : List Load) : Type 0 where
+  pub counts : (h : List ℕ) → lookup (bytes_eq h) entries ≡ some_count (count_by (λ p. bytes_eq p.node.host h) loads)
+  pub texts : (h : List ℕ) → is_text 64 h ≡ false → lookup (bytes_eq h) entries ≡ None
 
 -- a node holds what the live containers on it hold, which fits its total
 pub record IsTied (K : ℕ) (live : List Container) (p : Load) : Type 0 where

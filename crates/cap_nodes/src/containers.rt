@@ -1,5 +1,5 @@
 //! Containers by number, found by their application and by their node too: the live ones, or the reservations.
-ghost use Rattle.std.specs.Prelude.{◌≡◌, ℕ, ◌+◌, ◌<◌, ◌≤◌, [], ◌==◌, ◌&&◌, nat_lt, length, map, find, filter, not, IfOk, OnErr};
+ghost use Rattle.std.specs.Prelude.{◌≡◌, ℕ, ◌+◌, ◌<◌, ◌≤◌, [], ◌++◌, ◌==◌, ◌&&◌, nat_lt, length, map, find, filter, not, IfOk, OnOk, OnErr};
 ghost use Rattle.std.specs.List.{slice_get};
 ghost use Rattle.cap_base.specs.Limits.{live_max, number_end};
 ghost use Rattle.cap_base.specs.Members.{IsRising};
@@ -8,7 +8,7 @@ ghost use Rattle.cap_nodes.specs.Loads.{push_container, is_kept_for};
 use crate::owners::Owners;
 use cap_model::{Container, Key, NoMemory};
 use cap_vector::Resource;
-use std::alloc::Global;
+use std::alloc::{Allocator, Global};
 use std::collections::BTreeMap;
 use std::marker::Model;
 
@@ -150,6 +150,9 @@ impl<const K: usize> Containers<K> {
     pub(crate) fn next_of_app(&self, app: u64, after: u64) -> Option<Container<K>>
         ensures { result ≡ find (λ c. c.app == app && nat_lt after c.number) self.now.containers }
     {
+        if self.containers.is_empty() {
+            return None;
+        }
         let Some(number) = self.of_apps.next(app, after) else {
             return None;
         };
@@ -166,20 +169,33 @@ impl<const K: usize> Containers<K> {
         self.containers.get(&number).copied()
     }
 
+    /// The container for a key of an application with the least number above `from`, none where there is none. It looks at those of
+    /// the application alone.
+    pub(crate) fn next_for(&self, app: u64, key: &Key, from: u64) -> Option<Container<K>>
+        ensures { result ≡
+            find (λ c. is_kept_for app key.now c && nat_lt from c.number) self.now.containers }
+    {
+        self.numbers_rise();
+        let mut after = from;
+        while let Some(container) = self.next_of_app(app, after) {
+            if container.key().is_same(key) {
+                return Some(container);
+            }
+            after = container.number();
+        }
+        None
+    }
+
     /// How many there are for a key of an application. It looks at those of the application alone.
     pub(crate) fn count_for(&self, app: u64, key: &Key) -> usize
         ensures { result ≡ length (filter (is_kept_for app key.now) self.now.containers) }
     {
-        if self.containers.is_empty() {
-            return 0;
-        }
+        self.numbers_rise();
         let mut count = 0;
         let mut after = 0;
-        while let Some(container) = self.next_of_app(app, after) {
+        while let Some(container) = self.next_for(app, key, after) {
             after = container.number();
-            if container.key().is_same(key) {
-                count += 1;
-            }
+            count += 1;
         }
         count
     }
@@ -189,20 +205,38 @@ impl<const K: usize> Containers<K> {
     pub(crate) fn nth_for(&self, app: u64, key: &Key, before: u32) -> Option<Container<K>>
         ensures { result ≡ slice_get (filter (is_kept_for app key.now) self.now.containers) before }
     {
-        if self.containers.is_empty() {
-            return None;
-        }
+        self.numbers_rise();
         let mut left = before;
+        let mut after = 0;
+        while let Some(container) = self.next_for(app, key, after) {
+            if left == 0 {
+                return Some(container);
+            }
+            after = container.number();
+            left -= 1;
+        }
+        None
+    }
+
+    /// Adds the keys of those of an application, in order of number, to a list. An error means that an allocation failed, and comes
+    /// only where there is too little room for all.
+    pub(crate) fn add_keys<B: Allocator + Copy>(
+        &self,
+        app: u64,
+        keys: &mut Vec<Key, B>,
+    ) -> Result<(), NoMemory>
+        ensures { OnOk result (keys.new.items ≡ keys.old.items
+            ++ map (λ c. c.key) (filter (λ c. c.app == app) self.now.containers)) }
+    {
+        self.numbers_rise();
         let mut after = 0;
         while let Some(container) = self.next_of_app(app, after) {
             after = container.number();
-            if container.key().is_same(key) {
-                if left == 0 {
-                    return Some(container);
-                }
-                left -= 1;
+            match keys.push(container.key()) {
+                Ok(()) => {}
+                Err(_) => return Err(NoMemory),
             }
         }
-        None
+        Ok(())
     }
 }

@@ -1,5 +1,5 @@
 //! The nodes, the live containers on them, and the reservations (`Nodes`).
-ghost use Rattle.std.specs.Prelude.{◌≡◌, ◌+◌, ◌<◌, ◌≤◌, ◌==◌, ◌&&◌, nat_lt, [], ◌∷◌, IsSome, Some, IfOk, IfSome, OnOk, OnErr, bytes_eq, length, map, find, filter, not, true, false, is_none, option_and_then};
+ghost use Rattle.std.specs.Prelude.{◌≡◌, ◌+◌, ◌<◌, ◌≤◌, ◌==◌, ◌&&◌, ◌++◌, nat_lt, [], ◌∷◌, IsSome, Some, IfOk, IfSome, OnOk, OnErr, bytes_eq, length, map, find, filter, not, true, false, is_none, option_and_then};
 ghost use Rattle.std.specs.List.{All, list_any, slice_get};
 ghost use Rattle.std.specs.Option.{option_copied};
 ghost use Rattle.cap_vector.specs.Vector.{Fits, IsWithin, amount_max, plus};
@@ -14,7 +14,7 @@ ghost use Rattle.cap_model.specs.Ending.{complete};
 ghost use Rattle.cap_model.specs.NodeGone.{remove_node};
 ghost use Rattle.cap_model.specs.Uses.{held_on};
 ghost use Rattle.cap_nodes.specs.Tables.{free_on, IsSound};
-ghost use Rattle.cap_nodes.specs.Loads.{add_container, new_reservation, reservation_of, after_beat_of};
+ghost use Rattle.cap_nodes.specs.Loads.{add_container, new_reservation, reservation_of, after_beat_of, keys_reserved_by, made_after};
 
 use crate::containers::Containers;
 use crate::node::Node;
@@ -23,7 +23,7 @@ use cap_model::{
     Container, HeartbeatReply, Key, LIVE_MAX, NUMBER_END, NoMemory, Reservation, ShortText,
 };
 use cap_vector::{Resource, checked_add, minus};
-use std::alloc::Global;
+use std::alloc::{Allocator, Global};
 use std::marker::Model;
 
 /// The nodes that are present and the containers that are live on them, each in order of number, and the reservations in order of
@@ -165,6 +165,9 @@ impl<const K: usize> Nodes<K> {
     pub fn reservation_on(&self, node: u64) -> Option<Reservation<K>>
         ensures { result ≡ find (λ r. r.node == node) self.now.reserved }
     {
+        if self.reserved.count() == 0 {
+            return None;
+        }
         self.reserved.numbers_rise();
         let Some(container) = self.reserved.next_on_node(node, 0) else {
             return None;
@@ -192,6 +195,34 @@ impl<const K: usize> Nodes<K> {
             return None;
         };
         Some(reservation_of(&container))
+    }
+
+    /// The reservation for a key of an application that was made next after the one that a node holds, none where there is none. It
+    /// looks at the later reservations for the application alone.
+    pub fn reservation_after(&self, app: u64, key: &Key, node: u64) -> Option<Reservation<K>>
+        ensures { result ≡ find (is_for app key.now) (made_after node self.now.reserved) }
+    {
+        self.reserved.numbers_rise();
+        let Some(earlier) = self.reserved.next_on_node(node, 0) else {
+            return None;
+        };
+        let Some(container) = self.reserved.next_for(app, key, earlier.number()) else {
+            return None;
+        };
+        Some(reservation_of(&container))
+    }
+
+    /// Adds the keys of the reservations for an application, in order of making, to a list. An error means that an allocation failed,
+    /// and comes only where there is too little room for all.
+    pub fn reserved_keys<B: Allocator + Copy>(
+        &self,
+        app: u64,
+        keys: &mut Vec<Key, B>,
+    ) -> Result<(), NoMemory>
+        ensures { OnOk result (keys.new.items ≡
+            keys.old.items ++ keys_reserved_by app self.now.reserved) }
+    {
+        self.reserved.add_keys(app, keys)
     }
 
     /// How many reservations there are for a key of an application. It looks at the reservations for the application alone.

@@ -1,10 +1,12 @@
 //! The nodes that are present, found by number and by index (`Present`).
-ghost use Rattle.std.specs.Prelude.{◌≡◌, ◌+◌, ◌<◌, ◌≤◌, [], Some, None, option_and_then, ◌==◌, IsSome, IfSome, IfOk, OnErr, bytes_eq, length, filter, not};
+ghost use Rattle.std.specs.Prelude.{◌≡◌, ◌+◌, ◌<◌, ◌≤◌, [], Some, None, option_and_then, ◌==◌, IsSome, IfSome, IfOk, OnOk, OnErr, bytes_eq, count_by, length, filter, not, true};
 ghost use Rattle.std.specs.List.{list_any, slice_get};
 ghost use Rattle.std.specs.Option.{option_copied};
 ghost use Rattle.cap_vector.specs.Vector.{plus};
 ghost use Rattle.cap_base.specs.Limits.{nodes_max, number_end};
-ghost use Rattle.cap_nodes.specs.Loads.{CanHold, HasOne, load_at, held_more, held_less, beaten_load, add_load, with_load};
+ghost use Rattle.indexmap.specs.IndexMap.{get};
+ghost use Rattle.cap_base.specs.Texts.{is_text};
+ghost use Rattle.cap_nodes.specs.Loads.{CanHold, HasOne, HasCount, load_at, held_more, held_less, beaten_load, add_load, with_load};
 
 use crate::load::Load;
 use crate::node::Node;
@@ -14,29 +16,26 @@ use indexmap::IndexMap;
 use std::alloc::Global;
 use std::marker::Model;
 
-/// The nodes that are present, in order of number, and the number of the next. The blank load holds nothing: that it lies in
-/// the table makes the size of a load known wherever the table is.
+/// The nodes that are present, in order of number, and the number of the next. Each host that a node has is found by hash, with how
+/// many have it. The blank load holds nothing: that it lies in the table makes the size of a load known wherever the table is.
 #[derive(Drop)]
 pub(crate) struct Present<const K: usize> {
     loads: IndexMap<u64, Load<K>>,
     next: u64,
     blank: Load<K>,
+    hosts: IndexMap<ShortText, u32>,
 }
 
 impl<const K: usize> Model for Present<K> {
-    ghost use Rattle.std.specs.Prelude.{◌≡◌, ◌≤◌, length, map};
     ghost use Rattle.std.specs.HashMap.{values};
-    ghost use Rattle.cap_base.specs.Members.{IsRising};
-    ghost use Rattle.cap_base.specs.Limits.{nodes_max};
-    ghost use Rattle.cap_nodes.specs.Loads.{LoadTable, tagged_items};
+    ghost use Rattle.cap_nodes.specs.Loads.{AreHosts, IsPresent, LoadTable};
 
     ghost Value = { LoadTable };
 
     ghost view = { λ t. record { loads = values t.loads; next = t.next } };
 
-    ghost invariant = { λ t. (t.loads.entries ≡ tagged_items (λ p. p.node.number) (values t.loads))
-        × (IsRising 1 (map (λ p. p.node.number) (values t.loads)) t.next)
-        × (length (values t.loads) ≤ nodes_max) };
+    ghost invariant = { λ t. IsPresent t.loads.entries t.next
+        × AreHosts t.hosts.entries (values t.loads) };
 }
 
 impl<const K: usize> Present<K> {
@@ -48,6 +47,7 @@ impl<const K: usize> Present<K> {
             loads: IndexMap::new(alloc),
             next: 1,
             blank: Load::blank(),
+            hosts: IndexMap::new(alloc),
         }
     }
 
@@ -86,12 +86,21 @@ impl<const K: usize> Present<K> {
     pub(crate) fn is_host_taken(&self, host: &[u8]) -> bool
         ensures { result ≡ list_any (λ p. bytes_eq p.node.host host.now) self.now.loads }
     {
-        for load in self.loads.values() {
-            if load.node().host().as_bytes() == host {
-                return true;
-            }
+        let hosts = &self.hosts;
+        let Some(host) = ShortText::new(host) else {
+            return false;
+        };
+        hosts.contains_key(&host)
+    }
+
+    /// How many have the host.
+    fn count_at(&self, host: &ShortText) -> u32
+        ensures { result ≡ count_by (λ p. bytes_eq p.node.host host.now) self.now.loads }
+    {
+        match self.hosts.get(host) {
+            Some(count) => *count,
+            None => 0,
         }
-        false
     }
 
     /// One more, with no container, under the next number. `NoMemory` changes nothing.
@@ -113,10 +122,18 @@ impl<const K: usize> Present<K> {
             held: Resource::zero(),
             live: 0,
         };
-        match self.loads.insert(number, load) {
-            Ok(_) => {}
+        let count = self.count_at(host) + 1;
+        match self.loads.reserve(1) {
+            Ok(()) => {}
             Err(_) => return Err(NoMemory),
         }
+        match set_count(&mut self.hosts, host, count) {
+            Ok(()) => {}
+            Err(_) => return Err(NoMemory),
+        }
+        let Ok(_) = self.loads.insert(number, load) else {
+            unreachable!()
+        };
         self.next = number + 1;
         Ok(number)
     }
@@ -166,6 +183,36 @@ impl<const K: usize> Present<K> {
         ensures { self.new ≡ record self.old
             { loads = filter (λ p. not (p.node.number == number)) self.old.loads } }
     {
+        let Some(load) = self.loads.get(&number) else {
+            return;
+        };
+        let host = *load.node().host();
+        let count = self.count_at(&host) - 1;
+        let Ok(()) = set_count(&mut self.hosts, &host, count) else {
+            unreachable!()
+        };
         self.loads.shift_remove(&number);
+    }
+}
+
+/// Sets how many nodes have a host. `NoMemory` changes nothing, and comes only where none had it.
+fn set_count(
+    hosts: &mut IndexMap<ShortText, u32>,
+    host: &ShortText,
+    count: u32,
+) -> Result<(), NoMemory>
+    ensures ok { OnOk result (HasCount host.now count hosts.old.entries hosts.new.entries) }
+    ensures err { OnErr result (hosts.new.entries ≡ hosts.old.entries) }
+    ensures absent { OnErr result (get bytes_eq hosts.old host.now ≡ None) }
+    ensures text { is_text 64 host.now ≡ true }
+{
+    let _ = host.as_bytes();
+    if count == 0 {
+        hosts.swap_remove(host);
+        return Ok(());
+    }
+    match hosts.insert(*host, count) {
+        Ok(_) => Ok(()),
+        Err(_) => Err(NoMemory),
     }
 }

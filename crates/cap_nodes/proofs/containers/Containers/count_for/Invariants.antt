@@ -11,7 +11,7 @@ pub record CountsRest (count after all left : ℕ) : Type 0 where
 
 abbrev pub invariant-loop-container : goal.invariant-loop-container
 invariant-loop-container g l =
-    CountsRest l.count l.after (length (filter (is_kept_for l.app l.key) l.self.containers)) (length (rest l.app l.key l.after l.self.containers))
+    CountsRest l.count l.after (length (filter (is_kept_for l.app l.key) l.self.containers)) (length (rest (is_kept_for l.app l.key) l.after l.self.containers))
 
 abbrev pub decreases-loop-container : goal.decreases-loop-container
 decreases-loop-container g l = l.self.next - l.after

@@ -1,4 +1,4 @@
-use Rattle.cap_nodes.proofs.Sizes.{present_fits, load_fits, amounts_fit}
+use Rattle.cap_nodes.proofs.Sizes.{load_fits, amounts_fit, present_fits}
 use Rattle.std.proofs.Common.{◌∙◌, sym}
 use Rattle.cap_nodes.proofs.Changes.{no_load, tie_of, free_is}
 use Rattle.cap_nodes.proofs.nodes.Nodes.free_of.Goals as goal

@@ -1,4 +1,4 @@
-use Rattle.cap_nodes.proofs.Sizes.{present_fits, load_fits, node_fits, amounts_fit}
+use Rattle.cap_nodes.proofs.Sizes.{amounts_fit, present_fits, node_fits, load_fits}
 use Rattle.std.proofs.Common.{map, ◌≡◌, ◌∙◌, [], ap, sym, List, length, not, arith}
 use Rattle.std.specs.Prelude.{filter, ◌==◌}
 use Rattle.cap_vector.specs.Vector.{less, amount_max}

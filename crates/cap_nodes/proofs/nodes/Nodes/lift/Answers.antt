@@ -1,4 +1,4 @@
-use Rattle.cap_nodes.proofs.Sizes.{present_fits, containers_fit, amounts_fit}
+use Rattle.cap_nodes.proofs.Sizes.{present_fits, amounts_fit, containers_fit}
 use Rattle.std.proofs.Common.{map, ◌∙◌, ◌≤◌, ap, sym, List, refl, length, arith, not}
 use Rattle.std.specs.Prelude.{filter, ◌==◌}
 use Rattle.cap_model.specs.Flat.{ClusterNode, Container, NodeTable}

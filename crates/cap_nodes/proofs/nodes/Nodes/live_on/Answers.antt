@@ -1,4 +1,4 @@
-use Rattle.cap_nodes.proofs.Sizes.{present_fits, load_fits}
+use Rattle.cap_nodes.proofs.Sizes.{load_fits, present_fits}
 use Rattle.std.proofs.Common.{◌∙◌, sym}
 use Rattle.cap_nodes.proofs.Changes.{live_of, none_of}
 use Rattle.cap_nodes.proofs.nodes.Nodes.live_on.Goals as goal

@@ -1,15 +1,15 @@
 use Rattle.cap_nodes.proofs.Sizes.{present_fits, containers_fit, amounts_fit}
-use Rattle.std.proofs.Common.{[], sym, arith}
+use Rattle.std.proofs.Common.{[], sym, true, arith}
 use Rattle.cap_vector.specs.Vector.{amount_max}
-use Rattle.cap_nodes.proofs.NodeTotals.{totals-none}
+use Rattle.cap_model.specs.Flat.{ClusterNode}
 use Rattle.cap_nodes.specs.Loads.{AreTied}
-use Rattle.cap_nodes.proofs.Sums.{zeros_within}
+use Rattle.cap_nodes.proofs.Sums.{where-none, zeros_within}
 use Rattle.cap_nodes.proofs.nodes.Nodes.new.Goals as goal
 
 pub invariant_of-result : goal.invariant_of-result
 invariant_of-result g c =
     let tied : AreTied g.row.K [] [] = record { ties = tt; homes = tt } in
-    rw (c.new.ensures, c.new-2.ensures, c.zero.ensures) (tied, sym (totals-none g.row.K), omega arith, zeros_within amount_max g.row.K)
+    rw (c.new.ensures, c.new-2.ensures, c.zero.ensures) (tied, sym (where-none g.row.K (λ (x : ClusterNode). true) (λ x. x.total) [] tt), omega arith, zeros_within amount_max g.row.K)
 
 pub new-requires : goal.new-requires
 new-requires g c = search present_fits

@@ -1,4 +1,4 @@
-use Rattle.cap_nodes.proofs.Sizes.{present_fits, load_fits}
+use Rattle.cap_nodes.proofs.Sizes.{load_fits, present_fits}
 use Rattle.std.proofs.Common.{sym}
 use Rattle.cap_nodes.proofs.Changes.{homes_all, node_of_load, node_of_none, held_all}
 use Rattle.cap_nodes.proofs.nodes.Nodes.node.Goals as goal

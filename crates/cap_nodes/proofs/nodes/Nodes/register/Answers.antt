@@ -1,11 +1,11 @@
 use Rattle.std.proofs.lemmas.List.{length-map}
 use Rattle.cap_nodes.proofs.Sizes.{present_fits}
-use Rattle.std.proofs.Common.{◌≡◌, ◌∙◌, ap, sym, refl, None, length, arith}
+use Rattle.std.proofs.Common.{◌≡◌, ◌∙◌, ap, sym, refl, true, None, length, arith}
 use Rattle.cap_vector.specs.Vector.{plus, zeros, IsWithin, amount_max}
 use Rattle.cap_vector.proofs.AmountLemmas.{amount-plus}
 use Rattle.cap_model.specs.Flat.{ClusterNode, NodeTable}
 use Rattle.cap_model.specs.RegisterNode.{sum_of_totals}
-use Rattle.cap_nodes.proofs.NodeTotals.{totals-push}
+use Rattle.cap_nodes.proofs.Sums.{where-push-own}
 use Rattle.cap_model.proofs.lists.Numbered.{rising_more}
 use Rattle.cap_nodes.specs.Loads.{Load}
 use Rattle.cap_nodes.proofs.Changes.{nodes_of, with_node, nodes_pushed}
@@ -20,7 +20,7 @@ invariant_of-self-2 g c =
     let count : length (plus (sum_of_totals g.row.K (nodes_of c.self.inside.present.loads)) c.args.total.now) ≡ g.row.K = rw c.self.invariant.1 at c.in-Some.ensures.count in
     rw c.in-Ok.ensures.ok.1 (
       with_node g.row.K c.self.inside.present.loads c.self.inside.live.containers c.self.invariant.0 c.self.inside.present.next node c.self.invariant.2 refl small,
-      c.in-Some.ensures.some ∙ ap (λ v. plus v c.args.total.now) c.self.invariant.1 ∙ sym (totals-push g.row.K (nodes_of c.self.inside.present.loads) node count) ∙ ap (sum_of_totals g.row.K) (sym (nodes_pushed c.self.inside.present.loads load)),
+      c.in-Some.ensures.some ∙ ap (λ v. plus v c.args.total.now) c.self.invariant.1 ∙ sym (where-push-own g.row.K (λ (x : ClusterNode). true) (λ x. x.total) (nodes_of c.self.inside.present.loads) node refl count) ∙ ap (sum_of_totals g.row.K) (sym (nodes_pushed c.self.inside.present.loads load)),
       rising_more (λ (p : Load). p.node.number) 1 c.self.inside.present.loads load c.self.inside.present.next refl c.self.invariant.2,
       λ k. rw (c.in-Some.ensures.some, c.self.invariant.1) (within k),
     )

@@ -1,4 +1,4 @@
-use Rattle.cap_nodes.proofs.Sizes.{containers_fit, container_fits}
+use Rattle.cap_nodes.proofs.Sizes.{container_fits, containers_fit}
 use Rattle.std.proofs.Common.{◌∙◌, ap, sym}
 use Rattle.std.specs.Prelude.{option_map}
 use Rattle.cap_nodes.specs.Loads.{reservation_of}

@@ -1,4 +1,4 @@
-use Rattle.cap_nodes.proofs.Sizes.{containers_fit, container_fits}
+use Rattle.cap_nodes.proofs.Sizes.{container_fits, containers_fit}
 use Rattle.std.proofs.Common.{◌∙◌, sym, Some, None}
 use Rattle.std.specs.Prelude.{◌==◌}
 use Rattle.cap_model.specs.Flat.{Reservation}

@@ -13,12 +13,6 @@ returns-clause-sound g c =
     let x = c.self.inside in
     sound_table g.row.K x.present.loads x.live.containers c.push.new.self.containers x.present.next x.live.next x.total c.self.invariant
 
-pub count-requires : goal.count-requires
-count-requires g c = search containers_fit
-
-pub next-requires : goal.next-requires
-next-requires g c = search containers_fit
-
 pub push-requires : goal.push-requires
 push-requires g c =
     let few = c.if-count-ge-LIVE_MAX.false in
@@ -26,3 +20,9 @@ push-requires g c =
     let below = c.if-next-ge-NUMBER_END.false in
     let next = c.next.ensures in
     (search containers_fit, ((search), (omega (arith, few, count), omega (arith, below, next))))
+
+pub count-requires : goal.count-requires
+count-requires g c = search containers_fit
+
+pub next-requires : goal.next-requires
+next-requires g c = search containers_fit

@@ -1,33 +1,29 @@
-use Rattle.std.proofs.Common.{◌≡◌, ◌∙◌, ap, sym, List, refl, Some, None}
+use Rattle.std.proofs.Common.{◌∙◌, ap, sym, List, refl}
 use Rattle.std.specs.Prelude.{option_and_then}
 use Rattle.std.specs.Map.{values_of}
 use Rattle.cap_nodes.specs.Loads.{Load, LoadTable, load_at, beaten_load}
-use Rattle.cap_nodes.proofs.Presents.{changed, found, not_none}
+use Rattle.cap_nodes.proofs.Presents.{changed, no_load_at, there}
 use Rattle.cap_nodes.proofs.Changes.{load_changed}
 use Rattle.cap_nodes.proofs.present.Present.beat.Goals as goal
 
 pub unreachable-requires : goal.unreachable-requires
-unreachable-requires g c =
-    let none : load_at (values_of c.self.inside.loads.entries) c.args.number ≡ None = sym (found c.self.inside.loads.entries c.self.inside.next c.args.number c.self.invariant) ∙ sym c.in-None.ensures.value in
-    not_none _ none (rw (← c.self.view_is) at c.requires)
+unreachable-requires g c = no_load_at c.self.inside.loads.entries c.self.inside.next c.args.number c.self.invariant.0 c.in-None.ensures.value (rw (← c.self.view_is) at c.requires)
 
 pub invariant_of-self : goal.invariant_of-self
 invariant_of-self g c =
-    let there : load_at (values_of c.self.inside.loads.entries) c.args.number ≡ Some c.in-Some.load.now = sym (found c.self.inside.loads.entries c.self.inside.next c.args.number c.self.invariant) ∙ sym c.in-Some.ensures.value in
-    (changed c.self.inside.loads.entries (c.get_mut.follows.lender c.beat.new.self).entries c.self.inside.next c.args.number (beaten_load c.args.ignored) (λ p. refl) c.in-Some.load.now c.beat.new.self c.self.invariant there c.beat.ensures.load (c.get_mut.follows.holds c.beat.new.self).0).present
+    (changed c.self.inside.loads.entries (c.get_mut.follows.lender c.beat.new.self).entries c.self.inside.next c.args.number c.self.inside.hosts.entries (beaten_load c.args.ignored) (λ p. (refl, refl)) c.in-Some.load.now c.beat.new.self c.self.invariant c.in-Some.ensures.value c.beat.ensures.load (c.get_mut.follows.holds c.beat.new.self).0).present
 
 pub returns-clause-loads : goal.returns-clause-loads
 returns-clause-loads g c =
-    let there : load_at (values_of c.self.inside.loads.entries) c.args.number ≡ Some c.in-Some.load.now = sym (found c.self.inside.loads.entries c.self.inside.next c.args.number c.self.invariant) ∙ sym c.in-Some.ensures.value in
     rw (← c.self.view_is)
     (ap (λ (xs : List Load). let t : LoadTable = record { loads = xs; next = c.self.inside.next } in t)
-    (changed c.self.inside.loads.entries (c.get_mut.follows.lender c.beat.new.self).entries c.self.inside.next c.args.number (beaten_load c.args.ignored) (λ p. refl) c.in-Some.load.now c.beat.new.self c.self.invariant there c.beat.ensures.load (c.get_mut.follows.holds c.beat.new.self).0).values)
+    (changed c.self.inside.loads.entries (c.get_mut.follows.lender c.beat.new.self).entries c.self.inside.next c.args.number c.self.inside.hosts.entries (beaten_load c.args.ignored) (λ p. (refl, refl)) c.in-Some.load.now c.beat.new.self c.self.invariant c.in-Some.ensures.value c.beat.ensures.load (c.get_mut.follows.holds c.beat.new.self).0).values)
 
 pub returns-clause-kept : goal.returns-clause-kept
 returns-clause-kept g c =
-    let there : load_at (values_of c.self.inside.loads.entries) c.args.number ≡ Some c.in-Some.load.now = sym (found c.self.inside.loads.entries c.self.inside.next c.args.number c.self.invariant) ∙ sym c.in-Some.ensures.value in
-    let now = (changed c.self.inside.loads.entries (c.get_mut.follows.lender c.beat.new.self).entries c.self.inside.next c.args.number (beaten_load c.args.ignored) (λ p. refl) c.in-Some.load.now c.beat.new.self c.self.invariant there c.beat.ensures.load (c.get_mut.follows.holds c.beat.new.self).0).values in
+    let at = there c.self.inside.loads.entries c.self.inside.next c.args.number c.in-Some.load.now c.self.invariant.0 c.in-Some.ensures.value in
+    let now = (changed c.self.inside.loads.entries (c.get_mut.follows.lender c.beat.new.self).entries c.self.inside.next c.args.number c.self.inside.hosts.entries (beaten_load c.args.ignored) (λ p. (refl, refl)) c.in-Some.load.now c.beat.new.self c.self.invariant c.in-Some.ensures.value c.beat.ensures.load (c.get_mut.follows.holds c.beat.new.self).0).values in
     ap (λ (xs : List Load). option_and_then (λ (p : Load). p.node.kept) (load_at xs c.args.number)) now
-    ∙ ap (option_and_then (λ (p : Load). p.node.kept)) (load_changed (beaten_load c.args.ignored) (λ p. refl) (values_of c.self.inside.loads.entries) c.args.number c.in-Some.load.now there)
+    ∙ ap (option_and_then (λ (p : Load). p.node.kept)) (load_changed (beaten_load c.args.ignored) (λ p. refl) (values_of c.self.inside.loads.entries) c.args.number c.in-Some.load.now at)
     ∙ ap (λ (p : Load). p.node.kept) (sym c.beat.ensures.load)
     ∙ c.beat.ensures.kept

@@ -1,13 +1,44 @@
-use Rattle.std.proofs.Common.{ap, List}
+use Rattle.std.proofs.Common.{◌≡◌, ◌∙◌, ◌-◌, ap, sym, List, arith}
+use Rattle.std.specs.Prelude.{count_by, ◌==◌}
+use Rattle.std.specs.Map.{values_of}
+use Rattle.cap_model.specs.Flat.{ClusterNode}
 use Rattle.cap_nodes.specs.Loads.{Load, LoadTable}
-use Rattle.cap_nodes.proofs.Presents.{removed}
+use Rattle.cap_nodes.proofs.Numbered.{none_gone}
+use Rattle.cap_nodes.proofs.Presents.{found, has_host, none_counted, removed, there, with_host}
 use Rattle.cap_nodes.proofs.present.Present.remove.Goals as goal
 
+pub returns-in_default : goal.returns-in_default
+returns-in_default g c =
+    rw (← c.self.view_is)
+    (ap (λ (xs : List Load). let t : LoadTable = record { loads = xs; next = c.self.inside.next } in t)
+    (sym (none_gone (λ (p : Load). p.node.number == c.args.number) (values_of c.self.inside.loads.entries) (c.in_default.ensures.value ∙ found c.self.inside.loads.entries c.self.inside.next c.args.number c.self.invariant.0))))
+
+pub overflow_sub-count : goal.overflow_sub-count
+overflow_sub-count g c =
+    let loads = values_of c.self.inside.loads.entries in
+    let its = sym (c.host.ensures ∙ ap (λ (x : ClusterNode). x.host) c.node.ensures) in
+    let at = there c.self.inside.loads.entries c.self.inside.next c.args.number c.in-Some.load.now c.self.invariant.0 c.in-Some.ensures.value in
+    let count : c.count_at-count.result ≡ count_by (with_host c.host.result.now) loads = rw (← c.self.view_is) at c.count_at-count.ensures in
+    omega (arith, count, has_host c.in-Some.load.now c.host.result.now its c.self.inside.next c.args.number loads c.self.invariant.0.1 at)
+
+pub unreachable-requires : goal.unreachable-requires
+unreachable-requires g c =
+    let loads = values_of c.self.inside.loads.entries in
+    let its = sym (c.host.ensures ∙ ap (λ (x : ClusterNode). x.host) c.node.ensures) in
+    let at = there c.self.inside.loads.entries c.self.inside.next c.args.number c.in-Some.load.now c.self.invariant.0 c.in-Some.ensures.value in
+    let none = none_counted (count_by (with_host c.host.result.now) loads) (sym c.in_default-set_count.ensures.absent ∙ c.self.invariant.1.counts c.host.result.now) in
+    absurd (omega (arith, none, has_host c.in-Some.load.now c.host.result.now its c.self.inside.next c.args.number loads c.self.invariant.0.1 at))
+
 pub invariant_of-self : goal.invariant_of-self
-invariant_of-self g c = (removed c.self.inside.loads.entries c.shift_remove.new.self.entries c.self.inside.next c.args.number c.self.invariant c.shift_remove.ensures.entries).present
+invariant_of-self g c =
+    let its = sym (c.host.ensures ∙ ap (λ (x : ClusterNode). x.host) c.node.ensures) in
+    let count : c.count_at-count.result ≡ count_by (with_host c.host.result.now) (values_of c.self.inside.loads.entries) = rw (← c.self.view_is) at c.count_at-count.ensures in
+    (removed c.self.inside.loads.entries c.shift_remove.new.self.entries c.self.inside.next c.args.number c.self.inside.hosts.entries c.set_count.new.hosts.entries c.in-Some.load.now c.host.result.now (c.count_at-count.result - 1) its c.self.invariant c.in-Some.ensures.value c.in-Ok.ensures.ok c.set_count.ensures.text (ap (λ n. n - 1) count) c.shift_remove.ensures.entries).present
 
 pub returns : goal.returns
 returns g c =
+    let its = sym (c.host.ensures ∙ ap (λ (x : ClusterNode). x.host) c.node.ensures) in
+    let count : c.count_at-count.result ≡ count_by (with_host c.host.result.now) (values_of c.self.inside.loads.entries) = rw (← c.self.view_is) at c.count_at-count.ensures in
     rw (← c.self.view_is)
     (ap (λ (xs : List Load). let t : LoadTable = record { loads = xs; next = c.self.inside.next } in t)
-    (removed c.self.inside.loads.entries c.shift_remove.new.self.entries c.self.inside.next c.args.number c.self.invariant c.shift_remove.ensures.entries).values)
+    (removed c.self.inside.loads.entries c.shift_remove.new.self.entries c.self.inside.next c.args.number c.self.inside.hosts.entries c.set_count.new.hosts.entries c.in-Some.load.now c.host.result.now (c.count_at-count.result - 1) its c.self.invariant c.in-Some.ensures.value c.in-Ok.ensures.ok c.set_count.ensures.text (ap (λ n. n - 1) count) c.shift_remove.ensures.entries).values)
