@@ -8,6 +8,7 @@ use Rattle.cap_model.specs.Bounds.{AreApart}
 use Rattle.cap_model.specs.Flat.{Flat, Reservation, with_reserved}
 use Rattle.cap_base.proofs.lists.Members.{IsIn, found, none_in, of_filter}
 use Rattle.cap_base.proofs.lists.Filters.{length-kept}
+use Rattle.cap_nodes.specs.Loads.{made_after}
 use Rattle.cap_nodes.proofs.Reserved.{is_elsewhere, others_elsewhere}
 use Rattle.cap_commit.specs.ClusterState.{ClusterState}
 
@@ -117,6 +118,24 @@ module _ (t : Reservation → Bool) where
           rw (own, others_elsewhere r.node x.node rs own a.0, h) refl
       by true h (suc m) k more = rw (stays (in_rest m k)) (one_kept m r (filter (is_elsewhere x.node) rs) h ∙ ap (λ xs. r ∷ xs) (more m k) ∙ sym (one_kept m r rs h))
       by false h m k more = rw (stays (in_rest m k), h) (ap (λ xs. r ∷ xs) (more m k))
+
+  -- the next one that passes takes the place of one that goes
+  pub takes_place : (n : ℕ) (rs : List Reservation) (x : Reservation) → AreApart rs → slice_get (filter t rs) n ≡ Some x → find t (made_after x.node rs) ≡ slice_get (filter t (filter (is_elsewhere x.node) rs)) n
+  takes_place n [] x a e = absurd (cc e)
+  takes_place n (r ∷ rs) x a e = by (t r) refl n e (λ k. takes_place k rs x a.1)
+    where
+      in_rest : (k : ℕ) → slice_get (filter t rs) k ≡ Some x → IsIn x rs
+      in_rest k h = (of_filter t rs x (read_in (filter t rs) k x h)).1
+
+      by : (b : Bool) → t r ≡ b → (k : ℕ) → slice_get (cond b (r ∷ filter t rs) (filter t rs)) k ≡ Some x →
+          ((m : ℕ) → slice_get (filter t rs) m ≡ Some x → find t (made_after x.node rs) ≡ slice_get (filter t (filter (is_elsewhere x.node) rs)) m) →
+          find t (made_after x.node (r ∷ rs)) ≡ slice_get (filter t (filter (is_elsewhere x.node) (r ∷ rs))) k
+      by true h zero k more =
+          let same : r ≡ x = cc k in
+          let own : r.node == x.node ≡ true = rw same (let it : x.node == x.node ≡ true = grind (arith, nat_tests) in it) in
+          rw (own, others_elsewhere r.node x.node rs own a.0) (first_passes t rs)
+      by true h (suc m) k more = rw (other_node r rs x a.0 (in_rest m k), h) (more m k)
+      by false h m k more = rw (other_node r rs x a.0 (in_rest m k), h) (more m k)
 
 -- as far as reservations that do not stay were dropped
 pub record IsKeeping {K : ℕ} (test : Reservation → Bool) (most : ℕ) (old now : ClusterState K) : Type 0 where

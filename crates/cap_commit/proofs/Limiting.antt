@@ -1,7 +1,7 @@
 -- The limits of queues and users, as the tree tests them and as the sight has them.
 use Rattle.std.proofs.Common.{◌≡◌, ℕ, ◌+◌, ◌-◌, Bool, true, false, cond, List, [], ◌∷◌, ◌++◌, length, map, Some, None, refl, sym, ◌∙◌, ap, subst, inl, inr, arith}
 use Rattle.std.specs.Prelude.{Option, is_none, unwrap_or, option_map, not, ◌&&◌, nat_lt, filter, find, position, bytes_eq}
-use Rattle.std.specs.Option.{option_map_or}
+use Rattle.std.specs.Option.{option_map_or, option_or}
 use Rattle.std.specs.List.{list_all, prefix_len}
 use Rattle.std.proofs.lemmas.Bool.Decides.{nat_tests}
 use Rattle.std.proofs.lemmas.List.{ext_get_or}
@@ -10,13 +10,13 @@ use Rattle.cap_vector.proofs.AmountLemmas.{amount-exchanged, amount-less, amount
 use Rattle.cap_base.specs.Cascade.{earliest, holds_of}
 use Rattle.cap_base.specs.Amounts.{fits, times}
 use Rattle.cap_base.specs.Settings.{QueueRow}
-use Rattle.cap_model.specs.Flat.{Flat, App, Reservation}
+use Rattle.cap_model.specs.Flat.{Flat, App, Reservation, app_at}
 use Rattle.cap_base.specs.Paths.{is_under}
 use Rattle.cap_model.specs.Uses.{queue_use, user_use}
 use Rattle.cap_model.specs.Sight.{Sight, QueueSight, AppSight, sight_of, queue_sight, app_sight, seen_app, seen_queue, queues_to}
 use Rattle.cap_model.specs.declared.proposal.Reason.{Reason}
 use Rattle.cap_model.specs.declared.proposal.Reason.TheVariants.{OverMaximum, OverUser}
-use Rattle.cap_model.specs.Admission.{NodeProposal, is_grant, is_reserved_for, node_reservation, leaf_path, user_name, use_after, stays_in_maximum, stays_in_maxima, stays_in_user_limit, broken_level, reason_of}
+use Rattle.cap_model.specs.Admission.{NodeProposal, is_grant, is_reserved_for, node_reservation, leaf_path, user_name, use_after, stays_in_maximum, stays_in_maxima, stays_in_user_limit, broken_level}
 use Rattle.cap_base.specs.LimitTests.{fits_maximum, fits_user_limit}
 use Rattle.cap_base.proofs.lists.Members.{IsIn, each_of}
 use Rattle.cap_base.proofs.lists.Filters.{find_mapped_at, map_twice}
@@ -32,9 +32,12 @@ use Rattle.cap_tree.specs.Rows.{Row, AreRows, IsAt, queues_of, rows_to, settings
 use Rattle.cap_tree.specs.declared.over_limit.OverLimit.{OverLimit}
 use Rattle.cap_tree.specs.declared.over_limit.OverLimit.TheVariants.{Maximum, User}
 use Rattle.cap_commit.specs.ClusterState.{Parts, IsCluster, IsRowOf, flat_of}
-use Rattle.cap_commit.specs.Admission.{limit_tests, place_tests, size_tests, taken_back}
+use Rattle.cap_commit.specs.Admission.{limit_tests, size_tests, taken_back}
 use Rattle.cap_tree.specs.QueueLaws.{user_counts}
+use Rattle.cap_asks.specs.Accounts.{HeldApp}
+use Rattle.cap_asks.specs.Apps.{account_of}
 use Rattle.cap_commit.proofs.RowsAt.{IsRowAt, row_at, found_row}
+use Rattle.cap_commit.proofs.Holding.{placed_at, position_is}
 
 -- the reason that is a limit
 abbrev pub reason_for : Option OverLimit → Option Reason
@@ -99,12 +102,12 @@ all_pass {A} t xs = whole xs ∙ sym (by (nat_lt (prefix_len (λ x. not (not (t 
             some_more : (n : ℕ) → nat_lt 0 (Rattle.std.proofs.Common.suc n) ≡ true
             some_more n = grind (arith, nat_tests)
 
--- which of the two limits is passed
-which : (level : Option ℕ) (maxima user : Bool) → maxima ≡ is_none level →
-    cond (not maxima) (Some (OverMaximum (unwrap_or level 0))) (cond (not user) (Some OverUser) None) ≡ reason_for (option_map_or (λ n. Some (Maximum n)) level (cond user None (Some User)))
-which None maxima true e = ap (λ b. cond (not b) (Some (OverMaximum 0)) None) e
-which None maxima false e = ap (λ b. cond (not b) (Some (OverMaximum 0)) (Some OverUser)) e
-which (Some n) maxima user e = ap (λ b. cond (not b) (Some (OverMaximum n)) (cond (not user) (Some OverUser) None)) e
+-- which of the two limits is passed, or what comes after them
+which : (level : Option ℕ) (maxima user : Bool) (rest : Option Reason) → maxima ≡ is_none level →
+    cond (not maxima) (Some (OverMaximum (unwrap_or level 0))) (cond (not user) (Some OverUser) rest) ≡ option_or (reason_for (option_map_or (λ n. Some (Maximum n)) level (cond user None (Some User)))) rest
+which None maxima true rest e = ap (λ b. cond (not b) (Some (OverMaximum 0)) rest) e
+which None maxima false rest e = ap (λ b. cond (not b) (Some (OverMaximum 0)) (Some OverUser)) e
+which (Some n) maxima user rest e = ap (λ b. cond (not b) (Some (OverMaximum n)) (cond (not user) (Some OverUser) rest)) e
 
 module _ {K : ℕ} (p : Parts K) (h : IsCluster p) (q : NodeProposal) where
   abbrev cluster : Flat K
@@ -179,48 +182,20 @@ module _ {K : ℕ} (p : Parts K) (h : IsCluster p) (q : NodeProposal) where
         ∙ same_fit (times it.row.item.factor it.row.item.guaranteed)
         ∙ ap (holds_of (tree.stays_in_user_limit K app.user (taken_back sight q) q.resource)) (sym it.item_is)
 
-    -- the first of the limits that would be passed
-    pub limits_are : earliest (limit_tests sight q) ≡ reason_for (over_limit K place app.user (taken_back sight q) q.resource p.rows)
+    -- the first of the limits that would be passed, or of what is tested after them
+    pub limits_are : earliest (limit_tests sight q) ≡ option_or (reason_for (over_limit K place app.user (taken_back sight q) q.resource p.rows)) (earliest (size_tests sight q))
     limits_are =
-        which (broken_level sight q) (stays_in_maxima sight q) (stays_in_user_limit sight q) (all_pass (stays_in_maximum sight q) (queues_to sight (leaf_path sight q)))
-        ∙ (λ i. reason_for (option_map_or (λ n. Some (Maximum n)) (level_is i) (cond (user_stays i) None (Some User))))
+        which (broken_level sight q) (stays_in_maxima sight q) (stays_in_user_limit sight q) (earliest (size_tests sight q)) (all_pass (stays_in_maximum sight q) (queues_to sight (leaf_path sight q)))
+        ∙ (λ i. option_or (reason_for (option_map_or (λ n. Some (Maximum n)) (level_is i) (cond (user_stays i) None (Some User)))) (earliest (size_tests sight q)))
 
   -- the same, of what the tree is asked
-  pub limit_is : (app : App) (place user old resource : List ℕ) (rows : List Row) (o : Option OverLimit) → IsAt p.rows app.leaf place → seen_app sight q.app ≡ Some (app_sight app) →
-      user ≡ app.user → old ≡ taken_back sight q → resource ≡ q.resource → rows ≡ p.rows → AreRows rows → over_limit K place user old resource rows ≡ o → earliest (limit_tests sight q) ≡ reason_for o
-  limit_is app place user old resource rows o at seen same_user same_old same_resource same_rows are is =
-      limits_are (subst AreRows same_rows are) app place at seen
-      ∙ ap reason_for ((λ i. over_limit K place (sym same_user i) (sym same_old i) (sym same_resource i) (sym same_rows i)) ∙ is)
+  module _ (x : HeldApp) (found : app_at cluster q.app ≡ Some x.app) (account : account_of q.app p.apps.accounts ≡ Some x.account) where
+    pub at_leaf : IsAt p.rows x.app.leaf x.account.position
+    at_leaf = subst (IsAt p.rows x.app.leaf) (sym (position_is p h q.app x (sym found) (sym account))) (placed_at p h q.app x.app found).position
 
--- one part of the tests after the other
-after_false : {A : Type 0} (b : Bool) (x : A) (ts : List (Bool × A)) → b ≡ false → earliest ((b, x) ∷ ts) ≡ earliest ts
-after_false b x ts e = ap (λ c. cond c (Some x) (earliest ts)) e
-
-first_part : {A : Type 0} (ts us : List (Bool × A)) (x : A) → earliest ts ≡ Some x → earliest (ts ++ us) ≡ Some x
-first_part [] us x e = absurd (cc e)
-first_part (t ∷ ts) us x e = by t.0 e (first_part ts us x)
-  where
-    by : (b : Bool) → cond b (Some t.1) (earliest ts) ≡ Some x → (earliest ts ≡ Some x → earliest (ts ++ us) ≡ Some x) → cond b (Some t.1) (earliest (ts ++ us)) ≡ Some x
-    by true f r = f
-    by false f r = r f
-
-rest_part : {A : Type 0} (ts us : List (Bool × A)) → earliest ts ≡ None → earliest (ts ++ us) ≡ earliest us
-rest_part [] us e = refl
-rest_part (t ∷ ts) us e = by t.0 e (rest_part ts us)
-  where
-    by : (b : Bool) → cond b (Some t.1) (earliest ts) ≡ None → (earliest ts ≡ None → earliest (ts ++ us) ≡ earliest us) → cond b (Some t.1) (earliest (ts ++ us)) ≡ earliest us
-    by true f r = absurd (cc f)
-    by false f r = r f
-
-module _ {K : ℕ} (sight : Sight K) (q : NodeProposal) (app : AppSight) (seen : seen_app sight q.app ≡ Some app) where
-  past_first : reason_of sight q ≡ earliest (place_tests sight q ++ limit_tests sight q ++ size_tests sight q)
-  past_first = after_false (is_none (seen_app sight q.app)) Reason.NoApp (place_tests sight q ++ limit_tests sight q ++ size_tests sight q) (ap is_none seen)
-
-  pub by_place : (r : Reason) → earliest (place_tests sight q) ≡ Some r → reason_of sight q ≡ Some r
-  by_place r e = past_first ∙ first_part (place_tests sight q) (limit_tests sight q ++ size_tests sight q) r e
-
-  pub by_limit : (r : Reason) → earliest (place_tests sight q) ≡ None → earliest (limit_tests sight q) ≡ Some r → reason_of sight q ≡ Some r
-  by_limit r n e = past_first ∙ rest_part (place_tests sight q) (limit_tests sight q ++ size_tests sight q) n ∙ first_part (limit_tests sight q) (size_tests sight q) r e
-
-  pub by_size : earliest (place_tests sight q) ≡ None → earliest (limit_tests sight q) ≡ None → reason_of sight q ≡ earliest (size_tests sight q)
-  by_size n m = past_first ∙ rest_part (place_tests sight q) (limit_tests sight q ++ size_tests sight q) n ∙ rest_part (limit_tests sight q) (size_tests sight q) m
+    pub limit_is : {place user old resource : List ℕ} {rows : List Row} (o : Option OverLimit) → seen_app sight q.app ≡ Some (app_sight x.app) →
+        place ≡ x.account.position → user ≡ x.app.user → old ≡ taken_back sight q → resource ≡ q.resource → rows ≡ p.rows → AreRows rows → over_limit K place user old resource rows ≡ o →
+        earliest (limit_tests sight q) ≡ option_or (reason_for o) (earliest (size_tests sight q))
+    limit_is o seen same_place same_user same_old same_resource same_rows are is =
+        limits_are (subst AreRows same_rows are) x.app x.account.position at_leaf seen
+        ∙ ap (λ y. option_or (reason_for y) (earliest (size_tests sight q))) ((λ i. over_limit K (sym same_place i) (sym same_user i) (sym same_old i) (sym same_resource i) (sym same_rows i)) ∙ is)

@@ -1,6 +1,6 @@
 -- What the sight of a cluster shows of applications, nodes and reservations is what its tables have.
-use Rattle.std.proofs.Common.{◌≡◌, ℕ, ◌-◌, Bool, true, false, cond, List, [], ◌∷◌, length, Some, None, refl, sym, ◌∙◌, ap, subst, arith}
-use Rattle.std.specs.Prelude.{◌↔◌, IsTrue, Option, IsSome, is_some, option_map, option_and_then, ◌==◌, ◌&&◌, ◌||◌, find, filter, map, nat_le, nat_lt, bytes_eq, count_by}
+use Rattle.std.proofs.Common.{◌≡◌, ℕ, ◌-◌, Bool, true, false, cond, List, length, Some, None, refl, sym, ◌∙◌, ap, subst, arith}
+use Rattle.std.specs.Prelude.{◌↔◌, IsTrue, Option, IsSome, is_some, option_map, option_and_then, ◌==◌, ◌&&◌, find, filter, map, nat_le, nat_lt, count_by}
 use Rattle.std.proofs.lemmas.Bool.Decides.{nat_tests}
 use Rattle.cap_vector.specs.Vector.{Fits, less}
 use Rattle.cap_base.specs.Cascade.{holds_of}
@@ -10,7 +10,7 @@ use Rattle.cap_base.specs.Members.{IsRising}
 use Rattle.cap_model.specs.Flat.{Flat, App, ClusterNode, Reservation, app_at, node_at, is_for, reservation_on}
 use Rattle.cap_model.specs.Uses.{held_on}
 use Rattle.cap_model.specs.Sight.{AppSight, NodeSight, sight_of, app_sight, node_sight, seen_app, seen_node, still_wanted}
-use Rattle.cap_model.specs.Admission.{NodeProposal, is_grant, is_wanted, node_reservation, proposed_ask, fits_free, fits_total, suits_place, takes_place}
+use Rattle.cap_model.specs.Admission.{NodeProposal, is_grant, is_wanted, node_reservation, proposed_ask, fits_free, fits_total}
 use Rattle.cap_base.proofs.lists.Members.{IsIn, found, each_of, in_filter}
 use Rattle.cap_base.proofs.lists.Filters.{find_mapped_at}
 use Rattle.cap_model.proofs.lists.Numbered.{found_by_number, rising_kept}
@@ -25,10 +25,6 @@ use Rattle.cap_commit.specs.ClusterState.{Parts, IsCluster, flat_of}
 use Rattle.cap_commit.specs.Admission.{own_reservation}
 use Rattle.cap_laws.proofs.bounds.ReservedNodes.{its_node_there}
 
--- whether a place suits a node
-abbrev pub suits_node : List ℕ → ClusterNode → Bool
-suits_node place node = bytes_eq place (42 ∷ []) || bytes_eq place node.host || bytes_eq place node.rack
-
 module _ {K : ℕ} (p : Parts K) (h : IsCluster p) where
   abbrev cluster : Flat K
   cluster = flat_of p
@@ -36,6 +32,9 @@ module _ {K : ℕ} (p : Parts K) (h : IsCluster p) where
   -- nodes
   pub node_is_seen : (n : ℕ) → seen_node (sight_of cluster) n ≡ option_map (node_sight cluster) (node_at cluster n)
   node_is_seen n = find_mapped_at (node_sight cluster) (λ (s : NodeSight). s.number == n) cluster.nodes.present
+
+  pub node_seen : {o : Option ClusterNode} (n : ℕ) → o ≡ node_at cluster n → option_map (node_sight cluster) o ≡ seen_node (sight_of cluster) n
+  node_seen n e = ap (option_map (node_sight cluster)) e ∙ sym (node_is_seen n)
 
   pub node_there : (n : ℕ) → is_some (seen_node (sight_of cluster) n) ≡ is_some (node_at cluster n)
   node_there n = ap is_some (node_is_seen n) ∙ by (node_at cluster n)
@@ -60,15 +59,6 @@ module _ {K : ℕ} (p : Parts K) (h : IsCluster p) where
   total_seen q = ap (holds_of (λ (node : NodeSight). fits q.resource node.total)) (node_is_seen q.node) ∙ by (node_at cluster q.node)
     where
       by : (o : Option ClusterNode) → holds_of (λ (node : NodeSight). fits q.resource node.total) (option_map (node_sight cluster) o) ≡ holds_of (λ (node : ClusterNode). fits q.resource node.total) o
-      by None = refl
-      by (Some x) = refl
-
-  pub place_seen : (q : NodeProposal) (ask : Ask) → proposed_ask (sight_of cluster) q ≡ Some ask → suits_place (sight_of cluster) q ≡ holds_of (suits_node ask.place) (node_at cluster q.node)
-  place_seen q ask asked =
-      ap (holds_of (λ (a : Ask). holds_of (takes_place a.place) (seen_node (sight_of cluster) q.node))) asked
-      ∙ ap (holds_of (takes_place ask.place)) (node_is_seen q.node) ∙ by (node_at cluster q.node)
-    where
-      by : (o : Option ClusterNode) → holds_of (takes_place ask.place) (option_map (node_sight cluster) o) ≡ holds_of (suits_node ask.place) o
       by None = refl
       by (Some x) = refl
 
@@ -145,21 +135,6 @@ module _ {K : ℕ} (p : Parts K) (h : IsCluster p) where
       less_than : (w count few : ℕ) → w ≡ count - few → nat_le 1 w ≡ nat_lt few count
       less_than w count few e = grind (arith, nat_tests, e)
 
--- where a value is none either way
-pub none_either : (b : Bool) (o : Option Reservation) → o ≡ None → cond b o None ≡ None
-none_either true o e = e
-none_either false o e = refl
-
 -- whether one vector fits another
 pub fits_is : (b : Bool) (v most : List ℕ) → (IsTrue b ↔ Fits v most) → b ≡ fits v most
 fits_is b v most e = same_test b (fits v most) (λ t. amounts_fit v most (e.0 t)) (λ t. e.1 (fits_amounts v most t))
-
--- a grant converts a reservation exactly where the one on its node is for it
-pub own_there : (grant : Bool) (t : Reservation → Bool) (o : Option Reservation) → is_some (cond (grant && holds_of t o) o None) ≡ (grant && holds_of t o)
-own_there false t o = refl
-own_there true t None = refl
-own_there true t (Some r) = by (t r)
-  where
-    by : (b : Bool) → is_some (cond b (Some r) None) ≡ b
-    by true = refl
-    by false = refl

@@ -1,5 +1,5 @@
 -- The tests of a proposal, by what they look at, and what a proposal takes back.
-use Rattle.std.specs.Prelude.{ℕ, Bool, List, Option, None, ◌&&◌, drop, take, if◌then◌else◌}
+use Rattle.std.specs.Prelude.{ℕ, Bool, List, Option, None, ◌&&◌, drop, if◌then◌else◌}
 use Rattle.std.specs.Option.{option_map_or}
 use Rattle.cap_vector.specs.Vector.{zeros}
 use Rattle.cap_model.specs.declared.proposal.Reason.{Reason}
@@ -8,19 +8,20 @@ use Rattle.cap_model.specs.Sight.{Sight}
 use Rattle.cap_model.specs.Admission.{NodeProposal, is_grant, is_reserved_for, node_reservation, reasons}
 
 module _ {K : ℕ} where
-  -- the tests of the ask and of the node; of the limits of queues and user; and of numbers
-  abbrev pub place_tests : Sight K → NodeProposal → List (Bool × Reason)
-  place_tests sight p = take 6 (drop 1 (reasons sight p))
-
+  -- the tests of the limits of queues and user, and those after them; and the tests of numbers and sizes, the last of them
   abbrev pub limit_tests : Sight K → NodeProposal → List (Bool × Reason)
-  limit_tests sight p = take 2 (drop 7 (reasons sight p))
+  limit_tests sight p = drop 7 (reasons sight p)
 
   abbrev pub size_tests : Sight K → NodeProposal → List (Bool × Reason)
   size_tests sight p = drop 9 (reasons sight p)
 
-  -- the reservation that a grant converts: the one on its node, where that is for its application and key
+  -- whether a proposal is a grant that converts the reservation on its node: that is for its application and key
+  abbrev pub is_own : Sight K → NodeProposal → Bool
+  is_own sight p = is_grant p.kind && is_reserved_for sight p
+
+  -- the reservation that a grant converts
   abbrev pub own_reservation : Sight K → NodeProposal → Option Reservation
-  own_reservation sight p = if is_grant p.kind && is_reserved_for sight p then node_reservation sight p else None
+  own_reservation sight p = if is_own sight p then node_reservation sight p else None
 
   -- the room that it takes back, 0 of each where it converts none
   abbrev pub taken_back : Sight K → NodeProposal → List ℕ

@@ -1,41 +1,72 @@
 //! Whether a proposal may be made, and the first reason why not (`Cluster::reason`).
-ghost use Rattle.std.specs.Prelude.{◌≡◌, ◌≤◌, ◌&&◌, Some, None, IfSome, IsSome, is_some, option_map};
-ghost use Rattle.cap_vector.specs.Vector.{IsResource};
-ghost use Rattle.cap_base.specs.Limits.{resources_max};
-ghost use Rattle.cap_base.specs.Cascade.{earliest, holds_of};
+ghost use Rattle.std.specs.Prelude.{◌≡◌, ◌&&◌, ◌||◌, Some, IfSome, IfOk, option_map};
+ghost use Rattle.std.specs.Option.{option_or};
+ghost use Rattle.std.specs.Result.{result_err};
+ghost use Rattle.cap_base.specs.Cascade.{earliest};
 ghost use Rattle.cap_model.specs.Flat.{app_at, is_for};
-ghost use Rattle.cap_model.specs.Sight.{app_sight, seen_app, seen_node, sight_of};
-ghost use Rattle.cap_model.specs.Admission.{asks_resource, fits_free, fits_total, is_grant, is_reserved_for, is_wanted, node_reservation, proposed_ask, reason_of, suits_place};
+ghost use Rattle.cap_model.specs.Sight.{app_sight, node_sight, seen_app, seen_node, sight_of};
+ghost use Rattle.cap_model.specs.Admission.{asks_resource, fits_free, fits_total, is_grant, is_wanted, node_reservation, proposed_ask, reason_of, suits_place};
 ghost use Rattle.cap_asks.specs.Apps.{account_of};
-ghost use Rattle.cap_commit.specs.Admission.{limit_tests, own_reservation, place_tests, size_tests, taken_back};
+ghost use Rattle.cap_commit.specs.Admission.{is_own, limit_tests, size_tests, taken_back};
 
 use crate::cluster::Cluster;
 use cap_asks::App;
-use cap_model::{
-    Ask, LIVE_MAX, NUMBER_END, Proposal, Reason, Reservation, first_reason, takes_place,
-};
+use cap_model::{Ask, LIVE_MAX, NUMBER_END, Proposal, Reason, Reservation, takes_place};
+use cap_nodes::Node;
 use cap_tree::OverLimit;
 use cap_vector::{Resource, fits};
 
 impl<const K: usize> Cluster<K> {
     /// The first reason to reject a proposal now, none exactly where it may be made. It takes no memory, and looks at one
-    /// application, one of its asks, one node, the reservations, and the queues from `root` to the application's leaf.
+    /// application, one of its asks, the reservations for it, one node and its reservation, and the queues from `root` to the
+    /// application's leaf; and at no more of these than the tests up to that reason need.
     pub fn reason(&self, proposal: &Proposal<K>) -> Option<Reason>
         ensures { result ≡ reason_of (sight_of self.now.flat) proposal.now }
     {
+        self.admit(proposal).err()
+    }
+
+    /// Where a proposal may be made now, the room that it takes back, in MiB, vcores and GPUs: 0 of each where it converts no
+    /// reservation. Else the first reason to reject it.
+    pub(crate) fn admit(&self, proposal: &Proposal<K>) -> Result<Resource<K>, Reason>
+        ensures reason { result_err result ≡ reason_of (sight_of self.now.flat) proposal.now }
+        ensures old { IfOk result (λ old. old ≡ taken_back (sight_of self.now.flat) proposal.now) }
+    {
         let Some(app) = self.registered(proposal.app()) else {
-            return Some(Reason::NoApp);
+            return Err(Reason::NoApp);
         };
         let Some(ask) = app.ask(&proposal.key()) else {
-            return Some(Reason::NoAsk);
+            return Err(Reason::NoAsk);
         };
-        if let Some(reason) = self.place_reason(proposal, &ask) {
-            return Some(reason);
+        let held = self.held(proposal);
+        let own = self.is_own(proposal, &held);
+        if !self.wants(proposal, &ask, own) {
+            return Err(Reason::NoAsk);
         }
-        if let Some(reason) = self.limit_reason(proposal, app) {
-            return Some(reason);
+        if !self.asks_resource(proposal, &ask) {
+            return Err(Reason::OtherAsk);
         }
-        self.size_reason(proposal)
+        let Some(node) = self.node(proposal) else {
+            return Err(Reason::NoNode);
+        };
+        if !self.suits(proposal, &ask, node) {
+            return Err(Reason::WrongPlace);
+        }
+        if held.is_some() & !own {
+            return Err(Reason::ReservedByOther);
+        }
+        let free = self.fits_free(proposal, node);
+        if proposal.is_grant() & !free {
+            return Err(Reason::NoRoom);
+        }
+        let old = self.taken_back(proposal, &held, own);
+        if let Some(reason) = self.limit_reason(proposal, app, &old) {
+            return Err(reason);
+        }
+        match self.size_reason(proposal, node, free) {
+            Some(reason) => Err(reason),
+            None => Ok(old),
+        }
     }
 
     /// The registered application of a number.
@@ -56,99 +87,33 @@ impl<const K: usize> Cluster<K> {
         Some(app)
     }
 
-    /// The first reason of those that look at the ask and the node.
-    fn place_reason(&self, proposal: &Proposal<K>, ask: &Ask<K>) -> Option<Reason>
-        requires { proposed_ask (sight_of self.now.flat) proposal.now ≡ Some ask.now }
-        ensures { result ≡ earliest (place_tests (sight_of self.now.flat) proposal.now) }
+    /// The reservation that the node of a proposal holds.
+    fn held(&self, proposal: &Proposal<K>) -> Option<Reservation<K>>
+        ensures { result ≡ node_reservation (sight_of self.now.flat) proposal.now }
     {
-        let own = self.is_own(proposal);
-        first_reason(&[
-            (!(self.wants(proposal, ask) || own), Reason::NoAsk),
-            (!self.asks_resource(proposal, ask), Reason::OtherAsk),
-            (!self.has_node(proposal), Reason::NoNode),
-            (!self.suits(proposal, ask), Reason::WrongPlace),
-            (self.is_held(proposal) && !own, Reason::ReservedByOther),
-            (
-                proposal.is_grant() && !self.fits_free(proposal),
-                Reason::NoRoom,
-            ),
-        ])
+        self.nodes.reservation_on(proposal.node())
     }
 
-    /// The first reason of those that look at the maximum capacities of queues and at the user limit.
-    fn limit_reason(&self, proposal: &Proposal<K>, app: &App<K>) -> Option<Reason>
-        requires seen { seen_app (sight_of self.now.flat) proposal.now.app
-            ≡ Some (app_sight app.now.app) }
-        requires app { app_at self.now.flat proposal.now.app ≡ Some app.now.app }
-        requires account { account_of proposal.now.app self.now.accounts ≡ Some app.now.account }
-        ensures { result ≡ earliest (limit_tests (sight_of self.now.flat) proposal.now) }
+    /// Whether it is a grant that converts the reservation that its node holds.
+    fn is_own(&self, proposal: &Proposal<K>, held: &Option<Reservation<K>>) -> bool
+        requires { held.now ≡ node_reservation (sight_of self.now.flat) proposal.now }
+        ensures { result ≡ is_own (sight_of self.now.flat) proposal.now }
     {
-        let old = self.taken_back(proposal);
-        let tree = &*self.tree;
-        match tree.accept(app.position(), app.user(), &old, &proposal.resource()) {
-            Ok(()) => None,
-            Err(OverLimit::Maximum { level }) => Some(Reason::OverMaximum { level }),
-            Err(OverLimit::User) => Some(Reason::OverUser),
+        match held {
+            Some(reservation) => converts(proposal, reservation),
+            None => false,
         }
     }
 
-    /// The first reason of those that look at what the cluster and the node can have.
-    fn size_reason(&self, proposal: &Proposal<K>) -> Option<Reason>
-        ensures { result ≡ earliest (size_tests (sight_of self.now.flat) proposal.now) }
-    {
-        let grant = proposal.is_grant();
-        first_reason(&[
-            (self.nodes.live_count() >= LIVE_MAX, Reason::TooManyLive),
-            (!grant && self.fits_free(proposal), Reason::FitsNow),
-            (!grant && !self.fits_total(proposal), Reason::NeverFits),
-            (
-                self.nodes.next_container() >= NUMBER_END,
-                Reason::NumbersSpent,
-            ),
-        ])
-    }
-
-    /// The reservation that a grant converts: the one that its node holds, where that is for its application and key.
-    pub(crate) fn own_reservation(&self, proposal: &Proposal<K>) -> Option<Reservation<K>>
-        ensures own { result ≡ own_reservation (sight_of self.now.flat) proposal.now }
-        ensures resources { K ≤ resources_max }
-    {
-        let Some(reservation) = self.nodes.reservation_on(proposal.node()) else {
-            return None;
-        };
-        if !converts(proposal, &reservation) {
-            return None;
-        }
-        Some(reservation)
-    }
-
-    /// Whether it is a grant that converts a reservation.
-    fn is_own(&self, proposal: &Proposal<K>) -> bool
-        ensures { result ≡
-            (is_grant proposal.now.kind && is_reserved_for (sight_of self.now.flat) proposal.now) }
-    {
-        self.own_reservation(proposal).is_some()
-    }
-
-    /// The room that a grant takes back, in MiB, vcores and GPUs: 0 of each where it converts no reservation.
-    pub(crate) fn taken_back(&self, proposal: &Proposal<K>) -> Resource<K>
-        ensures value { result ≡ taken_back (sight_of self.now.flat) proposal.now }
-        ensures vector { IsResource K result }
-        ensures resources { K ≤ resources_max }
-    {
-        match self.own_reservation(proposal) {
-            Some(reservation) => reservation.resource(),
-            None => Resource::zero(),
-        }
-    }
-
-    /// Whether a container is wanted for the ask beyond those that room is reserved for.
-    fn wants(&self, proposal: &Proposal<K>, ask: &Ask<K>) -> bool
-        requires { proposed_ask (sight_of self.now.flat) proposal.now ≡ Some ask.now }
-        ensures { result ≡ is_wanted (sight_of self.now.flat) proposal.now }
+    /// Whether a container is wanted for the ask beyond those that room is reserved for, or the proposal converts a reservation.
+    fn wants(&self, proposal: &Proposal<K>, ask: &Ask<K>, own: bool) -> bool
+        requires ask { proposed_ask (sight_of self.now.flat) proposal.now ≡ Some ask.now }
+        requires own { own ≡ is_own (sight_of self.now.flat) proposal.now }
+        ensures { result ≡ (is_wanted (sight_of self.now.flat) proposal.now
+            || is_own (sight_of self.now.flat) proposal.now) }
     {
         self.nodes.numbers_rise();
-        ask.count() as usize > self.nodes.reserved_for(proposal.app(), &ask.key())
+        own || ask.count() as usize > self.nodes.reserved_for(proposal.app(), &ask.key())
     }
 
     /// Whether the ask is for this very resource.
@@ -159,52 +124,105 @@ impl<const K: usize> Cluster<K> {
         ask.resource().amounts() == proposal.resource().amounts()
     }
 
-    /// Whether the node is present.
-    fn has_node(&self, proposal: &Proposal<K>) -> bool
-        ensures { result ≡ is_some (seen_node (sight_of self.now.flat) proposal.now.node) }
+    /// The node of a proposal.
+    fn node(&self, proposal: &Proposal<K>) -> Option<&Node<K>>
+        ensures { option_map (λ node. node_sight self.now.flat node.now) result
+            ≡ seen_node (sight_of self.now.flat) proposal.now.node }
     {
-        match self.nodes.node(proposal.node()) {
-            Some(_) => true,
-            None => false,
-        }
+        let Some(node) = self.nodes.node(proposal.node()) else {
+            return None;
+        };
+        Some(node)
     }
 
-    /// Whether the node is present, and the ask's place is anywhere, its host or its rack.
-    fn suits(&self, proposal: &Proposal<K>, ask: &Ask<K>) -> bool
-        requires { proposed_ask (sight_of self.now.flat) proposal.now ≡ Some ask.now }
+    /// Whether the ask's place is anywhere, the node's host or its rack.
+    fn suits(&self, proposal: &Proposal<K>, ask: &Ask<K>, node: &Node<K>) -> bool
+        requires ask { proposed_ask (sight_of self.now.flat) proposal.now ≡ Some ask.now }
+        requires node { seen_node (sight_of self.now.flat) proposal.now.node
+            ≡ Some (node_sight self.now.flat node.now) }
         ensures { result ≡ suits_place (sight_of self.now.flat) proposal.now }
     {
-        match self.nodes.node(proposal.node()) {
-            Some(node) => takes_place(&ask.place(), node.host(), node.rack()),
-            None => false,
-        }
+        takes_place(&ask.place(), node.host(), node.rack())
     }
 
-    /// Whether the node holds a reservation.
-    fn is_held(&self, proposal: &Proposal<K>) -> bool
-        ensures { result ≡ is_some (node_reservation (sight_of self.now.flat) proposal.now) }
-    {
-        self.nodes.reservation_on(proposal.node()).is_some()
-    }
-
-    /// Whether the node is present, and the resource fits what it has left.
-    fn fits_free(&self, proposal: &Proposal<K>) -> bool
+    /// Whether the resource fits what the node has left.
+    fn fits_free(&self, proposal: &Proposal<K>, node: &Node<K>) -> bool
+        requires { seen_node (sight_of self.now.flat) proposal.now.node
+            ≡ Some (node_sight self.now.flat node.now) }
         ensures { result ≡ fits_free (sight_of self.now.flat) proposal.now }
     {
-        match self.nodes.node(proposal.node()) {
-            Some(_) => fits(&proposal.resource(), &self.nodes.free_of(proposal.node())),
-            None => false,
+        fits(&proposal.resource(), &self.nodes.free_of(proposal.node()))
+    }
+
+    /// Whether the resource fits what the node has in all.
+    fn fits_total(&self, proposal: &Proposal<K>, node: &Node<K>) -> bool
+        requires { seen_node (sight_of self.now.flat) proposal.now.node
+            ≡ Some (node_sight self.now.flat node.now) }
+        ensures { result ≡ fits_total (sight_of self.now.flat) proposal.now }
+    {
+        fits(&proposal.resource(), &node.total())
+    }
+
+    /// The room that the proposal takes back, in MiB, vcores and GPUs: 0 of each where it converts no reservation.
+    fn taken_back(
+        &self,
+        proposal: &Proposal<K>,
+        held: &Option<Reservation<K>>,
+        own: bool,
+    ) -> Resource<K>
+        requires held { held.now ≡ node_reservation (sight_of self.now.flat) proposal.now }
+        requires own { own ≡ is_own (sight_of self.now.flat) proposal.now }
+        ensures { result ≡ taken_back (sight_of self.now.flat) proposal.now }
+    {
+        match held {
+            Some(reservation) if own => reservation.resource(),
+            _ => Resource::zero(),
         }
     }
 
-    /// Whether the node is present, and the resource fits what it has in all.
-    fn fits_total(&self, proposal: &Proposal<K>) -> bool
-        ensures { result ≡ fits_total (sight_of self.now.flat) proposal.now }
+    /// The first reason of those that look at the maximum capacities of queues and at the user limit.
+    fn limit_reason(
+        &self,
+        proposal: &Proposal<K>,
+        app: &App<K>,
+        old: &Resource<K>,
+    ) -> Option<Reason>
+        requires seen { seen_app (sight_of self.now.flat) proposal.now.app
+            ≡ Some (app_sight app.now.app) }
+        requires app { app_at self.now.flat proposal.now.app ≡ Some app.now.app }
+        requires account { account_of proposal.now.app self.now.accounts ≡ Some app.now.account }
+        requires old { old.now ≡ taken_back (sight_of self.now.flat) proposal.now }
+        ensures { earliest (limit_tests (sight_of self.now.flat) proposal.now) ≡ option_or
+            result (earliest (size_tests (sight_of self.now.flat) proposal.now)) }
     {
-        match self.nodes.node(proposal.node()) {
-            Some(node) => fits(&proposal.resource(), &node.total()),
-            None => false,
+        let tree = &*self.tree;
+        match tree.accept(app.position(), app.user(), old, &proposal.resource()) {
+            Ok(()) => None,
+            Err(OverLimit::Maximum { level }) => Some(Reason::OverMaximum { level }),
+            Err(OverLimit::User) => Some(Reason::OverUser),
         }
+    }
+
+    /// The first reason of those that look at what the cluster and the node can have.
+    fn size_reason(&self, proposal: &Proposal<K>, node: &Node<K>, free: bool) -> Option<Reason>
+        requires node { seen_node (sight_of self.now.flat) proposal.now.node
+            ≡ Some (node_sight self.now.flat node.now) }
+        requires free { free ≡ fits_free (sight_of self.now.flat) proposal.now }
+        ensures { result ≡ earliest (size_tests (sight_of self.now.flat) proposal.now) }
+    {
+        if self.nodes.live_count() >= LIVE_MAX {
+            return Some(Reason::TooManyLive);
+        }
+        if !proposal.is_grant() && free {
+            return Some(Reason::FitsNow);
+        }
+        if !proposal.is_grant() && !self.fits_total(proposal, node) {
+            return Some(Reason::NeverFits);
+        }
+        if self.nodes.next_container() >= NUMBER_END {
+            return Some(Reason::NumbersSpent);
+        }
+        None
     }
 }
 

@@ -214,17 +214,14 @@ impl<const K: usize> Cluster<K> {
         ensures err { OnErr result (self.new ≡ self.old) }
     {
         self.apps.numbers_rise();
-        match self.apps.reserve() {
-            Ok(()) => {}
-            Err(NoMemory) => return Err(NoMemory),
-        }
-        let tree = &mut *self.tree;
-        match tree.enter(&position, user) {
-            Ok(()) => {}
-            Err(NoMemory) => return Err(NoMemory),
-        }
-        let Ok(number) = self.apps.submit(path, position, user) else {
+        let number = self.apps.submit(path, position, user)?;
+        let Some(app) = self.apps.app(number) else {
             unreachable!()
+        };
+        let tree = &mut *self.tree;
+        let Ok(()) = tree.enter(app.position(), user) else {
+            self.apps.take_back();
+            return Err(NoMemory);
         };
         Ok(number)
     }

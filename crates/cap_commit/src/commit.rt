@@ -6,6 +6,7 @@ ghost use Rattle.cap_model.specs.Admission.{IsAdmissible, is_grant, reason_of};
 ghost use Rattle.cap_model.specs.Verdicts.{IsVerdict};
 ghost use Rattle.cap_model.specs.Events.{after_grant, after_reserve, grant_proposal, reserve_proposal};
 ghost use Rattle.cap_asks.specs.Apps.{HasRooms, UsesRoom, live_of};
+ghost use Rattle.cap_commit.specs.Admission.{taken_back};
 
 use crate::cluster::Cluster;
 use cap_model::{Container, Event, Grant, NoMemory, Proposal, Reservation, Verdict};
@@ -29,18 +30,19 @@ impl<const K: usize> Cluster<K> {
     }
 
     /// Makes a grant that may be made: the container takes the next number and becomes live, the reservation of its node is
-    /// converted, its ask falls by one, and it is to be reported to its application. `NoMemory` changes nothing that calls see.
-    fn grant(&mut self, proposal: &Proposal<K>) -> Result<Container<K>, NoMemory>
+    /// converted and the room for it taken back, its ask falls by one, and it is to be reported to its application. `NoMemory`
+    /// changes nothing that calls see.
+    fn grant(&mut self, proposal: &Proposal<K>, old: &Resource<K>) -> Result<Container<K>, NoMemory>
         requires kind { is_grant proposal.now.kind ≡ true }
         requires passes { reason_of (sight_of self.old.flat) proposal.now ≡ None }
+        requires old { old.now ≡ taken_back (sight_of self.old.flat) proposal.now }
         ensures proposed { IfOk result (λ c. grant_proposal c ≡ proposal.now) }
         ensures number { IfOk result (λ c. c.number ≡ self.old.flat.nodes.next_container) }
         ensures ok { IfOk result (λ c. self.new.flat ≡ after_grant self.old.flat c) }
         ensures err { OnErr result (self.new.flat ≡ self.old.flat) }
     {
         let (app, key, node) = (proposal.app(), proposal.key(), proposal.node());
-        let resource = proposal.resource();
-        let old = self.taken_back(proposal);
+        let (resource, old) = (proposal.resource(), old.copied());
         match self.room_for_grant(app) {
             Ok(()) => {}
             Err(NoMemory) => return Err(NoMemory),
@@ -99,14 +101,15 @@ impl<const K: usize> Cluster<K> {
         })
     }
 
-    /// Makes a proposal that may be made. `NoMemory` changes nothing that calls see.
-    fn make(&mut self, proposal: &Proposal<K>) -> Result<Verdict<K>, NoMemory>
-        requires { reason_of (sight_of self.old.flat) proposal.now ≡ None }
+    /// Makes a proposal that may be made, and takes this room back where it is a grant. `NoMemory` changes nothing that calls see.
+    fn make(&mut self, proposal: &Proposal<K>, old: &Resource<K>) -> Result<Verdict<K>, NoMemory>
+        requires passes { reason_of (sight_of self.old.flat) proposal.now ≡ None }
+        requires old { old.now ≡ taken_back (sight_of self.old.flat) proposal.now }
         ensures ok { IfOk result (IsVerdict proposal.now self.old.flat self.new.flat) }
         ensures err { OnErr result (self.new.flat ≡ self.old.flat) }
     {
         if proposal.is_grant() {
-            match self.grant(proposal) {
+            match self.grant(proposal, old) {
                 Ok(container) => Ok(Verdict::Done(Event::Grant { container })),
                 Err(NoMemory) => Err(NoMemory),
             }
@@ -125,9 +128,9 @@ impl<const K: usize> Cluster<K> {
         ensures admissible { OnErr result (IsAdmissible (sight_of self.old.flat) proposal.entry) }
         ensures err { OnErr result (self.new.flat ≡ self.old.flat) }
     {
-        if let Some(reason) = self.reason(&proposal) {
-            return Ok(Verdict::Rejected(reason));
+        match self.admit(&proposal) {
+            Ok(old) => self.make(&proposal, &old),
+            Err(reason) => Ok(Verdict::Rejected(reason)),
         }
-        self.make(&proposal)
     }
 }

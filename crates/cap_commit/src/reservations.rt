@@ -40,7 +40,11 @@ impl<const K: usize> Cluster<K> {
             (keep_first (is_for number key.now) most self.old.flat.nodes.reserved) self.old.flat }
         ensures accounts { self.new.accounts ≡ self.old.accounts }
     {
-        while let Some(reservation) = self.nodes().reservation_for(number, key, most) {
+        let mut next = self.nodes().reservation_for(number, key, most);
+        while let Some(reservation) = next {
+            next = self
+                .nodes()
+                .reservation_after(number, key, reservation.node());
             self.unreserve(&reservation);
         }
     }

@@ -19,6 +19,3 @@ keep_first-requires g c = search
 
 pub reservation_count-requires : goal.reservation_count-requires
 reservation_count-requires g c = search nodes_in_cluster
-
-pub key-requires : goal.key-requires
-key-requires g c = search

@@ -1,4 +1,4 @@
-use Rattle.cap_commit.proofs.Fitting.{nodes_in_cluster, container_in_cluster, amounts_in_cluster}
+use Rattle.cap_commit.proofs.Fitting.{nodes_in_cluster}
 use Rattle.std.proofs.Common.{[], ◌∷◌, ◌++◌, ap, sym, ◌∙◌, map, arith}
 use Rattle.cap_tree.specs.Rows.{queues_of, lowered_row}
 use Rattle.cap_tree.specs.Spot.{path_at}
@@ -60,12 +60,6 @@ returns g c =
     let told = c.add_end.ensures.table ∙ ap (λ n. change_app c.app-3.result (λ app. record app { ends = app.ends ++ record { container = n; cause = c.args.cause } ∷ [] }) x.apps.table) c.number.ensures in
     rw (← c.self.view_is)
     (ended_is _ c.self.invariant one.number one (rw (← c.self.view_is) at c.requires) c.args.cause c.give_back.new.self c.add_end.new.self.table c.lift.new.self c.app-3.result settings c.lift.ensures c.app-3.ensures told)
-
-pub resource-requires : goal.resource-requires
-resource-requires g c = search amounts_in_cluster
-
-pub number-requires : goal.number-requires
-number-requires g c = search container_in_cluster
 
 pub lift-requires : goal.lift-requires
 lift-requires g c = (search nodes_in_cluster, ((search), rw (← c.self.view_is) at c.requires))

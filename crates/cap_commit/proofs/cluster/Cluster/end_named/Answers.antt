@@ -61,6 +61,3 @@ returns-clause-ignored g c =
 
 pub container-requires : goal.container-requires
 container-requires g c = search (nodes_in_cluster, container_in_cluster)
-
-pub has-requires : goal.has-requires
-has-requires g c = search container_in_cluster

@@ -1,5 +1,5 @@
-use Rattle.cap_commit.proofs.Fitting.{nodes_in_cluster, node_in_cluster, amounts_in_cluster, grant_in_cluster}
-use Rattle.std.proofs.Common.{sym, ap, subst, ◌∙◌, arith, length, map, None, [], ◌∷◌, ◌++◌}
+use Rattle.cap_commit.proofs.Fitting.{nodes_in_cluster, node_in_cluster}
+use Rattle.std.proofs.Common.{◌≤◌, sym, ap, subst, ◌∙◌, arith, length, map, None, [], ◌∷◌, ◌++◌}
 use Rattle.std.specs.Prelude.{◌≡◌, ◌==◌, find, filter, not, option_map, unwrap_or}
 use Rattle.std.proofs.lemmas.List.Sums.{count_by-le-length}
 use Rattle.cap_model.specs.Bounds.{AreApart}
@@ -62,9 +62,10 @@ apply-requires g c =
     let x = c.self.inside in
     let same = ap (λ (y : ClusterState g.row.K). y.flat) c.self.view_is ∙ c.room_for_grant.ensures.flat in
     let passes = subst (λ (f : Flat g.row.K). reason_of (sight_of f) q ≡ None) (sym same) c.requires.passes in
-    let back = c.taken_back-old.ensures.value ∙ ap (λ (f : Flat g.row.K). taken_back (sight_of f) q) (sym same) in
-    let few = c.taken_back-old.ensures.vector.count in
-    let long = ap length back in
+    let room_back = c.requires.old ∙ ap (λ (f : Flat g.row.K). taken_back (sight_of f) q) (sym same) in
+    let back = c.copied-old.ensures.value ∙ room_back in
+    let few : length c.args.old.now ≤ g.row.K = omega (arith, c.copied-old.ensures.vector.count) in
+    let short = subst (λ n. n ≤ g.row.K) (ap length room_back) few in
     let count = c.resource-resource.ensures.vector.count in
     let found = c.in-Some-app.ensures.found in
     let a = c.in-Some-app.owner.now.app in
@@ -80,8 +81,8 @@ apply-requires g c =
         (
           omega (arith, kinds),
           (
-            rw (c.deref_mut-tree.ensures.value, c.user.ensures, position, back) (may_take_back _ c.self.invariant q passes c.requires.kind a owner (omega (arith, few, long)) count),
-            rw (c.deref_mut-tree.ensures.value, back, c.resource-resource.ensures.value) (root_stays _ c.self.invariant q passes c.requires.kind a owner (omega (arith, few, long)) count (subst (IsSound g.row.K) nodes sound)),
+            rw (c.deref_mut-tree.ensures.value, c.user.ensures, position, back) (may_take_back _ c.self.invariant q passes c.requires.kind a owner short count),
+            rw (c.deref_mut-tree.ensures.value, back, c.resource-resource.ensures.value) (root_stays _ c.self.invariant q passes c.requires.kind a owner short count (subst (IsSound g.row.K) nodes sound)),
           ),
         ),
       ),
@@ -108,9 +109,10 @@ invariant_of-self-2 g c =
     let x = c.self.inside in
     let same = ap (λ (y : ClusterState g.row.K). y.flat) c.self.view_is ∙ c.room_for_grant.ensures.flat in
     let passes = subst (λ (f : Flat g.row.K). reason_of (sight_of f) q ≡ None) (sym same) c.requires.passes in
-    let back = c.taken_back-old.ensures.value ∙ ap (λ (f : Flat g.row.K). taken_back (sight_of f) q) (sym same) in
-    let few = c.taken_back-old.ensures.vector.count in
-    let long = ap length back in
+    let room_back = c.requires.old ∙ ap (λ (f : Flat g.row.K). taken_back (sight_of f) q) (sym same) in
+    let back = c.copied-old.ensures.value ∙ room_back in
+    let few : length c.args.old.now ≤ g.row.K = omega (arith, c.copied-old.ensures.vector.count) in
+    let short = subst (λ n. n ≤ g.row.K) (ap length room_back) few in
     let count = c.resource-resource.ensures.vector.count in
     let found = c.in-Some-app.ensures.found in
     let a = c.in-Some-app.owner.now.app in
@@ -124,7 +126,7 @@ invariant_of-self-2 g c =
     let add = c.add_grant.ensures.table ∙ ap (λ n. change_app n (λ (app : App). record app { grants = app.grants ++ c.new-grant.result ∷ [] }) c.take_one.new.self.table) c.app-app.ensures in
     let same_room = subst (λ n. UsesRoom n 0 0 0 x.apps.accounts c.take_one.new.self.accounts) c.app-app.ensures c.take_one.ensures.accounts in
     let room = subst (λ n. UsesRoom n 0 1 0 c.take_one.new.self.accounts c.add_grant.new.self.accounts) c.app-app.ensures c.add_grant.ensures.accounts in
-    rw (rows, nodes) (held_granted _ c.self.invariant q passes c.requires.kind a owner (omega (arith, few, long)) count c.take_one.new.self c.add_grant.new.self c.new-grant.result take add same_room room)
+    rw (rows, nodes) (held_granted _ c.self.invariant q passes c.requires.kind a owner short count c.take_one.new.self c.add_grant.new.self c.new-grant.result take add same_room room)
 
 pub returns-clause-ok : goal.returns-clause-ok
 returns-clause-ok g c =
@@ -132,9 +134,10 @@ returns-clause-ok g c =
     let x = c.self.inside in
     let same = ap (λ (y : ClusterState g.row.K). y.flat) c.self.view_is ∙ c.room_for_grant.ensures.flat in
     let passes = subst (λ (f : Flat g.row.K). reason_of (sight_of f) q ≡ None) (sym same) c.requires.passes in
-    let back = c.taken_back-old.ensures.value ∙ ap (λ (f : Flat g.row.K). taken_back (sight_of f) q) (sym same) in
-    let few = c.taken_back-old.ensures.vector.count in
-    let long = ap length back in
+    let room_back = c.requires.old ∙ ap (λ (f : Flat g.row.K). taken_back (sight_of f) q) (sym same) in
+    let back = c.copied-old.ensures.value ∙ room_back in
+    let few : length c.args.old.now ≤ g.row.K = omega (arith, c.copied-old.ensures.vector.count) in
+    let short = subst (λ n. n ≤ g.row.K) (ap length room_back) few in
     let count = c.resource-resource.ensures.vector.count in
     let found = c.in-Some-app.ensures.found in
     let a = c.in-Some-app.owner.now.app in
@@ -147,44 +150,17 @@ returns-clause-ok g c =
     let same_room = subst (λ n. UsesRoom n 0 0 0 x.apps.accounts c.take_one.new.self.accounts) c.app-app.ensures c.take_one.ensures.accounts in
     let room = subst (λ n. UsesRoom n 0 1 0 c.take_one.new.self.accounts c.add_grant.new.self.accounts) c.app-app.ensures c.add_grant.ensures.accounts in
     let rows = rw c.deref_mut-tree.ensures.value at c.apply.ensures in
-    let settings = ap queues_of rows ∙ moved_settings g.row.K _ c.user.result.now (use_alone c.taken_back-old.result) (use_alone c.resource-resource.result) x.tree.value in
+    let settings = ap queues_of rows ∙ moved_settings g.row.K _ c.user.result.now (use_alone c.copied-old.result) (use_alone c.resource-resource.result) x.tree.value in
     let present = ap (λ (t : NodeTable). t.present) c.unreserve.ensures ∙ ap (λ (t : NodeTable). t.present) c.in-Ok-place.ensures.ok.1 in
     let home = c.in-Some.ensures.found ∙ (λ i. find (λ (n : ClusterNode). n.number == c.node-node.ensures i) (present i)) in
     let host = c.host.ensures ∙ ap (λ o. unwrap_or (option_map (λ (n : ClusterNode). n.host) o) []) home in
     let told = c.new-grant.ensures ∙ (λ i. record { container = c.in-Ok-place.ensures.ok.0 i; key = c.key-key.ensures i; node = c.node-node.ensures i; host = host i; resource = c.resource-resource.ensures.value i }) in
-    let is = granted_is _ c.self.invariant q passes c.requires.kind a owner (omega (arith, few, long)) count c.take_one.new.self c.add_grant.new.self c.new-grant.result take add same_room room c.apply.new.self settings told in
+    let is = granted_is _ c.self.invariant q passes c.requires.kind a owner short count c.take_one.new.self c.add_grant.new.self c.new-grant.result take add same_room room c.apply.new.self settings told in
     rw nodes (is ∙ (λ i. after_grant (same i) (record { number = sym c.in-Ok-place.ensures.ok.0 i; app = sym c.app-app.ensures i; key = sym c.key-key.ensures i; node = sym c.node-node.ensures i; resource = sym c.resource-resource.ensures.value i })))
-
-pub taken_back-old-requires : goal.taken_back-old-requires
-taken_back-old-requires g c = search amounts_in_cluster
-
-pub resource-resource-requires : goal.resource-resource-requires
-resource-resource-requires g c = search amounts_in_cluster
-
-pub host-requires : goal.host-requires
-host-requires g c = search node_in_cluster
-
-pub key-key-requires : goal.key-key-requires
-key-key-requires g c = search
-
-pub node-node-requires : goal.node-node-requires
-node-node-requires g c = search
-
-pub app-app-requires : goal.app-app-requires
-app-app-requires g c = search
-
-pub numbers_rise-requires : goal.numbers_rise-requires
-numbers_rise-requires g c = search nodes_in_cluster
-
-pub node-requires : goal.node-requires
-node-requires g c = search (nodes_in_cluster, node_in_cluster)
 
 pub returns-clause-number : goal.returns-clause-number
 returns-clause-number g c =
     c.in-Ok-place.ensures.ok.0 ∙ ap (λ (y : ClusterState g.row.K). y.flat.nodes.next_container) c.self.view_is ∙ ap (λ (f : Flat g.row.K). f.nodes.next_container) c.room_for_grant.ensures.flat
-
-pub new-grant-requires : goal.new-grant-requires
-new-grant-requires g c = search (amounts_in_cluster, grant_in_cluster)
 
 pub unreachable-requires-in_default-app : goal.unreachable-requires-in_default-app
 unreachable-requires-in_default-app g c =
@@ -200,3 +176,9 @@ unreserve-requires g c = (search nodes_in_cluster, subst AreApart (sym (ap (λ (
 
 pub returns-in-Err-clause-err : goal.returns-in-Err-clause-err
 returns-in-Err-clause-err g c = c.room_for_grant.ensures.flat
+
+pub numbers_rise-requires : goal.numbers_rise-requires
+numbers_rise-requires g c = search nodes_in_cluster
+
+pub node-requires : goal.node-requires
+node-requires g c = search (nodes_in_cluster, node_in_cluster)

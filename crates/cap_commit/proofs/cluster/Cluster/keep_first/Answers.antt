@@ -1,46 +1,51 @@
 use Rattle.cap_commit.proofs.Fitting.{nodes_in_cluster, reservation_in_cluster}
 use Rattle.std.proofs.Common.{ap, sym, ◌∙◌, arith}
-use Rattle.std.specs.Prelude.{filter}
+use Rattle.std.specs.Prelude.{filter, find}
 use Rattle.std.specs.List.{slice_get}
-use Rattle.cap_model.specs.Flat.{NodeTable, is_for}
-use Rattle.cap_commit.proofs.Dropping.{none_dropped, one_dropped, all_dropped, fewer_left, passes_found}
+use Rattle.cap_model.specs.Flat.{Flat, NodeTable, is_for}
+use Rattle.cap_nodes.specs.Loads.{made_after}
+use Rattle.cap_commit.proofs.Dropping.{none_dropped, one_dropped, all_dropped, fewer_left, passes_found, takes_place}
 use Rattle.cap_commit.proofs.cluster.Cluster.keep_first.Goals as goal
 
-pub loop-reservation-init : goal.loop-reservation-init
-loop-reservation-init g c = none_dropped (is_for c.args.number c.args.key.now) c.args.most c.args.self.now
+pub loop-next-init : goal.loop-next-init
+loop-next-init g c =
+    let test = is_for c.args.number c.args.key.now in
+    (none_dropped test c.args.most c.args.self.now, c.reservation_for-next.ensures ∙ ap (λ (t : NodeTable). slice_get (filter test t.reserved) c.args.most) c.nodes.ensures.value)
 
 pub unreserve-requires : goal.unreserve-requires
 unreserve-requires g c =
-    let test = is_for c.args.number c.args.key.now in
+    let now = c.loop-next in
     let kinds = c.nodes.ensures.resources in
-    let here = ap (λ (t : NodeTable). slice_get (filter test t.reserved) c.args.most) (sym c.nodes.ensures.value) ∙ sym c.reservation_for.ensures ∙ c.in-Some.is in
-    ((search), (omega (arith, kinds), passes_found test c.args.most c.loop-reservation.self.flat.nodes.reserved c.in-Some.reservation c.nodes.ensures.apart here))
+    ((search), (omega (arith, kinds), passes_found (is_for c.args.number c.args.key.now) c.args.most now.self.flat.nodes.reserved c.in-Some.reservation c.nodes-in-Some.ensures.apart (sym now.invariant.1 ∙ c.in-Some.is)))
 
-pub loop-reservation-smaller : goal.loop-reservation-smaller
-loop-reservation-smaller g c =
-    let test = is_for c.args.number c.args.key.now in
-    let now = c.loop-reservation in
-    let here = ap (λ (t : NodeTable). slice_get (filter test t.reserved) c.args.most) (sym c.nodes.ensures.value) ∙ sym c.reservation_for.ensures ∙ c.in-Some.is in
-    fewer_left test c.args.most c.args.self.now now.self now.invariant c.in-Some.reservation c.nodes.ensures.apart here c.unreserve.new.self c.unreserve.ensures.flat
+pub loop-next-smaller : goal.loop-next-smaller
+loop-next-smaller g c =
+    let now = c.loop-next in
+    fewer_left (is_for c.args.number c.args.key.now) c.args.most c.args.self.now now.self now.invariant.0 c.in-Some.reservation c.nodes-in-Some.ensures.apart (sym now.invariant.1 ∙ c.in-Some.is) c.unreserve.new.self c.unreserve.ensures.flat
 
-pub loop-reservation-preserved : goal.loop-reservation-preserved
-loop-reservation-preserved g c =
+pub loop-next-preserved : goal.loop-next-preserved
+loop-next-preserved g c =
     let test = is_for c.args.number c.args.key.now in
-    let now = c.loop-reservation in
-    let here = ap (λ (t : NodeTable). slice_get (filter test t.reserved) c.args.most) (sym c.nodes.ensures.value) ∙ sym c.reservation_for.ensures ∙ c.in-Some.is in
-    one_dropped test c.args.most c.args.self.now now.self now.invariant c.in-Some.reservation c.nodes.ensures.apart here c.unreserve.new.self c.unreserve.ensures.flat c.unreserve.ensures.accounts
+    let now = c.loop-next in
+    let here = sym now.invariant.1 ∙ c.in-Some.is in (
+      one_dropped test c.args.most c.args.self.now now.self now.invariant.0 c.in-Some.reservation c.nodes-in-Some.ensures.apart here c.unreserve.new.self c.unreserve.ensures.flat c.unreserve.ensures.accounts,
+      c.reservation_after-next.ensures
+          ∙ ap (λ n. find test (made_after n c.nodes-in-Some.result.now.reserved)) c.node.ensures
+          ∙ ap (λ (t : NodeTable). find test (made_after c.in-Some.reservation.node t.reserved)) c.nodes-in-Some.ensures.value
+          ∙ takes_place test c.args.most now.self.flat.nodes.reserved c.in-Some.reservation c.nodes-in-Some.ensures.apart here
+          ∙ ap (λ (f : Flat g.row.K). slice_get (filter test f.nodes.reserved) c.args.most) (sym c.unreserve.ensures.flat),
+    )
 
 pub returns-clause-flat : goal.returns-clause-flat
 returns-clause-flat g c =
-    let test = is_for c.args.number c.args.key.now in
-    let now = c.loop-reservation in
-    all_dropped test c.args.most c.args.self.now now.self now.invariant (ap (λ (t : NodeTable). slice_get (filter test t.reserved) c.args.most) (sym c.nodes.ensures.value) ∙ sym c.reservation_for.ensures ∙ c.in_default.is)
+    let now = c.loop-next in
+    all_dropped (is_for c.args.number c.args.key.now) c.args.most c.args.self.now now.self now.invariant.0 (sym now.invariant.1 ∙ c.in_default.is)
 
 pub returns-clause-accounts : goal.returns-clause-accounts
-returns-clause-accounts g c = c.loop-reservation.invariant.accounts
+returns-clause-accounts g c = c.loop-next.invariant.0.accounts
 
 pub nodes-requires : goal.nodes-requires
 nodes-requires g c = search nodes_in_cluster
 
-pub reservation_for-requires : goal.reservation_for-requires
-reservation_for-requires g c = search (nodes_in_cluster, reservation_in_cluster)
+pub reservation_for-next-requires : goal.reservation_for-next-requires
+reservation_for-next-requires g c = search (nodes_in_cluster, reservation_in_cluster)

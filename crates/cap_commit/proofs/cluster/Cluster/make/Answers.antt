@@ -1,4 +1,4 @@
-use Rattle.cap_commit.proofs.Fitting.{container_in_cluster, reservation_in_cluster}
+use Rattle.cap_commit.proofs.Fitting.{amounts_in_cluster, container_in_cluster, reservation_in_cluster}
 use Rattle.std.proofs.Common.{sym, subst, ◌∙◌}
 use Rattle.cap_model.specs.Sight.{sight_of}
 use Rattle.cap_model.specs.Admission.{IsAdmissible}
@@ -8,20 +8,18 @@ use Rattle.cap_commit.proofs.cluster.Cluster.make.Goals as goal
 pub returns-in-Ok-clause-ok : goal.returns-in-Ok-clause-ok
 returns-in-Ok-clause-ok g c =
     let sight = sight_of c.args.self.now.flat in
-    let may = (rejected_exactly g.row.K sight c.args.proposal.now).0 c.requires in
+    let may = (rejected_exactly g.row.K sight c.args.proposal.now).0 c.requires.passes in
     (c.in-Ok.ensures.proposed, (subst (IsAdmissible sight) (sym c.in-Ok.ensures.proposed) may, c.in-Ok.ensures.number, c.in-Ok.ensures.ok))
 
 pub returns-in-Ok-reserve-clause-ok : goal.returns-in-Ok-reserve-clause-ok
 returns-in-Ok-reserve-clause-ok g c =
     let sight = sight_of c.args.self.now.flat in
-    let may = (rejected_exactly g.row.K sight c.args.proposal.now).0 c.requires in
+    let may = (rejected_exactly g.row.K sight c.args.proposal.now).0 c.requires.passes in
     (c.in-Ok-reserve.ensures.proposed, (subst (IsAdmissible sight) (sym c.in-Ok-reserve.ensures.proposed) may, c.in-Ok-reserve.ensures.ok))
 
-pub is_grant-requires : goal.is_grant-requires
-is_grant-requires g c = search
-
 pub grant-requires : goal.grant-requires
-grant-requires g c = ((search), ((search), (search container_in_cluster, (sym c.is_grant.ensures ∙ c.if-is_grant.true, c.requires))))
+grant-requires g c =
+    ((search), ((search), (search amounts_in_cluster, (search container_in_cluster, (sym c.is_grant.ensures ∙ c.if-is_grant.true, (c.requires.passes, c.requires.old))))))
 
 pub reserve-requires : goal.reserve-requires
-reserve-requires g c = ((search), ((search), (search reservation_in_cluster, (sym c.is_grant.ensures ∙ c.if-is_grant.false, c.requires))))
+reserve-requires g c = ((search), ((search), (search reservation_in_cluster, (sym c.is_grant.ensures ∙ c.if-is_grant.false, c.requires.passes))))

@@ -1,5 +1,5 @@
 use Rattle.cap_asks.specs.Apps.{ask_room}
-use Rattle.cap_commit.proofs.Fitting.{amounts_in_cluster, apps_fit, ask_in_cluster}
+use Rattle.cap_commit.proofs.Fitting.{apps_fit, ask_in_cluster}
 use Rattle.std.proofs.Common.{◌≡◌, ap, refl, subst, ◌∙◌, List, ℕ, ◌≤◌, sym}
 use Rattle.cap_vector.specs.Rounding.{round_up}
 use Rattle.cap_model.specs.Asks.{Ask}
@@ -22,19 +22,10 @@ returns-clause-flat g c =
     let rounding = subst (λ (h : ClusterState g.row.K). c.with_resource-ask.result ≡ rounded_ask g.row.K h.flat.settings ask) c.self.view_is kept in
     ask_put c.args.self.now.flat (flat_of p) c.put_ask.new.self.table c.args.number ask c.with_resource-ask.result rounding (ap (λ (h : ClusterState g.row.K). h.flat) c.self-2.view_is ∙ c.drop_unwanted.ensures.flat) c.put_ask.ensures.table
 
-pub drop_unwanted-requires : goal.drop_unwanted-requires
-drop_unwanted-requires g c = search
-
-pub with_resource-ask-requires : goal.with_resource-ask-requires
-with_resource-ask-requires g c = search amounts_in_cluster
-
-pub resource-requires : goal.resource-requires
-resource-requires g c = search amounts_in_cluster
-
-pub round_up-resource-requires : goal.round_up-resource-requires
-round_up-resource-requires g c = search amounts_in_cluster
-
 pub put_ask-requires : goal.put_ask-requires
 put_ask-requires g c =
     let accounts = ap (λ (y : ClusterState g.row.K). y.accounts) c.self-2.view_is ∙ c.drop_unwanted.ensures.accounts in
     (search apps_fit, (search ask_in_cluster, subst (λ kept. 1 ≤ ask_room c.args.number kept) (sym accounts) c.requires))
+
+pub drop_unwanted-requires : goal.drop_unwanted-requires
+drop_unwanted-requires g c = search

@@ -77,8 +77,5 @@ unreachable-requires g c =
 pub reserve-requires : goal.reserve-requires
 reserve-requires g c = search (nodes_in_cluster, amounts_in_cluster)
 
-pub zero-old-requires : goal.zero-old-requires
-zero-old-requires g c = search amounts_in_cluster
-
 pub resource-resource-requires : goal.resource-resource-requires
 resource-resource-requires g c = search amounts_in_cluster

@@ -1,4 +1,4 @@
-use Rattle.cap_commit.proofs.Fitting.{amounts_in_cluster, nodes_in_cluster}
+use Rattle.cap_commit.proofs.Fitting.{nodes_in_cluster}
 use Rattle.std.proofs.Common.{ap, sym, ◌∙◌, map, arith}
 use Rattle.std.specs.Prelude.{filter}
 use Rattle.cap_model.specs.Flat.{with_reserved}
@@ -63,15 +63,6 @@ returns-clause-flat g c =
     let left = (λ i. filter (is_elsewhere (c.node.ensures i)) x.nodes.reserved) ∙ sym place.gone in
     let dropped = dropped_is _ c.self.invariant place.index one place.below place.at c.give_back.new.self c.unreserve.new.self settings (c.unreserve.ensures ∙ ap (λ rs. record x.nodes { reserved = rs }) left) in
     rw (← c.self.view_is) (dropped ∙ ap (λ rs. with_reserved rs (flat_of (record { rows = x.tree.value; limits = x.limits; apps = x.apps; nodes = x.nodes }))) place.gone)
-
-pub resource-requires : goal.resource-requires
-resource-requires g c = search amounts_in_cluster
-
-pub node-requires : goal.node-requires
-node-requires g c = search
-
-pub app-requires : goal.app-requires
-app-requires g c = search
 
 pub unreserve-requires : goal.unreserve-requires
 unreserve-requires g c = (search nodes_in_cluster, c.self.invariant.reservations.apart)

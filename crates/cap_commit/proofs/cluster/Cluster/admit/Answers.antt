@@ -1,0 +1,32 @@
+use Rattle.std.proofs.Common.{sym, arith}
+use Rattle.cap_commit.proofs.Fitting.{amounts_in_cluster, app_fits, ask_in_cluster, node_in_cluster, reservation_in_cluster}
+use Rattle.cap_commit.proofs.cluster.Cluster.admit.Goals as goal
+
+pub registered-requires : goal.registered-requires
+registered-requires g c = search app_fits
+
+pub ask-requires : goal.ask-requires
+ask-requires g c = search (app_fits, ask_in_cluster)
+
+pub held-held-requires : goal.held-held-requires
+held-held-requires g c = search reservation_in_cluster
+
+pub node-requires : goal.node-requires
+node-requires g c = search node_in_cluster
+
+pub size_reason-requires : goal.size_reason-requires
+size_reason-requires g c = ((search), ((search), (search node_in_cluster, (sym c.in-Some-node.ensures, c.fits_free-free.ensures))))
+
+pub fits_free-free-requires : goal.fits_free-free-requires
+fits_free-free-requires g c = ((search), ((search), (search node_in_cluster, sym c.in-Some-node.ensures)))
+
+pub is_own-own-requires : goal.is_own-own-requires
+is_own-own-requires g c = search reservation_in_cluster
+
+pub taken_back-old-requires : goal.taken_back-old-requires
+taken_back-old-requires g c = search reservation_in_cluster
+
+pub limit_reason-requires : goal.limit_reason-requires
+limit_reason-requires g c =
+    let here = rw c.app.ensures at c.in-Some.ensures in
+    ((search), ((search), (omega arith, (search amounts_in_cluster, (sym here.seen, (here.app, (here.account, c.taken_back-old.ensures)))))))
