@@ -6,17 +6,17 @@ use Rattle.cap_base.specs.Limits.{resources_max}
 use Rattle.cap_model.specs.contracts.ask.Ask as ask
 use Rattle.cap_model.specs.contracts.container.Reservation as reservation
 use Rattle.cap_nodes.specs.contracts.nodes.Nodes as nodes
-use Rattle.cap_nodes.proofs.Sizes.{container_fits}
+use Rattle.cap_nodes.proofs.Sizes.{container_fits, load_fits}
 use Rattle.cap_copy.specs.contracts.seen_limits.SeenQueue as seen_queue
 use Rattle.cap_copy.specs.contracts.seen_limits.SeenUser as seen_user
 use Rattle.cap_copy.specs.contracts.seen.SeenAsk as seen_ask
 use Rattle.cap_copy.specs.contracts.seen.SeenNode as seen_node
 
 pub ask_by_nodes : (n : ℕ) → FitsInMemory (nodes.the_row (param 0 (number n))) → FitsInMemory (ask.the_row (param 0 (number n)))
-ask_by_nodes n fits = omega (arith, fits)
+ask_by_nodes n fits = let whole = load_fits n fits in omega (arith, whole)
 
 pub seen_ask_by_nodes : (n : ℕ) → FitsInMemory (nodes.the_row (param 0 (number n))) → FitsInMemory (seen_ask.the_row (param 0 (number n)))
-seen_ask_by_nodes n fits = omega (arith, fits)
+seen_ask_by_nodes n fits = let whole = load_fits n fits in omega (arith, whole)
 
 pub reservation_by_nodes : (n : ℕ) → FitsInMemory (nodes.the_row (param 0 (number n))) → FitsInMemory (reservation.the_row (param 0 (number n)))
 reservation_by_nodes n fits = let whole = container_fits n fits in omega (arith, whole)

@@ -29,10 +29,10 @@ use Rattle.cap_tree.specs.ServiceOrder.{IsServiceOrder, position_nth}
 use Rattle.cap_tree.specs.ServedWaiters.{Waiter}
 use Rattle.cap_tree.specs.Spot.{IsPosition, path_at}
 use Rattle.cap_tree.proofs.RowPaths.{at_position}
-use Rattle.cap_asks.specs.Apps.{account_of, position_of}
+use Rattle.cap_asks.specs.Apps.{account_of, is_waiting, position_of, waiting_of}
 use Rattle.cap_asks.specs.Accounts.{Account, AreKept, HeldApp}
 use Rattle.cap_asks.proofs.Keeping.{before_not_same}
-use Rattle.cap_copy.specs.Entries.{ask_entries, is_waiting, registered_of, waiting_of, wanted_of}
+use Rattle.cap_copy.specs.Entries.{ask_entries, registered_of, wanted_of}
 use Rattle.cap_copy.specs.Limits.{IsEachOnce, limit_in, limit_of, no_limit, queue_use}
 use Rattle.cap_copy.specs.declared.ranges.AskRange.{AskRange}
 use Rattle.cap_copy.specs.AskEntry.{AskEntry}

@@ -1,8 +1,9 @@
 -- What a snapshot keeps of the parts of a cluster.
-use Rattle.std.specs.Prelude.{ℕ, ◌-◌, ◌==◌, Bool, ◌&&◌, not, List, [], filter, flat_map, length, map}
+use Rattle.std.specs.Prelude.{ℕ, ◌-◌, List, [], filter, flat_map, length, map}
 use Rattle.std.specs.List.{slice_get}
 use Rattle.std.specs.Option.{option_map_or}
-use Rattle.cap_model.specs.Asks.{Ask}
+use Rattle.cap_model.specs.Asks.{Ask, same_key}
+use Rattle.cap_model.specs.declared.ask.Key.{Key}
 use Rattle.cap_model.specs.Flat.{App, NodeTable, is_for}
 use Rattle.cap_copy.specs.AskEntry.{AskEntry}
 
@@ -10,17 +11,13 @@ use Rattle.cap_copy.specs.AskEntry.{AskEntry}
 abbrev pub registered_of : List App → List App
 registered_of active = filter (λ app. app.registered) active
 
--- an application waits for containers where its master has registered, and it has asks
-abbrev pub is_waiting : App → Bool
-is_waiting app = app.registered && not (length app.asks == 0)
-
--- the applications that wait
-abbrev pub waiting_of : List App → List App
-waiting_of active = filter is_waiting active
-
 -- how many containers an ask of an application wants beyond those that there are reservations for
 abbrev pub wanted_of : NodeTable → ℕ → Ask → ℕ
 wanted_of nodes app ask = ask.count - length (filter (is_for app ask.key) nodes.reserved)
+
+-- the same, by the keys of the reservations for its application
+abbrev pub wanted_beside : List Key → Ask → ℕ
+wanted_beside keys ask = ask.count - length (filter (λ key. same_key key ask.key) keys)
 
 -- an ask of the application of that number and index
 abbrev pub ask_entry : NodeTable → ℕ → ℕ → Ask → AskEntry

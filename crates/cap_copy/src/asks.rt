@@ -3,12 +3,12 @@ ghost use Rattle.std.specs.Prelude.{◌≡◌, ◌<◌, ◌≤◌, ◌++◌, IfO
 ghost use Rattle.std.specs.List.{All};
 ghost use Rattle.cap_base.specs.Limits.{resources_max};
 ghost use Rattle.cap_asks.specs.Accounts.{AreKept};
-ghost use Rattle.cap_copy.specs.Entries.{ask_entries, asks_of, wanted_of};
+ghost use Rattle.cap_nodes.specs.Loads.{keys_reserved_by};
+ghost use Rattle.cap_copy.specs.Entries.{ask_entries, asks_of, wanted_beside};
 
 use crate::seen::SeenAsk;
-use crate::waiting::Waiting;
-use cap_asks::App;
-use cap_model::{Ask, NoMemory};
+use cap_asks::{App, Waiting};
+use cap_model::{Ask, Key, NoMemory};
 use cap_nodes::Nodes;
 use std::alloc::Allocator;
 
@@ -29,8 +29,10 @@ pub(crate) fn seen_asks<const K: usize, B: Allocator + Copy>(
     let Ok(mut asks) = Vec::with_capacity(alloc, count_asks(waiting)) else {
         return Err(NoMemory);
     };
+    let mut keys = Vec::new(alloc);
     for index in order {
-        match add_asks(&mut asks, *index, waiting[*index as usize].app(), nodes) {
+        let app = waiting[*index as usize].app();
+        match add_asks(&mut asks, &mut keys, *index, app, nodes) {
             Ok(()) => {}
             Err(NoMemory) => return Err(NoMemory),
         }
@@ -38,10 +40,11 @@ pub(crate) fn seen_asks<const K: usize, B: Allocator + Copy>(
     Ok(asks)
 }
 
-/// Adds the asks of the application of an index, in order of key. An error means that an allocation failed, and comes only where
-/// there is too little room for all.
+/// Adds the asks of the application of an index, in order of key. The reservations for it are walked once, and their keys take the place
+/// of those in the list. An error means that an allocation failed, and comes only where there is too little room for all.
 fn add_asks<const K: usize, B: Allocator + Copy>(
     asks: &mut Vec<SeenAsk<K>, B>,
+    keys: &mut Vec<Key, B>,
     index: u32,
     app: &App<K>,
     nodes: &Nodes<K>,
@@ -49,12 +52,17 @@ fn add_asks<const K: usize, B: Allocator + Copy>(
     ensures { OnOk result (asks.new.items ≡ asks.old.items ++ asks_of nodes.now index app.now.app) }
 {
     let number = app.number();
+    keys.clear();
+    match nodes.reserved_keys(number, keys) {
+        Ok(()) => {}
+        Err(NoMemory) => return Err(NoMemory),
+    }
     for ask in app.asks() {
         let seen = SeenAsk {
             app: number,
             index,
             ask: *ask,
-            wanted: wanted(number, ask, nodes),
+            wanted: wanted_beside(keys, ask),
         };
         match asks.push(seen) {
             Ok(()) => {}
@@ -64,12 +72,18 @@ fn add_asks<const K: usize, B: Allocator + Copy>(
     Ok(())
 }
 
-/// How many containers an ask of an application wants beyond those that there are reservations for.
-fn wanted<const K: usize>(app: u64, ask: &Ask<K>, nodes: &Nodes<K>) -> u32
-    ensures { result ≡ wanted_of nodes.now app ask.now }
+/// How many containers an ask wants beyond the reservations for its key, of those of its application, whose keys are these.
+fn wanted_beside<const K: usize>(keys: &[Key], ask: &Ask<K>) -> u32
+    ensures { result ≡ wanted_beside keys.now ask.now }
 {
-    let reserved = nodes.reserved_for(app, &ask.key());
-    (ask.count() as usize).saturating_sub(reserved) as u32
+    let key = ask.key();
+    let mut wanted = ask.count();
+    for reserved in keys {
+        if reserved.is_same(&key) {
+            wanted = wanted.saturating_sub(1);
+        }
+    }
+    wanted
 }
 
 /// How many asks the applications have together. The asks of each are in order of key.

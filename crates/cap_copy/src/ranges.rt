@@ -3,7 +3,7 @@ ghost use Rattle.std.specs.Prelude.{◌≡◌, ◌+◌, IfOk, map};
 ghost use Rattle.cap_copy.specs.AskRanges.{AreApart, AreEmpty, AreOfApps, AreRanges, IsRangeOf, with_ask};
 
 use crate::seen::SeenAsk;
-use crate::waiting::Waiting;
+use cap_asks::Waiting;
 use cap_model::NoMemory;
 use std::alloc::Allocator;
 

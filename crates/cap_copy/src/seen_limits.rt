@@ -7,8 +7,7 @@ ghost use Rattle.cap_copy.specs.Limits.{IsEachOnce, IsLast, IsUserAdded, IsUserS
 ghost use Rattle.cap_copy.specs.Snapshot.{stays_within};
 ghost use Rattle.cap_tree.specs.Spot.{IsPosition};
 
-use crate::waiting::Waiting;
-use cap_asks::App;
+use cap_asks::{App, Waiting};
 use cap_model::NoMemory;
 use cap_tree::{Queue, QueueTree};
 use cap_vector::{Resource, Sum, fits_exchanged};

@@ -14,7 +14,7 @@ use crate::nodes::{seen_nodes, skips_of};
 use crate::ranges::ranges_of;
 use crate::seen_limits::limits_of;
 use crate::snapshot::Snapshot;
-use crate::waiting::{waiters, waiting_apps};
+use crate::waiting::waiters;
 use cap_asks::Apps;
 use cap_model::NoMemory;
 use cap_nodes::Nodes;
@@ -44,7 +44,7 @@ impl<const K: usize, B: Allocator + Copy> Snapshot<K, B> {
     {
         apps.numbers_rise();
         nodes.numbers_rise();
-        let waiting = match waiting_apps(alloc, apps) {
+        let waiting = match apps.waiting(alloc) {
             Ok(waiting) => waiting,
             Err(NoMemory) => return Err(NoMemory),
         };

@@ -1,8 +1,10 @@
 //! Snapshots of a whole cluster: `snapshot_of`, and `snapshot_in` an arena.
 #![tactic(auto)]
 
-ghost use Rattle.std.specs.Prelude.{IfOk};
+ghost use Rattle.std.specs.Prelude.{◌≤◌, IfOk};
+ghost use Rattle.cap_base.specs.Limits.{resources_max};
 ghost use Rattle.cap_model.specs.Sight.{sight_of};
+ghost use Rattle.cap_copy.specs.Sizes.{CopyFitsInMemory};
 ghost use Rattle.cap_copy.specs.Snapshot.{sight_in};
 ghost use Rattle.cap_sights.specs.Sights.{ShowTheSame};
 
@@ -10,7 +12,7 @@ use bumpalo::Bump;
 use cap_commit::Cluster;
 use cap_copy::Snapshot;
 use cap_model::NoMemory;
-use std::alloc::Global;
+use std::alloc::{Allocator, Global};
 
 /// A snapshot of the cluster, which shows the same as the cluster. If an allocation fails there is none.
 pub fn snapshot_of<const K: usize>(
@@ -20,7 +22,8 @@ pub fn snapshot_of<const K: usize>(
     ensures { IfOk result (λ snapshot.
         ShowTheSame (sight_in K snapshot) (sight_of cluster.now.flat)) }
 {
-    Snapshot::take(alloc, cluster.tree(), cluster.apps(), cluster.nodes())
+    let _ = cluster.nodes();
+    snapshot_under(alloc, cluster)
 }
 
 /// The same in an arena.
@@ -31,5 +34,20 @@ pub fn snapshot_in<'a, const K: usize>(
     ensures { IfOk result (λ snapshot.
         ShowTheSame (sight_in K snapshot) (sight_of cluster.now.flat)) }
 {
-    Snapshot::take(arena, cluster.tree(), cluster.apps(), cluster.nodes())
+    let _ = cluster.nodes();
+    snapshot_under(arena, cluster)
+}
+
+/// The same under any allocator. That a snapshot is no larger than memory follows where the allocator is known, from how few kinds of
+/// resources the nodes have.
+fn snapshot_under<const K: usize, B: Allocator + Copy>(
+    alloc: B,
+    cluster: &Cluster<K>,
+) -> Result<Snapshot<K, B>, NoMemory>
+    requires fits { CopyFitsInMemory K.row B.row B.Allocator }
+    requires few { K ≤ resources_max }
+    ensures { IfOk result (λ snapshot.
+        ShowTheSame (sight_in K snapshot) (sight_of cluster.now.flat)) }
+{
+    Snapshot::take(alloc, cluster.tree(), cluster.apps(), cluster.nodes())
 }

@@ -16,9 +16,6 @@ use Rattle.cap_copy.specs.Sources.{apps_in, rows_in}
 use Rattle.cap_copy.proofs.Sights.{each_once_in, few_waiting, is_whole, of_apps, placed_all, positions_there, waiters_placed}
 use Rattle.cap_copy.proofs.snapshot.Snapshot.take.Goals as goal
 
-pub waiting_apps-requires : goal.waiting_apps-requires
-waiting_apps-requires g c = (search rules, (search rules, c.requires.resources))
-
 pub waiters-requires : goal.waiters-requires
 waiters-requires g c =
     (search rules, subst (λ (rs : List HeldApp). length rs ≤ applications_max) (sym c.deref.ensures.value) (few_waiting c.args.apps.now.table.active c.in-Ok.waiting.items applications_max c.in-Ok.ensures.apps c.requires.few))
