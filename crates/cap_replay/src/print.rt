@@ -232,13 +232,17 @@ pub(crate) fn print_frames(
     Ok(())
 }
 
-/// Prints the line of a frame.
+/// The room for what a line of a frame says beside its bytes: `out`, the number of the connection, blanks and the end of the line.
+const WORDS_ROOM: usize = 16;
+
+/// Prints the line of a frame. Its room is taken at once.
 fn print_frame(printed: &mut Vec<u8>, number: u32, frame: &[u8]) -> Result<(), AllocError>
     ensures ok { OnOk result
         (printed.new.items ≡ printed.old.items ++ frame_line number frame.now) }
     ensures err { OnErr result (printed.new.items ≡ printed.old.items) }
 {
     let mut line = Vec::new(*printed.allocator());
+    line.reserve(frame.len().saturating_mul(2).saturating_add(WORDS_ROOM))?;
     put_frame(&mut line, number, frame)?;
     printed.extend_from_slice(&line)
 }
