@@ -1,9 +1,11 @@
 #!/usr/bin/env bash
-# Counts the instructions of eight works by valgrind's callgrind, from the difference of two sizes: a ClusterInfo on one of 16 connections, a heartbeat, an
-# allocate of 20 asks among 256 applications, a queue that is opened from its lines and shown, a Refresh of 1,024 queues, a turn of a worker (it copies, proposes and commits) in a cluster of
-# 512 nodes, 64 leaf queues and 256 applications, one of 32 workers that all copy the same state first, and one where each node holds a reservation, 2,048 asks are open
-# and nothing is admissible (it copies and proposes). Prints them a request, with those that clear and copy memory apart, of which callgrind counts about one a byte;
-# fails where both together are past the bound beside each. Needs valgrind, a package of most distributions. Counts depend a little on the C library and the processor.
+# Counts the instructions of works by valgrind's callgrind, from the difference of two sizes: a ClusterInfo on one of 16 connections, a heartbeat, an allocate
+# of 20 asks among 256 applications, a queue that is opened from its lines and shown, a Refresh of 1,024 queues; a turn of a worker (it copies, proposes and commits)
+# in a farm of 512 nodes, 64 leaf queues and 256 applications, one of 32 workers that all copy the same state first, one beside 10,000 masters that ask for nothing,
+# one with 1,023 applications in 64 leaf queues and one in as many, and one where each node holds a reservation, 2,048 asks are open and nothing is admissible (it
+# copies and proposes); an application of 10,000 that ends; and a node that registers, among the first 128 and after 3,968 others. Prints them a request, with those
+# that clear and copy memory apart, of which callgrind counts about one a byte; fails where both together are past the bound beside each, or more than so many times
+# another work. Needs valgrind, a package of most distributions. Counts depend a little on the C library and the processor.
 . "$(dirname "${BASH_SOURCE[0]}")/common.sh"
 need_valgrind
 build_capsched
@@ -95,39 +97,60 @@ refresh() {
     }'
 }
 
-# 512 nodes, and 256 applications in 64 leaf queues, each with an ask that stays wanted; then n turns of the first of so many workers, or one turn of each
-turns() {
-  awk -v n="$1" -v workers="$2" '
+# The lines of a farm: so many nodes; so many applications with an ask each that stays wanted, one after the other in so many leaf queues; and so many registered
+# ones without asks beside them in a queue of their own. Then what a work adds.
+farm() {
+  awk -v nodes="$1" -v apps="$2" -v queues="$3" -v idle="$4" -v n="${5:-0}" -v workers="${6:-0}" -v work="$7" '
     function text(path,  i, hex) {
       for (i = 1; i <= length(path); i++) hex = hex sprintf("%02x", index(ascii, substr(path, i, 1)) + 31)
       return sprintf("%02x", length(path)) hex
     }
     function request(body) { printf "bytes 1 %08x%s\n", length(body) / 2, body }
+    function node(i) { request(sprintf("0105%08x", i) text("n" i) text("/r1") sprintf("%016x%016x", 65536, 64)) }
+    function master(i, leaf) {
+      request(sprintf("0101%08x", i) text(leaf) text("u1"))
+      request(sprintf("0102%08x%016x", i, i))
+    }
     BEGIN {
       for (i = 32; i < 127; i++) ascii = ascii sprintf("%c", i)
-      for (i = 1; i <= 64; i++) leaves = leaves (i > 1 ? "," : "") "q" i
+      for (i = 1; i <= queues; i++) leaves = leaves (i > 1 ? "," : "") "q" i
+      if (idle) leaves = leaves ",idle"
       print "conf yarn.scheduler.capacity.root.queues=" leaves
-      for (i = 1; i <= 64; i++) {
+      print "conf yarn.scheduler.capacity.maximum-applications=20000"
+      for (i = 1; i <= queues; i++) {
         print "conf yarn.scheduler.capacity.root.q" i ".capacity=[memory=65536,vcores=64]"
         print "conf yarn.scheduler.capacity.root.q" i ".user-limit-factor=16"
       }
       print "open 1"
-      for (i = 1; i <= 512; i++) request(sprintf("0105%08x", i) text("n" i) text("/r1") sprintf("%016x%016x", 65536, 64))
-      for (i = 1; i <= 256; i++) {
-        request(sprintf("0101%08x", i) text("root.q" ((i - 1) % 64 + 1)) text("u1"))
-        request(sprintf("0102%08x%016x", i, i))
+      for (i = 1; i <= nodes; i++) node(i)
+      for (i = 1; i <= apps; i++) {
+        master(i, "root.q" ((i - 1) % queues + 1))
         request(sprintf("0103%08x%016x%08x0001%08x%016x%08x%016x%016x", i, i, 0, 1, 0, 9999, 1024, 1) "012a0000")
       }
+      for (i = 1; i <= idle; i++) master(apps + i, "root.idle")
       for (i = 0; i < n; i++) {
+        if (work == "finish") request(sprintf("0104%08x%016x", i, apps + i + 1))
+        if (work == "register") node(nodes + i + 1)
         for (w = 0; w < workers; w++) print "copy " w
         for (w = 0; w < workers; w++) print "propose " w " " i + w
         for (w = 0; w < workers; w++) print "commit " w
       }
     }'
 }
-turn() { turns "$1" 1; }
+# n turns of the first worker in a farm of 512 nodes, 64 leaf queues and 256 applications
+turn() { farm 512 256 64 0 "$1" 1; }
 # n turns of 32 workers that all copy the same state
-turn_of_32() { turns $(($1 / 32)) 32; }
+turn_of_32() { farm 512 256 64 0 $(($1 / 32)) 32; }
+# n turns beside 10,000 masters that ask for nothing
+turn_beside_idle_masters() { farm 512 256 64 10000 "$1" 1; }
+# n turns with 1,023 applications, in 64 leaf queues and in as many as there are applications
+turn_of_1023_applications() { farm 512 1023 64 0 "$1" 1; }
+turn_of_flat_tree() { farm 512 1023 1023 0 "$1" 1; }
+# n applications of 10,000 that end
+finish_master() { farm 0 0 1 10000 "$1" 0 finish; }
+# n nodes, the first ones and after 4,032 others
+register_first_nodes() { farm 0 0 1 0 "$1" 0 register; }
+register_last_nodes() { farm 3968 0 1 0 "$1" 0 register; }
 
 # 512 nodes, each with a container and a reservation, and 256 applications in 64 leaf queues with 8 asks each, of which no node has room for one; then n turns
 turn_of_full_farm() {
@@ -166,17 +189,24 @@ turn_of_full_farm() {
 }
 
 broken=0
+declare -A cost
 # measure WORK SIZE BOUND ANSWERS: of a work at a size and at twice the size, where so many lines of output match
 measure() {
   for size in "$2" $((2 * $2)); do
     "$1" "$size" >"$work/script"
     count
-    [ "$(grep -c "$4" "$work/output")" = "$size" ] || { echo "$1: not every request is answered with success" >&2; exit 1; }
+    [ "$(grep -c "$4" "$work/output")" = "$((size + ${5:-0}))" ] || { echo "$1: not every request is answered with success" >&2; exit 1; }
     if [ "$size" = "$2" ]; then first=("$moved" "$other"); fi
   done
   moved=$(((moved - first[0]) / $2)) other=$(((other - first[1]) / $2))
+  cost[$1]=$((moved + other))
   echo "$1: $other instructions, and $moved that clear and copy (together at most $3)"
-  [ $((moved + other)) -le "$3" ] || broken=1
+  [ "${cost[$1]}" -le "$3" ] || broken=1
+}
+# compare WORK OTHER MOST: a work is at most so many times another
+compare() {
+  printf '%s beside %s: ' "$1" "$2"
+  ratio "${cost[$2]}" "${cost[$1]}" "$3" || broken=1
 }
 
 measure cluster_info 2000 3500 '^out [0-9]* 00000033010a'
@@ -184,7 +214,17 @@ measure heartbeat 2000 4000 '^out 1 000000110106[0-9a-f]\{8\}00'
 measure allocate 1024 45000 '^out 1 0000000f0103[0-9a-f]\{8\}00'
 measure queue 480 40000 '^out 1 000000[0-9a-f]\{2\}0108[0-9a-f]\{8\}00'
 measure refresh 8 30000000 '^out 1 00000007010b[0-9a-f]\{8\}00'
-measure turn 512 250000 '^done 0 grant'
+measure turn 512 220000 '^done 0 grant'
 measure turn_of_32 512 250000 '^done [0-9]* grant'
 measure turn_of_full_farm 64 750000 '^proposed 0 none'
+compare turn_of_full_farm turn 3
+measure turn_beside_idle_masters 64 250000 '^done 0 grant'
+compare turn_beside_idle_masters turn 1.1
+measure turn_of_1023_applications 64 1000000 '^done 0 grant'
+measure turn_of_flat_tree 64 3000000 '^done 0 grant'
+compare turn_of_flat_tree turn_of_1023_applications 3
+measure finish_master 256 10000 '^out 1 0000000b0104[0-9a-f]\{8\}00'
+measure register_first_nodes 64 10000 '^out 1 0000000f0105[0-9a-f]\{8\}00'
+measure register_last_nodes 64 10000 '^out 1 0000000f0105[0-9a-f]\{8\}00' 3968
+compare register_last_nodes register_first_nodes 1.5
 exit "$broken"
