@@ -1,5 +1,5 @@
 //! What is printed: lines of words, numbers and frames.
-//! A line is put together beside what was printed before, so that where an allocation fails nothing of it is printed.
+//! Where an allocation fails nothing of a line is printed: it is put together beside what was printed before, or taken back.
 ghost use Rattle.std.specs.Prelude.{◌≡◌, ◌+◌, ◌*◌, ◌++◌, ◌<◌, ◌∷◌, [], length, IfSome, OnOk, OnErr, decimal, take, drop};
 ghost use Rattle.hex.specs.Hex.{encode_lower};
 ghost use Rattle.cap_model.specs.Admission.{reason_number};
@@ -241,15 +241,22 @@ fn print_frame(printed: &mut Vec<u8>, number: u32, frame: &[u8]) -> Result<(), A
         (printed.new.items ≡ printed.old.items ++ frame_line number frame.now) }
     ensures err { OnErr result (printed.new.items ≡ printed.old.items) }
 {
-    let mut line = Vec::new(*printed.allocator());
-    line.reserve(frame.len().saturating_mul(2).saturating_add(WORDS_ROOM))?;
-    put_frame(&mut line, number, frame)?;
-    printed.extend_from_slice(&line)
+    let before = printed.len();
+    printed.reserve(frame.len().saturating_mul(2).saturating_add(WORDS_ROOM))?;
+    match put_frame(printed, number, frame) {
+        Ok(()) => Ok(()),
+        Err(error) => {
+            printed.truncate(before);
+            Err(error)
+        }
+    }
 }
 
-/// Puts the line of a frame.
+/// Puts the line of a frame. Where an allocation fails a part of it is there, behind what was there before.
 fn put_frame(line: &mut Vec<u8>, number: u32, frame: &[u8]) -> Result<(), AllocError>
-    ensures { OnOk result (line.new.items ≡ line.old.items ++ frame_line number frame.now) }
+    ensures ok { OnOk result (line.new.items ≡ line.old.items ++ frame_line number frame.now) }
+    ensures err { OnErr result
+        (take (length line.old.items) line.new.items ≡ line.old.items) }
 {
     let mut buffer = Buffer::new();
     line.extend_from_slice(b"out ")?;
@@ -261,7 +268,8 @@ fn put_frame(line: &mut Vec<u8>, number: u32, frame: &[u8]) -> Result<(), AllocE
 
 /// Puts bytes in hexadecimal.
 fn put_hex(line: &mut Vec<u8>, bytes: &[u8]) -> Result<(), AllocError>
-    ensures { OnOk result (line.new.items ≡ line.old.items ++ encode_lower bytes.now) }
+    ensures ok { OnOk result (line.new.items ≡ line.old.items ++ encode_lower bytes.now) }
+    ensures err { OnErr result (line.new.items ≡ line.old.items) }
 {
     let start = line.len();
     let Some(end) = bytes
