@@ -153,13 +153,22 @@ fn proposed(
     Some((proposal.node(), memory))
 }
 
+/// The same of a snapshot of the cluster.
+fn proposed_of(
+    alloc: Global,
+    hoard: &mut Hoard,
+    cluster: &Cluster<RESOURCES>,
+) -> Option<(u64, u64)> {
+    match Snapshot::take(alloc, cluster.tree(), cluster.apps(), cluster.nodes()) {
+        Ok(snapshot) => proposed(alloc, hoard, &snapshot),
+        Err(_) => None,
+    }
+}
+
 fn proposed_in_none(alloc: Global) -> Option<(u64, u64)> {
     let mut hoard = Hoard::new(alloc)?;
     let cluster = cluster_after(alloc, Before::Asking)?;
-    match Snapshot::take(alloc, cluster.tree(), cluster.apps(), cluster.nodes()) {
-        Ok(snapshot) => proposed(alloc, &mut hoard, &snapshot),
-        Err(_) => None,
-    }
+    proposed_of(alloc, &mut hoard, &cluster)
 }
 
 #[test]
