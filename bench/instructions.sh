@@ -100,7 +100,7 @@ refresh() {
 # The lines of a farm: so many nodes; so many applications with an ask each that stays wanted, one after the other in so many leaf queues; and so many registered
 # ones without asks beside them in a queue of their own. Then what a work adds.
 farm() {
-  awk -v nodes="$1" -v apps="$2" -v queues="$3" -v idle="$4" -v n="${5:-0}" -v workers="${6:-0}" -v work="$7" '
+  awk -v nodes="$1" -v apps="$2" -v queues="$3" -v idle="$4" -v n="${5:-0}" -v workers="${6:-0}" -v work="${7:-}" '
     function text(path,  i, hex) {
       for (i = 1; i <= length(path); i++) hex = hex sprintf("%02x", index(ascii, substr(path, i, 1)) + 31)
       return sprintf("%02x", length(path)) hex
@@ -209,7 +209,7 @@ compare() {
   ratio "${cost[$2]}" "${cost[$1]}" "$3" || broken=1
 }
 
-measure cluster_info 2000 3500 '^out [0-9]* 00000033010a'
+measure cluster_info 2000 3300 '^out [0-9]* 00000033010a'
 measure heartbeat 2000 4000 '^out 1 000000110106[0-9a-f]\{8\}00'
 measure allocate 1024 45000 '^out 1 0000000f0103[0-9a-f]\{8\}00'
 measure queue 480 40000 '^out 1 000000[0-9a-f]\{2\}0108[0-9a-f]\{8\}00'
