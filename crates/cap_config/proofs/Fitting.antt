@@ -14,7 +14,7 @@ use Rattle.cap_base.specs.properties.Keys.{root, parts_at_last_dot}
 use Rattle.cap_base.specs.properties.Queues.{entry_for, is_entry_for, is_path_at, same_setting, names_below, names_or_none, names_in_value, guaranteed, maximum, amounts_at, amounts_or, or_zero}
 use Rattle.cap_base.specs.properties.Tests.{exceeds, exceeds_limit, is_over_limit, is_over_maximum, over_maximum_line, is_over_parts, guaranteed_below, is_over_above, is_over_parent, over_parent_line}
 use Rattle.cap_config.proofs.Exceeding.{exceeds_not}
-use Rattle.cap_config.proofs.Spending.{none_below}
+use Rattle.cap_config.proofs.Sums.{none_below}
 use Rattle.cap_config.proofs.Above.{parent_is}
 use Rattle.cap_config.proofs.Trees.{maximum_own, maximum_inherited}
 use Rattle.cap_config.proofs.Found.{found_has, names_at, nowhere_all}

@@ -12,7 +12,7 @@ pub mod FirstLines
 pub mod RowLists
 pub mod Firsts
 pub mod Exceeding
-pub mod Spending
+pub mod Sums
 pub mod Kept
 pub mod Found
 pub mod Children

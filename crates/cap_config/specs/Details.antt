@@ -1,7 +1,7 @@
 -- What there is to say of a fault beyond its line and its kind.
-use Rattle.std.specs.Prelude.{ℕ, ◌+◌, ◌-◌, ◌^◌, List, [], ◌∷◌, find, Option, Some, None, Bool, true, false, ◌==◌, min, if◌then◌else◌, Result, Ok, Err}
+use Rattle.std.specs.Prelude.{ℕ, ◌-◌, ◌^◌, List, [], ◌∷◌, find, Option, Some, None, Bool, true, false, ◌==◌, min, if◌then◌else◌, Result, Ok, Err}
 use Rattle.std.specs.Str.Lines.{lines}
-use Rattle.cap_vector.specs.Vector.{amount, by_amount, zeros}
+use Rattle.cap_vector.specs.Vector.{by_amount}
 use Rattle.cap_base.specs.Limits.{resources}
 use Rattle.cap_base.specs.Texts.{is_text}
 use Rattle.cap_config.specs.declared.detail.Detail.{Detail}
@@ -19,8 +19,8 @@ use Rattle.cap_base.specs.declared.properties.fault.ConfigFaultKind.TheVariants.
 use Rattle.cap_base.specs.properties.Entries.{read_lines}
 use Rattle.cap_base.specs.properties.Keys.{key_of, parts_at_last_dot}
 use Rattle.cap_config.specs.LineKeys.{line_key, first_with}
-use Rattle.cap_base.specs.properties.Queues.{above, amounts_at, child, entry_for, guaranteed, is_below, maximum}
-use Rattle.cap_base.specs.properties.Tests.{exceeds, minimum_allocation, maximum_allocation}
+use Rattle.cap_base.specs.properties.Queues.{above, amounts_at, entry_for, guaranteed, is_below, maximum}
+use Rattle.cap_base.specs.properties.Tests.{exceeds, minimum_allocation, maximum_allocation, sum_below}
 
 -- amounts over a limit, where one of them is
 unfoldable pub over : Limit → List ℕ → List ℕ → Detail
@@ -76,19 +76,15 @@ abbrev pub over_above : List Entry → List ℕ → Option (List ℕ × List ℕ
 over_above entries amounts (Some parts) = over_some MaximumAbove amounts (maximum entries parts.0)
 over_above entries amounts None = Plain
 
--- the sums of the capacities of the queues with these names and of what is added, each at most the greatest number of 64 bits
-abbrev pub added : ℕ → ℕ → ℕ
-added a b = min (a + b) (2 ^ 64 - 1)
+-- the sums of the capacities of the queues with these names, each at most the greatest number of 64 bits
+abbrev pub capped : ℕ → ℕ
+capped n = min n (2 ^ 64 - 1)
 
-abbrev pub all_added : List ℕ → List ℕ → List ℕ
-all_added a b = by_amount resources (λ k. added (amount a k) (amount b k))
-
-unfoldable pub added_below : List Entry → List ℕ → List ℕ → List (List ℕ) → List ℕ
-added_below entries path sums [] = sums
-added_below entries path sums (name ∷ names) = added_below entries path (all_added sums (guaranteed entries (child path name))) names
+abbrev pub added_below : List Entry → List ℕ → List (List ℕ) → List ℕ
+added_below entries path names = by_amount resources (λ k. capped (sum_below entries path names k))
 
 abbrev pub over_capacity : List Entry → List ℕ → List (List ℕ) → Detail
-over_capacity entries path names = over OwnCapacity (added_below entries path (zeros resources) names) (guaranteed entries path)
+over_capacity entries path names = over OwnCapacity (added_below entries path names) (guaranteed entries path)
 
 abbrev pub over_parent : List Entry → Option (List ℕ) → Value → Detail
 over_parent entries (Some path) (Amounts amounts) = over_above entries amounts (parts_at_last_dot path)

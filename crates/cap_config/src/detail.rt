@@ -4,14 +4,12 @@ ghost use Rattle.std.specs.Option.{option_map, option_copied};
 ghost use Rattle.cap_config.specs.Index.{IsIndex};
 ghost use Rattle.cap_base.specs.properties.Keys.{key_of, parts_at_last_dot};
 ghost use Rattle.cap_config.specs.LineKeys.{line_key};
-ghost use Rattle.cap_config.specs.Details.{detail_in, line_detail, key_detail, earlier, form_of, limit_of, whole_detail, entry_on, entry_detail, allocation_detail, unlisted, unlisted_at, missing_path, over_maximum, over_own, over_parent, over_above, over_capacity, added_below, all_added, over, over_some};
-ghost use Rattle.cap_vector.specs.Vector.{zeros};
-ghost use Rattle.cap_base.specs.Limits.{resources};
+ghost use Rattle.cap_config.specs.Details.{detail_in, line_detail, key_detail, earlier, form_of, limit_of, whole_detail, entry_on, entry_detail, allocation_detail, unlisted, unlisted_at, missing_path, over_maximum, over_own, over_parent, over_above, over_capacity, over, over_some};
 
 use crate::allocation::{maximum_allocation, minimum_allocation};
 use crate::first_pass::read_lines;
-use crate::guarantees::exceeds;
-use crate::index::{Index, child_bytes, entry_at, index_of};
+use crate::guarantees::{added_below, exceeds};
+use crate::index::{Index, entry_at, index_of};
 use crate::key::{key_of, split_last_dot};
 use crate::line_keys::{first_with, line_key};
 use crate::queues::{amounts_at, guaranteed, lists, maximum};
@@ -303,35 +301,4 @@ fn over_capacity(
 {
     let sums = added_below(alloc, index, path, names)?;
     Ok(over(Limit::OwnCapacity, sums, guaranteed(index, path).amounts()))
-}
-
-/// The sums of the capacities of the queues of these names below a queue, each at most `u64::MAX`.
-fn added_below(
-    alloc: Global,
-    index: &Index,
-    path: &[u8],
-    names: &[ShortText],
-) -> Result<[u64; RESOURCES], AllocError>
-    requires { IsIndex index.now }
-    ensures { IfOk result (λ sums. sums ≡
-        added_below index.now.entries.now path.now (zeros resources) names.now) }
-{
-    let mut sums = [0; RESOURCES];
-    for name in names {
-        let child = child_bytes(alloc, path, name.as_bytes())?;
-        let more = added(sums, guaranteed(index, &child).amounts());
-        sums = more;
-    }
-    Ok(sums)
-}
-
-/// The sum of each amount.
-fn added(amounts: [u64; RESOURCES], more: [u64; RESOURCES]) -> [u64; RESOURCES]
-    ensures { result ≡ all_added amounts more }
-{
-    let mut sums = [0; RESOURCES];
-    for k in 0..RESOURCES {
-        sums[k] = amounts[k].saturating_add(more[k]);
-    }
-    sums
 }

@@ -1,9 +1,10 @@
 //! The tests of capacities and maximum capacities, each of a queue's own and of those of the queue above.
-ghost use Rattle.std.specs.Prelude.{◌≡◌, ◌-◌, IfOk};
+ghost use Rattle.std.specs.Prelude.{◌≡◌, ◌+◌, IfOk};
 ghost use Rattle.cap_vector.specs.Vector.{amount, by_amount};
 ghost use Rattle.cap_base.specs.Limits.{resources};
+ghost use Rattle.cap_config.specs.Details.{added_below, capped};
 ghost use Rattle.cap_config.specs.Index.{IsIndex};
-ghost use Rattle.cap_base.specs.properties.Tests.{exceeds, exceeds_limit, is_over_limit, is_over_maximum, over_maximum_line, is_over_parts, guaranteed_below, is_overspent, is_over_parent, over_parent_line};
+ghost use Rattle.cap_base.specs.properties.Tests.{exceeds, exceeds_limit, is_over_limit, is_over_maximum, over_maximum_line, is_over_parts, is_overspent, is_over_parent, over_parent_line};
 ghost use Rattle.cap_base.specs.properties.Keys.{parts_at_last_dot};
 
 use crate::entry::line_of;
@@ -123,41 +124,36 @@ fn is_overspent(
     if is_root(path) {
         return Ok(false);
     }
-    overspends(alloc, index, path, guaranteed(index, path).amounts(), names)
+    let sums = added_below(alloc, index, path, names)?;
+    Ok(exceeds(sums, guaranteed(index, path).amounts()))
 }
 
-/// Whether the queues of these names are guaranteed more together than `most`.
-fn overspends(
+/// The sums of the capacities of the queues of these names below a queue, each at most `u64::MAX`.
+pub fn added_below(
     alloc: Global,
     index: &Index,
     path: &[u8],
-    most: [u64; RESOURCES],
     names: &[ShortText],
-) -> Result<bool, AllocError>
+) -> Result<[u64; RESOURCES], AllocError>
     requires { IsIndex index.now }
-    ensures { IfOk result (λ over. over ≡
-        exceeds (guaranteed_below index.now.entries.now path.now names.now) most) }
+    ensures { IfOk result (λ sums. sums ≡ added_below index.now.entries.now path.now names.now) }
 {
-    let mut left = most;
+    let mut sums = [0; RESOURCES];
     for name in names {
         let child = child_bytes(alloc, path, name.as_bytes())?;
-        let guarantee = guaranteed(index, &child).amounts();
-        if exceeds(guarantee, left) {
-            return Ok(true);
-        }
-        let rest = less(left, guarantee);
-        left = rest;
+        let more = added(sums, guaranteed(index, &child).amounts());
+        sums = more;
     }
-    Ok(false)
+    Ok(sums)
 }
 
-/// What is left of each amount.
-fn less(amounts: [u64; RESOURCES], taken: [u64; RESOURCES]) -> [u64; RESOURCES]
-    ensures { result ≡ by_amount resources (λ k. amount amounts k - amount taken k) }
+/// The sum of each amount.
+fn added(amounts: [u64; RESOURCES], more: [u64; RESOURCES]) -> [u64; RESOURCES]
+    ensures { result ≡ by_amount resources (λ k. capped (amount amounts k + amount more k)) }
 {
-    let mut left = [0; RESOURCES];
+    let mut sums = [0; RESOURCES];
     for k in 0..RESOURCES {
-        left[k] = amounts[k].saturating_sub(taken[k]);
+        sums[k] = amounts[k].saturating_add(more[k]);
     }
-    left
+    sums
 }

@@ -1,9 +1,0 @@
-use Rattle.std.proofs.Common.{arith, get_or}
-use Rattle.std.proofs.lemmas.List.FromFn.{fill_by_all}
-use Rattle.cap_base.specs.Limits.{resources}
-use Rattle.cap_config.specs.Details.{added}
-use Rattle.cap_config.proofs.detail.added.Goals as goal
-
-pub returns : goal.returns
-returns c =
-    fill_by_all (λ k. added (get_or c.args.amounts k 0) (get_or c.args.more k 0)) c.loop-k.sums resources 0 c.loop-k.invariant.long (λ k h. c.loop-k.invariant.each k (omega arith))
