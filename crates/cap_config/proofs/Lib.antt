@@ -25,7 +25,7 @@ pub mod RowBounds
 pub mod Listing
 pub mod Fitting
 pub mod Fitted
-pub mod LineSteps
+pub mod Printable
 pub mod Missing
 pub mod RowAmounts
 pub mod FaultLines

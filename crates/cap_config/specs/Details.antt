@@ -1,5 +1,5 @@
 -- What there is to say of a fault beyond its line and its kind.
-use Rattle.std.specs.Prelude.{ℕ, ◌-◌, ◌^◌, List, [], ◌∷◌, find, Option, Some, None, Bool, true, false, ◌==◌, min, if◌then◌else◌, Result, Ok, Err}
+use Rattle.std.specs.Prelude.{ℕ, ◌-◌, ◌^◌, List, [], ◌∷◌, find, Option, Some, None, Bool, true, false, ◌==◌, min, nat_lt, if◌then◌else◌, Result, Ok, Err}
 use Rattle.std.specs.Str.Lines.{lines}
 use Rattle.cap_vector.specs.Vector.{by_amount}
 use Rattle.cap_base.specs.Limits.{resources}
@@ -112,12 +112,12 @@ whole_detail entries line BadValue = allocation_detail entries
 whole_detail entries line kind = detail_on entries (entry_on entries line) kind
 
 -- what a fault of a line of its own is about
-abbrev pub earlier_of : Option ℕ → Detail
-earlier_of (Some line) = Earlier line
-earlier_of None = Plain
+abbrev pub earlier_of : ℕ → Option ℕ → Detail
+earlier_of line (Some first) = if nat_lt first line then Earlier first else Plain
+earlier_of line None = Plain
 
 abbrev pub earlier : List ℕ → ℕ → List ℕ → Detail
-earlier text line key = earlier_of (first_with key line 0 (lines text))
+earlier text line key = earlier_of line (first_with text key)
 
 abbrev pub form_of : Option Key → Detail
 form_of (Some key) = Form key.setting

@@ -1,8 +1,8 @@
 -- The key that a line shows, whatever its bytes are.
-use Rattle.std.specs.Prelude.{ℕ, ◌+◌, ◌-◌, List, [], ◌∷◌, length, Option, Some, None, Bool, false, ◌&&◌, ◌==◌, nat_lt, if◌then◌else◌}
-use Rattle.std.specs.List.{list_all}
+use Rattle.std.specs.Prelude.{ℕ, ◌+◌, ◌-◌, List, length, Option, Some, None, Bool, false, ◌&&◌, ◌==◌, nat_lt, slice_get, if◌then◌else◌}
+use Rattle.std.specs.List.{list_all, position, slice_split}
+use Rattle.std.specs.Option.{option_map}
 use Rattle.std.specs.Str.{bytes_eq}
-use Rattle.std.specs.Str.Lines.{lines}
 use Rattle.cap_text.specs.Pieces.{parts_at, trimmed_bytes}
 use Rattle.cap_base.specs.properties.Entries.{is_passed_over, is_printable}
 
@@ -18,10 +18,13 @@ shown_first None = None
 unfoldable pub key_shown : List ℕ → Option (List ℕ)
 key_shown line = if is_passed_over line then None else shown_first (parts_at 61 line)
 
+-- what stands before, between and after line feeds. A carriage return at the end of a line, which is no part of it, is here: no key shows it
+abbrev pub pieces : List ℕ → List (List ℕ)
+pieces text = slice_split (λ b. b == 10) text
+
 -- the line of a number, counted from 1
-unfoldable pub nth_line : ℕ → List (List ℕ) → Option (List ℕ)
-nth_line n [] = None
-nth_line n (line ∷ lines) = if n == 1 then Some line else nth_line (n - 1) lines
+unfoldable pub nth_line : List ℕ → ℕ → Option (List ℕ)
+nth_line text n = if n == 0 then None else slice_get (pieces text) (n - 1)
 
 abbrev pub key_or_none : Option (List ℕ) → Option (List ℕ)
 key_or_none (Some line) = key_shown line
@@ -29,7 +32,7 @@ key_or_none None = None
 
 -- the key that the line of a number in a text shows
 unfoldable pub line_key : List ℕ → ℕ → Option (List ℕ)
-line_key text n = key_or_none (nth_line n (lines text))
+line_key text n = key_or_none (nth_line text n)
 
 -- whether a line shows this key
 abbrev pub is_shown : Option (List ℕ) → List ℕ → Bool
@@ -39,8 +42,6 @@ is_shown None key = false
 abbrev pub shows : List ℕ → List ℕ → Bool
 shows key line = is_shown (key_shown line) key
 
--- the number of the first line with this key, where n lines stand before these and the search ends before the line numbered end
-unfoldable pub first_with : List ℕ → ℕ → ℕ → List (List ℕ) → Option ℕ
-first_with key end n [] = None
-first_with key end n (line ∷ lines) =
-    if n + 1 == end then None else if shows key line then Some (n + 1) else first_with key end (n + 1) lines
+-- the number of the first line with this key
+unfoldable pub first_with : List ℕ → List ℕ → Option ℕ
+first_with text key = option_map (λ before. before + 1) (position (shows key) (pieces text))

@@ -93,9 +93,9 @@ fn key_detail(text: &[u8], line: usize, kind: ConfigFaultKind, key: &[u8]) -> De
 fn earlier(text: &[u8], line: usize, key: &[u8]) -> Detail
     ensures { result ≡ earlier text.now line key.now }
 {
-    match first_with(text, key, line) {
-        Some(first) => Detail::Earlier(first),
-        None => Detail::Plain,
+    match first_with(text, key) {
+        Some(first) if first < line => Detail::Earlier(first),
+        _ => Detail::Plain,
     }
 }
 

@@ -2,12 +2,11 @@
 ghost use Rattle.std.specs.Prelude.{◌≡◌};
 ghost use Rattle.std.specs.List.{list_all};
 ghost use Rattle.std.specs.Option.{option_map};
-ghost use Rattle.std.specs.Str.Lines.{lines};
 ghost use Rattle.cap_config.specs.LineKeys.{shown, shown_first, key_shown, nth_line, line_key, shows, is_shown, first_with};
 ghost use Rattle.cap_text.specs.Pieces.{parts_at};
 
 use crate::first_pass::{all_printable, is_passed_over};
-use cap_text::{split_line, split_once, trimmed};
+use cap_text::{split_once, trimmed};
 use std::str;
 
 /// The key in the line with this number, counted from 1: the bytes before its first `=`, without spaces round them. None
@@ -22,21 +21,15 @@ pub fn line_key(text: &[u8], number: usize) -> Option<&str>
     }
 }
 
-/// The line with this number, counted from 1.
+/// The line with this number, counted from 1, up to its line feed.
+#[tactic(auto, unfolding(crate::specs::LineKeys::nth_line))]
 fn nth_line(text: &[u8], number: usize) -> Option<&[u8]>
-    ensures { option_map (λ line. line.now) result ≡ nth_line number (lines text.now) }
+    ensures { option_map (λ line. line.now) result ≡ nth_line text.now number }
 {
-    let mut rest = text;
-    let mut left = number;
-    while !rest.is_empty() {
-        let (line, after) = split_line(rest);
-        if left == 1 {
-            return Some(line);
-        }
-        left = left.saturating_sub(1);
-        rest = after;
+    if number == 0 {
+        return None;
     }
-    None
+    text.split(|byte| *byte == b'\n').nth(number - 1)
 }
 
 /// The key that a line shows.
@@ -67,24 +60,14 @@ fn shown(bytes: &[u8]) -> Option<&str>
     Some(shown)
 }
 
-/// The number of the first line that shows this key, of those before the line numbered `end`.
-pub fn first_with(text: &[u8], key: &[u8], end: usize) -> Option<usize>
-    ensures { result ≡ first_with key.now end 0 (lines text.now) }
+/// The number of the first line that shows this key.
+#[tactic(auto, unfolding(crate::specs::LineKeys::first_with))]
+pub fn first_with(text: &[u8], key: &[u8]) -> Option<usize>
+    ensures { result ≡ first_with text.now key.now }
 {
-    let mut rest = text;
-    let mut number = 0;
-    while !rest.is_empty() {
-        let (line, after) = split_line(rest);
-        number += 1;
-        if number == end {
-            return None;
-        }
-        if shows(key, line) {
-            return Some(number);
-        }
-        rest = after;
-    }
-    None
+    let mut lines = text.split(|byte| *byte == b'\n');
+    let before = lines.position(|line| shows(key, line));
+    before.map(|before| before + 1)
 }
 
 fn shows(key: &[u8], line: &[u8]) -> bool

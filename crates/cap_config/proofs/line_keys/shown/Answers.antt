@@ -1,5 +1,5 @@
 use Rattle.std.proofs.Common.{sym, ◌∙◌}
-use Rattle.cap_config.proofs.LineSteps.{printable_is_text}
+use Rattle.cap_config.proofs.Printable.{printable_is_text}
 use Rattle.cap_config.proofs.line_keys.shown.Goals as goal
 
 pub unreachable-requires : goal.unreachable-requires
