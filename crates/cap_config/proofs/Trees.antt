@@ -1,5 +1,5 @@
 -- Up from a queue to the root.
-use Rattle.std.proofs.Common.{◌≡◌, ℕ, List, [], true, false, Option, Some, None, refl, ap, ◌∙◌}
+use Rattle.std.proofs.Common.{◌≡◌, ℕ, List, [], Option, Some, None, refl, ap, ◌∙◌}
 use Rattle.std.specs.Str.{bytes_eq}
 use Rattle.std.specs.BTreeMap.{BTreeMap}
 use denote.Ref.{Bor}
@@ -8,19 +8,10 @@ use Rattle.cap_base.specs.declared.properties.value.Value.{Value}
 use Rattle.cap_base.specs.declared.properties.value.Value.TheVariants.{Names, Amounts, Number, Running}
 use Rattle.cap_base.specs.declared.properties.setting.Setting.{Setting}
 use Rattle.cap_base.specs.declared.properties.setting.Setting.TheVariants.{MaximumCapacity}
-use Rattle.cap_base.specs.properties.Keys.{root, parts_at_last_dot}
-use Rattle.cap_base.specs.properties.Seen.{contains_bytes}
-use Rattle.cap_base.specs.properties.Queues.{is_queue, maximum, nearest_maximum, leads_to_root, above, names_below, amounts_at, amounts_or, entry_for}
+use Rattle.cap_base.specs.properties.Keys.{root}
+use Rattle.cap_base.specs.properties.Queues.{is_queue, maximum, nearest_maximum, leads_to_root, above, amounts_at, amounts_or, entry_for}
 use Rattle.cap_config.specs.Index.{entry_at, FindsAll}
-use Rattle.cap_config.proofs.Above.{IsParent, parent_is}
-
-pub queue_not_listed : (entries : List Entry) (path parent name : List ℕ) → parts_at_last_dot path ≡ Some (parent, name) → contains_bytes (names_below entries parent) name ≡ false →
-    is_queue entries path ≡ false
-queue_not_listed entries path parent name parts h = ap (leads_to_root entries path) (parent_is path parent name parts).above ∙ rw (parts, h) refl
-
-pub queue_listed : (entries : List Entry) (path parent name : List ℕ) → parts_at_last_dot path ≡ Some (parent, name) → contains_bytes (names_below entries parent) name ≡ true →
-    is_queue entries path ≡ is_queue entries parent
-queue_listed entries path parent name parts h = ap (leads_to_root entries path) (parent_is path parent name parts).above ∙ rw (parts, h) refl
+use Rattle.cap_config.proofs.Above.{IsParent}
 
 pub queue_at_top : (entries : List Entry) (path : List ℕ) → above path ≡ [] → is_queue entries path ≡ bytes_eq path root
 queue_at_top entries path is = ap (leads_to_root entries path) is

@@ -17,7 +17,8 @@ use Rattle.cap_base.specs.declared.properties.fault.ConfigFault.{ConfigFault}
 use Rattle.cap_base.specs.declared.properties.fault.ConfigFaultKind.{ConfigFaultKind}
 use Rattle.cap_base.specs.declared.properties.fault.ConfigFaultKind.TheVariants.{Repeated, BadValue, NoSuchQueue, GuaranteeOverMaximum, OverParent}
 use Rattle.cap_base.specs.properties.Entries.{read_lines}
-use Rattle.cap_base.specs.properties.Keys.{key_of, parts_at_last_dot}
+use Rattle.std.specs.Str.{bytes_eq}
+use Rattle.cap_base.specs.properties.Keys.{key_of, parts_at_last_dot, root}
 use Rattle.cap_config.specs.LineKeys.{line_key, first_with}
 use Rattle.cap_base.specs.properties.Queues.{above, amounts_at, entry_for, guaranteed, is_below, maximum}
 use Rattle.cap_base.specs.properties.Tests.{exceeds, minimum_allocation, maximum_allocation, sum_below}
@@ -34,13 +35,13 @@ over_some limit amounts None = Plain
 unfoldable pub allocation_detail : List Entry → Detail
 allocation_detail entries = over MaximumAllocation (minimum_allocation entries) (maximum_allocation entries)
 
--- the first path, from `root` on, that the queue above it doesn't list: one of these paths above `path`, or else the one before
+-- the first path, from the top on, that is not `root` and not listed by the queue above it: one of these paths above `path`, or else the one before
 abbrev pub missing_or : Bool → List ℕ → Option (List ℕ) → Option (List ℕ)
 missing_or true path missing = missing
 missing_or false path missing = Some path
 
 abbrev pub missing_from : List Entry → List ℕ → Option (List ℕ) → List (List ℕ) → Option (List ℕ)
-missing_from entries path missing [] = missing
+missing_from entries path missing [] = missing_or (bytes_eq path root) path missing
 missing_from entries path missing (parent ∷ more) =
     missing_from entries parent (missing_or (is_below entries (parts_at_last_dot path)) path missing) more
 

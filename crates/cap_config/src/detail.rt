@@ -4,7 +4,7 @@ ghost use Rattle.std.specs.Option.{option_map, option_copied};
 ghost use Rattle.cap_config.specs.Index.{IsIndex};
 ghost use Rattle.cap_base.specs.properties.Keys.{key_of, parts_at_last_dot};
 ghost use Rattle.cap_config.specs.LineKeys.{line_key};
-ghost use Rattle.cap_config.specs.Details.{detail_in, line_detail, key_detail, earlier, form_of, limit_of, whole_detail, entry_on, entry_detail, allocation_detail, unlisted, unlisted_at, missing_path, over_maximum, over_own, over_parent, over_above, over_capacity, over, over_some};
+ghost use Rattle.cap_config.specs.Details.{detail_in, line_detail, key_detail, earlier, form_of, limit_of, whole_detail, entry_on, entry_detail, allocation_detail, unlisted, unlisted_at, over_maximum, over_own, over_parent, over_above, over_capacity, over, over_some};
 
 use crate::allocation::{maximum_allocation, minimum_allocation};
 use crate::first_pass::read_lines;
@@ -12,7 +12,7 @@ use crate::guarantees::{added_below, exceeds};
 use crate::index::{Index, entry_at, index_of};
 use crate::key::{key_of, split_last_dot};
 use crate::line_keys::{first_with, line_key};
-use crate::queues::{amounts_at, guaranteed, lists, maximum};
+use crate::queues::{amounts_at, guaranteed, maximum, missing_path};
 use cap_base::properties::{ConfigFault, ConfigFaultKind, Entry, Setting, Value};
 use cap_base::{PathText, RESOURCES, ShortText};
 use cap_vector::Resource;
@@ -215,23 +215,6 @@ fn unlisted_at(path: Option<&[u8]>) -> Detail
         Some(path) => Detail::Unlisted(path),
         None => Detail::Plain,
     }
-}
-
-/// The first path, from `root` on, that the queue above it does not list.
-fn missing_path<'a>(index: &Index, path: &'a [u8]) -> Option<&'a [u8]>
-    requires { IsIndex index.now }
-    ensures { option_map (λ path. path.now) result ≡
-        missing_path index.now.entries.now path.now }
-{
-    let mut rest = path;
-    let mut missing = None;
-    while let Some((parent, name)) = split_last_dot(rest) {
-        if !lists(index, parent, name) {
-            missing = Some(rest);
-        }
-        rest = parent;
-    }
-    missing
 }
 
 /// A capacity over the maximum capacity of its queue.

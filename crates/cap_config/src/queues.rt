@@ -1,12 +1,13 @@
 //! The queues that lines set up: which there are, and the names below, capacity, maximum, factor and state of each.
 ghost use Rattle.std.specs.Prelude.{◌≡◌, ◌≤◌, None, length, count_by};
-ghost use Rattle.std.specs.Option.{option_copied};
+ghost use Rattle.std.specs.Option.{option_copied, option_map};
 ghost use Rattle.std.specs.Str.{bytes_eq};
 ghost use Rattle.cap_base.specs.properties.Keys.{root, is_dot};
+ghost use Rattle.cap_config.specs.Details.{missing_path};
 ghost use Rattle.cap_config.specs.Index.{IsIndex};
 ghost use Rattle.cap_base.specs.properties.Rows.{factor, is_running, running_or};
 ghost use Rattle.cap_base.specs.properties.Tests.{level, number_or};
-ghost use Rattle.cap_base.specs.properties.Queues.{is_queue, names_below, names_or_none, amounts_at, guaranteed, maximum};
+ghost use Rattle.cap_base.specs.properties.Queues.{names_below, names_or_none, amounts_at, guaranteed, maximum};
 ghost use Rattle.cap_base.specs.properties.Seen.{contains_bytes};
 
 use crate::index::{Index, entry_at};
@@ -18,19 +19,22 @@ use cap_vector::Resource;
 /// How many levels of queues there may be, root's being the first.
 pub const LEVELS_MAX: usize = 16;
 
-/// Whether this path is `root`, or each of its names is listed by the queue above it.
-pub fn is_queue(index: &Index, path: &[u8]) -> bool
+/// The first path, from the top on, that is not `root` and not listed by the queue above it. None where this is the path of
+/// a queue.
+pub fn missing_path<'a>(index: &Index, path: &'a [u8]) -> Option<&'a [u8]>
     requires { IsIndex index.now }
-    ensures { result ≡ is_queue index.now.entries.now path.now }
+    ensures { option_map (λ path. path.now) result ≡
+        missing_path index.now.entries.now path.now }
 {
     let mut rest = path;
+    let mut missing = None;
     while let Some((parent, name)) = split_last_dot(rest) {
         if !lists(index, parent, name) {
-            return false;
+            missing = Some(rest);
         }
         rest = parent;
     }
-    is_root(rest)
+    if is_root(rest) { missing } else { Some(rest) }
 }
 
 /// Whether a queue lists this name.

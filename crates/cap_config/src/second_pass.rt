@@ -9,7 +9,7 @@ use crate::entry::line_of;
 use crate::guarantees::{over_maximum_line, over_parent_line};
 use crate::index::{Index, entry_at};
 use crate::key::ROOT;
-use crate::queues::{LEVELS_MAX, is_queue, level, number_or};
+use crate::queues::{LEVELS_MAX, level, missing_path, number_or};
 use crate::setting::same_setting;
 use cap_base::properties::{ConfigFault, ConfigFaultKind, Entry, Setting, Value};
 use cap_vector::AMOUNT_MAX;
@@ -188,12 +188,13 @@ fn no_such_queue_line(index: &Index) -> Option<usize>
     line_of(index.entries.iter().find(|entry| is_astray(index, entry)))
 }
 
+#[tactic(auto, using(crate::proofs::Missing::none_missing))]
 fn is_astray(index: &Index, entry: &Entry) -> bool
     requires { IsIndex index.now }
     ensures { result ≡ is_astray index.now.entries.now entry.now }
 {
     match &entry.queue {
-        Some(path) => !is_queue(index, path.as_bytes()),
+        Some(path) => missing_path(index, path.as_bytes()).is_some(),
         None => false,
     }
 }

@@ -2,7 +2,7 @@ use Rattle.std.proofs.Common.{◌≡◌, length}
 use Rattle.std.specs.Option.{option_map}
 use Rattle.cap_base.specs.properties.Queues.{above}
 use Rattle.cap_config.specs.Details.{missing_path, missing_from}
-use Rattle.cap_config.proofs.detail.missing_path.Given as goal
+use Rattle.cap_config.proofs.queues.missing_path.Given as goal
 
 -- the last path that was not listed so far
 abbrev pub invariant-loop-parent : goal.invariant-loop-parent
