@@ -5,7 +5,7 @@ use Rattle.std.proofs.lemmas.Option.{same_Some}
 use Rattle.cap_base.specs.declared.properties.entry.Entry.{Entry}
 use Rattle.cap_base.specs.declared.properties.fault.ConfigFault.{ConfigFault}
 use Rattle.cap_base.specs.declared.properties.fault.ConfigFaultKind.{ConfigFaultKind}
-use Rattle.cap_base.specs.declared.properties.fault.ConfigFaultKind.TheVariants.{BadLine, UnknownKey, Repeated, BadValue, NoSuchQueue, OverParent, GuaranteeOverMaximum, TooManyQueues, TooDeep, NoChild, NoMemory}
+use Rattle.cap_base.specs.declared.properties.fault.ConfigFaultKind.TheVariants.{BadValue, NoSuchQueue, OverParent, GuaranteeOverMaximum, TooManyQueues, TooDeep, NoChild, NoMemory}
 use Rattle.cap_base.specs.properties.Fault.{FailsBy, fault_at}
 use Rattle.cap_base.specs.properties.Entries.{read_lines}
 use Rattle.cap_base.specs.properties.Tests.{or_else, shape_fault, allocation_line, no_child_line, no_such_queue_line, too_deep_line, too_many_line, over_maximum_line, over_parent_line, whole_fault}
@@ -57,16 +57,7 @@ shape_of_line entries =
 
 itself : (X : Type 0) (kind : ConfigFaultKind) (fault : ConfigFault) → OfLine kind → FailsBy kind fault {Y = X} (Err fault)
 itself X NoMemory fault h = absurd h
-itself X BadLine fault h = refl
-itself X UnknownKey fault h = refl
-itself X Repeated fault h = refl
-itself X BadValue fault h = refl
-itself X NoSuchQueue fault h = refl
-itself X OverParent fault h = refl
-itself X GuaranteeOverMaximum fault h = refl
-itself X TooManyQueues fault h = refl
-itself X TooDeep fault h = refl
-itself X NoChild fault h = refl
+itself X _ fault h = refl
 
 of_itself : (X : Type 0) (early : Option ConfigFault) (fault : ConfigFault) → IsOfLine early → early ≡ Some fault → FailsBy fault.kind fault {Y = X} (Err fault)
 of_itself X None fault of h = absurd (cc h)

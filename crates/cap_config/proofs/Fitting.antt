@@ -8,7 +8,7 @@ use Rattle.cap_vector.specs.Vector.{zeros}
 use Rattle.cap_vector.specs.AmountLaws.{amount-zeros}
 use Rattle.cap_base.specs.declared.properties.entry.Entry.{Entry}
 use Rattle.cap_base.specs.declared.properties.value.Value.{Value}
-use Rattle.cap_base.specs.declared.properties.value.Value.TheVariants.{Names, Amounts, Number, Running}
+use Rattle.cap_base.specs.declared.properties.value.Value.TheVariants.{Names, Amounts}
 use Rattle.cap_base.specs.declared.properties.setting.Setting.TheVariants.{Queues, Capacity, MaximumCapacity}
 use Rattle.cap_base.specs.properties.Keys.{root, parts_at_last_dot}
 use Rattle.cap_base.specs.properties.Queues.{entry_for, is_entry_for, is_path_at, same_setting, names_below, names_or_none, names_in_value, guaranteed, maximum, amounts_at, amounts_or, or_zero}
@@ -34,9 +34,7 @@ own_fits : (entries : List Entry) (same : Bool) (queue : Option (List ℕ)) (val
 own_fits entries true (Some p) (Amounts amounts) path s q h =
     let here : exceeds_limit amounts (maximum entries p) ≡ false = not-true _ h in
     subst (λ (o : Option (List ℕ)). is_over_limit entries o (Amounts amounts) ≡ false) q here
-own_fits entries true (Some p) (Names names) path s q h = zero_fits (maximum entries path)
-own_fits entries true (Some p) (Number n) path s q h = zero_fits (maximum entries path)
-own_fits entries true (Some p) (Running running) path s q h = zero_fits (maximum entries path)
+own_fits entries true (Some p) _ path s q h = zero_fits (maximum entries path)
 own_fits entries true None value path s q h = absurd (cc q)
 own_fits entries false queue value path s q h = absurd (cc s)
 
@@ -62,9 +60,7 @@ below_fits : (entries : List Entry) (value : Value) (queue : Option (List ℕ)) 
 below_fits entries (Names names) queue path q other of_maximum h =
     let here : is_over_above entries of_maximum (Some path) (Names names) ≡ false = not-true _ (subst (λ (o : Option (List ℕ)). not (is_over_above entries of_maximum o (Names names)) ≡ true) q h) in
     spent (bytes_eq path root) _ other here
-below_fits entries (Amounts amounts) queue path q other of_maximum h = none_below entries path (guaranteed entries path)
-below_fits entries (Number n) queue path q other of_maximum h = none_below entries path (guaranteed entries path)
-below_fits entries (Running running) queue path q other of_maximum h = none_below entries path (guaranteed entries path)
+below_fits entries _ queue path q other of_maximum h = none_below entries path (guaranteed entries path)
 
 sum_at : (entries : List Entry) (path : List ℕ) (o : Option Entry) → entry_for entries Queues path ≡ o → over_parent_line entries ≡ None → bytes_eq path root ≡ false →
     exceeds (guaranteed_below entries path (names_or_none o)) (guaranteed entries path) ≡ false
@@ -90,14 +86,12 @@ itself_fits None = refl
 
 own_maximum : (entries : List Entry) (same : Bool) (queue : Option (List ℕ)) (value : Value) (path parent name amounts : List ℕ) → same ≡ true → queue ≡ Some path → parts_at_last_dot path ≡ Some (parent, name) →
     amounts_or None value ≡ Some amounts → not (is_over_above entries same queue value) ≡ true → exceeds_limit amounts (maximum entries parent) ≡ false
-own_maximum entries same queue (Names names) path parent name amounts s q parts is h = absurd (cc is)
-own_maximum entries same queue (Number n) path parent name amounts s q parts is h = absurd (cc is)
-own_maximum entries same queue (Running running) path parent name amounts s q parts is h = absurd (cc is)
 own_maximum entries same queue (Amounts a) path parent name amounts s q parts is h =
     let at : not (is_over_above entries true (Some path) (Amounts a)) ≡ true = subst (λ (o : Option (List ℕ)). not (is_over_above entries true o (Amounts a)) ≡ true) q (subst (λ b. not (is_over_above entries b queue (Amounts a)) ≡ true) s h) in
     let over : is_over_parts entries a (parts_at_last_dot path) ≡ false = not-true _ at in
     let here : is_over_parts entries a (Some (parent, name)) ≡ false = ap (is_over_parts entries a) (sym parts) ∙ over in
     subst (λ (x : List ℕ). exceeds_limit x (maximum entries parent) ≡ false) (let e : a ≡ amounts = cc is in e) here
+own_maximum entries same queue _ path parent name amounts s q parts is h = absurd (cc is)
 
 maximum_by : (entries : List Entry) (path parent name : List ℕ) (o : Option Entry) (r : Option (List ℕ)) → entry_for entries MaximumCapacity path ≡ o → amounts_at None o ≡ r → over_parent_line entries ≡ None →
     parts_at_last_dot path ≡ Some (parent, name) → is_over (maximum entries path) (maximum entries parent) ≡ false

@@ -15,7 +15,7 @@ use Rattle.cap_base.specs.Limits.{applications_max, factor_max}
 use Rattle.cap_base.specs.Texts.{is_text, is_graphic}
 use Rattle.cap_base.specs.declared.properties.entry.Entry.{Entry}
 use Rattle.cap_base.specs.declared.properties.value.Value.{Value}
-use Rattle.cap_base.specs.declared.properties.value.Value.TheVariants.{Names, Amounts, Number, Running}
+use Rattle.cap_base.specs.declared.properties.value.Value.TheVariants.{Names, Number}
 use Rattle.cap_base.specs.declared.properties.setting.Setting.TheVariants.{Queues, MaximumApplications, UserLimitFactor}
 use Rattle.cap_base.specs.declared.properties.setting.Setting.{Setting}
 use Rattle.cap_base.specs.properties.Values.{is_name_under, are_new}
@@ -49,15 +49,12 @@ found_has test p (e ∷ entries) entry h all =
 -- a list that is found for a path is in an entry for it
 pub names_at : (same : Bool) (queue : Option (List ℕ)) (path : List ℕ) → is_path_at (cond same queue None) path ≡ true → queue ≡ Some path
 names_at true (Some p) path h = ap Some (same_bytes p path h)
-names_at true None path h = absurd (cc h)
-names_at false queue path h = absurd (cc h)
+names_at _ _ path h = absurd (cc h)
 
 under_in : (most : ℕ) (value : Value) (queue : Option (List ℕ)) (path : List ℕ) → queue ≡ Some path → is_kept most value queue ≡ true →
     (list_all (is_name_under path) (names_in_value value) && are_new [] (names_in_value value)) ≡ true
 under_in most (Names names) queue path e h = subst (λ (q : Option (List ℕ)). are_under q names ≡ true) e h
-under_in most (Amounts amounts) queue path e h = refl
-under_in most (Number n) queue path e h = refl
-under_in most (Running running) queue path e h = refl
+under_in most _ queue path e h = refl
 
 under_at : (entries : List Entry) (path : List ℕ) (o : Option Entry) → entry_for entries Queues path ≡ o → are_bounded entries ≡ true →
     (list_all (is_name_under path) (names_or_none o) && are_new [] (names_or_none o)) ≡ true
@@ -103,9 +100,7 @@ deep_in : (value : Value) (queue : Option (List ℕ)) (path name : List ℕ) →
 deep_in (Names names) queue path name e h in_list =
     let no : not (is_deep (Some path) (Names names)) ≡ true = subst (λ (q : Option (List ℕ)). not (is_deep q (Names names)) ≡ true) e h in
     not-true (eqb (level path) 16) no
-deep_in (Amounts amounts) queue path name e h in_list = absurd (cc in_list)
-deep_in (Number n) queue path name e h in_list = absurd (cc in_list)
-deep_in (Running running) queue path name e h in_list = absurd (cc in_list)
+deep_in _ queue path name e h in_list = absurd (cc in_list)
 
 deep_at : (entries : List Entry) (path name : List ℕ) (o : Option Entry) → entry_for entries Queues path ≡ o → too_deep_line entries ≡ None → contains_bytes (names_or_none o) name ≡ true → eqb (level path) 16 ≡ false
 unfolding entry_for
@@ -119,10 +114,8 @@ pub not_deepest : (entries : List Entry) (path name : List ℕ) → too_deep_lin
 not_deepest entries path name none in_list = deep_at entries path name (entry_for entries Queues path) refl none in_list
 
 number_in_kept : (most : ℕ) (value : Value) (queue : Option (List ℕ)) (default : ℕ) → is_kept most value queue ≡ true → default ≤ most → number_in default value ≤ most
-number_in_kept most (Names names) queue default kept small = small
-number_in_kept most (Amounts amounts) queue default kept small = small
 number_in_kept most (Number n) queue default kept small = grind (arith, nat_tests)
-number_in_kept most (Running running) queue default kept small = small
+number_in_kept most _ queue default kept small = small
 
 most_is : (a b : Setting) → same_setting a b ≡ true → most_of a ≡ most_of b
 most_is a b h =

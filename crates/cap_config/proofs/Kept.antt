@@ -36,9 +36,7 @@ as_resource false m v g amounts h = absurd (cc h)
 resource_has_each : (memory vcores gpus : Option ℕ) (amounts : List ℕ) → resource memory vcores gpus ≡ Some amounts → has_each amounts ≡ true
 unfolding resource
 resource_has_each (Some m) (Some v) (Some g) amounts h = as_resource (is_within amount_max (m ∷ v ∷ g ∷ [])) m v g amounts h
-resource_has_each (Some m) (Some v) None amounts h = absurd (cc h)
-resource_has_each (Some m) None gpus amounts h = absurd (cc h)
-resource_has_each None vcores gpus amounts h = absurd (cc h)
+resource_has_each _ _ _ amounts h = absurd (cc h)
 
 amounts_have_each : (inner : Option (List ℕ)) (amounts : List ℕ) → option_and_then (λ bytes. amounts_in (pieces_of bytes)) inner ≡ Some amounts → has_each amounts ≡ true
 unfolding amounts_in

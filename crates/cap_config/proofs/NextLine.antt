@@ -6,7 +6,7 @@ use Rattle.cap_base.specs.declared.properties.key.Key.{Key}
 use Rattle.cap_base.specs.declared.properties.value.Value.{Value}
 use Rattle.cap_base.specs.declared.properties.fault.ConfigFault.{ConfigFault}
 use Rattle.cap_base.specs.declared.properties.fault.ConfigFaultKind.{ConfigFaultKind}
-use Rattle.cap_base.specs.declared.properties.fault.ConfigFaultKind.TheVariants.{BadLine, UnknownKey, Repeated, BadValue, NoSuchQueue, OverParent, GuaranteeOverMaximum, TooManyQueues, TooDeep, NoChild, NoMemory}
+use Rattle.cap_base.specs.declared.properties.fault.ConfigFaultKind.TheVariants.{BadLine, UnknownKey, Repeated, BadValue, NoMemory}
 use Rattle.cap_base.specs.properties.Fault.{fault_at, FailsBy}
 use Rattle.cap_base.specs.properties.Keys.{key_of}
 use Rattle.cap_base.specs.properties.Seen.{contains_bytes}
@@ -63,13 +63,4 @@ lines_none (b ∷ text) h = absurd (omega arith)
 pub fails_after : {X Y : Type 0} (kind : ConfigFaultKind) (fault : ConfigFault) (r : Result X ConfigFault) (s : Result Y ConfigFault) → (r ≡ Err fault → s ≡ Err fault) →
     FailsBy kind fault r → FailsBy kind fault s
 fails_after NoMemory fault r s f h = h
-fails_after BadLine fault r s f h = f h
-fails_after UnknownKey fault r s f h = f h
-fails_after Repeated fault r s f h = f h
-fails_after BadValue fault r s f h = f h
-fails_after NoSuchQueue fault r s f h = f h
-fails_after OverParent fault r s f h = f h
-fails_after GuaranteeOverMaximum fault r s f h = f h
-fails_after TooManyQueues fault r s f h = f h
-fails_after TooDeep fault r s f h = f h
-fails_after NoChild fault r s f h = f h
+fails_after _ fault r s f h = f h

@@ -9,7 +9,7 @@ use Rattle.cap_vector.specs.Vector.{IsResource}
 use Rattle.cap_base.specs.Limits.{resources}
 use Rattle.cap_base.specs.declared.properties.entry.Entry.{Entry}
 use Rattle.cap_base.specs.declared.properties.value.Value.{Value}
-use Rattle.cap_base.specs.declared.properties.value.Value.TheVariants.{Names, Amounts, Number, Running}
+use Rattle.cap_base.specs.declared.properties.value.Value.TheVariants.{Amounts}
 use Rattle.cap_base.specs.declared.properties.setting.Setting.{Setting}
 use Rattle.cap_base.specs.declared.properties.setting.Setting.TheVariants.{Capacity, MaximumCapacity, MinimumMemory, MinimumVcores, MinimumGpu, MaximumMemory, MaximumVcores, MaximumGpu}
 use Rattle.cap_base.specs.properties.Keys.{root}
@@ -29,9 +29,7 @@ HasEach amounts = IfSome amounts (λ a. length a ≡ resources)
 
 value_has : (most : ℕ) (queue other : Option (List ℕ)) (value : Value) → is_kept most value queue ≡ true → HasEach other → HasEach (amounts_or other value)
 value_has most queue other (Amounts amounts) kept h = eqb-true (length amounts) resources kept
-value_has most queue other (Names names) kept h = h
-value_has most queue other (Number n) kept h = h
-value_has most queue other (Running running) kept h = h
+value_has most queue other _ kept h = h
 
 entry_has : (entries : List Entry) (setting : Setting) (path : List ℕ) (other : Option (List ℕ)) (o : Option Entry) → entry_for entries setting path ≡ o → are_bounded entries ≡ true → HasEach other →
     HasEach (amounts_at other o)

@@ -5,7 +5,7 @@ use Rattle.std.specs.BTreeMap.{BTreeMap}
 use denote.Ref.{Bor}
 use Rattle.cap_base.specs.declared.properties.entry.Entry.{Entry}
 use Rattle.cap_base.specs.declared.properties.value.Value.{Value}
-use Rattle.cap_base.specs.declared.properties.value.Value.TheVariants.{Names, Amounts, Number, Running}
+use Rattle.cap_base.specs.declared.properties.value.Value.TheVariants.{Amounts}
 use Rattle.cap_base.specs.declared.properties.setting.Setting.{Setting}
 use Rattle.cap_base.specs.declared.properties.setting.Setting.TheVariants.{MaximumCapacity}
 use Rattle.cap_base.specs.properties.Keys.{root}
@@ -22,15 +22,11 @@ entry_found entries setting places q h = h q
 
 own_value : (other : Option (List ℕ)) (value : Value) (amounts : List ℕ) → amounts_or None value ≡ Some amounts → amounts_or other value ≡ Some amounts
 own_value other (Amounts a) amounts h = h
-own_value other (Names names) amounts h = absurd (cc h)
-own_value other (Number n) amounts h = absurd (cc h)
-own_value other (Running running) amounts h = absurd (cc h)
+own_value other _ amounts h = absurd (cc h)
 
 other_value : (other : Option (List ℕ)) (value : Value) → amounts_or None value ≡ None → amounts_or other value ≡ other
 other_value other (Amounts a) h = absurd (cc h)
-other_value other (Names names) h = refl
-other_value other (Number n) h = refl
-other_value other (Running running) h = refl
+other_value other _ h = refl
 
 amounts_own : (other : Option (List ℕ)) (entry : Option Entry) (amounts : List ℕ) → amounts_at None entry ≡ Some amounts → amounts_at other entry ≡ Some amounts
 amounts_own other None amounts h = absurd (cc h)

@@ -11,7 +11,7 @@ use Rattle.cap_config.specs.declared.detail.Limit.TheVariants.{MaximumAllocation
 use Rattle.cap_base.specs.declared.properties.entry.Entry.{Entry}
 use Rattle.cap_base.specs.declared.properties.key.Key.{Key}
 use Rattle.cap_base.specs.declared.properties.value.Value.{Value}
-use Rattle.cap_base.specs.declared.properties.value.Value.TheVariants.{Names, Amounts, Number, Running}
+use Rattle.cap_base.specs.declared.properties.value.Value.TheVariants.{Names, Amounts}
 use Rattle.cap_base.specs.declared.properties.setting.Setting.TheVariants.{MaximumCapacity}
 use Rattle.cap_base.specs.declared.properties.fault.ConfigFault.{ConfigFault}
 use Rattle.cap_base.specs.declared.properties.fault.ConfigFaultKind.{ConfigFaultKind}
@@ -67,10 +67,7 @@ over_own entries path amounts =
 
 abbrev pub over_maximum : List Entry → Option (List ℕ) → Value → Detail
 over_maximum entries (Some path) (Amounts amounts) = over_own entries path amounts
-over_maximum entries (Some path) (Names names) = Plain
-over_maximum entries (Some path) (Number n) = Plain
-over_maximum entries (Some path) (Running running) = Plain
-over_maximum entries None value = Plain
+over_maximum entries queue value = Plain
 
 -- a maximum capacity over that of the queue above
 abbrev pub over_above : List Entry → List ℕ → Option (List ℕ × List ℕ) → Detail
@@ -90,9 +87,7 @@ over_capacity entries path names = over OwnCapacity (added_below entries path na
 abbrev pub over_parent : List Entry → Option (List ℕ) → Value → Detail
 over_parent entries (Some path) (Amounts amounts) = over_above entries amounts (parts_at_last_dot path)
 over_parent entries (Some path) (Names names) = over_capacity entries path names
-over_parent entries (Some path) (Number n) = Plain
-over_parent entries (Some path) (Running running) = Plain
-over_parent entries None value = Plain
+over_parent entries queue value = Plain
 
 -- what a fault is about at an entry of a text whose lines have no fault of their own
 abbrev pub entry_detail : List Entry → Entry → ConfigFaultKind → Detail
