@@ -1,44 +1,32 @@
--- The part of a name among pieces between commas, one piece after another.
-use Rattle.std.proofs.Common.{◌≡◌, ℕ, ◌+◌, List, [], ◌∷◌, length, eqb, true, false, refl, sym, ap, ◌∙◌}
-use Rattle.std.specs.Prelude.{map, nat_eq, count_by}
-use Rattle.std.specs.List.{slice_split, starts_with}
+-- Pieces between commas.
+use Rattle.std.proofs.Common.{◌≡◌, ℕ, ◌+◌, List, [], ◌∷◌, length, eqb, Bool, true, false, cond, Option, Some, None, refl, sym, ap, ◌∙◌}
+use Rattle.std.specs.Prelude.{map, find, count_by}
+use Rattle.std.specs.List.{slice_split}
+use Rattle.std.specs.Option.{option_map}
 use Rattle.std.proofs.lemmas.List.{length-map}
 use Rattle.std.proofs.lemmas.List.Splits.{length-slice_split}
-use Rattle.cap_text.specs.Pieces.{trimmed_bytes, lacks, IsCut}
-use Rattle.cap_text.proofs.Cuts.{split_cut, split_uncut}
-use Rattle.cap_base.specs.properties.Values.{part, pieces_of}
+use denote.Ref.{Bor}
+use Rattle.cap_text.specs.Pieces.{trimmed_bytes}
+use Rattle.cap_base.specs.properties.Values.{pieces_of}
 
--- the pieces of bytes that are cut at a comma, and of those that have none
-pieces_cut : (bytes front rest : List ℕ) → IsCut 44 bytes front rest → pieces_of bytes ≡ trimmed_bytes front ∷ pieces_of rest
-pieces_cut bytes front rest cut = ap (map trimmed_bytes) (split_cut 44 bytes front rest cut)
+here : (passes : Bool) (piece : List ℕ) (later : Option (List ℕ)) → cond passes (Some (trimmed_bytes piece)) (option_map trimmed_bytes later) ≡ option_map trimmed_bytes (cond passes (Some piece) later)
+here true piece later = refl
+here false piece later = refl
 
-pieces_uncut : (bytes : List ℕ) → lacks 44 bytes ≡ true → pieces_of bytes ≡ trimmed_bytes bytes ∷ []
-pieces_uncut bytes none = ap (map trimmed_bytes) (split_uncut 44 bytes none)
+-- what is found among trimmed pieces is what is found by what they become
+find_trimmed : (test : List ℕ → Bool) (pieces : List (List ℕ)) → find test (map trimmed_bytes pieces) ≡ option_map trimmed_bytes (find (λ piece. test (trimmed_bytes piece)) pieces)
+find_trimmed test [] = refl
+find_trimmed test (piece ∷ pieces) =
+    ap (cond (test (trimmed_bytes piece)) (Some (trimmed_bytes piece))) (find_trimmed test pieces) ∙ here (test (trimmed_bytes piece)) piece (find (λ p. test (trimmed_bytes p)) pieces)
 
-first_piece : (name piece : List ℕ) (pieces : List (List ℕ)) → starts_with nat_eq piece name ≡ true → part name (piece ∷ pieces) ≡ part name (piece ∷ [])
-unfolding part
-first_piece name piece pieces h = rw h refl
+trimmed_now : (found : Option (Bor (List ℕ))) → option_map (λ piece. trimmed_bytes piece.now) found ≡ option_map trimmed_bytes (option_map (λ piece. piece.now) found)
+trimmed_now (Some piece) = refl
+trimmed_now None = refl
 
-later_piece : (name piece : List ℕ) (pieces : List (List ℕ)) → starts_with nat_eq piece name ≡ false → part name (piece ∷ pieces) ≡ part name pieces
-unfolding part
-later_piece name piece pieces h = rw h refl
-
-pub part_here : (name bytes front rest piece : List ℕ) → IsCut 44 bytes front rest → piece ≡ trimmed_bytes front → starts_with nat_eq piece name ≡ true →
-    part name (pieces_of bytes) ≡ part name (piece ∷ [])
-part_here name bytes front rest piece cut is h =
-    ap (part name) (pieces_cut bytes front rest cut)
-    ∙ ap (λ (p : List ℕ). part name (p ∷ pieces_of rest)) (sym is)
-    ∙ first_piece name piece (pieces_of rest) h
-
-pub part_later : (name bytes front rest piece : List ℕ) → IsCut 44 bytes front rest → piece ≡ trimmed_bytes front → starts_with nat_eq piece name ≡ false →
-    part name (pieces_of bytes) ≡ part name (pieces_of rest)
-part_later name bytes front rest piece cut is h =
-    ap (part name) (pieces_cut bytes front rest cut)
-    ∙ ap (λ (p : List ℕ). part name (p ∷ pieces_of rest)) (sym is)
-    ∙ later_piece name piece (pieces_of rest) h
-
-pub part_last : (name bytes piece : List ℕ) → lacks 44 bytes ≡ true → piece ≡ trimmed_bytes bytes → part name (pieces_of bytes) ≡ part name (piece ∷ [])
-part_last name bytes piece none is = ap (part name) (pieces_uncut bytes none) ∙ ap (λ (p : List ℕ). part name (p ∷ [])) (sym is)
+pub found_piece : (test : List ℕ → Bool) (bytes : List ℕ) (found : Option (Bor (List ℕ))) →
+    option_map (λ piece. piece.now) found ≡ find (λ piece. test (trimmed_bytes piece)) (slice_split (λ b. eqb b 44) bytes) →
+    option_map (λ piece. trimmed_bytes piece.now) found ≡ find test (pieces_of bytes)
+found_piece test bytes found is = trimmed_now found ∙ ap (option_map trimmed_bytes) is ∙ sym (find_trimmed test (slice_split (λ b. eqb b 44) bytes))
 
 pub count_pieces : (bytes : List ℕ) → length (pieces_of bytes) ≡ count_by (λ b. eqb b 44) bytes + 1
 count_pieces bytes = length-map (slice_split (λ b. eqb b 44) bytes) trimmed_bytes ∙ length-slice_split (λ b. eqb b 44) bytes

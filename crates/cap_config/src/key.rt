@@ -8,7 +8,6 @@ ghost use Rattle.cap_base.specs.properties.Keys.{key_of, queue_key, key_at, sett
 use crate::setting::{is_of_root, spelling};
 use cap_base::PathText;
 use cap_base::properties::{Key, Setting};
-use cap_text::split_once;
 
 /// The properties of the whole cluster.
 const CLUSTER_SETTINGS: [Setting; 7] = [
@@ -138,14 +137,7 @@ fn begins_with_root(bytes: &[u8]) -> bool
 fn all_names(bytes: &[u8]) -> bool
     ensures { result ≡ list_all is_name (names_in bytes.now) }
 {
-    let mut rest = bytes;
-    while let Some((name, after)) = split_once(rest, b'.') {
-        if !is_name(name) {
-            return false;
-        }
-        rest = after;
-    }
-    is_name(rest)
+    bytes.split(|byte| *byte == b'.').all(|name| is_name(name))
 }
 
 /// Whether this is the name of a queue: 1 to 64 letters, digits, `_` or `-` of ASCII.

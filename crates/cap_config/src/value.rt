@@ -1,12 +1,14 @@
 //! The value that the bytes of a property line give its key: amounts, a number, a state or a list of names (`value_of`).
-ghost use Rattle.std.specs.Prelude.{◌≡◌, ◌∷◌, [], length, IfOk};
+ghost use Rattle.std.specs.Prelude.{◌≡◌, find, length, nat_eq, true, IfOk, IfSome};
+ghost use Rattle.std.specs.List.{starts_with};
 ghost use Rattle.std.specs.Option.{option_map};
+ghost use Rattle.cap_text.specs.Pieces.{trimmed_bytes};
 ghost use Rattle.cap_base.specs.properties.Values.{value_of, listed_names, as_amounts, number_within, state_of, amounts_of, amounts_in, pieces_of, part, gpus_in, in_brackets, resource};
 
 use crate::names::{commas, names_for};
 use cap_base::properties::{Key, Setting, Value};
 use cap_base::{PathText, RESOURCES};
-use cap_text::{number_of, split_once, trimmed};
+use cap_text::{number_of, trimmed};
 use cap_vector::{AMOUNT_MAX, Resource};
 use std::alloc::{AllocError, Global};
 
@@ -126,29 +128,25 @@ fn amounts_in(bytes: &[u8]) -> Option<Resource<RESOURCES>>
 }
 
 /// The number after a name, in the first piece between commas that begins with it.
+#[tactic(auto, unfolding(cap_base::specs::properties::Values::part))]
 fn part(name: &[u8], bytes: &[u8]) -> Option<u64>
     ensures { result ≡ part name.now (pieces_of bytes.now) }
 {
-    let mut rest = bytes;
-    while let Some((front, after)) = split_once(rest, b',') {
-        let piece = trimmed(front);
-        if piece.starts_with(name) {
-            return number_after(name, piece);
-        }
-        rest = after;
+    match piece_with(name, bytes) {
+        Some(piece) => number_of(&trimmed(piece)[name.len()..], DIGITS_MAX),
+        None => None,
     }
-    number_after(name, trimmed(rest))
 }
 
-/// The number after a name. None where the piece begins otherwise.
-#[tactic(auto, unfolding(cap_base::specs::properties::Values::part))]
-fn number_after(name: &[u8], piece: &[u8]) -> Option<u64>
-    ensures { result ≡ part name.now (piece.now ∷ []) }
+/// The first piece between commas that begins with a name, spaces before it aside.
+fn piece_with<'a>(name: &[u8], bytes: &'a [u8]) -> Option<&'a [u8]>
+    ensures first { option_map (λ piece. trimmed_bytes piece.now) result ≡
+        find (λ piece. starts_with nat_eq piece name.now) (pieces_of bytes.now) }
+    ensures begins { IfSome result
+        (λ piece. starts_with nat_eq (trimmed_bytes piece.now) name.now ≡ true) }
 {
-    if !piece.starts_with(name) {
-        return None;
-    }
-    number_of(&piece[name.len()..], DIGITS_MAX)
+    let mut pieces = bytes.split(|byte| *byte == b',');
+    pieces.find(|piece| trimmed(piece).starts_with(name))
 }
 
 /// How many pieces there are between commas.
