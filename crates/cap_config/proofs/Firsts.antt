@@ -6,9 +6,9 @@ use Rattle.cap_base.specs.declared.properties.entry.Entry.{Entry}
 use Rattle.cap_base.specs.declared.properties.fault.ConfigFault.{ConfigFault}
 use Rattle.cap_base.specs.declared.properties.fault.ConfigFaultKind.{ConfigFaultKind}
 use Rattle.cap_base.specs.declared.properties.fault.ConfigFaultKind.TheVariants.{BadValue, NoSuchQueue, OverParent, GuaranteeOverMaximum, TooManyQueues, TooDeep, NoChild, NoMemory}
-use Rattle.cap_base.specs.properties.Fault.{FailsBy, fault_at}
+use Rattle.cap_base.specs.properties.Fault.{FailsBy}
 use Rattle.cap_base.specs.properties.Entries.{read_lines}
-use Rattle.cap_base.specs.properties.Tests.{or_else, shape_fault, allocation_line, no_child_line, no_such_queue_line, too_deep_line, too_many_line, over_maximum_line, over_parent_line, whole_fault}
+use Rattle.cap_base.specs.properties.Tests.{or_else, or_fault, shape_fault, allocation_line, no_child_line, no_such_queue_line, too_deep_line, too_many_line, over_maximum_line, over_parent_line, whole_fault}
 use Rattle.cap_base.specs.properties.Rows.{settings_of}
 use Rattle.cap_base.specs.properties.First.{fault_after, first_fault, AnswersFault, settings_in, settings_after, unless_fault}
 use Rattle.cap_config.proofs.NextLine.{fails_after}
@@ -55,6 +55,10 @@ shape_of_line entries =
     (or_of_line (no_child_line entries) NoChild astray tt
     (or_of_line (no_such_queue_line entries) NoSuchQueue deep tt (or_of_line (too_deep_line entries) TooDeep many tt (or_of_line (too_many_line entries) TooManyQueues over tt (or_of_line (over_maximum_line entries) GuaranteeOverMaximum None tt tt)))))
 
+shape_or : (a b : Option ConfigFault) → IsOfLine a → IsOfLine b → IsOfLine (or_fault a b)
+shape_or (Some fault) b ha hb = ha
+shape_or None b ha hb = hb
+
 itself : (X : Type 0) (kind : ConfigFaultKind) (fault : ConfigFault) → OfLine kind → FailsBy kind fault {Y = X} (Err fault)
 itself X NoMemory fault h = absurd h
 itself X _ fault h = refl
@@ -63,29 +67,9 @@ of_itself : (X : Type 0) (early : Option ConfigFault) (fault : ConfigFault) → 
 of_itself X None fault of h = absurd (cc h)
 of_itself X (Some f) fault of h = let e = same_Some f fault h in itself X fault.kind fault (subst (λ (g : ConfigFault). OfLine g.kind) e of)
 
--- the fault of the shape is the first of the whole text
-pub shape_first : (X : Type 0) (entries : List Entry) (fault : ConfigFault) → shape_fault entries ≡ Some fault → AnswersFault {X = X} (whole_fault entries) (Err fault)
+whole_of_line : (entries : List Entry) → IsOfLine (whole_fault entries)
 unfolding whole_fault
-shape_first X entries fault h = rw h (of_itself X (shape_fault entries) fault (shape_of_line entries) h)
+whole_of_line entries = shape_or (shape_fault entries) _ (shape_of_line entries) (or_of_line (over_parent_line entries) OverParent None tt tt)
 
-pub parent_answers : (X : Type 0) (entries : List Entry) (line : ℕ) → shape_fault entries ≡ None → over_parent_line entries ≡ Some line →
-    AnswersFault {X = X} (whole_fault entries) (Err (fault_at line OverParent))
-unfolding whole_fault
-parent_answers X entries line h e = rw (h, e) refl
-
-pub parent_passes : (X : Type 0) (entries : List Entry) (y : X) → shape_fault entries ≡ None → over_parent_line entries ≡ None → AnswersFault {X = X} (whole_fault entries) (Ok y)
-unfolding whole_fault
-parent_passes X entries y h e = rw (h, e) tt
-
-pub to_other : (X Y : Type 0) (early : Option ConfigFault) (given : ConfigFault) → AnswersFault {X = Y} early (Err given) → AnswersFault {X = X} early (Err given)
-to_other X Y None given h = h
-to_other X Y (Some fault) given h =
-    fails_after given.kind given (let r : Result Y ConfigFault = Err fault in r) (let r : Result X ConfigFault = Err fault in r) (λ e. cc e) h
-
-pub no_fault : (Y : Type 0) (early : Option ConfigFault) (y : Y) → AnswersFault {X = Y} early (Ok y) → early ≡ None
-no_fault Y None y h = refl
-no_fault Y (Some fault) y h = absurd h
-
-pub passes : (X Y : Type 0) (early : Option ConfigFault) (y : Y) (x : X) → AnswersFault {X = Y} early (Ok y) → AnswersFault {X = X} early (Ok x)
-passes X Y None y x h = tt
-passes X Y (Some fault) y x h = absurd h
+pub whole_first : (X : Type 0) (entries : List Entry) (fault : ConfigFault) → whole_fault entries ≡ Some fault → AnswersFault {X = X} (whole_fault entries) (Err fault)
+whole_first X entries fault h = rw h (of_itself X (whole_fault entries) fault (whole_of_line entries) h)

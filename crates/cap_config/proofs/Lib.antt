@@ -1,3 +1,4 @@
+pub mod ChildPaths
 pub mod Dots
 pub mod QueueKeys
 pub mod Resources

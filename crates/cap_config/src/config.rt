@@ -80,22 +80,22 @@ fn add_queues(
     }
     queues.push(row_of(index, path))?;
     for name in names_below(index, path.as_bytes()) {
-        let child = child_path(alloc, &path, name)?;
+        let child = child_path(&path, name);
         add_queues(alloc, index, child, levels - 1, queues)?;
     }
     Ok(())
 }
 
 /// The path of the queue of this name under a queue.
-fn child_path(alloc: Global, path: &PathText, name: &ShortText) -> Result<PathText, AllocError>
+fn child_path(path: &PathText, name: &ShortText) -> PathText
     requires { is_text 255 (child path.now name.now) ≡ true }
-    ensures { IfOk result (λ below. below ≡ child path.now name.now) }
+    ensures { result ≡ child path.now name.now }
 {
-    let child = child_bytes(alloc, path.as_bytes(), name.as_bytes())?;
-    let Some(child) = PathText::new(&child) else {
+    let (child, len) = child_bytes(path, name);
+    let Some(child) = PathText::new(&child[..len]) else {
         unreachable!()
     };
-    Ok(child)
+    child
 }
 
 #[tactic(auto, unfolding(cap_base::specs::properties::Rows::row_of))]

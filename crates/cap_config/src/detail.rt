@@ -61,7 +61,7 @@ pub fn detail_of(alloc: Global, text: &[u8], fault: &ConfigFault) -> Result<Deta
     match read_lines(alloc, text) {
         Ok(entries) => {
             let index = index_of(alloc, &entries)?;
-            whole_detail(alloc, &index, fault.line, fault.kind)
+            Ok(whole_detail(&index, fault.line, fault.kind))
         }
         Err(other) => match other.kind {
             ConfigFaultKind::NoMemory => Err(AllocError),
@@ -109,21 +109,16 @@ fn form_of(key: &[u8]) -> Detail
 }
 
 /// What a fault of the whole text is about.
-fn whole_detail(
-    alloc: Global,
-    index: &Index,
-    line: usize,
-    kind: ConfigFaultKind,
-) -> Result<Detail, AllocError>
+fn whole_detail(index: &Index, line: usize, kind: ConfigFaultKind) -> Detail
     requires { IsIndex index.now }
-    ensures { IfOk result (λ detail. detail ≡ whole_detail index.now.entries.now line kind) }
+    ensures { result ≡ whole_detail index.now.entries.now line kind }
 {
     if let ConfigFaultKind::BadValue = kind {
-        return Ok(allocation_detail(index.entries));
+        return allocation_detail(index.entries);
     }
     match entry_on(index.entries, line) {
-        Some(entry) => entry_detail(alloc, index, entry, kind),
-        None => Ok(Detail::Plain),
+        Some(entry) => entry_detail(index, entry, kind),
+        None => Detail::Plain,
     }
 }
 
@@ -134,21 +129,15 @@ fn entry_on<'e, 't>(entries: &'e [Entry<'t>], line: usize) -> Option<&'e Entry<'
     entries.iter().find(|entry| entry.line == line)
 }
 
-fn entry_detail(
-    alloc: Global,
-    index: &Index,
-    entry: &Entry,
-    kind: ConfigFaultKind,
-) -> Result<Detail, AllocError>
+fn entry_detail(index: &Index, entry: &Entry, kind: ConfigFaultKind) -> Detail
     requires { IsIndex index.now }
-    ensures { IfOk result (λ detail. detail ≡
-        entry_detail index.now.entries.now entry.now kind) }
+    ensures { result ≡ entry_detail index.now.entries.now entry.now kind }
 {
     match kind {
-        ConfigFaultKind::NoSuchQueue => Ok(unlisted(index, &entry.queue)),
-        ConfigFaultKind::GuaranteeOverMaximum => Ok(over_maximum(index, entry)),
-        ConfigFaultKind::OverParent => over_parent(alloc, index, entry),
-        _ => Ok(Detail::Plain),
+        ConfigFaultKind::NoSuchQueue => unlisted(index, &entry.queue),
+        ConfigFaultKind::GuaranteeOverMaximum => over_maximum(index, entry),
+        ConfigFaultKind::OverParent => over_parent(index, entry),
+        _ => Detail::Plain,
     }
 }
 
@@ -248,17 +237,14 @@ fn limit_of(own: Option<Resource<RESOURCES>>) -> Limit
 }
 
 /// A maximum capacity over that of the queue above, or capacities that add up to more than that of the queue above.
-fn over_parent(alloc: Global, index: &Index, entry: &Entry) -> Result<Detail, AllocError>
+fn over_parent(index: &Index, entry: &Entry) -> Detail
     requires { IsIndex index.now }
-    ensures { IfOk result (λ detail. detail ≡
-        over_parent index.now.entries.now entry.now.queue entry.now.value) }
+    ensures { result ≡ over_parent index.now.entries.now entry.now.queue entry.now.value }
 {
     match (&entry.value, &entry.queue) {
-        (Value::Amounts(amounts), Some(path)) => Ok(over_above(index, amounts, path.as_bytes())),
-        (Value::Names(names), Some(path)) => {
-            over_capacity(alloc, index, path.as_bytes(), names.names())
-        }
-        _ => Ok(Detail::Plain),
+        (Value::Amounts(amounts), Some(path)) => over_above(index, amounts, path.as_bytes()),
+        (Value::Names(names), Some(path)) => over_capacity(index, path, names.names()),
+        _ => Detail::Plain,
     }
 }
 
@@ -272,16 +258,13 @@ fn over_above(index: &Index, amounts: &Resource<RESOURCES>, path: &[u8]) -> Deta
     }
 }
 
-fn over_capacity(
-    alloc: Global,
-    index: &Index,
-    path: &[u8],
-    names: &[ShortText],
-) -> Result<Detail, AllocError>
+fn over_capacity(index: &Index, path: &PathText, names: &[ShortText]) -> Detail
     requires { IsIndex index.now }
-    ensures { IfOk result (λ detail. detail ≡
-        over_capacity index.now.entries.now path.now names.now) }
+    ensures { result ≡ over_capacity index.now.entries.now path.now names.now }
 {
-    let sums = added_below(alloc, index, path, names)?;
-    Ok(over(Limit::OwnCapacity, sums, guaranteed(index, path).amounts()))
+    over(
+        Limit::OwnCapacity,
+        added_below(index, path, names),
+        guaranteed(index, path.as_bytes()).amounts(),
+    )
 }

@@ -1,5 +1,5 @@
 //! The tests of capacities and maximum capacities, each of a queue's own and of those of the queue above.
-ghost use Rattle.std.specs.Prelude.{◌≡◌, ◌+◌, IfOk};
+ghost use Rattle.std.specs.Prelude.{◌≡◌, ◌+◌};
 ghost use Rattle.cap_vector.specs.Vector.{amount, by_amount};
 ghost use Rattle.cap_base.specs.Limits.{resources};
 ghost use Rattle.cap_config.specs.Details.{added_below, capped};
@@ -13,9 +13,8 @@ use crate::key::split_last_dot;
 use crate::queues::{guaranteed, is_root, maximum};
 use crate::setting::same_setting;
 use cap_base::properties::{Entry, Setting, Value};
-use cap_base::{RESOURCES, ShortText};
+use cap_base::{PathText, RESOURCES, ShortText};
 use cap_vector::Resource;
-use std::alloc::{AllocError, Global};
 
 /// The first line that guarantees a queue more than its maximum capacity, own or inherited.
 #[tactic(auto, unfolding(cap_base::specs::properties::Tests::line_where))]
@@ -73,31 +72,30 @@ pub fn exceeds(a: [u64; RESOURCES], b: [u64; RESOURCES]) -> bool
 
 /// The first line that sets a maximum capacity over that of the queue above, or lists queues below one other than root
 /// whose capacities add up to more than its own.
-pub fn over_parent_line(alloc: Global, index: &Index) -> Result<Option<usize>, AllocError>
+#[tactic(auto, unfolding(cap_base::specs::properties::Tests::line_where))]
+pub fn over_parent_line(index: &Index) -> Option<usize>
     requires { IsIndex index.now }
-    ensures { IfOk result (λ line. line ≡ over_parent_line index.now.entries.now) }
+    ensures { result ≡ over_parent_line index.now.entries.now }
 {
-    for entry in index.entries {
-        if is_over_parent(alloc, index, entry)? {
-            return Ok(Some(entry.line));
-        }
-    }
-    Ok(None)
+    line_of(
+        index
+            .entries
+            .iter()
+            .find(|entry| is_over_parent(index, entry)),
+    )
 }
 
-fn is_over_parent(alloc: Global, index: &Index, entry: &Entry) -> Result<bool, AllocError>
+fn is_over_parent(index: &Index, entry: &Entry) -> bool
     requires { IsIndex index.now }
-    ensures { IfOk result (λ over. over ≡ is_over_parent index.now.entries.now entry.now) }
+    ensures { result ≡ is_over_parent index.now.entries.now entry.now }
 {
     match (&entry.value, &entry.queue) {
         (Value::Amounts(amounts), Some(path)) => {
-            let over = is_over_parts(index, amounts, path.as_bytes());
-            Ok(same_setting(entry.setting, Setting::MaximumCapacity) && over)
+            same_setting(entry.setting, Setting::MaximumCapacity)
+                && is_over_parts(index, amounts, path.as_bytes())
         }
-        (Value::Names(names), Some(path)) => {
-            is_overspent(alloc, index, path.as_bytes(), names.names())
-        }
-        _ => Ok(false),
+        (Value::Names(names), Some(path)) => is_overspent(index, path, names.names()),
+        _ => false,
     }
 }
 
@@ -112,39 +110,29 @@ fn is_over_parts(index: &Index, amounts: &Resource<RESOURCES>, path: &[u8]) -> b
     }
 }
 
-fn is_overspent(
-    alloc: Global,
-    index: &Index,
-    path: &[u8],
-    names: &[ShortText],
-) -> Result<bool, AllocError>
+fn is_overspent(index: &Index, path: &PathText, names: &[ShortText]) -> bool
     requires { IsIndex index.now }
-    ensures { IfOk result (λ over. over ≡ is_overspent index.now.entries.now path.now names.now) }
+    ensures { result ≡ is_overspent index.now.entries.now path.now names.now }
 {
-    if is_root(path) {
-        return Ok(false);
+    if is_root(path.as_bytes()) {
+        return false;
     }
-    let sums = added_below(alloc, index, path, names)?;
-    Ok(exceeds(sums, guaranteed(index, path).amounts()))
+    let sums = added_below(index, path, names);
+    exceeds(sums, guaranteed(index, path.as_bytes()).amounts())
 }
 
 /// The sums of the capacities of the queues of these names below a queue, each at most `u64::MAX`.
-pub fn added_below(
-    alloc: Global,
-    index: &Index,
-    path: &[u8],
-    names: &[ShortText],
-) -> Result<[u64; RESOURCES], AllocError>
+pub fn added_below(index: &Index, path: &PathText, names: &[ShortText]) -> [u64; RESOURCES]
     requires { IsIndex index.now }
-    ensures { IfOk result (λ sums. sums ≡ added_below index.now.entries.now path.now names.now) }
+    ensures { result ≡ added_below index.now.entries.now path.now names.now }
 {
     let mut sums = [0; RESOURCES];
     for name in names {
-        let child = child_bytes(alloc, path, name.as_bytes())?;
-        let more = added(sums, guaranteed(index, &child).amounts());
+        let (child, len) = child_bytes(path, name);
+        let more = added(sums, guaranteed(index, &child[..len]).amounts());
         sums = more;
     }
-    Ok(sums)
+    sums
 }
 
 /// The sum of each amount.

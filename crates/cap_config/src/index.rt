@@ -1,13 +1,17 @@
 //! The entries of a text, and where those of a queue are found by its path (`Index`).
-ghost use Rattle.std.specs.Prelude.{◌≡◌, IfOk};
+ghost use Rattle.std.specs.Prelude.{◌≡◌, ◌≤◌, IfOk, take};
 ghost use Rattle.std.specs.Option.{option_map, option_copied};
 ghost use Rattle.cap_base.specs.properties.Queues.{path_for, child};
 ghost use Rattle.cap_config.specs.Index.{FindsAll, entry_at, IsIndex};
 
 use crate::setting::same_setting;
 use cap_base::properties::{Entry, Setting};
+use cap_base::{PathText, ShortText};
 use std::alloc::{AllocError, Global};
 use std::collections::BTreeMap;
+
+/// The greatest length of a path, a dot and a name, in bytes.
+const CHILD_MAX: usize = 255 + 1 + 64;
 
 /// The entries of all lines, and where to find those of a queue by its path.
 #[derive(Drop)]
@@ -83,12 +87,15 @@ pub fn entry_at<'e, 't>(
     }
 }
 
-/// The path of the queue with this name below another.
-pub fn child_bytes(alloc: Global, parent: &[u8], name: &[u8]) -> Result<Vec<u8>, AllocError>
-    ensures { IfOk result (λ path. path.items ≡ child parent.now name.now) }
+/// The path of the queue with this name below another: as many of these bytes as the number says.
+pub fn child_bytes(path: &PathText, name: &ShortText) -> ([u8; CHILD_MAX], usize)
+    ensures path { take result.1 result.0 ≡ child path.now name.now }
+    ensures len { result.1 ≤ 320 }
 {
-    let mut path = Vec::from_slice(alloc, parent)?;
-    path.push(b'.')?;
-    path.extend_from_slice(name)?;
-    Ok(path)
+    let (parent, name) = (path.as_bytes(), name.as_bytes());
+    let (dot, len) = (parent.len(), parent.len() + 1 + name.len());
+    let mut bytes = [b'.'; CHILD_MAX];
+    bytes[..dot].copy_from_slice(parent);
+    bytes[dot + 1..len].copy_from_slice(name);
+    (bytes, len)
 }

@@ -8,7 +8,7 @@ ghost use Rattle.cap_base.specs.properties.Tests.{whole_fault};
 use crate::config::config_of;
 use crate::first_pass::read_lines;
 use crate::index::{Index, index_of};
-use crate::second_pass::check;
+use crate::second_pass::whole_fault;
 use cap_base::properties::{ConfigFault, Entry};
 use cap_base::{Config, RESOURCES};
 use std::alloc::Global;
@@ -47,6 +47,8 @@ fn indexed_settings(alloc: Global, index: &Index) -> Result<Config<RESOURCES>, C
     ensures settings { IfOk result
         (λ config. settings_after (Ok index.now.entries.now) ≡ Some config) }
 {
-    check(alloc, index)?;
+    if let Some(fault) = whole_fault(index) {
+        return Err(fault);
+    }
     Ok(config_of(alloc, index)?)
 }

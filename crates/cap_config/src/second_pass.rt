@@ -1,9 +1,8 @@
-//! The tests over the whole text, in the order of their faults, each at its least line (`check`).
+//! The tests over the whole text, in the order of their faults, each at its least line (`whole_fault`).
 ghost use Rattle.std.specs.Prelude.{◌≡◌};
 ghost use Rattle.std.specs.Option.{option_copied};
 ghost use Rattle.cap_config.specs.Index.{IsIndex};
 ghost use Rattle.cap_base.specs.properties.Tests.{line_where, cluster_entry, number_or, line_or_zero, pair_line, lesser, allocation_line, lists_none, no_child_line, is_astray, no_such_queue_line, lists_deep, level, too_deep_line, listed_by, too_many_line, shape_fault, whole_fault};
-ghost use Rattle.cap_base.specs.properties.First.{AnswersFault};
 
 use crate::entry::line_of;
 use crate::guarantees::{over_maximum_line, over_parent_line};
@@ -13,25 +12,25 @@ use crate::queues::{LEVELS_MAX, level, missing_path, number_or};
 use crate::setting::same_setting;
 use cap_base::properties::{ConfigFault, ConfigFaultKind, Entry, Setting, Value};
 use cap_vector::AMOUNT_MAX;
-use std::alloc::Global;
 
 /// The greatest number of queues, root among them.
 const QUEUES_MAX: usize = 1024;
 
-/// The first test over the whole text that fails, at its least line.
-pub fn check(alloc: Global, index: &Index) -> Result<(), ConfigFault>
+/// The fault of the first test over the whole text that fails, at its least line.
+#[tactic(auto, unfolding(cap_base::specs::properties::Tests::whole_fault))]
+pub fn whole_fault(index: &Index) -> Option<ConfigFault>
     requires { IsIndex index.now }
-    ensures { AnswersFault (whole_fault index.now.entries.now) result }
+    ensures { result ≡ whole_fault index.now.entries.now }
 {
     if let Some(fault) = shape_fault(index) {
-        return Err(fault);
+        return Some(fault);
     }
-    match over_parent_line(alloc, index)? {
-        Some(line) => Err(ConfigFault {
+    match over_parent_line(index) {
+        Some(line) => Some(ConfigFault {
             line,
             kind: ConfigFaultKind::OverParent,
         }),
-        None => Ok(()),
+        None => None,
     }
 }
 

@@ -15,8 +15,8 @@ returns t c =
     (c.names_below-name-items.ensures ∙ ap (names_below c.args.index.now.entries.now) c.as_bytes.ensures.value)
     c.loop-name.invariant
 
-pub child_path-requires : goal.child_path-requires
-child_path-requires t c =
+pub child_path-child-requires : goal.child_path-child-requires
+child_path-child-requires t c =
     let entries = c.args.index.now.entries.now in
     let names = c.names_below-name-items.result.now in
     let here : names_below entries c.args.path ≡ names = sym (c.names_below-name-items.ensures ∙ ap (names_below entries) c.as_bytes.ensures.value) in

@@ -16,6 +16,6 @@ loop-name-preserved c =
     let g : guarantee ≡ guaranteed entries (child path c.name-item.result) =
     c.amounts.ensures.value
     ∙ c.guaranteed.ensures
-    ∙ ap (guaranteed entries) (c.deref.ensures.value ∙ c.in_ok-child.ensures ∙ ap (child path) c.as_bytes.ensures.value) in
+    ∙ ap (guaranteed entries) c.child_bytes-len.ensures.path in
     c.added-more.ensures
     ∙ sums_more entries path c.args.names.now c.loop-name.name-index c.name-item.result guarantee c.loop-name.sums c.loop-name-test.true c.name-item.is g c.loop-name.invariant

@@ -1,11 +1,17 @@
 use Rattle.std.proofs.Common.{sym, ap, ◌∙◌}
+use Rattle.std.specs.Str.{bytes_eq}
+use Rattle.cap_base.specs.properties.Keys.{root}
+use Rattle.cap_base.specs.properties.Queues.{guaranteed}
 use Rattle.cap_base.specs.properties.Tests.{exceeds}
 use Rattle.cap_config.proofs.Sums.{capped_spend}
 use Rattle.cap_config.proofs.guarantees.is_overspent.Goals as goal
 
 pub returns : goal.returns
 returns c =
-    let sums = c.in_ok-sums.sums in
+    let entries = c.args.index.now.entries.now in
+    let sums = c.added_below-sums.result in
+    let other = ap (λ p. bytes_eq p root) (sym c.as_bytes.ensures.value) ∙ sym c.is_root.ensures ∙ c.if-is_root.false in
+    let own = c.guaranteed.ensures ∙ ap (guaranteed entries) c.as_bytes-2.ensures.value in
     c.exceeds.ensures
     ∙ ap (exceeds sums) c.amounts.ensures.value
-    ∙ capped_spend c.args.index.now.entries.now c.args.path.now sums c.guaranteed.result c.args.names.now (sym c.is_root.ensures ∙ c.if-is_root.false) c.in_ok-sums.ensures c.guaranteed.ensures c.amounts.ensures.vector.within
+    ∙ capped_spend entries c.args.path.now sums c.guaranteed.result c.args.names.now other c.added_below-sums.ensures own c.amounts.ensures.vector.within
