@@ -92,8 +92,7 @@ parts_at_last_dot bytes = parts_round (last_dot bytes) bytes
 -- the key of a path and the property that the end of a key spells
 abbrev pub key_on : List ℕ → Option Setting → Option (List ℕ) → Option Key
 key_on bytes (Some setting) (Some path) = if takes bytes setting then Some (record { queue = Some path; setting = setting }) else None
-key_on bytes (Some setting) None = None
-key_on bytes None path = None
+key_on bytes setting path = None
 
 unfoldable pub key_at : List ℕ → Option Setting → Option Key
 key_at bytes setting = key_on bytes setting (path_of bytes)

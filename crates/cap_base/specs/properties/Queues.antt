@@ -5,7 +5,7 @@ use Rattle.cap_base.specs.Limits.{resources}
 use Rattle.cap_vector.specs.Vector.{zeros}
 use Rattle.cap_base.specs.declared.properties.entry.Entry.{Entry}
 use Rattle.cap_base.specs.declared.properties.value.Value.{Value}
-use Rattle.cap_base.specs.declared.properties.value.Value.TheVariants.{Names, Amounts, Number, Running}
+use Rattle.cap_base.specs.declared.properties.value.Value.TheVariants.{Names, Amounts}
 use Rattle.cap_base.specs.declared.properties.setting.Setting.{Setting}
 use Rattle.cap_base.specs.declared.properties.setting.Setting.TheVariants.{Queues, Capacity, MaximumCapacity, UserLimitFactor, State, MaximumApplications, MinimumMemory, MinimumVcores, MinimumGpu, MaximumMemory, MaximumVcores, MaximumGpu}
 use Rattle.cap_base.specs.properties.Keys.{root, is_dot, parts_at_last_dot}
@@ -51,9 +51,7 @@ child path name = path ++ dot ∷ name
 -- the names that a queue lists
 abbrev pub names_in_value : Value → List (List ℕ)
 names_in_value (Names names) = names
-names_in_value (Amounts amounts) = []
-names_in_value (Number n) = []
-names_in_value (Running running) = []
+names_in_value value = []
 
 abbrev pub names_or_none : Option Entry → List (List ℕ)
 names_or_none (Some entry) = names_in_value entry.value
@@ -88,9 +86,7 @@ is_queue entries path = leads_to_root entries path (above path)
 -- what an entry has, where there is one
 abbrev pub amounts_or : Option (List ℕ) → Value → Option (List ℕ)
 amounts_or other (Amounts amounts) = Some amounts
-amounts_or other (Names names) = other
-amounts_or other (Number n) = other
-amounts_or other (Running running) = other
+amounts_or other value = other
 
 abbrev pub amounts_at : Option (List ℕ) → Option Entry → Option (List ℕ)
 amounts_at other (Some entry) = amounts_or other entry.value

@@ -4,7 +4,7 @@ use Rattle.std.specs.List.{flat_map}
 use Rattle.cap_base.specs.Settings.{QueueRow, Settings}
 use Rattle.cap_base.specs.declared.properties.entry.Entry.{Entry}
 use Rattle.cap_base.specs.declared.properties.value.Value.{Value}
-use Rattle.cap_base.specs.declared.properties.value.Value.TheVariants.{Names, Amounts, Number, Running}
+use Rattle.cap_base.specs.declared.properties.value.Value.TheVariants.{Running}
 use Rattle.cap_base.specs.declared.properties.setting.Setting.TheVariants.{UserLimitFactor, State, MaximumApplications}
 use Rattle.cap_base.specs.properties.Keys.{root}
 use Rattle.cap_base.specs.properties.Queues.{entry_for, guaranteed, maximum, child, names_below}
@@ -17,9 +17,7 @@ factor entries path = number_or (entry_for entries UserLimitFactor path) 1
 -- whether a queue's own state is RUNNING
 abbrev pub running_in : Value → Bool
 running_in (Running running) = running
-running_in (Names names) = true
-running_in (Amounts amounts) = true
-running_in (Number n) = true
+running_in value = true
 
 abbrev pub running_or : Option Entry → Bool
 running_or (Some entry) = running_in entry.value

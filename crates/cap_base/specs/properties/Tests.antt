@@ -7,7 +7,7 @@ use Rattle.cap_vector.specs.Vector.{amount, amount_max, by_amount}
 use Rattle.cap_base.specs.Limits.{resources}
 use Rattle.cap_base.specs.declared.properties.entry.Entry.{Entry}
 use Rattle.cap_base.specs.declared.properties.value.Value.{Value}
-use Rattle.cap_base.specs.declared.properties.value.Value.TheVariants.{Names, Amounts, Number, Running}
+use Rattle.cap_base.specs.declared.properties.value.Value.TheVariants.{Names, Amounts, Number}
 use Rattle.cap_base.specs.declared.properties.setting.Setting.{Setting}
 use Rattle.cap_base.specs.declared.properties.setting.Setting.TheVariants.{Queues, Capacity, MaximumCapacity, MinimumMemory, MinimumVcores, MinimumGpu, MaximumMemory, MaximumVcores, MaximumGpu}
 use Rattle.cap_base.specs.declared.properties.fault.ConfigFault.{ConfigFault}
@@ -27,9 +27,7 @@ cluster_entry entries setting = find (λ entry. same_setting entry.setting setti
 
 abbrev pub number_in : ℕ → Value → ℕ
 number_in default (Number n) = n
-number_in default (Names names) = default
-number_in default (Amounts amounts) = default
-number_in default (Running running) = default
+number_in default value = default
 
 -- the number that an entry sets, or the one that stands where there is none
 abbrev pub number_or : Option Entry → ℕ → ℕ
@@ -76,10 +74,7 @@ allocation_line entries =
 -- a list with no name
 abbrev pub is_childless : Value → Bool
 is_childless (Names []) = true
-is_childless (Names (name ∷ names)) = false
-is_childless (Amounts amounts) = false
-is_childless (Number n) = false
-is_childless (Running running) = false
+is_childless value = false
 
 abbrev pub lists_none : Entry → Bool
 lists_none entry = is_childless entry.value
@@ -105,10 +100,7 @@ level path = length (names_in path)
 -- a list on a path of 16 names
 abbrev pub is_deep : Option (List ℕ) → Value → Bool
 is_deep (Some path) (Names names) = level path == 16
-is_deep (Some path) (Amounts amounts) = false
-is_deep (Some path) (Number n) = false
-is_deep (Some path) (Running running) = false
-is_deep None value = false
+is_deep queue value = false
 
 abbrev pub lists_deep : Entry → Bool
 lists_deep entry = is_deep entry.queue entry.value
@@ -119,9 +111,7 @@ too_deep_line entries = line_where lists_deep entries
 -- how many queues a value lists
 abbrev pub listed_by : Value → ℕ
 listed_by (Names names) = length names
-listed_by (Amounts amounts) = 0
-listed_by (Number n) = 0
-listed_by (Running running) = 0
+listed_by value = 0
 
 -- the line up to which there are more than 1,024 queues, with so many before
 unfoldable pub line_past : ℕ → List Entry → Option ℕ
@@ -143,10 +133,7 @@ exceeds_limit amounts None = false
 -- a capacity that does not fit the queue's own or inherited maximum capacity
 abbrev pub is_over_limit : List Entry → Option (List ℕ) → Value → Bool
 is_over_limit entries (Some path) (Amounts amounts) = exceeds_limit amounts (maximum entries path)
-is_over_limit entries (Some path) (Names names) = false
-is_over_limit entries (Some path) (Number n) = false
-is_over_limit entries (Some path) (Running running) = false
-is_over_limit entries None value = false
+is_over_limit entries queue value = false
 
 abbrev pub is_over_maximum : List Entry → Entry → Bool
 is_over_maximum entries entry = same_setting entry.setting Capacity && is_over_limit entries entry.queue entry.value
@@ -173,9 +160,7 @@ is_overspent entries path names = not (bytes_eq path root) && exceeds (guarantee
 abbrev pub is_over_above : List Entry → Bool → Option (List ℕ) → Value → Bool
 is_over_above entries of_maximum (Some path) (Amounts amounts) = of_maximum && is_over_parts entries amounts (parts_at_last_dot path)
 is_over_above entries of_maximum (Some path) (Names names) = is_overspent entries path names
-is_over_above entries of_maximum (Some path) (Number n) = false
-is_over_above entries of_maximum (Some path) (Running running) = false
-is_over_above entries of_maximum None value = false
+is_over_above entries of_maximum queue value = false
 
 abbrev pub is_over_parent : List Entry → Entry → Bool
 is_over_parent entries entry = is_over_above entries (same_setting entry.setting MaximumCapacity) entry.queue entry.value
