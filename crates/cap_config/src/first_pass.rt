@@ -7,6 +7,7 @@ ghost use Rattle.cap_base.specs.properties.Fault.{Gives};
 ghost use Rattle.cap_base.specs.properties.Seen.{HasAll};
 ghost use Rattle.cap_base.specs.properties.Entries.{is_passed_over, is_printable, line_parts, key_text, entry_of, read_lines};
 
+use crate::entry::fault_at;
 use crate::key::key_of;
 use crate::seen::add_new;
 use crate::value::value_of;
@@ -58,28 +59,16 @@ fn entry_of<'a>(
         OnOk result (HasAll keys.new (before ++ key_text bytes.now ∷ [])) }
 {
     let Some((key_bytes, value_bytes)) = parts_of(bytes) else {
-        return Err(ConfigFault {
-            line,
-            kind: ConfigFaultKind::BadLine,
-        });
+        return Err(fault_at(line, ConfigFaultKind::BadLine));
     };
     let Some(key) = key_of(key_bytes) else {
-        return Err(ConfigFault {
-            line,
-            kind: ConfigFaultKind::UnknownKey,
-        });
+        return Err(fault_at(line, ConfigFaultKind::UnknownKey));
     };
     if !add_new(keys, key_bytes)? {
-        return Err(ConfigFault {
-            line,
-            kind: ConfigFaultKind::Repeated,
-        });
+        return Err(fault_at(line, ConfigFaultKind::Repeated));
     }
     let Some(value) = value_of(alloc, &key, value_bytes)? else {
-        return Err(ConfigFault {
-            line,
-            kind: ConfigFaultKind::BadValue,
-        });
+        return Err(fault_at(line, ConfigFaultKind::BadValue));
     };
     Ok(Entry {
         line,

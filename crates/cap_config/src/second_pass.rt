@@ -4,7 +4,7 @@ ghost use Rattle.std.specs.Option.{option_copied};
 ghost use Rattle.cap_config.specs.Index.{IsIndex};
 ghost use Rattle.cap_base.specs.properties.Tests.{line_where, cluster_entry, number_or, line_or_zero, pair_line, lesser, allocation_line, lists_none, no_child_line, is_astray, no_such_queue_line, lists_deep, level, too_deep_line, listed_by, too_many_line, shape_fault, whole_fault};
 
-use crate::entry::line_of;
+use crate::entry::{fault_at, line_of};
 use crate::guarantees::{over_maximum_line, over_parent_line};
 use crate::index::{Index, entry_at};
 use crate::key::ROOT;
@@ -26,10 +26,7 @@ pub fn whole_fault(index: &Index) -> Option<ConfigFault>
         return Some(fault);
     }
     match over_parent_line(index) {
-        Some(line) => Some(ConfigFault {
-            line,
-            kind: ConfigFaultKind::OverParent,
-        }),
+        Some(line) => Some(fault_at(line, ConfigFaultKind::OverParent)),
         None => None,
     }
 }
@@ -41,40 +38,22 @@ fn shape_fault(index: &Index) -> Option<ConfigFault>
     ensures { result ≡ shape_fault index.now.entries.now }
 {
     if let Some(line) = allocation_line(index.entries) {
-        return Some(ConfigFault {
-            line,
-            kind: ConfigFaultKind::BadValue,
-        });
+        return Some(fault_at(line, ConfigFaultKind::BadValue));
     }
     if let Some(line) = no_child_line(index) {
-        return Some(ConfigFault {
-            line,
-            kind: ConfigFaultKind::NoChild,
-        });
+        return Some(fault_at(line, ConfigFaultKind::NoChild));
     }
     if let Some(line) = no_such_queue_line(index) {
-        return Some(ConfigFault {
-            line,
-            kind: ConfigFaultKind::NoSuchQueue,
-        });
+        return Some(fault_at(line, ConfigFaultKind::NoSuchQueue));
     }
     if let Some(line) = too_deep_line(index.entries) {
-        return Some(ConfigFault {
-            line,
-            kind: ConfigFaultKind::TooDeep,
-        });
+        return Some(fault_at(line, ConfigFaultKind::TooDeep));
     }
     if let Some(line) = too_many_line(index.entries) {
-        return Some(ConfigFault {
-            line,
-            kind: ConfigFaultKind::TooManyQueues,
-        });
+        return Some(fault_at(line, ConfigFaultKind::TooManyQueues));
     }
     if let Some(line) = over_maximum_line(index) {
-        return Some(ConfigFault {
-            line,
-            kind: ConfigFaultKind::GuaranteeOverMaximum,
-        });
+        return Some(fault_at(line, ConfigFaultKind::GuaranteeOverMaximum));
     }
     None
 }
