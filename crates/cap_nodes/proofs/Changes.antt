@@ -15,11 +15,11 @@ use Rattle.cap_base.proofs.lists.Members.{found}
 use Rattle.cap_base.proofs.lists.Filters.{filter_mapped, find_mapped_at, map_twice}
 use Rattle.cap_base.specs.Members.{IsRising}
 use Rattle.cap_model.specs.declared.replies.HeartbeatReply.{HeartbeatReply}
-use Rattle.cap_model.specs.Flat.{ClusterNode, Container}
+use Rattle.cap_model.specs.Flat.{ClusterNode, Container, Reservation}
 use Rattle.cap_model.specs.RegisterNode.{sum_of_totals}
 use Rattle.cap_model.specs.Heartbeat.{after_beat}
 use Rattle.cap_nodes.specs.Tables.{IsSound, left_of}
-use Rattle.cap_nodes.specs.Loads.{Load, IsTied, AreTied, load_at, change_load, held_more, held_less, beaten_load, HasOne, reservation_of}
+use Rattle.cap_nodes.specs.Loads.{Load, IsTied, AreTied, load_at, change_load, held_more, held_less, beaten_load, HasOne, HaveReservations, reservation_of}
 use Rattle.cap_nodes.proofs.Numbered.{found-change, none_at_end, kept-change}
 use Rattle.cap_nodes.proofs.Presents.{not_none}
 use Rattle.cap_nodes.proofs.Sums.{where-none, filter-none, none-filter, zeros-fit, where-less-own, where-had, sum-without}
@@ -104,10 +104,10 @@ module _ (K : ℕ) (loads : List Load) (live : List Container) (tied : AreTied K
   free_nth i p at own free is = rw (slice_get-map (λ (q : Load). q.node) loads i, at) (is ∙ free_is p.node.number p own)
 
   -- one more node
-  pub with_node : (next : ℕ) (node : ClusterNode) → IsRising 1 (map (λ p. p.node.number) loads) next → node.number ≡ next → IsWithin amount_max node.total →
-      AreTied K (loads ++ record { node = node; held = zeros K; live = 0 } ∷ []) live
-  with_node next node rising is within =
-      let p : Load = record { node = node; held = zeros K; live = 0 } in
+  pub with_node : (next : ℕ) (node : ClusterNode) (reservation : Option Reservation) → IsRising 1 (map (λ p. p.node.number) loads) next → node.number ≡ next → IsWithin amount_max node.total →
+      AreTied K (loads ++ record { node = node; held = zeros K; live = 0; reservation = reservation } ∷ []) live
+  with_node next node reservation rising is within =
+      let p : Load = record { node = node; held = zeros K; live = 0; reservation = reservation } in
       let none : AllByRecursion (λ (c : Container). (c.node == node.number) ≡ false) live = none_there node.number (ap (load_at loads) is ∙ none_at_end (λ (q : Load). q.node.number) next 1 loads rising) in
       record {
         ties = all_pushed (IsTied K live) loads p tied.ties (record {
@@ -159,13 +159,17 @@ module _ (K : ℕ) (loads : List Load) (live : List Container) (tied : AreTied K
             (λ x h _. still_there loads c.node x.node (held_less c.resource) (λ q. refl) h) tied.homes;
       }
 
+  -- a change that leaves the number of a node, and what ties it to its containers
+  pub with_same : (n : ℕ) (change : Load → Load) → ((p : Load) → (change p).node.number ≡ p.node.number) → ((p : Load) → IsTied K live p → IsTied K live (change p)) → AreTied K (change_load n change loads) live
+  with_same n change number tie = record {
+    ties = all_mapped (IsTied K live) (IsTied K live) n change loads tie (λ q t. t) tied.ties;
+    homes = all_each (λ (x : Container). IsSome (load_at loads x.node)) (λ (x : Container). IsSome (load_at (change_load n change loads) x.node)) live
+        (λ x h. still_there loads n x.node change number h) tied.homes;
+  }
+
   -- one more heartbeat
   pub with_beat : (n ignored : ℕ) → AreTied K (change_load n (beaten_load ignored) loads) live
-  with_beat n ignored = record {
-    ties = all_mapped (IsTied K live) (IsTied K live) n (beaten_load ignored) loads (λ q tie. record { held = tie.held; count = tie.count; fits = tie.fits; within = tie.within }) (λ q tie. tie) tied.ties;
-    homes = all_each (λ (x : Container). IsSome (load_at loads x.node)) (λ (x : Container). IsSome (load_at (change_load n (beaten_load ignored) loads) x.node)) live
-        (λ x h. still_there loads n x.node (beaten_load ignored) (λ q. refl) h) tied.homes;
-  }
+  with_beat n ignored = with_same n (beaten_load ignored) (λ p. refl) (λ p tie. record { held = tie.held; count = tie.count; fits = tie.fits; within = tie.within })
 
   -- one node less
   pub without_empty : (n : ℕ) → filter (λ c. c.node == n) live ≡ [] → AreTied K (filter (λ p. not (p.node.number == n)) loads) live
@@ -286,7 +290,7 @@ rising_changed n change keeps loads next rising = subst (λ ns. IsRising 1 ns ne
 
 -- what is true of every table
 pub sound_table : (K : ℕ) (loads : List Load) (live reserved : List Container) (next_node next_container : ℕ) (total : List ℕ) →
-    AreTied K loads live × (total ≡ sum_of_totals K (nodes_of loads)) × IsRising 1 (map (λ p. p.node.number) loads) next_node × IsWithin amount_max total →
+    AreTied K loads live × (total ≡ sum_of_totals K (nodes_of loads)) × IsRising 1 (map (λ p. p.node.number) loads) next_node × IsWithin amount_max total × HaveReservations (map reservation_of reserved) loads →
     IsSound K (record { present = nodes_of loads; live = live; reserved = map reservation_of reserved; next_node = next_node; next_container = next_container })
 sound_table K loads live reserved next_node next_container total h = record {
   rising = rising_nodes loads next_node h.2;

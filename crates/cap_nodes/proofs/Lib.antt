@@ -8,4 +8,5 @@ pub mod Ties
 pub mod Changes
 pub mod Walked
 pub mod Reserved
+pub mod Reserving
 pub mod Sizes

@@ -10,6 +10,7 @@ use prog.Align.{field_in}
 use denote.Param.{layout, number, param}
 use Rattle.cap_vector.specs.contracts.vector.Amounts as amounts
 use Rattle.cap_model.specs.contracts.container.Container as container
+use Rattle.cap_model.specs.contracts.container.Reservation as reservation
 use Rattle.cap_nodes.specs.contracts.containers.Containers as containers
 use Rattle.cap_nodes.specs.contracts.load.Load as load
 use Rattle.cap_nodes.specs.contracts.node.Node as node
@@ -38,6 +39,9 @@ module _ (n : ℕ) (fits : FitsInMemory (nodes.the_row (param 0 (number n)))) wh
 
   pub container_fits : FitsInMemory (container.the_row K)
   container_fits = field_fits (layout (containers.the_row K)) (layout (container.the_row K)) 4 _ _ refl _ refl containers_fit
+
+  pub reservation_fits : FitsInMemory (reservation.the_row K)
+  reservation_fits = let whole = container_fits in omega (arith, whole)
 
 pub amounts_fit : (n max : ℕ) → FitsInMemory (nodes.the_row (param 0 (number n))) → FitsInMemory (amounts.the_row (param 0 (number n)) (number max))
 amounts_fit n max fits = field_fits (layout (nodes.the_row (param 0 (number n)))) (layout (amounts.the_row (param 0 (number n)) (number max))) 3 _ _ refl _ refl fits

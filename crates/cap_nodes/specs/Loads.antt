@@ -2,6 +2,7 @@
 use Rattle.std.specs.Prelude.{◌≡◌, ℕ, zero, suc, bytes_eq, ◌+◌, ◌-◌, ◌<◌, ◌≤◌, List, length, not, ◌&&◌, ◌||◌, Option, None, Some, Bool, false, IsSome, map, filter, find, count_by, ◌==◌, if◌then◌else◌, ◌++◌, ◌∷◌, []}
 use Rattle.std.specs.List.{AllByRecursion, list_any}
 use Rattle.std.specs.BTreeMap.{is_at}
+use Rattle.std.specs.Option.{option_or}
 use Rattle.std.specs.Map.{lookup, values_of}
 use Rattle.std.specs.Ordering.{nat_cmp, ordering_then}
 use Rattle.std.specs.declared.cmp.Ordering.{Ordering}
@@ -16,11 +17,12 @@ use Rattle.cap_model.specs.declared.ask.Key.{Key}
 use Rattle.cap_model.specs.Events.{launch}
 use Rattle.cap_model.specs.RegisterNode.{new_node}
 
--- a node, what its live containers hold, and how many they are
+-- a node, what its live containers hold, how many they are, and its reservation
 pub record Load : Type 0 where
   pub node : ClusterNode
   pub held : List ℕ
   pub live : ℕ
+  pub reservation : Option Reservation
 
 -- the nodes in order of number, and the number of the next
 pub record LoadTable : Type 0 where
@@ -47,6 +49,13 @@ held_less resource p = record p { held = less p.held resource; live = p.live - 1
 
 abbrev pub beaten_load : ℕ → Load → Load
 beaten_load ignored p = record p { node = after_beat ignored p.live p.node }
+
+-- a node with a reservation, where it had none, and with none
+abbrev pub reserved_load : Reservation → Load → Load
+reserved_load r p = record p { reservation = option_or p.reservation (Some r) }
+
+abbrev pub unreserved_load : Load → Load
+unreserved_load p = record p { reservation = None }
 
 -- a container and a reservation of these
 abbrev pub new_container : ℕ → ℕ → Key → ℕ → List ℕ → Container
@@ -76,10 +85,10 @@ abbrev pub made_after : ℕ → List Reservation → List Reservation
 made_after n [] = []
 made_after n (r ∷ rs) = if r.node == n then rs else made_after n rs
 
--- the nodes with one more of K resources, of the next number, which holds nothing, and with one of them changed
-abbrev pub add_load : ℕ → List ℕ → List ℕ → List ℕ → LoadTable → LoadTable
-add_load K host rack total table =
-    record { loads = table.loads ++ record { node = new_node table.next host rack total; held = zeros K; live = 0 } ∷ []; next = table.next + 1 }
+-- the nodes with one more of K resources, of the next number, with no container and this reservation, and with one of them changed
+abbrev pub add_load : ℕ → List ℕ → List ℕ → List ℕ → Option Reservation → LoadTable → LoadTable
+add_load K host rack total reservation table =
+    record { loads = table.loads ++ record { node = new_node table.next host rack total; held = zeros K; live = 0; reservation = reservation } ∷ []; next = table.next + 1 }
 
 abbrev pub with_load : ℕ → (Load → Load) → LoadTable → LoadTable
 with_load n change table = record table { loads = change_load n change table.loads }
@@ -136,6 +145,10 @@ pub record IsTied (K : ℕ) (live : List Container) (p : Load) : Type 0 where
 pub record AreTied (K : ℕ) (loads : List Load) (live : List Container) : Type 0 where
   pub ties : AllByRecursion (IsTied K live) loads
   pub homes : AllByRecursion (λ c. IsSome (load_at loads c.node)) live
+
+-- each node has the oldest reservation that is for it
+abbrev pub HaveReservations : List Reservation → List Load → Type 0
+HaveReservations reserved loads = AllByRecursion (λ p. p.reservation ≡ find (λ r. r.node == p.node.number) reserved) loads
 
 -- pairs in the order of their firsts, then of their seconds
 abbrev pub pair_cmp : ℕ × ℕ → ℕ × ℕ → Ordering

@@ -1,19 +1,20 @@
-//! A node with what its live containers hold, and how many they are (`Load`).
+//! A node with what its live containers hold, how many they are, and its reservation (`Load`).
 ghost use Rattle.std.specs.Prelude.{◌≡◌, Some, length};
 ghost use Rattle.cap_vector.specs.Vector.{Fits, plus, less};
-ghost use Rattle.cap_nodes.specs.Loads.{CanHold, HasOne, held_more, held_less, beaten_load};
+ghost use Rattle.cap_nodes.specs.Loads.{CanHold, HasOne, held_more, held_less, beaten_load, reserved_load, unreserved_load};
 
 use crate::node::Node;
-use cap_model::HeartbeatReply;
+use cap_model::{HeartbeatReply, Reservation};
 use cap_vector::{Resource, checked_add, minus};
 use std::marker::Model;
 
-/// A node, with what its live containers hold, and how many they are.
-#[derive(Debug, Drop)]
+/// A node, with what its live containers hold, how many they are, and the reservation that it holds.
+#[derive(Drop)]
 pub(crate) struct Load<const K: usize> {
     pub(crate) node: Node<K>,
     pub(crate) held: Resource<K>,
     pub(crate) live: u32,
+    pub(crate) reservation: Option<Reservation<K>>,
 }
 
 impl<const K: usize> Model for Load<K> {
@@ -21,7 +22,12 @@ impl<const K: usize> Model for Load<K> {
 
     ghost Value = { Row };
 
-    ghost view = { λ p. record { node = p.node; held = p.held; live = p.live } };
+    ghost view = { λ p. record {
+      node = p.node;
+      held = p.held;
+      live = p.live;
+      reservation = p.reservation;
+    } };
 }
 
 impl<const K: usize> Load<K> {
@@ -31,6 +37,7 @@ impl<const K: usize> Load<K> {
             node: Node::blank(),
             held: Resource::zero(),
             live: 0,
+            reservation: None,
         }
     }
 
@@ -46,6 +53,13 @@ impl<const K: usize> Load<K> {
         ensures { result ≡ self.now.live }
     {
         self.live
+    }
+
+    /// The reservation that it holds, the oldest where there are several for it.
+    pub(crate) fn reservation(&self) -> Option<Reservation<K>>
+        ensures { result ≡ self.now.reservation }
+    {
+        self.reservation
     }
 
     /// What it has left, in MiB, vcores and GPUs.
@@ -76,6 +90,22 @@ impl<const K: usize> Load<K> {
     {
         self.held = minus(&self.held, resource);
         self.live -= 1;
+    }
+
+    /// It holds this reservation from now on, if it held none.
+    pub(crate) fn reserve(&mut self, reservation: &Reservation<K>)
+        ensures { self.new ≡ reserved_load reservation.now self.old }
+    {
+        if self.reservation.is_none() {
+            self.reservation = Some(*reservation);
+        }
+    }
+
+    /// It holds no reservation any longer.
+    pub(crate) fn unreserve(&mut self)
+        ensures { self.new ≡ unreserved_load self.old }
+    {
+        self.reservation = None;
     }
 
     /// One more heartbeat of it is answered, of which so many ends named no container that was live on it. The result is the reply,

@@ -28,7 +28,7 @@ use std::marker::Model;
 
 /// The nodes that are present and the containers that are live on them, each in order of number, and the reservations in order of
 /// making. Contracts see them as the table of the flat cluster. A reservation is kept in a table of its own as a container that
-/// is not live, whose number is its place in the order of making.
+/// is not live, whose number is its place in the order of making, and a present node has the one that it holds beside it.
 #[derive(Drop)]
 pub struct Nodes<const K: usize> {
     present: Present<K>,
@@ -43,7 +43,7 @@ impl<const K: usize> Model for Nodes<K> {
     ghost use Rattle.cap_model.specs.RegisterNode.{sum_of_totals};
     ghost use Rattle.cap_base.specs.Members.{IsRising};
     ghost use Rattle.cap_vector.specs.Vector.{IsWithin, amount_max};
-    ghost use Rattle.cap_nodes.specs.Loads.{AreTied, reservation_of};
+    ghost use Rattle.cap_nodes.specs.Loads.{AreTied, HaveReservations, reservation_of};
 
     ghost Value = { NodeTable };
 
@@ -58,7 +58,8 @@ impl<const K: usize> Model for Nodes<K> {
     ghost invariant = { λ n. AreTied K n.present.loads n.live.containers
         × (n.total ≡ sum_of_totals K (map (λ p. p.node) n.present.loads))
         × IsRising 1 (map (λ p. p.node.number) n.present.loads) n.present.next
-        × IsWithin amount_max n.total };
+        × IsWithin amount_max n.total
+        × HaveReservations (map reservation_of n.reserved.containers) n.present.loads };
 }
 
 impl<const K: usize> Nodes<K> {
@@ -163,6 +164,26 @@ impl<const K: usize> Nodes<K> {
 
     /// The reservation that a node holds, the oldest where it holds several, none where it holds none.
     pub fn reservation_on(&self, node: u64) -> Option<Reservation<K>>
+        ensures { result ≡ find (λ r. r.node == node) self.now.reserved }
+    {
+        match self.present.get(node) {
+            Some(load) => load.reservation(),
+            None => self.oldest_for(node),
+        }
+    }
+
+    /// The reservation that the node at an index, in order of number, holds, the oldest where it holds several, none where it holds
+    /// none.
+    pub fn reservation_at(&self, index: usize) -> Option<Reservation<K>>
+        requires { index < length self.now.present }
+        ensures { IfSome (slice_get self.now.present index)
+            (λ node. result ≡ find (λ r. r.node == node.number) self.now.reserved) }
+    {
+        self.present.nth(index).reservation()
+    }
+
+    /// The oldest reservation for a node of a number, present or not, none where there is none.
+    fn oldest_for(&self, node: u64) -> Option<Reservation<K>>
         ensures { result ≡ find (λ r. r.node == node) self.now.reserved }
     {
         if self.reserved.count() == 0 {
@@ -288,7 +309,8 @@ impl<const K: usize> Nodes<K> {
         let Some(sum) = checked_add(&self.total, total) else {
             unreachable!()
         };
-        let number = match self.present.push(host, rack, total) {
+        let reservation = self.oldest_for(self.present.next());
+        let number = match self.present.push(host, rack, total, &reservation) {
             Ok(number) => number,
             Err(_) => return Err(NoMemory),
         };
@@ -350,9 +372,16 @@ impl<const K: usize> Nodes<K> {
             return Err(NoMemory);
         }
         match self.reserved.push(app, key, node, resource) {
-            Ok(_) => Ok(()),
-            Err(_) => Err(NoMemory),
+            Ok(_) => {}
+            Err(_) => return Err(NoMemory),
         }
+        self.present.reserve(&Reservation {
+            app,
+            key: *key,
+            node,
+            resource: *resource,
+        });
+        Ok(())
     }
 
     /// Drops the reservation that a node holds. Where it holds none, nothing changes.
@@ -364,6 +393,7 @@ impl<const K: usize> Nodes<K> {
         self.reserved.numbers_rise();
         if let Some(container) = self.reserved.next_on_node(node, 0) {
             self.reserved.remove(container.number());
+            self.present.unreserve(node);
         }
     }
 

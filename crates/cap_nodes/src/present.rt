@@ -6,11 +6,11 @@ ghost use Rattle.cap_vector.specs.Vector.{plus};
 ghost use Rattle.cap_base.specs.Limits.{nodes_max, number_end};
 ghost use Rattle.indexmap.specs.IndexMap.{get};
 ghost use Rattle.cap_base.specs.Texts.{is_text};
-ghost use Rattle.cap_nodes.specs.Loads.{CanHold, HasOne, HasCount, load_at, held_more, held_less, beaten_load, add_load, with_load};
+ghost use Rattle.cap_nodes.specs.Loads.{CanHold, HasOne, HasCount, load_at, held_more, held_less, beaten_load, reserved_load, unreserved_load, add_load, with_load};
 
 use crate::load::Load;
 use crate::node::Node;
-use cap_model::{HeartbeatReply, NoMemory, ShortText};
+use cap_model::{HeartbeatReply, NoMemory, Reservation, ShortText};
 use cap_vector::Resource;
 use indexmap::IndexMap;
 use std::alloc::Global;
@@ -103,17 +103,18 @@ impl<const K: usize> Present<K> {
         }
     }
 
-    /// One more, with no container, under the next number. `NoMemory` changes nothing.
+    /// One more, with no container and this reservation, under the next number. `NoMemory` changes nothing.
     pub(crate) fn push(
         &mut self,
         host: &ShortText,
         rack: &ShortText,
         total: &Resource<K>,
+        reservation: &Option<Reservation<K>>,
     ) -> Result<u64, NoMemory>
         requires few { length self.old.loads < nodes_max }
         requires numbered { self.old.next < number_end }
         ensures ok { IfOk result (λ number. (number ≡ self.old.next)
-            × (self.new ≡ add_load K host.now rack.now total.now self.old)) }
+            × (self.new ≡ add_load K host.now rack.now total.now reservation.now self.old)) }
         ensures err { OnErr result (self.new ≡ self.old) }
     {
         let number = self.next;
@@ -121,6 +122,7 @@ impl<const K: usize> Present<K> {
             node: Node::new(number, host, rack, total),
             held: Resource::zero(),
             live: 0,
+            reservation: *reservation,
         };
         let count = self.count_at(host) + 1;
         match self.loads.reserve(1) {
@@ -162,6 +164,27 @@ impl<const K: usize> Present<K> {
             Some(load) => load.lift(resource),
             None => unreachable!(),
         }
+    }
+
+    /// The node that a reservation is for holds it from now on, if it held none. Where that node is not present, nothing changes.
+    pub(crate) fn reserve(&mut self, reservation: &Reservation<K>)
+        ensures { self.new ≡
+            with_load reservation.now.node (reserved_load reservation.now) self.old }
+    {
+        let Some(load) = self.loads.get_mut(&reservation.node()) else {
+            return;
+        };
+        load.reserve(reservation);
+    }
+
+    /// A node holds no reservation any longer. Where none of this number is present, nothing changes.
+    pub(crate) fn unreserve(&mut self, number: u64)
+        ensures { self.new ≡ with_load number unreserved_load self.old }
+    {
+        let Some(load) = self.loads.get_mut(&number) else {
+            return;
+        };
+        load.unreserve();
     }
 
     /// One more heartbeat of a node is answered, of which so many ends named no container that was live there. The result is the

@@ -3,6 +3,7 @@ use Rattle.std.proofs.Common.{map, ◌∙◌, ap, sym, List, refl}
 use Rattle.cap_nodes.specs.Loads.{beaten_load, reservation_of}
 use Rattle.cap_model.specs.Flat.{ClusterNode, NodeTable}
 use Rattle.cap_nodes.proofs.Changes.{load_of_node, is_at, with_beat, nodes_beaten, totals_beaten, kept_shown, rising_changed}
+use Rattle.cap_nodes.proofs.Reserving.{have_changed}
 use Rattle.cap_nodes.proofs.nodes.Nodes.beat.Goals as goal
 
 pub beat-requires : goal.beat-requires
@@ -17,6 +18,7 @@ invariant_of-self g c =
       c.self.invariant.1 ∙ sym (totals_beaten g.row.K c.args.number c.args.ignored c.self.inside.present.loads),
       rising_changed c.args.number (beaten_load c.args.ignored) (λ p. refl) c.self.inside.present.loads c.self.inside.present.next c.self.invariant.2,
       c.self.invariant.3,
+      have_changed (map reservation_of c.self.inside.reserved.containers) c.args.number (beaten_load c.args.ignored) (λ p. (refl, refl)) c.self.inside.present.loads c.self.invariant.4,
     )
 
 pub returns-clause-table : goal.returns-clause-table

@@ -8,6 +8,7 @@ use Rattle.cap_model.specs.Flat.{ClusterNode, Container, NodeTable}
 use Rattle.cap_model.specs.RegisterNode.{sum_of_totals}
 use Rattle.cap_nodes.proofs.Changes.{nodes_of, no_load, without_empty, nodes_kept, total_fits, total_without}
 use Rattle.cap_nodes.proofs.Sums.{less_within}
+use Rattle.cap_nodes.proofs.Reserving.{have_kept}
 use Rattle.cap_nodes.proofs.nodes.Nodes.gone.Goals as goal
 
 pub unreachable-requires : goal.unreachable-requires
@@ -30,6 +31,7 @@ invariant_of-self g c =
       e ∙ total_without g.row.K c.self.inside.present.next c.args.number c.self.inside.present.loads c.in-Some.load.now c.self.invariant.2 (sym c.in-Some.ensures),
       rising_kept (λ (p : Load). p.node.number) (λ (p : Load). not (p.node.number == c.args.number)) 1 c.self.inside.present.loads c.self.inside.present.next c.self.invariant.2,
       less_within amount_max c.self.inside.total c.total.result c.minus-self-inside.result c.minus-self-inside.ensures c.self.invariant.3,
+      have_kept (map reservation_of c.self.inside.reserved.containers) c.args.number c.self.inside.present.loads c.self.invariant.4,
     )
 
 pub returns : goal.returns

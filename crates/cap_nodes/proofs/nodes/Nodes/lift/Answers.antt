@@ -7,6 +7,7 @@ use Rattle.cap_nodes.specs.Loads.{held_less, HasOne, reservation_of}
 use Rattle.cap_nodes.proofs.Presents.{if_found}
 use Rattle.cap_nodes.proofs.Changes.{home_of, has_it, nodes_of, without_one, same_nodes, at_of, rising_changed}
 use Rattle.cap_model.proofs.lists.Numbered.{one_completed}
+use Rattle.cap_nodes.proofs.Reserving.{have_changed}
 use Rattle.cap_nodes.proofs.nodes.Nodes.lift.Goals as goal
 
 pub lift-requires : goal.lift-requires
@@ -32,6 +33,7 @@ invariant_of-self g c =
       c.self.invariant.1 ∙ ap (sum_of_totals g.row.K) (sym (same_nodes c.args.container.now.node (held_less c.args.container.now.resource) c.self.inside.present.loads (λ p. refl))),
       rising_changed c.args.container.now.node (held_less c.args.container.now.resource) (λ p. refl) c.self.inside.present.loads c.self.inside.present.next c.self.invariant.2,
       c.self.invariant.3,
+      have_changed (map reservation_of c.self.inside.reserved.containers) c.args.container.now.node (held_less c.args.container.now.resource) (λ p. (refl, refl)) c.self.inside.present.loads c.self.invariant.4,
     )
 
 pub returns : goal.returns

@@ -9,7 +9,7 @@ use Rattle.cap_nodes.proofs.nodes.Nodes.new.Goals as goal
 pub invariant_of-result : goal.invariant_of-result
 invariant_of-result g c =
     let tied : AreTied g.row.K [] [] = record { ties = tt; homes = tt } in
-    rw (c.new.ensures, c.new-2.ensures, c.zero.ensures) (tied, sym (where-none g.row.K (λ (x : ClusterNode). true) (λ x. x.total) [] tt), omega arith, zeros_within amount_max g.row.K)
+    rw (c.new.ensures, c.new-2.ensures, c.zero.ensures) (tied, sym (where-none g.row.K (λ (x : ClusterNode). true) (λ x. x.total) [] tt), omega arith, zeros_within amount_max g.row.K, tt)
 
 pub new-requires : goal.new-requires
 new-requires g c = search present_fits

@@ -7,6 +7,7 @@ use Rattle.cap_nodes.specs.Loads.{Load, held_more, CanHold, reservation_of}
 use Rattle.cap_nodes.proofs.Ties.{has_room}
 use Rattle.cap_nodes.proofs.Presents.{of_found, if_found}
 use Rattle.cap_nodes.proofs.Changes.{load_of_node, is_at, tie_of, free_is, with_one, same_nodes, rising_changed}
+use Rattle.cap_nodes.proofs.Reserving.{have_changed}
 use Rattle.cap_nodes.proofs.nodes.Nodes.place.Goals as goal
 
 pub hold-requires : goal.hold-requires
@@ -35,6 +36,7 @@ invariant_of-self-2 g c =
       c.self.invariant.1 ∙ ap (sum_of_totals g.row.K) (sym (same_nodes c.args.node (held_more c.args.resource.now) c.self.inside.present.loads (λ p. refl))),
       rising_changed c.args.node (held_more c.args.resource.now) (λ p. refl) c.self.inside.present.loads c.self.inside.present.next c.self.invariant.2,
       c.self.invariant.3,
+      have_changed (map reservation_of c.self.inside.reserved.containers) c.args.node (held_more c.args.resource.now) (λ p. (refl, refl)) c.self.inside.present.loads c.self.invariant.4,
     )
 
 pub returns-clause-ok : goal.returns-clause-ok

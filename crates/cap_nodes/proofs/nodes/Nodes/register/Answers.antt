@@ -1,28 +1,30 @@
 use Rattle.std.proofs.lemmas.List.{length-map}
-use Rattle.cap_nodes.proofs.Sizes.{present_fits}
-use Rattle.std.proofs.Common.{◌≡◌, ◌∙◌, ap, sym, refl, true, None, length, arith}
+use Rattle.cap_nodes.proofs.Sizes.{present_fits, reservation_fits}
+use Rattle.std.proofs.Common.{◌≡◌, ◌∙◌, ap, sym, map, refl, true, None, length, arith}
 use Rattle.cap_vector.specs.Vector.{plus, zeros, IsWithin, amount_max}
 use Rattle.cap_vector.proofs.AmountLemmas.{amount-plus}
 use Rattle.cap_model.specs.Flat.{ClusterNode, NodeTable}
 use Rattle.cap_model.specs.RegisterNode.{sum_of_totals}
 use Rattle.cap_nodes.proofs.Sums.{where-push-own}
 use Rattle.cap_model.proofs.lists.Numbered.{rising_more}
-use Rattle.cap_nodes.specs.Loads.{Load}
+use Rattle.cap_nodes.specs.Loads.{Load, reservation_of}
 use Rattle.cap_nodes.proofs.Changes.{nodes_of, with_node, nodes_pushed}
+use Rattle.cap_nodes.proofs.Reserving.{have_pushed}
 use Rattle.cap_nodes.proofs.nodes.Nodes.register.Goals as goal
 
 pub invariant_of-self-2 : goal.invariant_of-self-2
 invariant_of-self-2 g c =
     let node : ClusterNode = record { number = c.self.inside.present.next; host = c.args.host.now; rack = c.args.rack.now; total = c.args.total.now; response = 0; kept = None } in
-    let load : Load = record { node = node; held = zeros g.row.K; live = 0 } in
+    let load : Load = record { node = node; held = zeros g.row.K; live = 0; reservation = c.oldest_for-reservation.result } in
     let within : IsWithin amount_max (plus (sum_of_totals g.row.K (nodes_of c.self.inside.present.loads)) c.args.total.now) = rw (← c.self.view_is) at c.requires.within in
     let small : IsWithin amount_max c.args.total.now = λ k. omega (arith, within k, amount-plus (sum_of_totals g.row.K (nodes_of c.self.inside.present.loads)) c.args.total.now k) in
     let count : length (plus (sum_of_totals g.row.K (nodes_of c.self.inside.present.loads)) c.args.total.now) ≡ g.row.K = rw c.self.invariant.1 at c.in-Some.ensures.count in
     rw c.in-Ok.ensures.ok.1 (
-      with_node g.row.K c.self.inside.present.loads c.self.inside.live.containers c.self.invariant.0 c.self.inside.present.next node c.self.invariant.2 refl small,
+      with_node g.row.K c.self.inside.present.loads c.self.inside.live.containers c.self.invariant.0 c.self.inside.present.next node c.oldest_for-reservation.result c.self.invariant.2 refl small,
       c.in-Some.ensures.some ∙ ap (λ v. plus v c.args.total.now) c.self.invariant.1 ∙ sym (where-push-own g.row.K (λ (x : ClusterNode). true) (λ x. x.total) (nodes_of c.self.inside.present.loads) node refl count) ∙ ap (sum_of_totals g.row.K) (sym (nodes_pushed c.self.inside.present.loads load)),
       rising_more (λ (p : Load). p.node.number) 1 c.self.inside.present.loads load c.self.inside.present.next refl c.self.invariant.2,
       λ k. rw (c.in-Some.ensures.some, c.self.invariant.1) (within k),
+      have_pushed (map reservation_of c.self.inside.reserved.containers) c.self.inside.present.loads load c.self.invariant.4 (rw (← c.self.view_is, c.next.ensures) at c.oldest_for-reservation.ensures),
     )
 
 pub checked_add-requires : goal.checked_add-requires
@@ -32,4 +34,4 @@ pub push-requires : goal.push-requires
 push-requires g c =
     let count = ap (λ (t : NodeTable). length t.present) c.self.view_is in
     let nodes = length-map c.self.inside.present.loads (λ p. p.node) in
-    (search present_fits, ((search), (omega (arith, count, nodes, c.requires.few), rw (← c.self.view_is) at c.requires.numbered)))
+    (search present_fits, ((search), (search reservation_fits, (omega (arith, count, nodes, c.requires.few), rw (← c.self.view_is) at c.requires.numbered))))

@@ -1,25 +1,16 @@
-use Rattle.cap_nodes.proofs.Sizes.{container_fits, containers_fit}
-use Rattle.std.proofs.Common.{◌∙◌, sym, Some, None}
-use Rattle.std.specs.Prelude.{◌==◌}
-use Rattle.cap_model.specs.Flat.{Reservation}
-use Rattle.cap_nodes.proofs.Walked.{first_kept}
+use Rattle.cap_nodes.proofs.Sizes.{load_fits, present_fits}
+use Rattle.std.proofs.Common.{◌∙◌, map, sym}
+use Rattle.cap_nodes.specs.Loads.{reservation_of}
+use Rattle.cap_nodes.proofs.Reserving.{its_own}
 use Rattle.cap_nodes.proofs.nodes.Nodes.reservation_on.Goals as goal
 
-pub returns-in_default : goal.returns-in_default
-returns-in_default g c =
+pub returns-in-Some : goal.returns-in-Some
+returns-in-Some g c =
     rw (← c.self.view_is)
-    (first_kept (λ (r : Reservation). r.node == c.args.node) c.self.inside.reserved.containers c.self.inside.reserved.next c.numbers_rise.ensures None (sym c.in_default.is ∙ c.next_on_node.ensures))
+    (c.reservation.ensures ∙ its_own (map reservation_of c.self.inside.reserved.containers) c.self.inside.present.loads c.args.node c.in-Some.load.now (sym c.in-Some.ensures) c.self.invariant.4)
 
-pub returns : goal.returns
-returns g c =
-    rw (← c.self.view_is, c.reservation_of.ensures)
-    (first_kept (λ (r : Reservation). r.node == c.args.node) c.self.inside.reserved.containers c.self.inside.reserved.next c.numbers_rise.ensures (Some c.in-Some.container) (sym c.in-Some.is ∙ c.next_on_node.ensures))
+pub reservation-requires : goal.reservation-requires
+reservation-requires g c = search load_fits
 
-pub reservation_of-requires : goal.reservation_of-requires
-reservation_of-requires g c = search container_fits
-
-pub next_on_node-requires : goal.next_on_node-requires
-next_on_node-requires g c = search (containers_fit, container_fits)
-
-pub numbers_rise-requires : goal.numbers_rise-requires
-numbers_rise-requires g c = search containers_fit
+pub get-requires : goal.get-requires
+get-requires g c = search (present_fits, load_fits)

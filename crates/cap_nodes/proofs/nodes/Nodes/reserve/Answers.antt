@@ -1,6 +1,10 @@
-use Rattle.std.proofs.Common.{arith}
-use Rattle.cap_nodes.proofs.Sizes.{containers_fit}
-use Rattle.cap_nodes.proofs.Changes.{sound_table}
+use Rattle.std.proofs.Common.{◌∷◌, ◌++◌, ◌∙◌, [], List, ap, arith, map, refl}
+use Rattle.std.proofs.lemmas.List.{map_push}
+use Rattle.cap_model.specs.Flat.{ClusterNode, Container, NodeTable, Reservation}
+use Rattle.cap_nodes.specs.Loads.{change_load, reservation_of, reserved_load}
+use Rattle.cap_nodes.proofs.Sizes.{containers_fit, present_fits, reservation_fits}
+use Rattle.cap_nodes.proofs.Changes.{same_nodes, sound_table}
+use Rattle.cap_nodes.proofs.Reserving.{holds_reserved}
 use Rattle.cap_nodes.proofs.nodes.Nodes.reserve.Goals as goal
 
 pub returns-then-count-ge-LIVE_MAX-clause-sound : goal.returns-then-count-ge-LIVE_MAX-clause-sound
@@ -8,10 +12,32 @@ returns-then-count-ge-LIVE_MAX-clause-sound g c =
     let x = c.self.inside in
     rw (← c.self.view_is) (sound_table g.row.K x.present.loads x.live.containers x.reserved.containers x.present.next x.live.next x.total c.self.invariant)
 
+pub returns-in-Err-clause-sound : goal.returns-in-Err-clause-sound
+returns-in-Err-clause-sound g c =
+    let x = c.self.inside in
+    rw c.in-Err.ensures.err (sound_table g.row.K x.present.loads x.live.containers x.reserved.containers x.present.next x.live.next x.total c.self.invariant)
+
+pub invariant_of-self-2 : goal.invariant_of-self-2
+invariant_of-self-2 g c =
+    let x = c.self.inside in
+    let container : Container = record { number = x.reserved.next; app = c.args.app; key = c.args.key.now; node = c.args.node; resource = c.args.resource.now } in
+    rw (c.reserve.ensures, c.in-Ok.ensures.ok.1) (holds_reserved g.row.K x.present.loads x.live.containers x.reserved.containers x.present.next x.total c.self.invariant container)
+
+pub returns-clause-ok : goal.returns-clause-ok
+returns-clause-ok g c =
+    let x = c.self.inside in
+    let container : Container = record { number = x.reserved.next; app = c.args.app; key = c.args.key.now; node = c.args.node; resource = c.args.resource.now } in
+    let tables : List ClusterNode → List Reservation → NodeTable = λ ns rs. record { present = ns; live = x.live.containers; reserved = rs; next_node = x.present.next; next_container = x.live.next } in
+    rw (← c.self.view_is, c.reserve.ensures, c.in-Ok.ensures.ok.1)
+    (ap (λ ns. tables ns (map reservation_of (x.reserved.containers ++ container ∷ []))) (same_nodes c.args.node (reserved_load (reservation_of container)) x.present.loads (λ p. refl))
+    ∙ ap (tables (map (λ p. p.node) x.present.loads)) (map_push reservation_of x.reserved.containers container))
+
 pub returns-clause-sound : goal.returns-clause-sound
 returns-clause-sound g c =
     let x = c.self.inside in
-    sound_table g.row.K x.present.loads x.live.containers c.push.new.self.containers x.present.next x.live.next x.total c.self.invariant
+    let container : Container = record { number = x.reserved.next; app = c.args.app; key = c.args.key.now; node = c.args.node; resource = c.args.resource.now } in
+    let loads = change_load c.args.node (reserved_load (reservation_of container)) x.present.loads in
+    rw (c.reserve.ensures, c.in-Ok.ensures.ok.1) (sound_table g.row.K loads x.live.containers (x.reserved.containers ++ container ∷ []) x.present.next x.live.next x.total (holds_reserved g.row.K x.present.loads x.live.containers x.reserved.containers x.present.next x.total c.self.invariant container))
 
 pub push-requires : goal.push-requires
 push-requires g c =
@@ -26,3 +52,6 @@ count-requires g c = search containers_fit
 
 pub next-requires : goal.next-requires
 next-requires g c = search containers_fit
+
+pub reserve-requires : goal.reserve-requires
+reserve-requires g c = (search present_fits, search reservation_fits)

@@ -11,7 +11,7 @@ use Rattle.cap_nodes.proofs.present.Present.push.Goals as goal
 
 pub invariant_of-self-2 : goal.invariant_of-self-2
 invariant_of-self-2 g c =
-    let load : Load = record { node = c.new.result; held = c.zero.result; live = 0 } in
+    let load : Load = record { node = c.new.result; held = c.zero.result; live = 0; reservation = c.args.reservation.now } in
     let loads = values_of c.self.inside.loads.entries in
     let few : length loads < nodes_max = rw (← c.self.view_is) at c.requires.few in
     let entries = c.in-Ok-insert.ensures.entries ∙ ap (λ (es : List (ℕ × Load)). insert_entry nat_eq es c.self.inside.next load) c.reserve.ensures.entries ∙ insert_entry-new nat_eq c.self.inside.loads c.self.inside.next load (absent c.self.inside.loads.entries c.self.inside.next c.self.invariant.0) in
@@ -20,7 +20,7 @@ invariant_of-self-2 g c =
 
 pub returns-clause-ok : goal.returns-clause-ok
 returns-clause-ok g c =
-    let load : Load = record { node = c.new.result; held = c.zero.result; live = 0 } in
+    let load : Load = record { node = c.new.result; held = c.zero.result; live = 0; reservation = c.args.reservation.now } in
     let loads = values_of c.self.inside.loads.entries in
     let few : length loads < nodes_max = rw (← c.self.view_is) at c.requires.few in
     let entries = c.in-Ok-insert.ensures.entries ∙ ap (λ (es : List (ℕ × Load)). insert_entry nat_eq es c.self.inside.next load) c.reserve.ensures.entries ∙ insert_entry-new nat_eq c.self.inside.loads c.self.inside.next load (absent c.self.inside.loads.entries c.self.inside.next c.self.invariant.0) in
