@@ -9,4 +9,5 @@ pub mod Changes
 pub mod Walked
 pub mod Reserved
 pub mod Reserving
+pub mod Most
 pub mod Sizes

@@ -1,5 +1,5 @@
 -- The parts of a table of nodes are no larger than memory, as the table is.
-use Rattle.std.proofs.Common.{◌≡◌, ℕ, ◌<◌, ◌^◌, arith, refl, subst}
+use Rattle.std.proofs.Common.{◌≡◌, ℕ, ◌≤◌, ◌<◌, ◌^◌, arith, refl, subst}
 use Rattle.std.specs.Borrow.{RattleType}
 use Rattle.std.specs.Mem.{FitsInMemory}
 use mathlib.Core.Option.{some}
@@ -8,6 +8,7 @@ use mir.Syntax.Ty.{ty_struct}
 use prog.Memory.{size, field_at}
 use prog.Align.{field_in}
 use denote.Param.{layout, number, param}
+use Rattle.cap_base.specs.Limits.{resources_max}
 use Rattle.cap_vector.specs.contracts.vector.Amounts as amounts
 use Rattle.cap_model.specs.contracts.container.Container as container
 use Rattle.cap_model.specs.contracts.container.Reservation as reservation
@@ -16,6 +17,7 @@ use Rattle.cap_nodes.specs.contracts.load.Load as load
 use Rattle.cap_nodes.specs.contracts.node.Node as node
 use Rattle.cap_nodes.specs.contracts.nodes.Nodes as nodes
 use Rattle.cap_nodes.specs.contracts.present.Present as present
+use Rattle.cap_nodes.proofs.Most.{fits_by_most}
 
 -- a field of a struct that fits
 field_fits : (τ σ : Ty) (k : ℕ) (ν : Sym) (τs : Tys) → τ ≡ ty_struct ν τs → (d : ℕ) → field_at 0 τs k ≡ some (σ, d) → size τ < 2 ^ 63 → size σ < 2 ^ 63
@@ -45,3 +47,7 @@ module _ (n : ℕ) (fits : FitsInMemory (nodes.the_row (param 0 (number n)))) wh
 
 pub amounts_fit : (n max : ℕ) → FitsInMemory (nodes.the_row (param 0 (number n))) → FitsInMemory (amounts.the_row (param 0 (number n)) (number max))
 amounts_fit n max fits = field_fits (layout (nodes.the_row (param 0 (number n)))) (layout (amounts.the_row (param 0 (number n)) (number max))) 3 _ _ refl _ refl fits
+
+-- as many kinds of resource as there can be leave the table no larger than memory
+pub nodes_of_few : (n : ℕ) → n ≤ resources_max → FitsInMemory (nodes.the_row (param 0 (number n)))
+nodes_of_few n few = fits_by_most (layout (nodes.the_row (param 0 (number n)))) (omega (arith, few))
