@@ -10,6 +10,7 @@ use Rattle.cap_model.specs.contracts.container.Reservation as reservation
 use Rattle.cap_model.specs.contracts.news.Grant as grant
 use Rattle.cap_asks.specs.contracts.app.App as app
 use Rattle.cap_asks.specs.contracts.apps.Apps as apps
+use Rattle.cap_nodes.specs.contracts.load.Load as load
 use Rattle.cap_nodes.specs.contracts.node.Node as node
 use Rattle.cap_nodes.specs.contracts.nodes.Nodes as nodes
 use Rattle.cap_tree.proofs.Sizes.{part_fits}
@@ -24,6 +25,9 @@ nodes_in_cluster K = part_fits (layout (cluster.the_row K)) (3 ∷ [])
 
 pub container_in_cluster : (K : RattleType) → FitsInMemory (cluster.the_row K) → FitsInMemory (container.the_row K)
 container_in_cluster K = part_fits (layout (cluster.the_row K)) (3 ∷ 1 ∷ 4 ∷ [])
+
+pub load_in_cluster : (K : RattleType) → FitsInMemory (cluster.the_row K) → FitsInMemory (load.the_row K)
+load_in_cluster K = part_fits (layout (cluster.the_row K)) (3 ∷ 0 ∷ 2 ∷ [])
 
 pub node_in_cluster : (K : RattleType) → FitsInMemory (cluster.the_row K) → FitsInMemory (node.the_row K)
 node_in_cluster K = part_fits (layout (cluster.the_row K)) (3 ∷ 0 ∷ 2 ∷ 0 ∷ [])

@@ -19,10 +19,11 @@ use Rattle.cap_base.proofs.lists.Tests.{value_of, not_none, same_test}
 use Rattle.cap_base.proofs.Amounts.{amounts_fit, fits_amounts}
 use Rattle.cap_laws.proofs.choice.Proposers.{seen_is}
 use Rattle.cap_laws.proofs.bounds.Wanting.{nodes_on, on_nodes}
-use Rattle.cap_nodes.specs.Tables.{free_on}
+use Rattle.cap_nodes.specs.Loads.{Load}
+use Rattle.cap_nodes.specs.Tables.{IsLoadIn, free_on}
 use Rattle.cap_laws.specs.Reservations.{AreReserved, fits_its_node}
 use Rattle.cap_commit.specs.ClusterState.{Parts, IsCluster, flat_of}
-use Rattle.cap_commit.specs.Admission.{own_reservation}
+use Rattle.cap_commit.specs.Admission.{load_sight, own_reservation}
 use Rattle.cap_laws.proofs.bounds.ReservedNodes.{its_node_there}
 
 module _ {K : ℕ} (p : Parts K) (h : IsCluster p) where
@@ -45,6 +46,11 @@ module _ {K : ℕ} (p : Parts K) (h : IsCluster p) where
 
   pub number_of : (n : ℕ) (x : ClusterNode) → node_at cluster n ≡ Some x → x.number ≡ n
   number_of n x e = let t = (found (λ (y : ClusterNode). y.number == n) cluster.nodes.present x e).1 in grind (arith, nat_tests, t)
+
+  pub load_seen : (n : ℕ) (x : Load) → Some x.node ≡ node_at cluster n → IsLoadIn K p.nodes x → Some (load_sight x) ≡ seen_node (sight_of cluster) n
+  load_seen n x at is =
+      (λ i. Some (record { number = x.node.number; host = x.node.host; rack = x.node.rack; total = x.node.total; free = less x.node.total (is.held i); reservation = is.reservation i }))
+      ∙ node_seen n at
 
   pub free_seen : (q : NodeProposal) → fits_free (sight_of cluster) q ≡ cond (is_some (node_at cluster q.node)) (fits q.resource (free_on K cluster.nodes q.node)) false
   free_seen q = ap (holds_of (λ (node : NodeSight). fits q.resource node.free)) (node_is_seen q.node) ∙ by (node_at cluster q.node) refl

@@ -1,11 +1,23 @@
 -- The tests of a proposal, by what they look at, and what a proposal takes back.
 use Rattle.std.specs.Prelude.{ℕ, Bool, List, Option, None, ◌&&◌, drop, if◌then◌else◌}
 use Rattle.std.specs.Option.{option_map_or}
-use Rattle.cap_vector.specs.Vector.{zeros}
+use Rattle.cap_vector.specs.Vector.{less, zeros}
 use Rattle.cap_model.specs.declared.proposal.Reason.{Reason}
 use Rattle.cap_model.specs.Flat.{Reservation}
-use Rattle.cap_model.specs.Sight.{Sight}
+use Rattle.cap_model.specs.Sight.{NodeSight, Sight}
 use Rattle.cap_model.specs.Admission.{NodeProposal, is_grant, is_reserved_for, node_reservation, reasons}
+use Rattle.cap_nodes.specs.Loads.{Load}
+
+-- what is seen of a node that is lent with what it holds and its reservation
+abbrev pub load_sight : Load → NodeSight
+load_sight p = record {
+  number = p.node.number;
+  host = p.node.host;
+  rack = p.node.rack;
+  total = p.node.total;
+  free = less p.node.total p.held;
+  reservation = p.reservation;
+}
 
 module _ {K : ℕ} where
   -- the tests of the limits of queues and user, and those after them; and the tests of numbers and sizes, the last of them

@@ -4,15 +4,16 @@ ghost use Rattle.std.specs.Option.{option_or};
 ghost use Rattle.std.specs.Result.{result_err};
 ghost use Rattle.cap_base.specs.Cascade.{earliest};
 ghost use Rattle.cap_model.specs.Flat.{app_at, is_for};
-ghost use Rattle.cap_model.specs.Sight.{app_sight, node_sight, seen_app, seen_node, sight_of};
+ghost use Rattle.cap_model.specs.Sight.{app_sight, seen_app, seen_node, sight_of};
 ghost use Rattle.cap_model.specs.Admission.{asks_resource, fits_free, fits_total, is_grant, is_wanted, node_reservation, proposed_ask, reason_of, suits_place};
+ghost use Rattle.cap_vector.specs.Vector.{Fits};
 ghost use Rattle.cap_asks.specs.Apps.{account_of};
-ghost use Rattle.cap_commit.specs.Admission.{is_own, limit_tests, size_tests, taken_back};
+ghost use Rattle.cap_commit.specs.Admission.{is_own, limit_tests, load_sight, size_tests, taken_back};
 
 use crate::cluster::Cluster;
 use cap_asks::App;
 use cap_model::{Ask, LIVE_MAX, NUMBER_END, Proposal, Reason, Reservation, takes_place};
-use cap_nodes::Node;
+use cap_nodes::Load;
 use cap_tree::OverLimit;
 use cap_vector::{Resource, fits};
 
@@ -38,7 +39,8 @@ impl<const K: usize> Cluster<K> {
         let Some(ask) = app.ask(&proposal.key()) else {
             return Err(Reason::NoAsk);
         };
-        let held = self.held(proposal);
+        let load = self.load(proposal);
+        let held = self.held(proposal, load);
         let own = self.is_own(proposal, &held);
         if !self.wants(proposal, &ask, own) {
             return Err(Reason::NoAsk);
@@ -46,16 +48,16 @@ impl<const K: usize> Cluster<K> {
         if !self.asks_resource(proposal, &ask) {
             return Err(Reason::OtherAsk);
         }
-        let Some(node) = self.node(proposal) else {
+        let Some(load) = load else {
             return Err(Reason::NoNode);
         };
-        if !self.suits(proposal, &ask, node) {
+        if !self.suits(proposal, &ask, load) {
             return Err(Reason::WrongPlace);
         }
         if held.is_some() & !own {
             return Err(Reason::ReservedByOther);
         }
-        let free = self.fits_free(proposal, node);
+        let free = self.fits_free(proposal, load);
         if proposal.is_grant() & !free {
             return Err(Reason::NoRoom);
         }
@@ -63,7 +65,7 @@ impl<const K: usize> Cluster<K> {
         if let Some(reason) = self.limit_reason(proposal, app, &old) {
             return Err(reason);
         }
-        match self.size_reason(proposal, node, free) {
+        match self.size_reason(proposal, load, free) {
             Some(reason) => Err(reason),
             None => Ok(old),
         }
@@ -87,11 +89,28 @@ impl<const K: usize> Cluster<K> {
         Some(app)
     }
 
+    /// The node of a proposal, with what it has left and the reservation that it holds.
+    fn load(&self, proposal: &Proposal<K>) -> Option<&Load<K>>
+        ensures seen { option_map (λ load. load_sight load.now) result
+            ≡ seen_node (sight_of self.now.flat) proposal.now.node }
+        ensures fits { IfSome result (λ load. Fits load.now.held load.now.node.total) }
+    {
+        let Some(load) = self.nodes.load(proposal.node()) else {
+            return None;
+        };
+        Some(load)
+    }
+
     /// The reservation that the node of a proposal holds.
-    fn held(&self, proposal: &Proposal<K>) -> Option<Reservation<K>>
+    fn held(&self, proposal: &Proposal<K>, load: Option<&Load<K>>) -> Option<Reservation<K>>
+        requires { option_map (λ load. load_sight load.now) load
+            ≡ seen_node (sight_of self.now.flat) proposal.now.node }
         ensures { result ≡ node_reservation (sight_of self.now.flat) proposal.now }
     {
-        self.nodes.reservation_on(proposal.node())
+        match load {
+            Some(load) => load.reservation(),
+            None => None,
+        }
     }
 
     /// Whether it is a grant that converts the reservation that its node holds.
@@ -124,43 +143,34 @@ impl<const K: usize> Cluster<K> {
         ask.resource().amounts() == proposal.resource().amounts()
     }
 
-    /// The node of a proposal.
-    fn node(&self, proposal: &Proposal<K>) -> Option<&Node<K>>
-        ensures { option_map (λ node. node_sight self.now.flat node.now) result
-            ≡ seen_node (sight_of self.now.flat) proposal.now.node }
-    {
-        let Some(node) = self.nodes.node(proposal.node()) else {
-            return None;
-        };
-        Some(node)
-    }
-
     /// Whether the ask's place is anywhere, the node's host or its rack.
-    fn suits(&self, proposal: &Proposal<K>, ask: &Ask<K>, node: &Node<K>) -> bool
+    fn suits(&self, proposal: &Proposal<K>, ask: &Ask<K>, load: &Load<K>) -> bool
         requires ask { proposed_ask (sight_of self.now.flat) proposal.now ≡ Some ask.now }
-        requires node { seen_node (sight_of self.now.flat) proposal.now.node
-            ≡ Some (node_sight self.now.flat node.now) }
+        requires seen { seen_node (sight_of self.now.flat) proposal.now.node
+            ≡ Some (load_sight load.now) }
         ensures { result ≡ suits_place (sight_of self.now.flat) proposal.now }
     {
+        let node = load.node();
         takes_place(&ask.place(), node.host(), node.rack())
     }
 
     /// Whether the resource fits what the node has left.
-    fn fits_free(&self, proposal: &Proposal<K>, node: &Node<K>) -> bool
-        requires { seen_node (sight_of self.now.flat) proposal.now.node
-            ≡ Some (node_sight self.now.flat node.now) }
+    fn fits_free(&self, proposal: &Proposal<K>, load: &Load<K>) -> bool
+        requires seen { seen_node (sight_of self.now.flat) proposal.now.node
+            ≡ Some (load_sight load.now) }
+        requires fits { Fits load.now.held load.now.node.total }
         ensures { result ≡ fits_free (sight_of self.now.flat) proposal.now }
     {
-        fits(&proposal.resource(), &self.nodes.free_of(proposal.node()))
+        fits(&proposal.resource(), &load.free())
     }
 
     /// Whether the resource fits what the node has in all.
-    fn fits_total(&self, proposal: &Proposal<K>, node: &Node<K>) -> bool
+    fn fits_total(&self, proposal: &Proposal<K>, load: &Load<K>) -> bool
         requires { seen_node (sight_of self.now.flat) proposal.now.node
-            ≡ Some (node_sight self.now.flat node.now) }
+            ≡ Some (load_sight load.now) }
         ensures { result ≡ fits_total (sight_of self.now.flat) proposal.now }
     {
-        fits(&proposal.resource(), &node.total())
+        fits(&proposal.resource(), &load.node().total())
     }
 
     /// The room that the proposal takes back, in MiB, vcores and GPUs: 0 of each where it converts no reservation.
@@ -204,9 +214,9 @@ impl<const K: usize> Cluster<K> {
     }
 
     /// The first reason of those that look at what the cluster and the node can have.
-    fn size_reason(&self, proposal: &Proposal<K>, node: &Node<K>, free: bool) -> Option<Reason>
-        requires node { seen_node (sight_of self.now.flat) proposal.now.node
-            ≡ Some (node_sight self.now.flat node.now) }
+    fn size_reason(&self, proposal: &Proposal<K>, load: &Load<K>, free: bool) -> Option<Reason>
+        requires seen { seen_node (sight_of self.now.flat) proposal.now.node
+            ≡ Some (load_sight load.now) }
         requires free { free ≡ fits_free (sight_of self.now.flat) proposal.now }
         ensures { result ≡ earliest (size_tests (sight_of self.now.flat) proposal.now) }
     {
@@ -216,7 +226,7 @@ impl<const K: usize> Cluster<K> {
         if !proposal.is_grant() && free {
             return Some(Reason::FitsNow);
         }
-        if !proposal.is_grant() && !self.fits_total(proposal, node) {
+        if !proposal.is_grant() && !self.fits_total(proposal, load) {
             return Some(Reason::NeverFits);
         }
         if self.nodes.next_container() >= NUMBER_END {

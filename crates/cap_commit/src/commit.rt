@@ -52,7 +52,6 @@ impl<const K: usize> Cluster<K> {
             Err(NoMemory) => return Err(NoMemory),
         };
         self.nodes.unreserve(node);
-        self.nodes.numbers_rise();
         let Some(home) = self.nodes.node(node) else {
             unreachable!()
         };

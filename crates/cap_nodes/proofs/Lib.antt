@@ -9,5 +9,6 @@ pub mod Changes
 pub mod Walked
 pub mod Reserved
 pub mod Reserving
+pub mod Holding
 pub mod Most
 pub mod Sizes

@@ -8,13 +8,10 @@ use Rattle.std.proofs.lemmas.Bool.Decides.{nat_tests}
 use Rattle.std.proofs.lemmas.List.{map_push}
 use Rattle.std.proofs.lemmas.List.Folds.{find-append}
 use Rattle.std.proofs.lemmas.Option.{slice_get-map}
-use Rattle.cap_model.specs.Flat.{ClusterNode, Container, Reservation}
+use Rattle.cap_model.specs.Flat.{Container, Reservation}
 use Rattle.cap_model.proofs.lists.Numbered.{find_gone, find_others}
-use Rattle.cap_vector.specs.Vector.{IsWithin, amount_max}
-use Rattle.cap_base.specs.Members.{IsRising}
-use Rattle.cap_model.specs.RegisterNode.{sum_of_totals}
-use Rattle.cap_nodes.specs.Loads.{Load, AreTied, HaveReservations, IsTied, load_at, change_load, reservation_of, reserved_load, unreserved_load}
-use Rattle.cap_nodes.proofs.Changes.{nodes_of, rising_changed, same_nodes, with_same}
+use Rattle.cap_nodes.specs.Loads.{Load, HaveReservations, load_at, change_load, reservation_of, reserved_load, unreserved_load}
+use Rattle.cap_nodes.proofs.Changes.{nodes_of}
 use Rattle.cap_nodes.proofs.Reserved.{is_elsewhere}
 use Rattle.cap_nodes.proofs.Ties.{all_kept, all_mapped, all_pushed, is_found}
 
@@ -37,7 +34,7 @@ all_either P Q n change (q ∷ loads) own other all = (by (q.node.number == n) r
     by true e = own q all.0 e
     by false e = other q all.0 e
 
-abbrev Has : List Reservation → Load → Type 0
+abbrev pub Has : List Reservation → Load → Type 0
 Has reserved p = p.reservation ≡ find (λ r. r.node == p.node.number) reserved
 
 module _ (reserved : List Reservation) where
@@ -100,30 +97,3 @@ have_more cs c loads have =
 
     other : (q : Load) → (q.node.number == c.node) ≡ false → (c.node == q.node.number) ≡ false
     other q e = grind (arith, nat_tests, e)
-
--- all that is true of a table of nodes
-abbrev Holds : ℕ → List Load → List Container → List Container → ℕ → List ℕ → Type 0
-Holds K loads live reserved next total =
-    AreTied K loads live × (total ≡ sum_of_totals K (nodes_of loads)) × IsRising 1 (map (λ p. p.node.number) loads) next × IsWithin amount_max total × HaveReservations (map reservation_of reserved) loads
-
-module _ (K : ℕ) (loads : List Load) (live reserved : List Container) (next : ℕ) (total : List ℕ) (h : Holds K loads live reserved next total) where
-  holds_still : (n : ℕ) (change : Load → Load) → ((p : Load) → (change p).node ≡ p.node) → ((p : Load) → IsTied K live p → IsTied K live (change p)) → (now : List Container) →
-      HaveReservations (map reservation_of now) (change_load n change loads) → Holds K (change_load n change loads) live now next total
-  holds_still n change keeps tie now have = (
-    with_same K loads live h.0 n change (λ p. ap (λ (x : ClusterNode). x.number) (keeps p)) tie,
-    h.1 ∙ ap (sum_of_totals K) (sym (same_nodes n change loads keeps)),
-    rising_changed n change (λ p. ap (λ (x : ClusterNode). x.number) (keeps p)) loads next h.2,
-    h.3,
-    have,
-  )
-
-  -- as a reservation is made, and as the one that a node holds is dropped
-  pub holds_reserved : (c : Container) → Holds K (change_load c.node (reserved_load (reservation_of c)) loads) live (reserved ++ c ∷ []) next total
-  holds_reserved c =
-      holds_still c.node (reserved_load (reservation_of c)) (λ p. refl) (λ p tie. record { held = tie.held; count = tie.count; fits = tie.fits; within = tie.within }) (reserved ++ c ∷ [])
-      (have_more reserved c loads h.4)
-
-  pub holds_dropped : (n : ℕ) (left : List Container) → map reservation_of left ≡ filter (is_elsewhere n) (map reservation_of reserved) → Holds K (change_load n unreserved_load loads) live left next total
-  holds_dropped n left e =
-      holds_still n unreserved_load (λ p. refl) (λ p tie. record { held = tie.held; count = tie.count; fits = tie.fits; within = tie.within }) left
-      (subst (λ rs. HaveReservations rs (change_load n unreserved_load loads)) (sym e) (have_fewer (map reservation_of reserved) n loads h.4))

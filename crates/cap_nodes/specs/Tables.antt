@@ -1,12 +1,13 @@
 -- What a node has left, and what is true of every table of nodes.
-use Rattle.std.specs.Prelude.{◌≡◌, ℕ, List, [], Option, Some, None, IsSome, true, map}
+use Rattle.std.specs.Prelude.{◌≡◌, ℕ, List, [], Option, Some, None, IsSome, true, find, map, ◌==◌}
 use Rattle.std.specs.List.{All}
-use Rattle.cap_vector.specs.Vector.{less, IsWithin, amount_max}
+use Rattle.cap_vector.specs.Vector.{Fits, less, IsWithin, amount_max}
 use Rattle.cap_base.specs.Amounts.{fits}
 use Rattle.cap_base.specs.Members.{IsRising}
 use Rattle.cap_model.specs.Flat.{ClusterNode, NodeTable, node_in}
 use Rattle.cap_model.specs.RegisterNode.{sum_of_totals}
 use Rattle.cap_model.specs.Uses.{held_on}
+use Rattle.cap_nodes.specs.Loads.{Load}
 
 -- what a node has left
 abbrev pub left_of : Option ClusterNode → List ℕ → List ℕ
@@ -23,3 +24,9 @@ pub record IsSound (K : ℕ) (table : NodeTable) : Type 0 where
   pub held : All (λ node. fits (held_on K table node.number) node.total ≡ true) table.present
   pub homes : All (λ c. IsSome (node_in table c.node)) table.live
   pub totals : IsWithin amount_max (sum_of_totals K table.present)
+
+-- a node with what the live containers on it hold, which fits its total, and the oldest reservation for it, as a table has them
+pub record IsLoadIn (K : ℕ) (table : NodeTable) (p : Load) : Type 0 where
+  pub held : p.held ≡ held_on K table p.node.number
+  pub fits : Fits p.held p.node.total
+  pub reservation : p.reservation ≡ find (λ r. r.node == p.node.number) table.reserved

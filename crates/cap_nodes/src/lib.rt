@@ -9,5 +9,6 @@ mod owners;
 mod present;
 
 pub use cap_model::{Container, HeartbeatReply};
+pub use load::Load;
 pub use node::Node;
 pub use nodes::Nodes;

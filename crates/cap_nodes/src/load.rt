@@ -8,9 +8,9 @@ use cap_model::{HeartbeatReply, Reservation};
 use cap_vector::{Resource, checked_add, minus};
 use std::marker::Model;
 
-/// A node, with what its live containers hold, how many they are, and the reservation that it holds.
+/// A node that is present, with what its live containers hold, how many they are, and the reservation that it holds.
 #[derive(Drop)]
-pub(crate) struct Load<const K: usize> {
+pub struct Load<const K: usize> {
     pub(crate) node: Node<K>,
     pub(crate) held: Resource<K>,
     pub(crate) live: u32,
@@ -42,7 +42,7 @@ impl<const K: usize> Load<K> {
     }
 
     /// The node.
-    pub(crate) fn node(&self) -> &Node<K>
+    pub fn node(&self) -> &Node<K>
         ensures { result.now ≡ self.now.node }
     {
         &self.node
@@ -56,14 +56,14 @@ impl<const K: usize> Load<K> {
     }
 
     /// The reservation that it holds, the oldest where there are several for it.
-    pub(crate) fn reservation(&self) -> Option<Reservation<K>>
+    pub fn reservation(&self) -> Option<Reservation<K>>
         ensures { result ≡ self.now.reservation }
     {
         self.reservation
     }
 
     /// What it has left, in MiB, vcores and GPUs.
-    pub(crate) fn free(&self) -> Resource<K>
+    pub fn free(&self) -> Resource<K>
         requires { Fits self.now.held self.now.node.total }
         ensures { result ≡ less self.now.node.total self.now.held }
     {

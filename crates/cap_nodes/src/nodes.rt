@@ -1,5 +1,5 @@
 //! The nodes, the live containers on them, and the reservations (`Nodes`).
-ghost use Rattle.std.specs.Prelude.{◌≡◌, ◌+◌, ◌<◌, ◌≤◌, ◌==◌, ◌&&◌, ◌++◌, nat_lt, [], ◌∷◌, IsSome, Some, IfOk, IfSome, OnOk, OnErr, bytes_eq, length, map, find, filter, not, true, false, is_none, option_and_then};
+ghost use Rattle.std.specs.Prelude.{◌≡◌, ◌+◌, ◌<◌, ◌≤◌, ◌==◌, ◌&&◌, ◌++◌, nat_lt, [], ◌∷◌, IsSome, Some, IfOk, IfSome, OnOk, OnErr, bytes_eq, length, map, find, filter, not, true, false, is_none, option_and_then, option_map};
 ghost use Rattle.std.specs.List.{All, list_any, slice_get};
 ghost use Rattle.std.specs.Option.{option_copied};
 ghost use Rattle.cap_vector.specs.Vector.{Fits, IsWithin, amount_max, plus};
@@ -13,10 +13,11 @@ ghost use Rattle.cap_model.specs.Events.{add_reservation};
 ghost use Rattle.cap_model.specs.Ending.{complete};
 ghost use Rattle.cap_model.specs.NodeGone.{remove_node};
 ghost use Rattle.cap_model.specs.Uses.{held_on};
-ghost use Rattle.cap_nodes.specs.Tables.{free_on, IsSound};
+ghost use Rattle.cap_nodes.specs.Tables.{free_on, IsLoadIn, IsSound};
 ghost use Rattle.cap_nodes.specs.Loads.{add_container, new_reservation, reservation_of, after_beat_of, keys_reserved_by, made_after};
 
 use crate::containers::Containers;
+use crate::load::Load;
 use crate::node::Node;
 use crate::present::Present;
 use cap_model::{
@@ -88,6 +89,15 @@ impl<const K: usize> Nodes<K> {
             Some(load) => Some(load.node()),
             None => None,
         }
+    }
+
+    /// The node of this number with what it has left and the reservation that it holds, none where none is present.
+    pub fn load(&self, number: u64) -> Option<&Load<K>>
+        ensures node { option_map (λ load. load.node) (option_copied result)
+            ≡ node_in self.now number }
+        ensures load { IfSome (option_copied result) (IsLoadIn K self.now) }
+    {
+        self.present.get(number)
     }
 
     /// The node at an index, in order of number.
@@ -271,17 +281,6 @@ impl<const K: usize> Nodes<K> {
         }
     }
 
-    /// What a present node has left, in MiB, vcores and GPUs.
-    pub fn free_of(&self, number: u64) -> Resource<K>
-        requires { IsSome (node_in self.now number) }
-        ensures { result ≡ free_on K self.now number }
-    {
-        match self.present.get(number) {
-            Some(load) => load.free(),
-            None => unreachable!(),
-        }
-    }
-
     /// What the node at an index, in order of number, has left, in MiB, vcores and GPUs.
     pub fn free_at(&self, index: usize) -> Resource<K>
         requires { index < length self.now.present }
@@ -319,7 +318,8 @@ impl<const K: usize> Nodes<K> {
     }
 
     /// A container of this resource, in MiB, vcores and GPUs, becomes live on a present node that has room for it, for the key
-    /// of an application, under the next number, which is the result. `NoMemory` changes nothing.
+    /// of an application, under the next number, which is the result. `NoMemory` changes nothing. What is true of every table is
+    /// known of the new one.
     pub fn place(
         &mut self,
         app: u64,
@@ -334,6 +334,7 @@ impl<const K: usize> Nodes<K> {
         ensures ok { IfOk result (λ number. (number ≡ self.old.next_container)
             × (self.new ≡ add_container app key.now node resource.now self.old)) }
         ensures err { OnErr result (self.new ≡ self.old) }
+        ensures sound { IsSound K self.new }
     {
         let number = match self.live.push(app, key, node, resource) {
             Ok(number) => number,

@@ -1,5 +1,5 @@
 use Rattle.std.proofs.Common.{sym, arith}
-use Rattle.cap_commit.proofs.Fitting.{amounts_in_cluster, app_fits, ask_in_cluster, node_in_cluster, reservation_in_cluster}
+use Rattle.cap_commit.proofs.Fitting.{amounts_in_cluster, app_fits, ask_in_cluster, load_in_cluster, reservation_in_cluster}
 use Rattle.cap_commit.proofs.cluster.Cluster.admit.Goals as goal
 
 pub registered-requires : goal.registered-requires
@@ -9,16 +9,16 @@ pub ask-requires : goal.ask-requires
 ask-requires g c = search (app_fits, ask_in_cluster)
 
 pub held-held-requires : goal.held-held-requires
-held-held-requires g c = search reservation_in_cluster
+held-held-requires g c = search (load_in_cluster, reservation_in_cluster)
 
-pub node-requires : goal.node-requires
-node-requires g c = search node_in_cluster
+pub load-load-requires : goal.load-load-requires
+load-load-requires g c = search load_in_cluster
 
 pub size_reason-requires : goal.size_reason-requires
-size_reason-requires g c = ((search), ((search), (search node_in_cluster, (sym c.in-Some-node.ensures, c.fits_free-free.ensures))))
+size_reason-requires g c = ((search), ((search), (search load_in_cluster, (sym c.in-Some-load.ensures.seen, c.fits_free-free.ensures))))
 
 pub fits_free-free-requires : goal.fits_free-free-requires
-fits_free-free-requires g c = ((search), ((search), (search node_in_cluster, sym c.in-Some-node.ensures)))
+fits_free-free-requires g c = ((search), ((search), (search load_in_cluster, (sym c.in-Some-load.ensures.seen, c.in-Some-load.ensures.fits))))
 
 pub is_own-own-requires : goal.is_own-own-requires
 is_own-own-requires g c = search reservation_in_cluster

@@ -1,8 +1,9 @@
-use Rattle.std.proofs.Common.{◌∙◌}
+use Rattle.std.proofs.Common.{ap, ◌∙◌}
 use Rattle.cap_base.specs.Amounts.{fits}
+use Rattle.cap_model.specs.Flat.{ClusterNode}
 use Rattle.cap_commit.proofs.Seen.{fits_is}
 use Rattle.cap_commit.proofs.cluster.Cluster.fits_total.Goals as goal
 
 pub returns : goal.returns
 returns g c =
-    rw c.requires (fits_is c.fits.result c.resource.result c.total.result c.fits.ensures ∙ (λ i. fits (c.resource.ensures.value i) (c.total.ensures.value i)))
+    rw c.requires (fits_is c.fits.result c.resource.result c.total.result c.fits.ensures ∙ (λ i. fits (c.resource.ensures.value i) ((c.total.ensures.value ∙ ap (λ (n : ClusterNode). n.total) c.node.ensures) i)))

@@ -73,7 +73,8 @@ apply-requires g c =
     let position = c.position.ensures ∙ position_is _ c.self.invariant c.app-app.result c.in-Some-app.owner.now found c.in-Some-app.ensures.account in
     let nodes = c.unreserve.ensures ∙ ap (λ (t : NodeTable). record t { reserved = filter (λ (r : Reservation). not (r.node == c.node-node.result)) t.reserved }) c.in-Ok-place.ensures.ok.1
     ∙ (λ i. nodes_with x.nodes (c.app-app.ensures i) (c.key-key.ensures i) (c.node-node.ensures i) (c.resource-resource.ensures.value i)) in
-    let sound : IsSound g.row.K c.unreserve.new.self = record { rising = c.numbers_rise.ensures.nodes; held = c.in-Some.ensures.held; homes = c.in-Some.ensures.homes; totals = c.in-Some.ensures.totals } in
+    let placed = c.place.ensures.sound in
+    let sound : IsSound g.row.K c.unreserve.new.self = rw c.unreserve.ensures (record { rising = placed.rising; held = placed.held; homes = placed.homes; totals = placed.totals }) in
     let kinds = c.self.invariant.resources in (
       tree_fits _ c.self.invariant.resources,
       (
@@ -176,9 +177,6 @@ unreserve-requires g c = (search nodes_in_cluster, subst AreApart (sym (ap (λ (
 
 pub returns-in-Err-clause-err : goal.returns-in-Err-clause-err
 returns-in-Err-clause-err g c = c.room_for_grant.ensures.flat
-
-pub numbers_rise-requires : goal.numbers_rise-requires
-numbers_rise-requires g c = search nodes_in_cluster
 
 pub node-requires : goal.node-requires
 node-requires g c = search (nodes_in_cluster, node_in_cluster)

@@ -1,10 +1,11 @@
-use Rattle.cap_commit.proofs.Fitting.{nodes_in_cluster}
-use Rattle.std.proofs.Common.{sym}
-use Rattle.cap_commit.proofs.Seen.{reservation_is_seen}
+use Rattle.std.proofs.Common.{ap, sym, ◌∙◌}
+use Rattle.std.specs.Prelude.{option_and_then, option_map}
+use Rattle.cap_model.specs.Sight.{NodeSight}
+use Rattle.cap_commit.specs.Admission.{load_sight}
 use Rattle.cap_commit.proofs.cluster.Cluster.held.Goals as goal
 
-pub returns : goal.returns
-returns g c = rw (← c.self.view_is, c.reservation_on.ensures, c.node.ensures) (sym (reservation_is_seen _ c.self.invariant c.args.proposal.now))
+pub returns-in-Some : goal.returns-in-Some
+returns-in-Some g c = c.reservation.ensures ∙ ap (option_and_then (λ (n : NodeSight). n.reservation)) (ap (option_map (λ l. load_sight l.now)) (sym c.in-Some.is) ∙ c.requires)
 
-pub reservation_on-requires : goal.reservation_on-requires
-reservation_on-requires g c = search nodes_in_cluster
+pub returns-in-None : goal.returns-in-None
+returns-in-None g c = ap (option_and_then (λ (n : NodeSight). n.reservation)) (ap (option_map (λ l. load_sight l.now)) (sym c.in-None.is) ∙ c.requires)

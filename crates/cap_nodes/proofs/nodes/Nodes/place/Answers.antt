@@ -1,13 +1,12 @@
 use Rattle.cap_nodes.proofs.Sizes.{present_fits, containers_fit, amounts_fit}
-use Rattle.std.proofs.Common.{map, ◌≡◌, ◌∙◌, ◌+◌, ◌++◌, ◌∷◌, [], ap, sym, List, refl, length}
+use Rattle.std.proofs.Common.{map, ◌≡◌, ◌+◌, ◌++◌, ◌∷◌, [], ap, List, refl, length}
 use Rattle.cap_vector.specs.Vector.{plus, less, Fits}
 use Rattle.cap_model.specs.Flat.{ClusterNode, Container, NodeTable}
-use Rattle.cap_model.specs.RegisterNode.{sum_of_totals}
-use Rattle.cap_nodes.specs.Loads.{Load, held_more, CanHold, reservation_of}
+use Rattle.cap_nodes.specs.Loads.{Load, change_load, held_more, CanHold, reservation_of}
 use Rattle.cap_nodes.proofs.Ties.{has_room}
 use Rattle.cap_nodes.proofs.Presents.{of_found, if_found}
-use Rattle.cap_nodes.proofs.Changes.{load_of_node, is_at, tie_of, free_is, with_one, same_nodes, rising_changed}
-use Rattle.cap_nodes.proofs.Reserving.{have_changed}
+use Rattle.cap_nodes.proofs.Changes.{load_of_node, is_at, tie_of, free_is, same_nodes, sound_table}
+use Rattle.cap_nodes.proofs.Holding.{holds_placed}
 use Rattle.cap_nodes.proofs.nodes.Nodes.place.Goals as goal
 
 pub hold-requires : goal.hold-requires
@@ -27,17 +26,29 @@ hold-requires g c =
 
 pub invariant_of-self-2 : goal.invariant_of-self-2
 invariant_of-self-2 g c =
-    let at = load_of_node c.self.inside.present.loads c.args.node (rw (← c.self.view_is) at c.requires.present) in
-    let container : Container = record { number = c.self.inside.live.next; app = c.args.app; key = c.args.key.now; node = c.args.node; resource = c.args.resource.now } in
-    let room : Fits c.args.resource.now (less at.load.node.total at.load.held) = rw (free_is g.row.K c.self.inside.present.loads c.self.inside.live.containers c.self.invariant.0 c.args.node at.load at.at) (rw (← c.self.view_is) at c.requires.room) in
+    let x = c.self.inside in
+    let at = load_of_node x.present.loads c.args.node (rw (← c.self.view_is) at c.requires.present) in
+    let container : Container = record { number = x.live.next; app = c.args.app; key = c.args.key.now; node = c.args.node; resource = c.args.resource.now } in
+    let room : Fits c.args.resource.now (less at.load.node.total at.load.held) = rw (free_is g.row.K x.present.loads x.live.containers c.self.invariant.0 c.args.node at.load at.at) (rw (← c.self.view_is) at c.requires.room) in
     let count = of_found (λ (p : Load). length (plus p.held c.args.resource.now) ≡ g.row.K) _ at.load at.at c.hold.ensures.count in
-    rw (c.hold.ensures.more, c.in-Ok.ensures.ok.1) (
-      with_one g.row.K c.self.inside.present.loads c.self.inside.live.containers c.self.invariant.0 c.self.inside.present.next c.args.node at.load container c.self.invariant.2 at.at refl room count,
-      c.self.invariant.1 ∙ ap (sum_of_totals g.row.K) (sym (same_nodes c.args.node (held_more c.args.resource.now) c.self.inside.present.loads (λ p. refl))),
-      rising_changed c.args.node (held_more c.args.resource.now) (λ p. refl) c.self.inside.present.loads c.self.inside.present.next c.self.invariant.2,
-      c.self.invariant.3,
-      have_changed (map reservation_of c.self.inside.reserved.containers) c.args.node (held_more c.args.resource.now) (λ p. (refl, refl)) c.self.inside.present.loads c.self.invariant.4,
-    )
+    rw (c.hold.ensures.more, c.in-Ok.ensures.ok.1) (holds_placed g.row.K x.present.loads x.live.containers x.reserved.containers x.present.next x.total c.self.invariant c.args.node at.load container at.at refl room count)
+
+pub returns-clause-sound : goal.returns-clause-sound
+returns-clause-sound g c =
+    let x = c.self.inside in
+    let at = load_of_node x.present.loads c.args.node (rw (← c.self.view_is) at c.requires.present) in
+    let container : Container = record { number = x.live.next; app = c.args.app; key = c.args.key.now; node = c.args.node; resource = c.args.resource.now } in
+    let room : Fits c.args.resource.now (less at.load.node.total at.load.held) = rw (free_is g.row.K x.present.loads x.live.containers c.self.invariant.0 c.args.node at.load at.at) (rw (← c.self.view_is) at c.requires.room) in
+    let count = of_found (λ (p : Load). length (plus p.held c.args.resource.now) ≡ g.row.K) _ at.load at.at c.hold.ensures.count in
+    let now = change_load c.args.node (held_more c.args.resource.now) x.present.loads in
+    rw (c.hold.ensures.more, c.in-Ok.ensures.ok.1)
+    (sound_table g.row.K now (x.live.containers ++ container ∷ []) x.reserved.containers x.present.next (x.live.next + 1) x.total
+    (holds_placed g.row.K x.present.loads x.live.containers x.reserved.containers x.present.next x.total c.self.invariant c.args.node at.load container at.at refl room count))
+
+pub returns-in-Err-clause-sound : goal.returns-in-Err-clause-sound
+returns-in-Err-clause-sound g c =
+    let x = c.self.inside in
+    rw c.in-Err.ensures.err (sound_table g.row.K x.present.loads x.live.containers x.reserved.containers x.present.next x.live.next x.total c.self.invariant)
 
 pub returns-clause-ok : goal.returns-clause-ok
 returns-clause-ok g c =

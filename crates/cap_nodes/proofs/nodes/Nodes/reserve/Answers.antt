@@ -4,7 +4,7 @@ use Rattle.cap_model.specs.Flat.{ClusterNode, Container, NodeTable, Reservation}
 use Rattle.cap_nodes.specs.Loads.{change_load, reservation_of, reserved_load}
 use Rattle.cap_nodes.proofs.Sizes.{containers_fit, present_fits, reservation_fits}
 use Rattle.cap_nodes.proofs.Changes.{same_nodes, sound_table}
-use Rattle.cap_nodes.proofs.Reserving.{holds_reserved}
+use Rattle.cap_nodes.proofs.Holding.{holds_reserved}
 use Rattle.cap_nodes.proofs.nodes.Nodes.reserve.Goals as goal
 
 pub returns-then-count-ge-LIVE_MAX-clause-sound : goal.returns-then-count-ge-LIVE_MAX-clause-sound

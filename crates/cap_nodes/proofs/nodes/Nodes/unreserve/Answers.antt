@@ -5,7 +5,7 @@ use Rattle.cap_model.specs.Flat.{ClusterNode, Container, NodeTable, Reservation}
 use Rattle.cap_nodes.specs.Loads.{reservation_of, unreserved_load}
 use Rattle.cap_nodes.proofs.Changes.{same_nodes}
 use Rattle.cap_nodes.proofs.Reserved.{one_dropped, none_dropped}
-use Rattle.cap_nodes.proofs.Reserving.{holds_dropped}
+use Rattle.cap_nodes.proofs.Holding.{holds_dropped}
 use Rattle.cap_nodes.proofs.nodes.Nodes.unreserve.Goals as goal
 
 pub invariant_of-self : goal.invariant_of-self
