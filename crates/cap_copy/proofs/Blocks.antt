@@ -9,7 +9,8 @@ use Rattle.std.proofs.lemmas.List.Concat.{flat_map-cons}
 use Rattle.std.proofs.lemmas.List.Elements.{filter-append}
 use Rattle.std.proofs.lemmas.Option.{same_Some}
 use Rattle.cap_base.specs.Members.{IsRising}
-use Rattle.cap_model.specs.Flat.{App, NodeTable}
+use Rattle.cap_model.specs.Flat.{App}
+use Rattle.cap_model.specs.Sight.{NodeSight}
 use Rattle.cap_base.proofs.lists.Filters.{map_twice}
 use Rattle.cap_model.proofs.lists.Numbered.{rising_from_low}
 use Rattle.cap_base.proofs.lists.Tests.{same_test}
@@ -70,7 +71,7 @@ nothing_either : {A : Type 0} (b : Bool) → ◌≡◌ {A = List A} [] (cond b [
 nothing_either true = refl
 nothing_either false = refl
 
-module _ (nodes : NodeTable) (apps : List App) (high : ℕ) (rising : IsRising 1 (map (λ app. app.number) apps) high) where
+module _ (nodes : List NodeSight) (apps : List App) (high : ℕ) (rising : IsRising 1 (map (λ app. app.number) apps) high) where
   -- the asks of one application are those that have its number
   part_of : (i : ℕ) (app : App) → slice_get apps i ≡ Some app → (j : ℕ) → filter (λ e. e.app == app.number) (asks_at nodes apps j) ≡ cond (j == i) (asks_at nodes apps j) []
   part_of i app at j = by (slice_get apps j) refl

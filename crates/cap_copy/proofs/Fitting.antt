@@ -1,22 +1,22 @@
 -- What a snapshot is made of, and what it is taken from, are no larger than memory.
-use Rattle.std.proofs.Common.{ℕ, ◌≤◌, arith}
+use Rattle.std.proofs.Common.{ℕ, ◌<◌, ◌≤◌, ◌^◌, [], ◌∷◌, arith}
 use Rattle.std.specs.Mem.{FitsInMemory}
-use denote.Param.{number, param}
+use Rattle.std.specs.Borrow.{RattleType}
+use Rattle.std.specs.declared.alloc.Allocator.{Ghosts}
+use prog.Memory.{size}
+use denote.Param.{layout, number, param}
 use Rattle.cap_base.specs.Limits.{resources_max}
 use Rattle.cap_model.specs.contracts.ask.Ask as ask
 use Rattle.cap_model.specs.contracts.container.Reservation as reservation
+use Rattle.cap_vector.specs.contracts.vector.Amounts as amounts
+use Rattle.cap_tree.specs.contracts.seen.SeenTree as seen_tree
+use Rattle.cap_tree.proofs.Sizes.{part, part_fits}
 use Rattle.cap_nodes.specs.contracts.nodes.Nodes as nodes
-use Rattle.cap_nodes.proofs.Sizes.{container_fits, node_fits, nodes_of_few as fits_of_few}
-use Rattle.cap_copy.specs.contracts.seen_limits.SeenQueue as seen_queue
-use Rattle.cap_copy.specs.contracts.seen_limits.SeenUser as seen_user
+use Rattle.cap_nodes.proofs.Sizes.{container_fits, nodes_of_few as fits_of_few}
+use Rattle.cap_copy.specs.contracts.snapshot.Snapshot as snapshot
+use Rattle.cap_copy.specs.contracts.seen_app.SeenApp as seen_app
 use Rattle.cap_copy.specs.contracts.seen.SeenAsk as seen_ask
 use Rattle.cap_copy.specs.contracts.seen.SeenNode as seen_node
-
-pub ask_by_nodes : (n : ℕ) → FitsInMemory (nodes.the_row (param 0 (number n))) → FitsInMemory (ask.the_row (param 0 (number n)))
-ask_by_nodes n fits = let whole = node_fits n fits in omega (arith, whole)
-
-pub seen_ask_by_nodes : (n : ℕ) → FitsInMemory (nodes.the_row (param 0 (number n))) → FitsInMemory (seen_ask.the_row (param 0 (number n)))
-seen_ask_by_nodes n fits = let whole = node_fits n fits in omega (arith, whole)
 
 pub reservation_by_nodes : (n : ℕ) → FitsInMemory (nodes.the_row (param 0 (number n))) → FitsInMemory (reservation.the_row (param 0 (number n)))
 reservation_by_nodes n fits = let whole = container_fits n fits in omega (arith, whole)
@@ -27,8 +27,24 @@ nodes_of_few n few = fits_of_few n few
 pub seen_node_of_few : (n : ℕ) → n ≤ resources_max → FitsInMemory (seen_node.the_row (param 0 (number n)))
 seen_node_of_few n few = omega (arith, few)
 
-pub seen_queue_of_few : (n : ℕ) → n ≤ resources_max → FitsInMemory (seen_queue.the_row (param 0 (number n)))
-seen_queue_of_few n few = omega (arith, few)
+pub ask_of_few : (n : ℕ) → n ≤ resources_max → FitsInMemory (ask.the_row (param 0 (number n)))
+ask_of_few n few = omega (arith, few)
 
-pub seen_user_of_few : (n : ℕ) → n ≤ resources_max → FitsInMemory (seen_user.the_row (param 0 (number n)))
-seen_user_of_few n few = omega (arith, few)
+pub reservation_of_few : (n : ℕ) → n ≤ resources_max → FitsInMemory (reservation.the_row (param 0 (number n)))
+reservation_of_few n few = omega (arith, few)
+
+pub seen_ask_of_few : (n : ℕ) → n ≤ resources_max → FitsInMemory (seen_ask.the_row (param 0 (number n)))
+seen_ask_of_few n few = omega (arith, few)
+
+pub seen_app_of_few : (n : ℕ) → n ≤ resources_max → FitsInMemory (seen_app.the_row (param 0 (number n)))
+seen_app_of_few n few = omega (arith, few)
+
+pub tree_in_snapshot : (K A : RattleType) (alloc : Ghosts A.Denot) → FitsInMemory (snapshot.the_row K A alloc) → FitsInMemory (seen_tree.the_row K A alloc)
+tree_in_snapshot K A alloc = part_fits (layout (snapshot.the_row K A alloc)) (0 ∷ [])
+
+pub amounts_in_snapshot : (K MAX A : RattleType) (alloc : Ghosts A.Denot) → FitsInMemory (snapshot.the_row K A alloc) → FitsInMemory (amounts.the_row K MAX)
+amounts_in_snapshot K MAX A alloc = part_fits (layout (snapshot.the_row K A alloc)) (0 ∷ 0 ∷ 0 ∷ 1 ∷ [])
+
+-- and so is a queue of its tree
+pub queue_in_snapshot : (K A : RattleType) (alloc : Ghosts A.Denot) → FitsInMemory (snapshot.the_row K A alloc) → size (part (layout (snapshot.the_row K A alloc)) (0 ∷ 0 ∷ 0 ∷ [])) < 2 ^ 63
+queue_in_snapshot K A alloc = part_fits (layout (snapshot.the_row K A alloc)) (0 ∷ 0 ∷ 0 ∷ [])

@@ -1,8 +1,9 @@
 pub mod Blocks
 pub mod Found
-pub mod Limiting
 pub mod ServedAsks
 pub mod Ranging
+pub mod Reserving
+pub mod Seeing
 pub mod Sights
 pub mod LoopSteps
 pub mod Fitting

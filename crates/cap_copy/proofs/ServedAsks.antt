@@ -15,8 +15,8 @@ use Rattle.cap_model.specs.Asks.{Ask, ask_key_cmp}
 use Rattle.cap_base.specs.Members.{IsRising}
 use Rattle.cap_model.specs.Choice.{level_of}
 use Rattle.cap_base.specs.Levels.{Level, level_cmp}
-use Rattle.cap_model.specs.Flat.{App, NodeTable}
-use Rattle.cap_model.specs.Sight.{queues_to, seen_app}
+use Rattle.cap_model.specs.Flat.{App}
+use Rattle.cap_model.specs.Sight.{NodeSight, queues_to, seen_app}
 use Rattle.cap_model.specs.declared.ask.Key.{Key}
 use Rattle.cap_model.proofs.choice.Orders.{not_after_itself}
 use Rattle.cap_base.proofs.Levels.{level_cmp_total}
@@ -89,14 +89,14 @@ of_parts f (x ∷ xs) b m =
     ]
 
 -- an ask of the application of an index
-pub record IsAskAt (nodes : NodeTable) (apps : List App) (i : ℕ) (e : AskEntry) : Type 0 where
+pub record IsAskAt (nodes : List NodeSight) (apps : List App) (i : ℕ) (e : AskEntry) : Type 0 where
   pub app : App
   pub at : slice_get apps i ≡ Some app
   pub ask : Ask
   pub member : IsIn ask app.asks
   pub is : ask_entry nodes app.number i ask ≡ e
 
-pub ask_at_is : (nodes : NodeTable) (apps : List App) (i : ℕ) (e : AskEntry) → IsIn e (asks_at nodes apps i) → IsAskAt nodes apps i e
+pub ask_at_is : (nodes : List NodeSight) (apps : List App) (i : ℕ) (e : AskEntry) → IsIn e (asks_at nodes apps i) → IsAskAt nodes apps i e
 ask_at_is nodes apps i e = by (slice_get apps i) refl
   where
     by : (o : Option App) → slice_get apps i ≡ o → IsIn e (option_map_or (asks_of nodes i) o []) → IsAskAt nodes apps i e
@@ -105,7 +105,7 @@ ask_at_is nodes apps i e = by (slice_get apps i) refl
         let x = of_map (ask_entry nodes app.number i) app.asks e m in
         record { app = app; at = h; ask = x.0; member = x.1; is = x.2 }
 
-pub ask_in : (nodes : NodeTable) (apps : List App) (order : List ℕ) (e : AskEntry) → IsIn e (ask_entries nodes apps order) → (i : ℕ) × IsIn i order × IsAskAt nodes apps i e
+pub ask_in : (nodes : List NodeSight) (apps : List App) (order : List ℕ) (e : AskEntry) → IsIn e (ask_entries nodes apps order) → (i : ℕ) × IsIn i order × IsAskAt nodes apps i e
 ask_in nodes apps order e m =
     let x = of_parts (asks_at nodes apps) order e m in
     (x.0, x.1, ask_at_is nodes apps (x.0) e (x.2))
@@ -127,7 +127,7 @@ module _ (K : ℕ) (seen : Seen) where
   levels_of n = map level_of (drop 1 (queues_to (sight_in K seen) (unwrap_or (option_map (λ app. app.leaf) (seen_app (sight_in K seen) n)) [])))
 
   -- asks of one application are in the order of their keys
-  asks_in_order : (nodes : NodeTable) (n i : ℕ) (asks : List Ask) → AreKept asks → AreServedInOrder K seen (map (ask_entry nodes n i) asks)
+  asks_in_order : (nodes : List NodeSight) (n i : ℕ) (asks : List Ask) → AreKept asks → AreServedInOrder K seen (map (ask_entry nodes n i) asks)
   asks_in_order nodes n i [] k = tt
   asks_in_order nodes n i (ask ∷ asks) k = (
     of_each (λ f. is_gt (served_cmp K seen (ask_entry nodes n i ask) f) ≡ false) (map (ask_entry nodes n i) asks)
@@ -142,7 +142,7 @@ module _ (K : ℕ) (seen : Seen) where
           not_after_then (slice_cmp level_cmp (levels_of n) (levels_of n)) (ordering_then (nat_cmp n n) (ask_key_cmp ask.key other.key)) (not_after_itself (slice_cmp level_cmp) (lists_total level_cmp_total) (levels_of n))
           (not_after_then (nat_cmp n n) (ask_key_cmp ask.key other.key) (not_after_itself nat_cmp nat_cmp_total n) (lesser_not_after (ask_key_cmp ask.key other.key) h))
 
-  module _ (nodes : NodeTable) (apps : List App) (high : ℕ) (rising : IsRising 1 (map (λ app. app.number) apps) high) (positions : List (List ℕ))
+  module _ (nodes : List NodeSight) (apps : List App) (high : ℕ) (rising : IsRising 1 (map (λ app. app.number) apps) high) (positions : List (List ℕ))
       (levels : (i : ℕ) (app : App) → slice_get apps i ≡ Some app → levels_of app.number ≡ levels_at (position_nth i positions) seen.rows)
       (kept : (i : ℕ) (app : App) → slice_get apps i ≡ Some app → AreKept app.asks) where
     part_in_order : (i : ℕ) → AreServedInOrder K seen (asks_at nodes apps i)

@@ -8,14 +8,12 @@ use Rattle.std.proofs.lemmas.Bool.Decides.{nat_tests}
 use Rattle.std.proofs.lemmas.List.{drop-map, length-map, nil_from_length}
 use Rattle.std.proofs.lemmas.Option.{same_Some, slice_get-map, slice_get_within}
 use Rattle.cap_model.specs.Asks.{Ask, same_key}
-use Rattle.cap_model.specs.Bounds.{AreApart}
 use Rattle.cap_base.specs.Members.{IsRising}
 use Rattle.cap_base.specs.Cascade.{holds_of}
 use Rattle.cap_model.specs.Choice.{level_of}
-use Rattle.cap_model.specs.Flat.{App, AppTable, ClusterNode, NodeTable, Reservation, ask_at, is_for, node_in}
+use Rattle.cap_model.specs.Flat.{App, AppTable, ClusterNode, NodeTable, ask_at}
 use Rattle.cap_base.specs.Paths.{is_under}
-use Rattle.cap_model.specs.Sight.{AppSight, NodeSight, QueueSight, app_sight, queues_to, seen_app, still_wanted}
-use Rattle.cap_laws.proofs.bounds.Wanting.{nodes_on, on_nodes}
+use Rattle.cap_model.specs.Sight.{AppSight, NodeSight, QueueSight, app_sight, queues_to, seen_app}
 use Rattle.cap_model.proofs.calls.KeptAsks.{same_key_itself}
 use Rattle.cap_base.proofs.lists.Filters.{filter_mapped, filter_none, find_mapped_at, length-kept, map_twice}
 use Rattle.cap_base.proofs.lists.Members.{IsIn, each_of, found, in_filter, in_map, of_each, of_filter, of_map}
@@ -32,8 +30,11 @@ use Rattle.cap_tree.proofs.RowPaths.{at_position}
 use Rattle.cap_asks.specs.Apps.{account_of, is_waiting, position_of, waiting_of}
 use Rattle.cap_asks.specs.Accounts.{Account, AreKept, HeldApp}
 use Rattle.cap_asks.proofs.Keeping.{before_not_same}
-use Rattle.cap_copy.specs.Entries.{ask_entries, registered_of, wanted_of}
-use Rattle.cap_copy.specs.Limits.{IsEachOnce, limit_in, limit_of, no_limit, queue_use}
+use Rattle.cap_copy.specs.Entries.{ask_entries, registered_of}
+use Rattle.cap_copy.specs.Limits.{limit_in, limit_of, no_limit, queue_use}
+use Rattle.cap_copy.specs.SeenApp.{SeenApp}
+use Rattle.cap_copy.specs.Arranging.{IsArranged}
+use Rattle.cap_copy.specs.Sources.{IsCopy, IsStored, Parts}
 use Rattle.cap_copy.specs.declared.ranges.AskRange.{AskRange}
 use Rattle.cap_copy.specs.AskEntry.{AskEntry}
 use Rattle.cap_copy.specs.AskRanges.{AreOfApps, AreRanges}
@@ -66,19 +67,6 @@ held_at waiting i app e = by (slice_get waiting i) refl (sym (slice_get-map (λ 
     by None at h = absurd (cc h)
     by (Some held) at h = (held, at, same_Some held.app app h)
 
--- the parts of a cluster: its applications that wait with their accounts, and the order in which they are served
-pub record AreParts (K : ℕ) (rows : List Row) (apps : AppTable) (accounts : List (ℕ × Account)) (nodes : NodeTable) (waiting : List HeldApp) (order : List ℕ) : Type 0 where
-  pub rows_are : AreRows rows
-  pub rising : IsRising 1 (map (λ app. app.number) apps.active) apps.next
-  pub kept : All (λ r. AreKept r.app.asks) waiting
-  pub placed : All (λ app. IsAt rows app.leaf (position_of app.number accounts)) apps.active
-  pub numbers : IsRising 1 (map (λ node. node.number) nodes.present) nodes.next_node
-  pub apart : AreApart nodes.reserved
-  pub there : All (λ r. IsSome (node_in nodes r.node)) nodes.reserved
-  pub apps_are : map (λ r. r.app) waiting ≡ waiting_of apps.active
-  pub accounts_are : All (λ r. account_of r.app.number accounts ≡ Some r.account) waiting
-  pub served : IsServiceOrder rows (map (λ r. r.account.position) waiting) order
-
 -- the position of an application is that in its account
 pub position_is : (accounts : List (ℕ × Account)) (held : HeldApp) → account_of held.app.number accounts ≡ Some held.account → position_of held.app.number accounts ≡ held.account.position
 position_is accounts held e = ap (λ (o : Option Account). option_map_or (λ x. x.position) o []) e
@@ -93,16 +81,31 @@ placed_all rows accounts active waiting apps_are accounts_are placed =
     let at = each_of (λ app. IsAt rows app.leaf (position_of app.number accounts)) active placed held.app (of_filter is_waiting active held.app member).1 in
     subst (IsAt rows held.app.leaf) (position_is accounts held (each_of (λ r. account_of r.app.number accounts ≡ Some r.account) waiting accounts_are held m)) at)
 
-module _ (K : ℕ) (rows : List Row) (apps : AppTable) (accounts : List (ℕ × Account)) (nodes : NodeTable) (waiting : List HeldApp) (order skips : List ℕ) (ranges : List AskRange) where
+module _ (K : ℕ) (parts : Parts) (waiting : List HeldApp) (order skips : List ℕ) (ranges : List AskRange) where
+  abbrev rows : List Row
+  rows = parts.rows
+
+  abbrev apps : AppTable
+  apps = parts.apps.table
+
+  abbrev accounts : List (ℕ × Account)
+  accounts = parts.apps.accounts
+
+  abbrev nodes : NodeTable
+  nodes = parts.nodes
+
+  abbrev present : List NodeSight
+  present = map (node_seen K nodes) nodes.present
+
   -- what a snapshot of the parts sees
   abbrev pub taken : Seen
   taken = record {
     rows = rows;
     apps = map app_sight (registered_of apps.active);
     limits = map (limit_of K rows) waiting;
-    asks = ask_entries nodes (waiting_of apps.active) order;
+    asks = ask_entries present (waiting_of apps.active) order;
     ranges = ranges;
-    nodes = map (node_seen K nodes) nodes.present;
+    nodes = present;
     skips = skips;
     live = length nodes.live;
     next_container = nodes.next_container;
@@ -115,39 +118,31 @@ module _ (K : ℕ) (rows : List Row) (apps : AppTable) (accounts : List (ℕ × 
   numbers_are : map (λ r. r.app) waiting ≡ waiting_of apps.active → map (λ (r : HeldApp). r.app.number) waiting ≡ map (λ (app : App). app.number) (waiting_of apps.active)
   numbers_are same = sym (map_twice (λ (app : App). app.number) (λ (r : HeldApp). r.app) waiting) ∙ ap (map (λ (app : App). app.number)) same
 
-  -- each ask has the index of its application
-  pub of_apps : map (λ r. r.app) waiting ≡ waiting_of apps.active → AreOfApps (map (λ (r : HeldApp). r.app.number) waiting) (ask_entries nodes (waiting_of apps.active) order)
-  of_apps same j e at =
-      let x = (ask_in nodes (waiting_of apps.active) order e (slice_get_in (ask_entries nodes (waiting_of apps.active) order) j e at)).2 in
-      let i = (ask_in nodes (waiting_of apps.active) order e (slice_get_in (ask_entries nodes (waiting_of apps.active) order) j e at)).0 in
-      subst (λ (y : AskEntry). slice_get (map (λ (r : HeldApp). r.app.number) waiting) y.index ≡ Some y.app) x.is
-      (ap (λ ns. slice_get ns i) (numbers_are same) ∙ slice_get-map (λ (app : App). app.number) (waiting_of apps.active) i ∙ ap (option_map (λ (app : App). app.number)) x.at)
-
-  module _ (parts : AreParts K rows apps accounts nodes waiting order) where
+  module _ (seen : List SeenApp) (asks : List Ask) (live next : ℕ) (copied : IsCopy K parts waiting seen asks present live next) (rows_are : AreRows rows) (served : IsServiceOrder rows (map (λ r. r.account.position) waiting) order) where
     rising : IsRising 1 (map (λ app. app.number) (waiting_of apps.active)) apps.next
-    rising = rising_kept (λ (app : App). app.number) is_waiting 1 apps.active apps.next parts.rising
+    rising = rising_kept (λ (app : App). app.number) is_waiting 1 apps.active apps.next copied.rising
 
     held_of : (i : ℕ) (app : App) → slice_get (waiting_of apps.active) i ≡ Some app → (held : HeldApp) × (slice_get waiting i ≡ Some held) × (held.app ≡ app)
-    held_of i app at = held_at waiting i app (ap (λ list. slice_get list i) parts.apps_are ∙ at)
+    held_of i app at = held_at waiting i app (ap (λ list. slice_get list i) copied.apps_are ∙ at)
 
     kept : (i : ℕ) (app : App) → slice_get (waiting_of apps.active) i ≡ Some app → AreKept app.asks
     kept i app at =
         let h = held_of i app at in
-        subst (λ (a : App). AreKept a.asks) (h.2) (each_of (λ (r : HeldApp). AreKept r.app.asks) waiting parts.kept (h.0) (slice_get_in waiting i (h.0) (h.1)))
+        subst (λ (a : App). AreKept a.asks) (h.2) (each_of (λ (r : HeldApp). AreKept r.app.asks) waiting copied.kept (h.0) (slice_get_in waiting i (h.0) (h.1)))
 
     placed : (i : ℕ) (held : HeldApp) → slice_get waiting i ≡ Some held → IsAt rows held.app.leaf held.account.position
     placed i held at =
-        each_of (λ r. IsAt rows r.app.leaf r.account.position) waiting (placed_all rows accounts apps.active waiting parts.apps_are parts.accounts_are parts.placed) held (slice_get_in waiting i held at)
+        each_of (λ r. IsAt rows r.app.leaf r.account.position) waiting (placed_all rows accounts apps.active waiting copied.apps_are copied.accounts_are copied.placed) held (slice_get_in waiting i held at)
 
     position_at : (i : ℕ) (held : HeldApp) → slice_get waiting i ≡ Some held → position_nth i positions ≡ held.account.position
     position_at i held at =
         ap (λ (o : Option (List ℕ)). option_map_or (λ p. p) o []) (slice_get-map (λ (r : HeldApp). r.account.position) waiting i ∙ ap (option_map (λ (r : HeldApp). r.account.position)) at)
 
-    asks_are : (i : ℕ) (app : App) → slice_get (waiting_of apps.active) i ≡ Some app → asks_for app.number (ask_entries nodes (waiting_of apps.active) order) ≡ app.asks
+    asks_are : (i : ℕ) (app : App) → slice_get (waiting_of apps.active) i ≡ Some app → asks_for app.number (ask_entries present (waiting_of apps.active) order) ≡ app.asks
     asks_are i app at =
         let within = slice_get_within waiting i ((held_of i app at).0) ((held_of i app at).1) in
         let places = length-map waiting (λ (r : HeldApp). r.account.position) in
-        asks_for_is nodes (waiting_of apps.active) apps.next rising order i app at (parts.served.each i (omega (arith, within, places)))
+        asks_for_is present (waiting_of apps.active) apps.next rising order i app at (served.each i (omega (arith, within, places)))
 
     -- what waits has registered
     has_registered : (app : App) → IsIn app (waiting_of apps.active) → IsIn app (registered_of apps.active)
@@ -159,7 +154,7 @@ module _ (K : ℕ) (rows : List Row) (apps : AppTable) (accounts : List (ℕ × 
     found_app i app at =
         find_mapped_at app_sight (λ (a : AppSight). a.number == app.number) (registered_of apps.active)
         ∙ ap (option_map app_sight) (found_by_number (λ (a : App). a.number) 1 (registered_of apps.active) apps.next app
-        (rising_kept (λ (a : App). a.number) (λ (a : App). a.registered) 1 apps.active apps.next parts.rising) (has_registered app (slice_get_in (waiting_of apps.active) i app at)))
+        (rising_kept (λ (a : App). a.number) (λ (a : App). a.registered) 1 apps.active apps.next copied.rising) (has_registered app (slice_get_in (waiting_of apps.active) i app at)))
 
     levels_are : (i : ℕ) (app : App) → slice_get (waiting_of apps.active) i ≡ Some app → levels_of K taken app.number ≡ levels_at (position_nth i positions) rows
     levels_are i app at =
@@ -181,7 +176,7 @@ module _ (K : ℕ) (rows : List Row) (apps : AppTable) (accounts : List (ℕ × 
         let leaf = path_at p rows in
         let is : limit_of K rows held ≡ limit_in K (map queue_use (items_to leaf rows)) held.app.user r.row.item =
         ap (λ (o : Option Queue). option_map_or (limit_in K (map queue_use (items_to leaf rows)) held.app.user) o no_limit) r.item_is in
-        let found : find (λ (x : Row). bytes_eq x.path leaf) rows ≡ Some r.row = ap (λ l. find (λ (x : Row). bytes_eq x.path l) rows) r.path_is ∙ row_found rows parts.rows_are.listing.tree.distinct r.row r.member in
+        let found : find (λ (x : Row). bytes_eq x.path leaf) rows ≡ Some r.row = ap (λ l. find (λ (x : Row). bytes_eq x.path l) rows) r.path_is ∙ row_found rows rows_are.listing.tree.distinct r.row r.member in
         let seen : QueueSight → QueueUse = λ q. record { maximum = q.row.maximum; used = q.used } in
         subst (IsLimitOf (sight_in K taken) (app_sight held.app)) (sym is)
         (subst (λ l. IsLimitOf (sight_in K taken) (record { number = held.app.number; leaf = l; user = held.app.user; asks = held.app.asks }) (limit_in K (map queue_use (items_to leaf rows)) held.app.user r.row.item)) at.path_is
@@ -194,25 +189,10 @@ module _ (K : ℕ) (rows : List Row) (apps : AppTable) (accounts : List (ℕ × 
           used = refl;
         }))
 
-    node_of : (r : Reservation) → IsIn r nodes.reserved → (x : ClusterNode) × IsIn x nodes.present × (x.number ≡ r.node)
-    node_of r m =
-        let v = value_of (node_in nodes r.node) (each_of (λ (s : Reservation). IsSome (node_in nodes s.node)) nodes.reserved parts.there r m) in
-        let f = found (λ (x : ClusterNode). x.number == r.node) nodes.present (v.0) (v.1) in
-        (v.0, f.0, (let t = f.1 in grind (arith, nat_tests, t)))
-
-    wanted_is : (n : ℕ) (ask : Ask) → wanted_of nodes n ask ≡ still_wanted (sight_in K taken) n ask
-    wanted_is n ask =
-        let seen : count_by (λ (x : NodeSight). holds_of (is_for n ask.key) x.reservation) (map (node_seen K nodes) nodes.present)
-        ≡ count_by (λ (x : ClusterNode). holds_of (is_for n ask.key) (find (λ r. r.node == x.number) nodes.reserved)) nodes.present =
-        sum_by_map (node_seen K nodes) (λ (x : NodeSight). cond (holds_of (is_for n ask.key) x.reservation) 1 0) nodes.present in
-        let few = on_nodes (is_for n ask.key) nodes.present nodes.reserved parts.apart node_of in
-        let many = nodes_on (is_for n ask.key) nodes.present nodes.next_node nodes.reserved parts.numbers parts.apart in
-        omega (arith, seen, few, many)
-
     entry_is : (e : AskEntry) → IsIn e taken.asks → IsAskEntry K taken e
     entry_is e m =
-        let x = (ask_in nodes (waiting_of apps.active) order e m).2 in
-        let i = (ask_in nodes (waiting_of apps.active) order e m).0 in
+        let x = (ask_in present (waiting_of apps.active) order e m).2 in
+        let i = (ask_in present (waiting_of apps.active) order e m).0 in
         let h = held_of i x.app x.at in
         subst (IsAskEntry K taken) x.is (record {
           app = app_sight x.app;
@@ -221,13 +201,13 @@ module _ (K : ℕ) (rows : List Row) (apps : AppTable) (accounts : List (ℕ × 
           at = slice_get-map (limit_of K rows) waiting i ∙ ap (option_map (limit_of K rows)) (h.1);
           is = subst (λ (a : App). IsLimitOf (sight_in K taken) (app_sight a) (limit_of K rows (h.0))) (h.2) (limit_is (h.0) (placed i (h.0) (h.1)));
           asked = asked_by_key x.app.asks x.ask (kept i x.app x.at) x.member;
-          wanted = wanted_is x.app.number x.ask;
+          wanted = refl;
         })
 
     -- each index stands in the order once
     each_once : (i : ℕ) → IsIn i order → length (filter (λ j. j == i) order) ≤ 1
     each_once i m =
-        let e = ap length (parts.served.each i (each_of (λ j. j < length positions) order parts.served.within i m)) in
+        let e = ap length (served.each i (each_of (λ j. j < length positions) order served.within i m)) in
         omega (arith, e)
 
     node_found : (x : NodeSight) → IsIn x taken.nodes → find (λ y. y.number == x.number) taken.nodes ≡ Some x
@@ -235,16 +215,16 @@ module _ (K : ℕ) (rows : List Row) (apps : AppTable) (accounts : List (ℕ × 
         let y = of_map (node_seen K nodes) nodes.present x m in
         subst (λ z. find (λ a. a.number == z.number) taken.nodes ≡ Some z) (y.2) (
         find_mapped_at (node_seen K nodes) (λ (a : NodeSight). a.number == (y.0).number) nodes.present
-        ∙ ap (option_map (node_seen K nodes)) (found_by_number (λ (a : ClusterNode). a.number) 1 nodes.present nodes.next_node (y.0) parts.numbers (y.1))
+        ∙ ap (option_map (node_seen K nodes)) (found_by_number (λ (a : ClusterNode). a.number) 1 nodes.present nodes.next_node (y.0) copied.numbers (y.1))
         )
 
     -- of one number there is one application
     same_app : (a b : App) → IsIn a apps.active → IsIn b apps.active → a.number ≡ b.number → a ≡ b
     same_app a b m n e =
         same_Some a b (
-        sym (found_by_number (λ (x : App). x.number) 1 apps.active apps.next a parts.rising m)
+        sym (found_by_number (λ (x : App). x.number) 1 apps.active apps.next a copied.rising m)
         ∙ ap (λ k. find (λ (x : App). x.number == k) apps.active) e
-        ∙ found_by_number (λ (x : App). x.number) 1 apps.active apps.next b parts.rising n
+        ∙ found_by_number (λ (x : App). x.number) 1 apps.active apps.next b copied.rising n
         )
 
     -- no ask is one of an application without asks
@@ -254,7 +234,7 @@ module _ (K : ℕ) (rows : List Row) (apps : AppTable) (accounts : List (ℕ × 
         by : (b : Bool) → e.app == app.number ≡ b → b ≡ false
         by false h = refl
         by true h =
-            let r = ask_in nodes (waiting_of apps.active) order e n in
+            let r = ask_in present (waiting_of apps.active) order e n in
             let x = r.2 in
             let active = (of_filter is_waiting apps.active x.app (slice_get_in (waiting_of apps.active) (r.0) x.app x.at)).1 in
             let number : x.app.number ≡ app.number = ap (λ (y : AskEntry). y.app) x.is ∙ eqb-true e.app app.number h in
@@ -281,15 +261,15 @@ module _ (K : ℕ) (rows : List Row) (apps : AppTable) (accounts : List (ℕ × 
     is_whole are_skips are_ranges same = record {
       entries = of_each (IsAskEntry K taken) taken.asks entry_is;
       whole = of_each (λ a. asks_for a.number taken.asks ≡ a.asks) taken.apps app_whole;
-      order = all_in_order K taken nodes (waiting_of apps.active) apps.next rising positions levels_are kept order (once order each_once) parts.served.sorted;
+      order = all_in_order K taken present (waiting_of apps.active) apps.next rising positions levels_are kept order (once order each_once) served.sorted;
       nodes = of_each (λ x. find (λ y. y.number == x.number) taken.nodes ≡ Some x) taken.nodes node_found;
       skips = are_skips;
       ranges = are_ranges;
-      apart = λ i j b d h e f. rising_apart (λ (r : AskRange). r.app) 1 ranges apps.next i j b d (subst (λ ns. IsRising 1 ns apps.next) (sym (same ∙ numbers_are parts.apps_are)) rising) e f h;
+      apart = λ i j b d h e f. rising_apart (λ (r : AskRange). r.app) 1 ranges apps.next i j b d (subst (λ ns. IsRising 1 ns apps.next) (sym (same ∙ numbers_are copied.apps_are)) rising) e f h;
     }
 
     pub is_of_parts : IsSnapshotOf K rows apps nodes taken
-    is_of_parts = record { rows = refl; sight = refl; numbers = parts.numbers }
+    is_of_parts = record { rows = refl; sight = refl; numbers = copied.numbers }
 
 -- no more wait than are active
 pub few_waiting : (active : List App) (waiting : List HeldApp) (most : ℕ) → map (λ r. r.app) waiting ≡ waiting_of active → length active ≤ most → length waiting ≤ most
@@ -297,20 +277,91 @@ few_waiting active waiting most e h =
     let same = ap length e in
     omega (arith, same, length-map waiting (λ (r : HeldApp). r.app), length-kept is_waiting active, h)
 
--- applications that wait do so at their leaves
-pub waiters_placed : (rows : List Row) (waiting : List HeldApp) (waiters : List Waiter) → map (λ w. w.steps) waiters ≡ map (λ r. r.account.position) waiting → All (λ r. IsAt rows r.app.leaf r.account.position) waiting →
-    All (λ w. IsPosition rows w.steps) waiters
-waiters_placed rows waiting waiters same placed =
-    of_each (λ (w : Waiter). IsPosition rows w.steps) waiters
-    (λ w m.
-    let x = of_map (λ (r : HeldApp). r.account.position) waiting w.steps (subst (IsIn w.steps) same (in_map (λ (v : Waiter). v.steps) waiters w m)) in
-    subst (IsPosition rows) (x.2) (each_of (λ (r : HeldApp). IsAt rows r.app.leaf r.account.position) waiting placed (x.0) (x.1)).present)
-
 pub positions_there : (rows : List Row) (waiting : List HeldApp) → All (λ r. IsAt rows r.app.leaf r.account.position) waiting → All (λ r. IsPosition rows r.account.position) waiting
 positions_there rows waiting placed = λ k d lt. (placed k d lt).present
 
--- an order of service has each index once
-pub each_once_in : (rows : List Row) (waiting : List HeldApp) (order : List ℕ) → IsServiceOrder rows (map (λ r. r.account.position) waiting) order → IsEachOnce (length waiting) order
-each_once_in rows waiting order served =
-    let long = length-map waiting (λ (r : HeldApp). r.account.position) in
-    subst (λ n. IsEachOnce n order) long (record { within = served.within; each = served.each })
+-- applications as a snapshot keeps them are at their leaves, and their numbers rise
+pub placed_apps : (rows : List Row) (apps : List SeenApp) → All (λ r. IsAt rows r.app.leaf r.account.position) (map (λ a. a.held) apps) → All (λ a. IsPosition rows a.held.account.position) apps
+placed_apps rows apps placed =
+    of_each (λ (a : SeenApp). IsPosition rows a.held.account.position) apps
+    (λ a m. (each_of (λ (r : HeldApp). IsAt rows r.app.leaf r.account.position) (map (λ (x : SeenApp). x.held) apps) placed a.held (in_map (λ (x : SeenApp). x.held) apps a m)).present)
+
+pub rising_apps : (active : List App) (next : ℕ) (apps : List SeenApp) → IsRising 1 (map (λ app. app.number) active) next → map (λ r. r.app) (map (λ a. a.held) apps) ≡ waiting_of active → IsRising 1 (map (λ a. a.held.app.number) apps) next
+rising_apps active next apps rising same =
+    subst (λ ns. IsRising 1 ns next)
+    (ap (map (λ (app : App). app.number)) (sym same) ∙ map_twice (λ (app : App). app.number) (λ (r : HeldApp). r.app) (map (λ (a : SeenApp). a.held) apps) ∙ map_twice (λ (r : HeldApp). r.app.number) (λ (a : SeenApp). a.held) apps)
+    (rising_kept (λ (app : App). app.number) is_waiting 1 active next rising)
+
+pub few_apps : (active : List App) (apps : List SeenApp) (most : ℕ) → map (λ r. r.app) (map (λ a. a.held) apps) ≡ waiting_of active → length active ≤ most → length apps ≤ most
+few_apps active apps most same h =
+    let few = few_waiting active (map (λ (a : SeenApp). a.held) apps) most same h in
+    omega (arith, few, length-map apps (λ (a : SeenApp). a.held))
+
+-- what is copied and arranged is a snapshot
+module _ (K : ℕ) (parts : Parts) (apps : List SeenApp) (raw : List Ask) (asks : List AskEntry) (ranges : List AskRange) (nodes : List NodeSight) (skips : List ℕ) (live next : ℕ)
+    (copied : IsCopy K parts (map (λ a. a.held) apps) apps raw nodes live next) where
+  abbrev pub made : Seen
+  made = record {
+    rows = parts.rows;
+    apps = map app_sight (registered_of parts.apps.table.active);
+    limits = map (λ a. limit_of K parts.rows a.held) apps;
+    asks = asks;
+    ranges = ranges;
+    nodes = nodes;
+    skips = skips;
+    live = live;
+    next_container = next;
+  }
+
+  abbrev waiting : List HeldApp
+  waiting = map (λ a. a.held) apps
+
+  abbrev nodes_seen : List NodeSight
+  nodes_seen = map (node_seen K parts.nodes) parts.nodes.present
+
+  pub made_of_parts : IsSnapshotOf K parts.rows parts.apps.table parts.nodes made
+  made_of_parts = record {
+    rows = refl;
+    sight = λ k. record {
+      queues = map (queue_seen K) parts.rows;
+      apps = map app_sight (registered_of parts.apps.table.active);
+      nodes = copied.nodes_are k;
+      live = copied.live_is k;
+      next_container = copied.next_is k;
+    };
+    numbers = copied.numbers;
+  }
+
+  module _ (a : IsArranged parts.rows apps nodes asks ranges skips) where
+    entries_are : asks ≡ ask_entries nodes_seen (waiting_of parts.apps.table.active) a.order
+    entries_are =
+        a.asks_are ∙ (λ k. ask_entries (copied.nodes_are k) (map (λ (x : SeenApp). x.held.app) apps) a.order)
+        ∙ ap (λ list. ask_entries nodes_seen list a.order) (sym (map_twice (λ (r : HeldApp). r.app) (λ (x : SeenApp). x.held) apps) ∙ copied.apps_are)
+
+    made_is : made ≡ taken K parts waiting a.order skips ranges
+    made_is = λ k. record {
+      rows = parts.rows;
+      apps = map app_sight (registered_of parts.apps.table.active);
+      limits = sym (map_twice (limit_of K parts.rows) (λ (x : SeenApp). x.held) apps) k;
+      asks = entries_are k;
+      ranges = ranges;
+      nodes = copied.nodes_are k;
+      skips = skips;
+      live = copied.live_is k;
+      next_container = copied.next_is k;
+    }
+
+    order_served : IsServiceOrder parts.rows (map (λ r. r.account.position) waiting) a.order
+    order_served = subst (λ ps. IsServiceOrder parts.rows ps a.order) (sym (map_twice (λ (r : HeldApp). r.account.position) (λ (x : SeenApp). x.held) apps)) a.served
+
+    own : IsCopy K parts waiting apps raw nodes_seen live next
+    own = subst (λ ns. IsCopy K parts waiting apps raw ns live next) copied.nodes_are copied
+
+    pub is_stored : IsStored K made apps
+    is_stored = record {
+      whole = subst (IsSnapshot K) (sym made_is)
+          (is_whole K parts waiting a.order skips ranges apps raw live next own a.rows_are order_served (subst (λ ns. AreSkips ns skips) copied.nodes_are a.skips_are) (subst (λ es. AreRanges es ranges) entries_are a.ranges_are)
+          (a.apps_are ∙ sym (map_twice (λ (r : HeldApp). r.app.number) (λ (x : SeenApp). x.held) apps)));
+      placed = placed_apps parts.rows apps (placed_all parts.rows parts.apps.accounts parts.apps.table.active waiting copied.apps_are copied.accounts_are copied.placed);
+      used = copied.seen_are.used;
+    }

@@ -1,7 +1,9 @@
+pub mod Arranging
 pub mod AskEntry
 pub mod AskRanges
 pub mod Entries
 pub mod Limits
+pub mod SeenApp
 pub mod Sizes
 pub mod Snapshot
 pub mod Sources

@@ -1,70 +1,64 @@
-//! The asks of a snapshot, in the order of service and in one piece of memory (`seen_asks`).
-ghost use Rattle.std.specs.Prelude.{◌≡◌, ◌<◌, ◌≤◌, ◌++◌, IfOk, OnOk, length, map};
+//! The asks of a snapshot, in the order of service and in one piece of memory (`served_asks`), and what each wants beside the
+//! reservations (`take_reserved`).
+ghost use Rattle.std.specs.Prelude.{◌≡◌, ◌<◌, ◌≤◌, ◌++◌, [], IfOk, OnOk, length, map};
 ghost use Rattle.std.specs.List.{All};
 ghost use Rattle.cap_base.specs.Limits.{resources_max};
-ghost use Rattle.cap_asks.specs.Accounts.{AreKept};
-ghost use Rattle.cap_nodes.specs.Loads.{keys_reserved_by};
-ghost use Rattle.cap_copy.specs.Entries.{ask_entries, asks_of, wanted_beside};
+ghost use Rattle.cap_copy.specs.AskRanges.{AreApart, AreInside, AreRanges};
+ghost use Rattle.cap_copy.specs.Entries.{ask_entries, asks_of, beside, beside_one};
+ghost use Rattle.cap_copy.specs.SeenApp.{HasAsks};
 
-use crate::seen::SeenAsk;
-use cap_asks::{App, Waiting};
-use cap_model::{Ask, Key, NoMemory};
-use cap_nodes::Nodes;
+use crate::ranges::{AskRange, range_of};
+use crate::seen::{SeenAsk, SeenNode};
+use crate::seen_app::SeenApp;
+use cap_model::{Ask, NoMemory, Reservation};
 use std::alloc::Allocator;
 
-/// The asks of the applications in an order of their indexes, those of each in order of key, in one piece of memory. An error means
-/// that an allocation failed. The asks of each application are in order of key.
-pub(crate) fn seen_asks<const K: usize, B: Allocator + Copy>(
+/// The asks of the applications in an order of their indexes, those of each in order of key, in one piece of memory. No reservation counts
+/// yet. An error means that an allocation failed.
+pub(crate) fn served_asks<const K: usize, B: Allocator + Copy>(
     alloc: B,
     order: &[u32],
-    waiting: &[Waiting<'_, K>],
-    nodes: &Nodes<K>,
+    apps: &[SeenApp<K>],
+    asks: &[Ask<K>],
 ) -> Result<Vec<SeenAsk<K>, B>, NoMemory>
     requires resources { K ≤ resources_max }
-    requires within { All (λ i. i < length waiting.now) order.now }
-    ensures entries { IfOk result (λ asks.
-        asks.items ≡ ask_entries nodes.now (map (λ r. r.app) waiting.now) order.now) }
-    ensures kept { All (λ r. AreKept r.app.asks) waiting.now }
+    requires within { All (λ i. i < length apps.now) order.now }
+    requires asks { All (HasAsks asks.now) apps.now }
+    ensures { IfOk result (λ served.
+        served.items ≡ ask_entries [] (map (λ a. a.held.app) apps.now) order.now) }
 {
-    let Ok(mut asks) = Vec::with_capacity(alloc, count_asks(waiting)) else {
+    let Ok(mut served) = Vec::with_capacity(alloc, asks.len()) else {
         return Err(NoMemory);
     };
-    let mut keys = Vec::new(alloc);
     for index in order {
-        let app = waiting[*index as usize].app();
-        match add_asks(&mut asks, &mut keys, *index, app, nodes) {
+        match add_asks(&mut served, *index, &apps[*index as usize], asks) {
             Ok(()) => {}
             Err(NoMemory) => return Err(NoMemory),
         }
     }
-    Ok(asks)
+    Ok(served)
 }
 
-/// Adds the asks of the application of an index, in order of key. The reservations for it are walked once, and their keys take the place
-/// of those in the list. An error means that an allocation failed, and comes only where there is too little room for all.
+/// Adds the asks of the application of an index, in order of key. An error means that an allocation failed, and comes only where there is
+/// too little room for all.
 fn add_asks<const K: usize, B: Allocator + Copy>(
-    asks: &mut Vec<SeenAsk<K>, B>,
-    keys: &mut Vec<Key, B>,
+    served: &mut Vec<SeenAsk<K>, B>,
     index: u32,
-    app: &App<K>,
-    nodes: &Nodes<K>,
+    app: &SeenApp<K>,
+    asks: &[Ask<K>],
 ) -> Result<(), NoMemory>
-    ensures { OnOk result (asks.new.items ≡ asks.old.items ++ asks_of nodes.now index app.now.app) }
+    requires { HasAsks asks.now app.now }
+    ensures { OnOk result
+        (served.new.items ≡ served.old.items ++ asks_of [] index app.now.held.app) }
 {
-    let number = app.number();
-    keys.clear();
-    match nodes.reserved_keys(number, keys) {
-        Ok(()) => {}
-        Err(NoMemory) => return Err(NoMemory),
-    }
-    for ask in app.asks() {
+    for ask in &asks[app.start()..app.end()] {
         let seen = SeenAsk {
-            app: number,
+            app: app.number(),
             index,
             ask: *ask,
-            wanted: wanted_beside(keys, ask),
+            wanted: ask.count(),
         };
-        match asks.push(seen) {
+        match served.push(seen) {
             Ok(()) => {}
             Err(_) => return Err(NoMemory),
         }
@@ -72,28 +66,41 @@ fn add_asks<const K: usize, B: Allocator + Copy>(
     Ok(())
 }
 
-/// How many containers an ask wants beyond the reservations for its key, of those of its application, whose keys are these.
-fn wanted_beside<const K: usize>(keys: &[Key], ask: &Ask<K>) -> u32
-    ensures { result ≡ wanted_beside keys.now ask.now }
+/// Takes the reservations that the nodes hold away from what the asks want that they are for. Of each node it looks at the asks of one
+/// application alone.
+pub(crate) fn take_reserved<const K: usize, B: Allocator + Copy>(
+    asks: &mut Vec<SeenAsk<K>, B>,
+    ranges: &[AskRange],
+    nodes: &[SeenNode<K>],
+)
+    requires resources { K ≤ resources_max }
+    requires ranges { AreRanges asks.old.items ranges.now }
+    requires apart { AreApart ranges.now }
+    ensures { asks.new.items ≡ map (beside nodes.now) asks.old.items }
 {
-    let key = ask.key();
-    let mut wanted = ask.count();
-    for reserved in keys {
-        if reserved.is_same(&key) {
-            wanted = wanted.saturating_sub(1);
-        }
+    for node in nodes {
+        let Some(reservation) = node.reservation else {
+            continue;
+        };
+        let Some(range) = range_of(ranges, reservation.app()) else {
+            continue;
+        };
+        take_one(asks, &range, &reservation);
     }
-    wanted
 }
 
-/// How many asks the applications have together. The asks of each are in order of key.
-fn count_asks<const K: usize>(waiting: &[Waiting<'_, K>]) -> usize
-    requires { K ≤ resources_max }
-    ensures { All (λ r. AreKept r.app.asks) waiting.now }
+/// Takes a reservation away from what the ask of its application wants that it is for.
+fn take_one<const K: usize, B: Allocator + Copy>(
+    asks: &mut Vec<SeenAsk<K>, B>,
+    range: &AskRange,
+    reservation: &Reservation<K>,
+)
+    requires within { range.now.end ≤ length asks.old.items }
+    requires inside { AreInside asks.old.items
+        reservation.now.app range.now.start range.now.end }
+    ensures { asks.new.items ≡ map (beside_one reservation.now) asks.old.items }
 {
-    let mut count = 0usize;
-    for seen in waiting {
-        count = count.saturating_add(seen.app().asks().len());
+    for index in range.start..range.end {
+        asks[index].take_reserved(reservation);
     }
-    count
 }

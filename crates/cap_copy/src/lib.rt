@@ -1,11 +1,13 @@
 //! Snapshots of a cluster: what a proposal looks at, and no more, in any allocator.
 #![tactic(auto)]
 
+mod arranged;
 mod asks;
+mod copied;
 mod nodes;
 mod ranges;
 mod seen;
-mod seen_limits;
+mod seen_app;
 mod snapshot;
 mod taking;
 mod waiting;

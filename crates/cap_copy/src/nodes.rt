@@ -27,7 +27,7 @@ pub(crate) fn seen_nodes<const K: usize, B: Allocator + Copy>(
             rack: *node.rack(),
             total: node.total(),
             free: nodes.free_at(index),
-            reservation: nodes.reservation_on(node.number()),
+            reservation: nodes.reservation_at(index),
         });
     }
     Ok(seen)

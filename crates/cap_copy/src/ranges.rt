@@ -3,7 +3,7 @@ ghost use Rattle.std.specs.Prelude.{◌≡◌, ◌+◌, IfOk, map};
 ghost use Rattle.cap_copy.specs.AskRanges.{AreApart, AreEmpty, AreOfApps, AreRanges, IsRangeOf, with_ask};
 
 use crate::seen::SeenAsk;
-use cap_asks::Waiting;
+use crate::seen_app::SeenApp;
 use cap_model::NoMemory;
 use std::alloc::Allocator;
 
@@ -18,15 +18,15 @@ pub struct AskRange {
 /// The range of each of the applications, in their order, in one piece of memory. An error means that an allocation failed.
 pub(crate) fn ranges_of<const K: usize, B: Allocator + Copy>(
     alloc: B,
-    waiting: &[Waiting<'_, K>],
+    apps: &[SeenApp<K>],
     asks: &[SeenAsk<K>],
 ) -> Result<Vec<AskRange, B>, NoMemory>
-    requires { AreOfApps (map (λ r. r.app.number) waiting.now) asks.now }
+    requires { AreOfApps (map (λ a. a.held.app.number) apps.now) asks.now }
     ensures apps { IfOk result (λ ranges.
-        map (λ b. b.app) ranges.items ≡ map (λ r. r.app.number) waiting.now) }
+        map (λ b. b.app) ranges.items ≡ map (λ a. a.held.app.number) apps.now) }
     ensures ranges { IfOk result (λ ranges. AreRanges asks.now ranges.items) }
 {
-    let mut ranges = match no_ranges(alloc, waiting) {
+    let mut ranges = match no_ranges(alloc, apps) {
         Ok(ranges) => ranges,
         Err(NoMemory) => return Err(NoMemory),
     };
@@ -53,15 +53,15 @@ fn with_ask(range: &AskRange, index: usize, end: usize) -> AskRange
 /// The ranges of the applications with no ask in them yet, in one piece of memory. An error means that an allocation failed.
 fn no_ranges<const K: usize, B: Allocator + Copy>(
     alloc: B,
-    waiting: &[Waiting<'_, K>],
+    apps: &[SeenApp<K>],
 ) -> Result<Vec<AskRange, B>, NoMemory>
-    ensures { IfOk result (λ ranges. AreEmpty (map (λ r. r.app.number) waiting.now) ranges.items) }
+    ensures { IfOk result (λ ranges. AreEmpty (map (λ a. a.held.app.number) apps.now) ranges.items) }
 {
-    let Ok(mut ranges) = Vec::with_capacity(alloc, waiting.len()) else {
+    let Ok(mut ranges) = Vec::with_capacity(alloc, apps.len()) else {
         return Err(NoMemory);
     };
-    for index in 0..waiting.len() {
-        let app = waiting[index].app().number();
+    for index in 0..apps.len() {
+        let app = apps[index].number();
         ranges.push_reserved(AskRange {
             app,
             start: 0,

@@ -1,5 +1,6 @@
 //! What a snapshot keeps of an ask (`SeenAsk`) and of a node (`SeenNode`).
 ghost use Rattle.std.specs.Prelude.{◌≡◌};
+ghost use Rattle.cap_copy.specs.Entries.{beside_one};
 
 use cap_model::{Ask, Reservation, ShortText};
 use cap_vector::Resource;
@@ -49,6 +50,15 @@ impl<const K: usize> SeenAsk<K> {
         ensures { result ≡ self.now.wanted }
     {
         self.wanted
+    }
+
+    /// It wants one container less where a reservation is for it.
+    pub(crate) fn take_reserved(&mut self, reservation: &Reservation<K>)
+        ensures { self.new ≡ beside_one reservation.now self.old }
+    {
+        if reservation.app() == self.app && reservation.key().is_same(&self.ask.key()) {
+            self.wanted = self.wanted.saturating_sub(1);
+        }
     }
 }
 

@@ -7,20 +7,22 @@ ghost use Rattle.cap_copy.specs.Snapshot.{IsSkip, IsSnapshot, stays_within};
 
 use crate::ranges::{AskRange, range_of};
 use crate::seen::{SeenAsk, SeenNode};
-use crate::seen_limits::SeenLimits;
+use crate::seen_app::SeenApp;
 use cap_asks::Apps;
-use cap_tree::QueueTree;
+use cap_nodes::Nodes;
+use cap_tree::SeenTree;
 use cap_vector::Resource;
 use http_server::Log;
-use std::alloc::{Allocator, Global};
+use std::alloc::Allocator;
 use std::marker::Model;
 
-/// What a proposal looks at: the asks of the registered applications in the order in which they are served, the limits of the queues
-/// and users that they wait for, the nodes with what they have left and their reservations, how many containers are live, and the
-/// number of the next. It is a value of its own, and no change of the cluster is seen in it. Contracts see the sight of the cluster.
+/// What a proposal looks at: the tree of queues, the asks of the registered applications in the order in which they are served, what
+/// their users use, the nodes with what they have left and their reservations, how many containers are live, and the number of the
+/// next. It is a value of its own, and no change of the cluster is seen in it. Contracts see the sight of the cluster.
 #[derive(Drop)]
 pub struct Snapshot<const K: usize, B: Allocator> {
-    pub(crate) limits: SeenLimits<K, B>,
+    pub(crate) tree: SeenTree<K, B>,
+    pub(crate) apps: Vec<SeenApp<K>, B>,
     pub(crate) asks: Vec<SeenAsk<K>, B>,
     pub(crate) ranges: Vec<AskRange, B>,
     pub(crate) nodes: Vec<SeenNode<K>, B>,
@@ -28,23 +30,25 @@ pub struct Snapshot<const K: usize, B: Allocator> {
     pub(crate) live: usize,
     pub(crate) next_container: u64,
     // This is for contracts alone, and takes no room.
-    pub(crate) sources: Log<QueueTree<K, Global>, Apps<K>>,
+    pub(crate) sources: Log<Apps<K>, Nodes<K>>,
 }
 
 impl<const K: usize, B: Allocator> Model for Snapshot<K, B> {
     ghost use Rattle.std.specs.Coded.{codes};
     ghost use Rattle.cap_tree.specs.Queue.{users_code};
-    ghost use Rattle.cap_copy.specs.Snapshot.{IsSnapshot, Seen};
-    ghost use Rattle.cap_copy.specs.Sources.{apps_in, rows_in};
+    ghost use Rattle.std.specs.Prelude.{map};
+    ghost use Rattle.cap_copy.specs.Limits.{limit_of};
+    ghost use Rattle.cap_copy.specs.Snapshot.{Seen};
+    ghost use Rattle.cap_copy.specs.Sources.{IsStored, apps_in};
 
     ghost Value = { Seen };
 
     ghost coded = { Prim.hlevel (codes, users_code) };
 
     ghost view = { λ s. record {
-      rows = rows_in s.sources.items;
+      rows = s.tree;
       apps = apps_in s.sources.items;
-      limits = s.limits;
+      limits = map (λ a. limit_of K s.tree a.held) s.apps.items;
       asks = s.asks.items;
       ranges = s.ranges.items;
       nodes = s.nodes.items;
@@ -53,17 +57,17 @@ impl<const K: usize, B: Allocator> Model for Snapshot<K, B> {
       next_container = s.next_container;
     } };
 
-    ghost invariant = { λ s. IsSnapshot K (record {
-      rows = rows_in s.sources.items;
+    ghost invariant = { λ s. IsStored K (record {
+      rows = s.tree;
       apps = apps_in s.sources.items;
-      limits = s.limits;
+      limits = map (λ a. limit_of K s.tree a.held) s.apps.items;
       asks = s.asks.items;
       ranges = s.ranges.items;
       nodes = s.nodes.items;
       skips = s.skips.items;
       live = s.live;
       next_container = s.next_container;
-    }) };
+    }) s.apps.items };
 }
 
 impl<const K: usize, B: Allocator + Copy> Snapshot<K, B> {
@@ -130,8 +134,10 @@ impl<const K: usize, B: Allocator + Copy> Snapshot<K, B> {
         ensures { result ≡ holds_of (stays_within old.now ask.now.ask.resource)
             (slice_get self.now.limits ask.now.index) }
     {
-        self.limits
-            .stays_within(ask.index(), old, &ask.ask().resource())
+        let app = &self.apps[ask.index()];
+        let position = app.position().as_slice();
+        self.tree
+            .stays_within(position, app.used(), old, &ask.ask().resource())
     }
 
     /// How many containers are live.

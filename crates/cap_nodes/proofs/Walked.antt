@@ -1,19 +1,19 @@
 -- The containers of an application, one after the other.
-use Rattle.std.proofs.Common.{◌≡◌, ℕ, zero, suc, ◌+◌, ◌-◌, ◌<◌, Bool, true, false, cond, List, [], ◌∷◌, ◌++◌, map, length, refl, sym, ◌∙◌, ap, subst, arith, Option, Some, None}
+use Rattle.std.proofs.Common.{◌≡◌, ℕ, zero, suc, ◌+◌, ◌-◌, ◌<◌, Bool, true, false, cond, List, [], ◌∷◌, map, length, refl, sym, ◌∙◌, ap, subst, arith, Option, Some, None}
 use Rattle.std.specs.Prelude.{filter, find, option_map, ◌==◌, ◌&&◌, nat_lt}
 use Rattle.std.specs.List.{slice_get}
 use Rattle.std.proofs.Math.Bool.{and-true, and-false}
 use Rattle.std.proofs.lemmas.Option.{slice_get-map}
-use Rattle.std.proofs.lemmas.List.{append_assoc, length-map}
+use Rattle.std.proofs.lemmas.List.{length-map}
 use Rattle.std.proofs.lemmas.Bool.Decides.{nat_tests}
 use Rattle.cap_model.specs.declared.ask.Key.{Key}
 use Rattle.cap_model.specs.Asks.{same_key}
 use Rattle.cap_base.specs.Members.{IsRising}
 use Rattle.cap_model.specs.Flat.{Container, Reservation, is_for}
 use Rattle.cap_base.proofs.lists.Members.{found}
-use Rattle.cap_base.proofs.lists.Filters.{filter_mapped, filter_whole, find_mapped_at, map_twice}
+use Rattle.cap_base.proofs.lists.Filters.{filter_mapped, filter_whole, find_mapped_at}
 use Rattle.cap_model.proofs.lists.Numbered.{rising_from_low, rising_to_high}
-use Rattle.cap_nodes.specs.Loads.{is_kept_for, keys_reserved_by, reservation_of}
+use Rattle.cap_nodes.specs.Loads.{is_kept_for, reservation_of}
 
 -- those above a number
 abbrev pub above : ℕ → List Container → List Container
@@ -114,11 +114,6 @@ module _ (app : ℕ) (key : Key) (after : ℕ) (cs : List Container) where
         ∙ ap (find (λ (d : Container). same_key d.key key)) (one_more (λ (d : Container). d.app == app) high c c.number refl after cs r e)
         ∙ (λ i. cond (same i) (Some c) (sym (kept_above c.number) i))
 
--- one key more is listed
-pub one_key : (ks : List Key) (c : Container) (k : Key) (left before : List Container) → k ≡ c.key → before ≡ c ∷ left → ks ++ k ∷ [] ++ map (λ d. d.key) left ≡ ks ++ map (λ d. d.key) before
-one_key ks c k left before is e =
-    append_assoc ks (k ∷ []) (map (λ (d : Container). d.key) left) ∙ (λ i. ks ++ is i ∷ map (λ (d : Container). d.key) left) ∙ ap (λ (cs : List Container). ks ++ map (λ d. d.key) cs) (sym e)
-
 -- the reservations for a key are the containers for it
 pub kept_are : (app : ℕ) (key : Key) (cs : List Container) → filter (is_for app key) (map reservation_of cs) ≡ map reservation_of (filter (is_kept_for app key) cs)
 kept_are app key cs = filter_mapped (is_for app key) reservation_of cs
@@ -136,10 +131,6 @@ module _ (t : Reservation → Bool) (cs : List Container) (high : ℕ) (r : IsRi
 
   pub first_kept : (o : Option Container) → o ≡ find (λ c. t (reservation_of c) && nat_lt 0 c.number) cs → option_map reservation_of o ≡ find t (map reservation_of cs)
   first_kept o e = ap (option_map reservation_of) (e ∙ above_zero) ∙ sym (find_mapped_at reservation_of t cs)
-
--- the keys of an application's reservations
-pub keys_are : (app : ℕ) (cs : List Container) → keys_reserved_by app (map reservation_of cs) ≡ map (λ c. c.key) (filter (λ c. c.app == app) cs)
-keys_are app cs = ap (map (λ (r : Reservation). r.key)) (filter_mapped (λ (r : Reservation). r.app == app) reservation_of cs) ∙ map_twice (λ (r : Reservation). r.key) reservation_of (filter (λ c. c.app == app) cs)
 
 -- the item at an index, where the first is known
 pub first_read : {A : Type 0} (xs ys : List A) (x : A) (n : ℕ) → xs ≡ x ∷ ys → n ≡ 0 → slice_get xs n ≡ Some x

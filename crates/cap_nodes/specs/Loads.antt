@@ -1,5 +1,5 @@
 -- The nodes with what their containers hold, and the live containers.
-use Rattle.std.specs.Prelude.{◌≡◌, ℕ, zero, suc, bytes_eq, ◌+◌, ◌-◌, ◌<◌, ◌≤◌, List, length, not, ◌&&◌, ◌||◌, Option, None, Some, Bool, false, IsSome, map, filter, find, count_by, ◌==◌, if◌then◌else◌, ◌++◌, ◌∷◌, []}
+use Rattle.std.specs.Prelude.{◌≡◌, ℕ, zero, suc, bytes_eq, ◌+◌, ◌-◌, ◌<◌, ◌≤◌, List, length, not, ◌&&◌, ◌||◌, Option, None, Some, Bool, false, IsSome, map, find, count_by, ◌==◌, if◌then◌else◌, ◌++◌, ◌∷◌, []}
 use Rattle.std.specs.List.{AllByRecursion, list_any}
 use Rattle.std.specs.BTreeMap.{is_at}
 use Rattle.std.specs.Option.{option_or}
@@ -75,10 +75,6 @@ reservation_of c = record { app = c.app; key = c.key; node = c.node; resource = 
 
 abbrev pub is_kept_for : ℕ → Key → Container → Bool
 is_kept_for app key c = is_for app key (reservation_of c)
-
--- the keys of the reservations for an application
-abbrev pub keys_reserved_by : ℕ → List Reservation → List Key
-keys_reserved_by app reserved = map (λ r. r.key) (filter (λ r. r.app == app) reserved)
 
 -- the reservations that were made after the one that a node holds
 abbrev pub made_after : ℕ → List Reservation → List Reservation

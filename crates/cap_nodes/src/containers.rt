@@ -1,5 +1,5 @@
 //! Containers by number, found by their application and by their node too: the live ones, or the reservations.
-ghost use Rattle.std.specs.Prelude.{◌≡◌, ℕ, ◌+◌, ◌<◌, ◌≤◌, [], ◌++◌, ◌==◌, ◌&&◌, nat_lt, length, map, find, filter, not, IfOk, OnOk, OnErr};
+ghost use Rattle.std.specs.Prelude.{◌≡◌, ℕ, ◌+◌, ◌<◌, ◌≤◌, [], ◌==◌, ◌&&◌, nat_lt, length, map, find, filter, not, IfOk, OnErr};
 ghost use Rattle.std.specs.List.{slice_get};
 ghost use Rattle.cap_base.specs.Limits.{live_max, number_end};
 ghost use Rattle.cap_base.specs.Members.{IsRising};
@@ -8,7 +8,7 @@ ghost use Rattle.cap_nodes.specs.Loads.{push_container, is_kept_for};
 use crate::owners::Owners;
 use cap_model::{Container, Key, NoMemory};
 use cap_vector::Resource;
-use std::alloc::{Allocator, Global};
+use std::alloc::Global;
 use std::collections::BTreeMap;
 use std::marker::Model;
 
@@ -216,27 +216,5 @@ impl<const K: usize> Containers<K> {
             left -= 1;
         }
         None
-    }
-
-    /// Adds the keys of those of an application, in order of number, to a list. An error means that an allocation failed, and comes
-    /// only where there is too little room for all.
-    pub(crate) fn add_keys<B: Allocator + Copy>(
-        &self,
-        app: u64,
-        keys: &mut Vec<Key, B>,
-    ) -> Result<(), NoMemory>
-        ensures { OnOk result (keys.new.items ≡ keys.old.items
-            ++ map (λ c. c.key) (filter (λ c. c.app == app) self.now.containers)) }
-    {
-        self.numbers_rise();
-        let mut after = 0;
-        while let Some(container) = self.next_of_app(app, after) {
-            after = container.number();
-            match keys.push(container.key()) {
-                Ok(()) => {}
-                Err(_) => return Err(NoMemory),
-            }
-        }
-        Ok(())
     }
 }

@@ -1,5 +1,5 @@
 //! The nodes, the live containers on them, and the reservations (`Nodes`).
-ghost use Rattle.std.specs.Prelude.{◌≡◌, ◌+◌, ◌<◌, ◌≤◌, ◌==◌, ◌&&◌, ◌++◌, nat_lt, [], ◌∷◌, IsSome, Some, IfOk, IfSome, OnOk, OnErr, bytes_eq, length, map, find, filter, not, true, false, is_none, option_and_then, option_map};
+ghost use Rattle.std.specs.Prelude.{◌≡◌, ◌+◌, ◌<◌, ◌≤◌, ◌==◌, ◌&&◌, nat_lt, [], ◌∷◌, IsSome, Some, IfOk, IfSome, OnOk, OnErr, bytes_eq, length, map, find, filter, not, true, false, is_none, option_and_then, option_map};
 ghost use Rattle.std.specs.List.{All, list_any, slice_get};
 ghost use Rattle.std.specs.Option.{option_copied};
 ghost use Rattle.cap_vector.specs.Vector.{Fits, IsWithin, amount_max, plus};
@@ -14,7 +14,7 @@ ghost use Rattle.cap_model.specs.Ending.{complete};
 ghost use Rattle.cap_model.specs.NodeGone.{remove_node};
 ghost use Rattle.cap_model.specs.Uses.{held_on};
 ghost use Rattle.cap_nodes.specs.Tables.{free_on, IsLoadIn, IsSound};
-ghost use Rattle.cap_nodes.specs.Loads.{add_container, new_reservation, reservation_of, after_beat_of, keys_reserved_by, made_after};
+ghost use Rattle.cap_nodes.specs.Loads.{add_container, new_reservation, reservation_of, after_beat_of, made_after};
 
 use crate::containers::Containers;
 use crate::load::Load;
@@ -24,7 +24,7 @@ use cap_model::{
     Container, HeartbeatReply, Key, LIVE_MAX, NUMBER_END, NoMemory, Reservation, ShortText,
 };
 use cap_vector::{Resource, checked_add, minus};
-use std::alloc::{Allocator, Global};
+use std::alloc::Global;
 use std::marker::Model;
 
 /// The nodes that are present and the containers that are live on them, each in order of number, and the reservations in order of
@@ -243,19 +243,6 @@ impl<const K: usize> Nodes<K> {
         Some(reservation_of(&container))
     }
 
-    /// Adds the keys of the reservations for an application, in order of making, to a list. An error means that an allocation failed,
-    /// and comes only where there is too little room for all.
-    pub fn reserved_keys<B: Allocator + Copy>(
-        &self,
-        app: u64,
-        keys: &mut Vec<Key, B>,
-    ) -> Result<(), NoMemory>
-        ensures { OnOk result (keys.new.items ≡
-            keys.old.items ++ keys_reserved_by app self.now.reserved) }
-    {
-        self.reserved.add_keys(app, keys)
-    }
-
     /// How many reservations there are for a key of an application. It looks at the reservations for the application alone.
     pub fn reserved_for(&self, app: u64, key: &Key) -> usize
         ensures { result ≡ length (filter (is_for app key.now) self.now.reserved) }
@@ -278,6 +265,17 @@ impl<const K: usize> Nodes<K> {
         match self.present.get(number) {
             Some(load) => load.live(),
             None => 0,
+        }
+    }
+
+    /// What a present node has left, in MiB, vcores and GPUs.
+    pub fn free_of(&self, number: u64) -> Resource<K>
+        requires { IsSome (node_in self.now number) }
+        ensures { result ≡ free_on K self.now number }
+    {
+        match self.present.get(number) {
+            Some(load) => load.free(),
+            None => unreachable!(),
         }
     }
 

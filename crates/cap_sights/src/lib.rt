@@ -2,44 +2,43 @@
 #![tactic(auto)]
 
 ghost use Rattle.std.specs.Prelude.{◌≤◌, IfOk};
-ghost use Rattle.cap_base.specs.Limits.{resources_max};
+ghost use Rattle.cap_base.specs.Limits.{resources, resources_max};
 ghost use Rattle.cap_model.specs.Sight.{sight_of};
 ghost use Rattle.cap_copy.specs.Sizes.{CopyFitsInMemory};
 ghost use Rattle.cap_copy.specs.Snapshot.{sight_in};
 ghost use Rattle.cap_sights.specs.Sights.{ShowTheSame};
 
 use bumpalo::Bump;
+use cap_base::RESOURCES;
 use cap_commit::Cluster;
 use cap_copy::Snapshot;
 use cap_model::NoMemory;
 use std::alloc::{Allocator, Global};
 
 /// A snapshot of the cluster, which shows the same as the cluster. If an allocation fails there is none.
-pub fn snapshot_of<const K: usize>(
+pub fn snapshot_of(
     alloc: Global,
-    cluster: &Cluster<K>,
-) -> Result<Snapshot<K, Global>, NoMemory>
+    cluster: &Cluster<RESOURCES>,
+) -> Result<Snapshot<RESOURCES, Global>, NoMemory>
     ensures { IfOk result (λ snapshot.
-        ShowTheSame (sight_in K snapshot) (sight_of cluster.now.flat)) }
+        ShowTheSame (sight_in resources snapshot) (sight_of cluster.now.flat)) }
 {
-    let _ = cluster.nodes();
     snapshot_under(alloc, cluster)
 }
 
 /// The same in an arena.
-pub fn snapshot_in<'a, const K: usize>(
+pub fn snapshot_in<'a>(
     arena: &'a Bump,
-    cluster: &Cluster<K>,
-) -> Result<Snapshot<K, &'a Bump>, NoMemory>
+    cluster: &Cluster<RESOURCES>,
+) -> Result<Snapshot<RESOURCES, &'a Bump>, NoMemory>
     ensures { IfOk result (λ snapshot.
-        ShowTheSame (sight_in K snapshot) (sight_of cluster.now.flat)) }
+        ShowTheSame (sight_in resources snapshot) (sight_of cluster.now.flat)) }
 {
-    let _ = cluster.nodes();
     snapshot_under(arena, cluster)
 }
 
-/// The same under any allocator. That a snapshot is no larger than memory follows where the allocator is known, from how few kinds of
-/// resources the nodes have.
+/// The same under any allocator, for as many kinds of resources as there may be. That a snapshot is no larger than memory follows where
+/// both are known.
 fn snapshot_under<const K: usize, B: Allocator + Copy>(
     alloc: B,
     cluster: &Cluster<K>,

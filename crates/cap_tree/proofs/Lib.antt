@@ -1,5 +1,6 @@
 pub mod Adding
 pub mod Callers
+pub mod Chained
 pub mod Copies
 pub mod Counting
 pub mod Finding

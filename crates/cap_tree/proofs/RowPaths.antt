@@ -13,7 +13,7 @@ use Rattle.cap_base.proofs.lists.Filters.{map_same, filter_same}
 use Rattle.cap_tree.specs.Spot.{leads_to, item_at, path_at, change_along, along, first_failing, HoldsOfItem, IsPosition}
 use Rattle.cap_tree.specs.Queue.{Queue}
 use Rattle.cap_tree.proofs.Looking.{level_from, failing-cons}
-use Rattle.cap_tree.specs.Rows.{Row, HasLastName, PositionsArePaths, settings_of_row, queues_of, changed_at, rows_to, is_running}
+use Rattle.cap_tree.specs.Rows.{Row, HasLastName, PositionsArePaths, settings_of_row, queues_of, changed_at, items_to, rows_to, is_running}
 
 -- two are the same where each leads to the other
 
@@ -118,31 +118,33 @@ along_rows position rows a h =
     filter_same (λ r. leads_to r.position position) (λ r. is_under r.path (path_at position rows)) rows
     (λ r m. ap (leads_to r.position) (sym t.position_is) ∙ agree rows a r t.row m t.member ∙ ap (is_under r.path) (sym t.path_is))
 
--- all run on the way where none fails to
+-- all on the way pass a test where none fails to
 
-running_first : (ss : List Row) → not (is_some (first_failing (λ (q : Queue). q.running) ss)) ≡ list_all (λ (r : Row). r.item.running) ss
-running_first [] = refl
-running_first (s ∷ ss) = ap (λ o. not (is_some o)) (failing-cons (λ (q : Queue). q.running) s ss) ∙ by s.item.running (first_failing (λ (q : Queue). q.running) ss) (running_first ss)
+all_pass : (test : Queue → Bool) (ss : List Row) → not (is_some (first_failing test ss)) ≡ list_all test (map (λ r. r.item) ss)
+all_pass test [] = refl
+all_pass test (s ∷ ss) = ap (λ o. not (is_some o)) (failing-cons test s ss) ∙ by (test s.item) (first_failing test ss) (all_pass test ss)
   where
-    by : (b : Bool) (o : Option ℕ) → not (is_some o) ≡ list_all (λ (r : Row). r.item.running) ss → not (is_some (level_from (λ (q : Queue). q.running) b o)) ≡ b && list_all (λ (r : Row). r.item.running) ss
+    by : (b : Bool) (o : Option ℕ) → not (is_some o) ≡ list_all test (map (λ r. r.item) ss) → not (is_some (level_from test b o)) ≡ b && list_all test (map (λ r. r.item) ss)
     by true None e = e
     by true (Some n) e = e
     by false o e = refl
 
-running_settings : (path : List ℕ) (ss : List Row) → list_all (λ (r : Row). r.item.running) (rows_to path ss) ≡ is_running ss path
+pub none_fails : (test : Queue → Bool) (position : List ℕ) (rows : List Row) → PositionsArePaths rows → IsPosition rows position →
+    not (is_some (first_failing test (along position rows))) ≡ list_all test (items_to (path_at position rows) rows)
+none_fails test position rows a h = ap (λ ss. not (is_some (first_failing test ss))) (along_rows position rows a h) ∙ all_pass test (rows_to (path_at position rows) rows)
+
+running_settings : (path : List ℕ) (ss : List Row) → list_all (λ q. q.running) (items_to path ss) ≡ is_running ss path
 running_settings path [] = refl
 running_settings path (s ∷ ss) = by (is_under s.path path) (running_settings path ss)
   where
-    by : (b : Bool) → list_all (λ (r : Row). r.item.running) (rows_to path ss) ≡ is_running ss path →
-        list_all (λ (r : Row). r.item.running) (cond b (s ∷ rows_to path ss) (rows_to path ss))
+    by : (b : Bool) → list_all (λ q. q.running) (items_to path ss) ≡ is_running ss path →
+        list_all (λ (q : Queue). q.running) (map (λ r. r.item) (cond b (s ∷ rows_to path ss) (rows_to path ss)))
         ≡ list_all (λ (q : QueueRow). q.running) (cond b (settings_of_row s ∷ filter (λ q. is_under q.path path) (queues_of ss)) (filter (λ q. is_under q.path path) (queues_of ss)))
     by true e = ap (λ x. s.item.running && x) e
     by false e = e
 
 pub running_rows : (position : List ℕ) (rows : List Row) → PositionsArePaths rows → IsPosition rows position → not (is_some (first_failing (λ (q : Queue). q.running) (along position rows))) ≡ is_running rows (path_at position rows)
-running_rows position rows a h =
-    ap (λ ss. not (is_some (first_failing (λ (q : Queue). q.running) ss))) (along_rows position rows a h)
-    ∙ running_first (rows_to (path_at position rows) rows) ∙ running_settings (path_at position rows) rows
+running_rows position rows a h = none_fails (λ q. q.running) position rows a h ∙ running_settings (path_at position rows) rows
 
 -- a change keeps positions and paths
 

@@ -1,5 +1,5 @@
 -- The order of service of what waits in a tree, put together from what waits at its item and in its children.
-use Rattle.std.proofs.Common.{◌≡◌, ℕ, zero, suc, ◌+◌, ◌-◌, ◌<◌, ◌≤◌, Bool, true, false, cond, List, [], ◌∷◌, ◌++◌, length, map, filter, flat_map, take, drop, get_or, set, refl, sym, ◌∙◌, ap, subst, arith, inl, inr}
+use Rattle.std.proofs.Common.{◌≡◌, ℕ, zero, suc, ◌+◌, ◌<◌, ◌≤◌, Bool, true, false, cond, List, [], ◌∷◌, ◌++◌, length, map, filter, flat_map, take, drop, get_or, refl, sym, ◌∙◌, ap, subst, arith, inl, inr}
 use Rattle.std.specs.Prelude.{◌==◌, ◌⊎◌, Option, Some, insert, option_map}
 use Rattle.std.specs.List.{All, slice_get}
 use Rattle.std.specs.Ordering.{nat_cmp, ordering_then, is_gt}
@@ -9,7 +9,7 @@ use Rattle.std.specs.Cmp.{IsTotalOrder, nat_cmp_is}
 use Rattle.std.specs.Cmp.Lexicographic.{slice_cmp, options_total}
 use Rattle.std.proofs.lemmas.Bool.{cases_lt, eq-eqb, eqb-true, ne_eqb}
 use Rattle.std.proofs.lemmas.Cmp.{nat_cmp_total, on_total, tied_itself}
-use Rattle.std.proofs.lemmas.List.{append-nil, append_assoc, get_or_default, get_or-set_other, get_or-set_same, length-map, length-set, map-append, take-append-drop, take_more, take_all}
+use Rattle.std.proofs.lemmas.List.{append-nil, append_assoc, get_or_default, length-map, map-append, take-append-drop, take_more, take_all}
 use Rattle.std.proofs.lemmas.Grind.{flat_map-append}
 use Rattle.std.proofs.lemmas.List.Concat.{flat_map-cons}
 use Rattle.std.proofs.lemmas.List.Elements.{filter-append}
@@ -19,11 +19,12 @@ use Rattle.cap_base.proofs.lists.Filters.{filter_mapped, map_twice}
 use Rattle.cap_base.proofs.lists.Tests.{same_test}
 use Rattle.cap_base.proofs.lists.Members.{IsIn, in_either, of_filter, of_map, in_filter, in_left, in_map, in_right, each_of, of_each}
 use Rattle.cap_tree.specs.Ranking.{IsPlace, IsRanked}
-use Rattle.cap_tree.specs.ServedWaiters.{Waiter, has_none, waits_here, waits_in, first_is, lifted, AreRanked, serve_cmp, index_cmp, has_index, dealt, IsReached, kid_at, kid_cmp, AreApart, AreServed, AreServedTo, BeginsWithin, AreParts, AreNumbered, HasTop, AreKids}
+use Rattle.cap_tree.specs.ServedWaiters.{Waiter, has_none, waits_here, waits_in, first_is, lifted, AreRanked, serve_cmp, index_cmp, has_index, dealt, IsReached, kid_at, kid_cmp, AreApart, AreServed, AreServedTo, BeginsWithin, IsPartIn, AreChained, AreNumbered, HasTop, AreKids}
 use Rattle.cap_base.specs.Levels.{level_cmp}
 use Rattle.cap_tree.specs.Rows.{Row, AreRows}
 use Rattle.cap_tree.specs.Service.{HasPathsOnce, IsTop, items_along, levels_at, queue_cmp}
 use Rattle.cap_tree.specs.ServiceOrder.{AreInOrder, IsServiceOrder, position_nth, waiting_cmp}
+use Rattle.cap_tree.proofs.Chained.{leads_nowhere}
 use Rattle.cap_tree.proofs.Ranking.{all_more, ranked_more}
 use Rattle.cap_tree.proofs.Service.{items_at_root, items_in_child, kids_apart}
 use Rattle.cap_tree.proofs.Spots.{holds-within, item_at-spots}
@@ -226,7 +227,7 @@ module _ {T : Type 0} (order : T → T → Ordering) (total : IsTotalOrder order
   here_cmp v w h k = λ i. ordering_then (slice_cmp order (here_along v h i) (here_along w k i)) (nat_cmp v.index w.index)
 
   -- the indexes added so far: of those who wait here, and of those in the first so many children
-  module _ (list : List Waiter) (rising : AreRanked index_cmp list) (parts : List (List Waiter)) (are : AreParts list parts) (as_many : length parts ≡ length kids) (ks : List ℕ) (sorted : AreKids order name kids parts (length kids) ks) where
+  module _ (list : List Waiter) (rising : AreRanked index_cmp list) (heads links : List ℕ) (chained : AreChained list list heads links) (as_many : length heads ≡ length kids) (ks : List ℕ) (sorted : AreKids order name kids heads (length kids) ks) where
     rising_here : (xs : List Waiter) → ((w : Waiter) → IsIn w xs → waits_here w ≡ true) → AreRanked index_cmp xs → AreRanked (serve_cmp order value) xs
     rising_here [] h r = tt
     rising_here (x ∷ xs) h r = (λ y m. here_cmp x y (h x (inl refl)) (h y (inr m)) ∙ r.0 y m, rising_here xs (λ w m. h w (inr m)) r.1)
@@ -244,7 +245,7 @@ module _ {T : Type 0} (order : T → T → Ordering) (total : IsTotalOrder order
     reached_more n w (inl h) = inl h
     reached_more n w (inr r) = inr (r.0, (let lt = r.1 in omega (arith, lt)), r.2)
 
-    module _ (n : ℕ) (old now next : List ℕ) (lt : n < length ks) (s : ℕ) (child : s ≡ get_or ks n 0) (so_far : AreServedTo order value list ks n old now) (more : AreServed order (get_or kids s []) (get_or parts s []) now next) where
+    module _ (n : ℕ) (old now next : List ℕ) (lt : n < length ks) (s : ℕ) (child : s ≡ get_or ks n 0) (so_far : AreServedTo order value list ks n old now) (mine : List Waiter) (part : IsPartIn s list mine) (more : AreServed order (get_or kids s []) mine now next) where
       within : s < length kids
       within = let w = sorted.within n 0 lt in omega (arith, w, child)
 
@@ -257,20 +258,17 @@ module _ {T : Type 0} (order : T → T → Ordering) (total : IsTotalOrder order
       abbrev added : List Waiter
       added = map (lifted s) more.out
 
-      part : map (lifted s) (get_or parts s []) ≡ filter (waits_in s) list
-      part = are s (let w = within in omega (arith, w, as_many))
-
       those_added : (w : Waiter) → IsIn w added → IsIn w list × (waits_in s w ≡ true)
       those_added w m =
           let o = of_map (lifted s) more.out w m in
-          let there : IsIn w (filter (waits_in s) list) = subst (IsIn w) part (subst (λ x. IsIn x (map (lifted s) (get_or parts s []))) (o.2) (in_map (lifted s) (get_or parts s []) (o.0) (more.those (o.0) (o.1)))) in
+          let there : IsIn w (filter (waits_in s) list) = subst (IsIn w) part (subst (λ x. IsIn x (map (lifted s) mine)) (o.2) (in_map (lifted s) mine (o.0) (more.those (o.0) (o.1)))) in
           let r = of_filter (waits_in s) list w there in (r.1, r.0)
 
       same_added : (k : ℕ) → filter (has_index k) added ≡ filter (has_index k) (filter (waits_in s) list)
       same_added k =
           filter_mapped (has_index k) (lifted s) more.out
           ∙ ap (map (lifted s)) (more.same k)
-          ∙ sym (filter_mapped (has_index k) (lifted s) (get_or parts s []))
+          ∙ sym (filter_mapped (has_index k) (lifted s) mine)
           ∙ ap (filter (has_index k)) part
 
       pub served_child : AreServedTo order value list ks (n + 1) old next
@@ -314,7 +312,8 @@ module _ {T : Type 0} (order : T → T → Ordering) (total : IsTotalOrder order
         by (inl t) = inl t
         by (inr r) =
             let s = r.0 in
-            let some : get_or parts s [] ≡ [] → ⊥ = λ e. let none : filter (waits_in s) list ≡ [] = sym (are s (let l = r.1 in omega (arith, l, as_many))) ∙ ap (map (lifted s)) e in subst (IsIn w) none (in_filter (waits_in s) list w m (r.2)) in
+            let l : s < length heads = (let c = r.1 in omega (arith, c, as_many)) in
+            let some : get_or heads s 0 ≡ 0 → ⊥ = λ e. subst (IsIn w) (leads_nowhere list links (get_or heads s 0) (filter (waits_in s) list) (chained s l) e) (in_filter (waits_in s) list w m (r.2)) in
             inr (s, r.2, once_kept (kid_cmp order kids) (tied_itself kids_total) ks (ranked_each (kid_cmp order kids) ks sorted.ranked) s (sorted.all s (r.1) some))
 
     pub all_served : (n : ℕ) (old now : List ℕ) → length ks ≤ n → ((w : Waiter) → IsIn w list → waits_here w ≡ true ⊎ ((s : ℕ) × (s < length kids) × (waits_in s w ≡ true))) → AreServedTo order value list ks n old now → AreServed order value list old now
@@ -325,6 +324,19 @@ module _ {T : Type 0} (order : T → T → Ordering) (total : IsTotalOrder order
       those = λ w m. (so_far.those w m).0;
       ranked = so_far.ranked;
     }
+
+  -- where there are no children
+  pub served_alone : (list : List Waiter) → AreRanked index_cmp list → length kids ≡ 0 → ((w : Waiter) → IsIn w list → waits_here w ≡ true ⊎ ((s : ℕ) × (s < length kids) × (waits_in s w ≡ true))) →
+      (old now : List ℕ) → now ≡ old ++ map (λ w. w.index) (filter waits_here list) → AreServed order value list old now
+  served_alone list rising none h old now is =
+      let sorted : AreKids order name kids [] (length kids) [] = record {
+        ranked = λ i j d lt within. absurd (omega (arith, within));
+        within = λ k d lt. absurd (omega (arith, lt));
+        tops = λ k d lt. absurd (omega (arith, lt));
+        all = λ s lt some. absurd (some refl);
+      } in
+      let chained : AreChained list list [] [] = λ s lt. absurd (omega (arith, lt)) in
+      all_served list rising [] [] chained (sym none) [] sorted 0 old now (omega arith) h (served_here list rising [] [] chained (sym none) [] sorted old now is)
 
 -- whoever waits in a tree of queues is served in the order of service
 
@@ -404,16 +416,16 @@ module _ {T : Type 0} (order : T → T → Ordering) (name : T → List ℕ) (ki
   pub has_top : (s : ℕ) (kid : List (Spot T)) (x : T) → s < length kids → kid ≡ get_or kids s kid → IsTop name x kid → HasTop order name (kid_at kids s)
   has_top s kid x ls at u = subst (HasTop order name) (at ∙ get_or_default kids s kid [] ls) (record { item = x; top = u })
 
-  module _ (parts : List (List Waiter)) (n : ℕ) (ks : List ℕ) (are : AreKids order name kids parts n ks) where
+  module _ (heads : List ℕ) (n : ℕ) (ks : List ℕ) (are : AreKids order name kids heads n ks) where
     some_more : (P : ℕ → Type 0) → ((s : ℕ) → s < n → P s) → P n → (s : ℕ) → s < n + 1 → P s
     some_more P f p s lt = elim (cases_lt s n) [ inl l ↦ f s l | inr g ↦ subst P (let e : n ≡ s = omega (arith, lt, g) in e) p ]
 
-    pub none_in_child : get_or parts n [] ≡ [] → AreKids order name kids parts (n + 1) ks
+    pub none_in_child : get_or heads n 0 ≡ 0 → AreKids order name kids heads (n + 1) ks
     none_in_child e = record {
       ranked = are.ranked;
       within = λ k d lt. let w = are.within k d lt in omega (arith, w);
       tops = are.tops;
-      all = some_more (λ s. (get_or parts s [] ≡ [] → ⊥) → IsIn s ks) are.all (λ some. absurd (some e));
+      all = some_more (λ s. (get_or heads s 0 ≡ 0 → ⊥) → IsIn s ks) are.all (λ some. absurd (some e));
     }
 
     in_insert : (place s : ℕ) → IsIn s ks → IsIn s (insert ks place n)
@@ -422,47 +434,13 @@ module _ {T : Type 0} (order : T → T → Ordering) (name : T → List ℕ) (ki
       | inr h ↦ in_right s (take place ks) (n ∷ drop place ks) (inr h)
     ]
 
-    pub child_in_place : (place : ℕ) → IsPlace (kid_cmp order kids) n ks place → HasTop order name (kid_at kids n) → AreKids order name kids parts (n + 1) (insert ks place n)
+    pub child_in_place : (place : ℕ) → IsPlace (kid_cmp order kids) n ks place → HasTop order name (kid_at kids n) → AreKids order name kids heads (n + 1) (insert ks place n)
     child_in_place place at top = record {
       ranked = ranked_more (kid_cmp order kids) n ks place at are.ranked;
       within = all_more (λ s. s < n + 1) n ks place (λ k d lt. let w = are.within k d lt in omega (arith, w)) (omega arith);
       tops = all_more (λ s. HasTop order name (kid_at kids s)) n ks place are.tops top;
-      all = some_more (λ s. (get_or parts s [] ≡ [] → ⊥) → IsIn s (insert ks place n)) (λ s lt some. in_insert place s (are.all s lt some)) (λ some. in_right n (take place ks) (n ∷ drop place ks) (inl refl));
+      all = some_more (λ s. (get_or heads s 0 ≡ 0 → ⊥) → IsIn s (insert ks place n)) (λ s lt some. in_insert place s (are.all s lt some)) (λ some. in_right n (take place ks) (n ∷ drop place ks) (inl refl));
     }
-
--- the parts, one more dealt
-module _ (list : List Waiter) (parts : List (List Waiter)) (are : AreParts list parts) (w : Waiter) where
-  pub not_dealt : w.steps ≡ [] → AreParts (list ++ w ∷ []) parts
-  not_dealt e s lt = are s lt ∙ sym (filter-append (waits_in s) list (w ∷ []) ∙ ap (λ b. filter (waits_in s) list ++ cond b (w ∷ []) []) (ap (first_is s) e) ∙ append-nil (filter (waits_in s) list))
-
-  module _ (n : ℕ) (rest : List ℕ) (part : List Waiter) (steps : w.steps ≡ n ∷ rest) (within : n < length parts) (is : part ≡ get_or parts n [] ++ record { index = w.index; steps = rest } ∷ []) where
-    lifted_is : lifted n (record { index = w.index; steps = rest }) ≡ w
-    lifted_is = λ i. record { index = w.index; steps = sym steps i }
-
-    here : (s : ℕ) → s ≡ n → map (lifted s) (get_or (set parts n part) s []) ≡ filter (waits_in s) (list ++ w ∷ [])
-    here s e =
-        ap (λ x. map (lifted x) (get_or (set parts n part) x [])) e
-        ∙ ap (map (lifted n)) (get_or-set_same parts n part [] within ∙ is)
-        ∙ map-append (lifted n) (get_or parts n []) (record { index = w.index; steps = rest } ∷ [])
-        ∙ (λ i. are n within i ++ lifted_is i ∷ [])
-        ∙ ap (λ b. filter (waits_in n) list ++ cond b (w ∷ []) []) (sym (ap (first_is n) steps ∙ eq-eqb n n refl))
-        ∙ sym (filter-append (waits_in n) list (w ∷ []))
-        ∙ ap (λ x. filter (waits_in x) (list ++ w ∷ [])) (sym e)
-
-    there : (s : ℕ) → s < length parts → (s ≡ n → ⊥) → map (lifted s) (get_or (set parts n part) s []) ≡ filter (waits_in s) (list ++ w ∷ [])
-    there s lt apart =
-        ap (map (lifted s)) (get_or-set_other parts n s part [] apart)
-        ∙ are s lt
-        ∙ sym (append-nil (filter (waits_in s) list))
-        ∙ ap (λ b. filter (waits_in s) list ++ cond b (w ∷ []) []) (sym (ap (first_is s) steps ∙ ne_eqb n s (λ e. apart (sym e))))
-        ∙ sym (filter-append (waits_in s) list (w ∷ []))
-
-    pub one_dealt_more : AreParts (list ++ w ∷ []) (set parts n part)
-    one_dealt_more s lt = by (s == n) refl
-      where
-        by : (b : Bool) → (s == n) ≡ b → map (lifted s) (get_or (set parts n part) s []) ≡ filter (waits_in s) (list ++ w ∷ [])
-        by true e = here s (eqb-true s n e)
-        by false e = there s (let l = length-set parts n part in omega (arith, lt, l)) (λ same. let u = eq-eqb s n same in absurd (cc (e, u)))
 
 -- the first step of one that waits is to one of so many children
 pub begins_below : (count : ℕ) (list : List Waiter) → All (λ w. BeginsWithin count w.steps) list → (i : ℕ) (w : Waiter) → i < length list → w ≡ get_or list i w → (steps : List ℕ) → steps ≡ w.steps → 1 ≤ length steps → get_or steps 0 0 < count
@@ -475,9 +453,6 @@ begins_below count list all i w lt is steps same some =
 
     first : BeginsWithin count w.steps → get_or steps 0 0 < count
     first h = of_some steps some (subst (BeginsWithin count) (sym same) h)
-
-pub none_dealt : (parts : List (List Waiter)) → All (λ part. part ≡ []) parts → AreParts [] parts
-none_dealt parts all s lt = ap (map (lifted s)) (all s [] lt)
 
 -- what waits in a tree, as it waits in a child
 module _ {T : Type 0} (order : T → T → Ordering) (name : T → List ℕ) (item : T) (kids : List (List (Spot T))) (value : List (Spot T)) (e : spots name item kids ≡ value) (list : List Waiter) (placed : All (λ w. IsPosition value w.steps) list) where
@@ -498,24 +473,21 @@ module _ {T : Type 0} (order : T → T → Ordering) (name : T → List ℕ) (it
   pub each_somewhere : (w : Waiter) → IsIn w list → waits_here w ≡ true ⊎ ((s : ℕ) × (s < length kids) × (waits_in s w ≡ true))
   each_somewhere w m = here_or_below w w.steps refl (each_of (λ v. BeginsWithin (length kids) v.steps) list all_begin_within w m)
 
-  module _ (parts : List (List Waiter)) (are : AreParts list parts) (as_many : length parts ≡ length kids) (s : ℕ) (within : s < length kids) where
-    part_is : map (lifted s) (get_or parts s []) ≡ filter (waits_in s) list
-    part_is = are s (omega (arith, within, as_many))
-
-    pub placed_below : (kid : List (Spot T)) → kid ≡ get_or kids s kid → All (λ w. IsPosition kid w.steps) (get_or parts s [])
-    placed_below kid is =
-        of_each (λ w. IsPosition kid w.steps) (get_or parts s [])
+  module _ (s : ℕ) (within : s < length kids) (part : List Waiter) (is : IsPartIn s list part) where
+    pub placed_below : (kid : List (Spot T)) → kid ≡ get_or kids s kid → All (λ w. IsPosition kid w.steps) part
+    placed_below kid at_kid =
+        of_each (λ w. IsPosition kid w.steps) part
         (λ w m.
-        let there = (of_filter (waits_in s) list (lifted s w) (subst (IsIn (lifted s w)) part_is (in_map (lifted s) (get_or parts s []) w m))).1 in
+        let there = (of_filter (waits_in s) list (lifted s w) (subst (IsIn (lifted s w)) is (in_map (lifted s) part w m))).1 in
         let at = each_of (λ v. IsPosition value v.steps) list placed (lifted s w) there in
-        subst (HoldsOfItem (λ _. Unit {0})) (item_at-spots name item s w.steps kids ∙ ap (item_at w.steps) (get_or_default kids s [] kid within ∙ sym is)) (below_is s w.steps at))
+        subst (HoldsOfItem (λ _. Unit {0})) (item_at-spots name item s w.steps kids ∙ ap (item_at w.steps) (get_or_default kids s [] kid within ∙ sym at_kid)) (below_is s w.steps at))
 
     unlifted : (xs : List Waiter) → AreRanked index_cmp (map (lifted s) xs) → AreRanked index_cmp xs
     unlifted [] r = tt
     unlifted (x ∷ xs) r = (λ y m. r.0 (lifted s y) (in_map (lifted s) xs y m), unlifted xs r.1)
 
-    pub rising_below : AreRanked index_cmp list → AreRanked index_cmp (get_or parts s [])
-    rising_below r = unlifted (get_or parts s []) (subst (AreRanked index_cmp) (sym part_is) (ranked_kept index_cmp (waits_in s) list r))
+    pub rising_below : AreRanked index_cmp list → AreRanked index_cmp part
+    rising_below r = unlifted part (subst (AreRanked index_cmp) (sym is) (ranked_kept index_cmp (waits_in s) list r))
 
   pub all_apart : ((x y : T) → order x y ≡ Equal → name x ≡ name y) → HasPathsOnce value → IsTotalOrder order → AreApart order name kids
   all_apart names once total s t ls lt u v same =
@@ -528,23 +500,6 @@ module _ {T : Type 0} (order : T → T → Ordering) (name : T → List ℕ) (it
 pub nothing_of : {X : Type 0} (xs : List X) → (length xs == 0) ≡ true → xs ≡ []
 nothing_of [] h = refl
 nothing_of (x ∷ xs) h = absurd (let e = eqb-true (length (x ∷ xs)) 0 h in omega (arith, e))
-
--- an item on a way, and in a list that begins with another
-module _ {T : Type 0} (name : T → List ℕ) (value : List (Spot T)) (steps : List ℕ) where
-  pub top_on_way : (level : ℕ) (x : T) → level ≡ 0 → IsTop name x value → slice_get (items_along steps value) level ≡ Some x
-  top_on_way level x e t = ap (slice_get (items_along steps value)) e ∙ ap (λ v. slice_get (items_along steps v) 0) t.is
-
-  pub below_on_way : (item : T) (kids : List (List (Spot T))) → spots name item kids ≡ value → (level s : ℕ) (rest : List ℕ) (kid : List (Spot T)) (x : T) → steps ≡ s ∷ rest → s < length kids → kid ≡ get_or kids s kid → (level ≡ 0 → ⊥) →
-      slice_get (items_along rest kid) (level - 1) ≡ Some x → slice_get (items_along steps value) level ≡ Some x
-  below_on_way item kids e level s rest kid x is lt at some there =
-      ap (λ p. slice_get (items_along p value) level) is
-      ∙ ap (λ xs. slice_get xs level) (items_in_child name item kids value e s kid lt at rest)
-      ∙ by level some
-      ∙ there
-    where
-      by : (n : ℕ) → (n ≡ 0 → ⊥) → slice_get (item ∷ items_along rest kid) n ≡ slice_get (items_along rest kid) (n - 1)
-      by zero h = absurd (h refl)
-      by (suc n) h = let e : n ≡ suc n - 1 = omega arith in ap (slice_get (items_along rest kid)) e
 
 -- one more under the next index
 pub numbered_more : (n : ℕ) (ws : List Waiter) (w : Waiter) → AreNumbered n ws → w.index ≡ n + length ws → AreNumbered n (ws ++ w ∷ [])

@@ -9,6 +9,7 @@ pub mod Queue
 pub mod QueueLaws
 pub mod Ranking
 pub mod Rows
+pub mod Seen
 pub mod Service
 pub mod ServiceLaws
 pub mod ServiceOrder

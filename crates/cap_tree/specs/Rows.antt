@@ -1,12 +1,11 @@
 -- The rows of a tree of queues.
-use Rattle.std.specs.Prelude.{◌≡◌, ℕ, ◌≤◌, Bool, true, false, if◌then◌else◌, ◌&&◌, ◌++◌, ◌∷◌, [], bytes_eq, nat_eq, List, Option, None, map, filter, find, length}
+use Rattle.std.specs.Prelude.{◌≡◌, ℕ, ◌≤◌, Bool, true, false, if◌then◌else◌, ◌++◌, ◌∷◌, [], bytes_eq, nat_eq, List, Option, None, map, filter, find, length}
 use Rattle.smallvec.specs.SmallVec.{SmallVec}
 use Rattle.std.specs.Option.{option_map_or}
 use Rattle.std.specs.List.{All, list_all, list_any, starts_with}
 use Rattle.cap_base.specs.Settings.{QueueRow}
 use Rattle.cap_base.specs.Paths.{is_under, name_of}
 use Rattle.cap_base.specs.Listing.{IsListing}
-use Rattle.cap_base.specs.Trees.{has_path}
 use Rattle.cap_tree.specs.Finding.{IsStart}
 use Rattle.cap_tree.specs.declared.found.Found.{Found}
 use Rattle.cap_tree.specs.declared.found.Found.TheVariants.{Leaf, Parent, Missing}

@@ -1,5 +1,5 @@
 -- What waits in a tree, and the order in which it is served.
-use Rattle.std.specs.Prelude.{◌≡◌, ◌⊎◌, ℕ, suc, ◌<◌, ◌==◌, Bool, true, false, List, [], ◌∷◌, ◌++◌, map, filter, flat_map, length, drop, take, slice_index_or}
+use Rattle.std.specs.Prelude.{◌≡◌, ◌⊎◌, ℕ, suc, ◌-◌, ◌<◌, ◌≤◌, ◌==◌, Bool, true, false, List, [], ◌∷◌, ◌++◌, map, filter, flat_map, length, drop, take, slice_index_or}
 use Rattle.std.specs.List.{All}
 use Rattle.std.specs.Option.{option_cmp}
 use Rattle.std.specs.Ordering.{nat_cmp, then_cmp, on}
@@ -94,9 +94,26 @@ abbrev pub BeginsWithin : ℕ → List ℕ → Type 0
 BeginsWithin n [] = Unit {0}
 BeginsWithin n (s ∷ steps) = s < n
 
--- what waits in each child, as it is seen from there
-abbrev pub AreParts : List Waiter → List (List Waiter) → Type 0
-AreParts list parts = (s : ℕ) → s < length parts → map (lifted s) (slice_index_or parts s []) ≡ filter (waits_in s) list
+-- what waits in a child, as it is seen from there
+abbrev pub IsPartIn : ℕ → List Waiter → List Waiter → Type 0
+IsPartIn s list part = map (lifted s) part ≡ filter (waits_in s) list
+
+-- places count from 1, from the last of all that wait, and 0 is none: who waits at a place, from which a link leads on to a lesser one
+pub record IsLinked (all : List Waiter) (links : List ℕ) (place : ℕ) (w : Waiter) : Type 0 where
+  pub some : 1 ≤ place
+  pub within : place ≤ length links
+  pub there : place ≤ length all
+  pub is : w ≡ slice_index_or all (length all - place) w
+  pub falls : slice_index_or links (place - 1) 0 < place
+
+-- a chain of links leads from a place over those of a list
+abbrev pub Leads : List Waiter → List ℕ → ℕ → List Waiter → Type 0
+Leads all links place [] = place ≡ 0
+Leads all links place (w ∷ ws) = IsLinked all links place w × Leads all links (slice_index_or links (place - 1) 0) ws
+
+-- the chain of each child leads over those of a list that wait in it
+abbrev pub AreChained : (all list : List Waiter) (heads links : List ℕ) → Type 0
+AreChained all list heads links = (s : ℕ) → s < length heads → Leads all links (slice_index_or heads s 0) (filter (waits_in s) list)
 
 module _ {T : Type 0} (order : T → T → Ordering) (name : T → List ℕ) where
   pub record HasTop (ss : List (Spot T)) : Type 0 where
@@ -107,9 +124,9 @@ module _ {T : Type 0} (order : T → T → Ordering) (name : T → List ℕ) whe
   abbrev pub AreApart : List (List (Spot T)) → Type 0
   AreApart kids = (s t : ℕ) → s < length kids → t < length kids → HasTop (kid_at kids s) → HasTop (kid_at kids t) → kid_cmp order kids s t ≡ Equal → s ≡ t
 
-  -- of the first so many children those in which something waits, in the order in which they are served
-  pub record AreKids (kids : List (List (Spot T))) (parts : List (List Waiter)) (n : ℕ) (ks : List ℕ) : Type 0 where
+  -- of the first so many children those in which something waits, which have other heads than 0, in the order in which they are served
+  pub record AreKids (kids : List (List (Spot T))) (heads : List ℕ) (n : ℕ) (ks : List ℕ) : Type 0 where
     pub ranked : IsRanked (kid_cmp order kids) ks
     pub within : All (λ s. s < n) ks
     pub tops : All (λ s. HasTop (kid_at kids s)) ks
-    pub all : (s : ℕ) → s < n → (slice_index_or parts s [] ≡ [] → ⊥) → IsIn s ks
+    pub all : (s : ℕ) → s < n → (slice_index_or heads s 0 ≡ 0 → ⊥) → IsIn s ks

@@ -1,6 +1,6 @@
 //! A tree of items over any allocator, seen as a list of its spots (`Branch`): changed, tested, copied and served.
 ghost use Rattle.std.specs.Prelude.{◌≡◌, ◌+◌, ◌-◌, ◌<◌, ◌≤◌, ◌∷◌, [], ℕ, List, Some, Bool, IfSome, IfOk, OnOk, OnErr, MatchOption, map, length, ◌++◌};
-ghost use Rattle.std.specs.List.{All, slice_get};
+ghost use Rattle.std.specs.List.{All};
 ghost use Rattle.std.specs.Cmp.{IsTotalOrder};
 ghost use Rattle.std.specs.Option.{option_copied};
 ghost use Rattle.std.specs.declared.cmp.Ordering.{Ordering};
@@ -10,10 +10,11 @@ ghost use Rattle.cap_tree.specs.Spot.{HoldsOfItem, IsAdded, IsPosition, along, c
 ghost use Rattle.cap_tree.specs.Finding.{IsFound, IsStart, is_parent};
 ghost use Rattle.cap_tree.specs.Branch.{IsBranch, root_count};
 ghost use Rattle.cap_tree.specs.ServedWaiters.{AreRanked, AreServed, index_cmp};
-ghost use Rattle.cap_tree.specs.Service.{HasNoneAfter, HasPathsOnce, IsFirstAfter, IsTop, child_item, children_at, is_after, is_before, items_along};
+ghost use Rattle.cap_tree.specs.Service.{HasNoneAfter, HasPathsOnce, IsFirstAfter, IsTop, child_item, children_at, is_after, is_before};
 
+use crate::chains::chains_of;
 use crate::found::{Kind, Path};
-use crate::serving::{add_here, parts_of, served_children};
+use crate::serving::{add_here, served_children};
 use crate::waiting::Waiter;
 use cap_base::NoMemory;
 use std::alloc::Allocator;
@@ -263,39 +264,6 @@ impl<T: TreeItem + Drop, A: Allocator + Copy> Branch<T, A> {
         }
     }
 
-    /// How many items are on the way that the steps lead: one more than there are steps.
-    pub fn count_on_way(&self, steps: &[u32]) -> usize
-        requires { IsPosition self.now steps.now }
-        ensures value { result ≡ length (items_along steps.now self.now) }
-        ensures steps { result ≡ length steps.now + 1 }
-    {
-        match steps {
-            [] => 1,
-            [i, rest @ ..] => {
-                let child = &self.children[*i as usize];
-                child.count_on_way(rest) + 1
-            }
-        }
-    }
-
-    /// The item at a level on the way that the steps lead, from the root as level 0.
-    pub fn get_on_way(&self, steps: &[u32], level: usize) -> &T
-        requires position { IsPosition self.now steps.now }
-        requires within { level ≤ length steps.now }
-        ensures { slice_get (items_along steps.now self.now) level ≡ Some result.now }
-    {
-        if level == 0 {
-            return self.top();
-        }
-        match steps {
-            [] => unreachable!(),
-            [i, rest @ ..] => {
-                let child = &self.children[*i as usize];
-                child.get_on_way(rest, level - 1)
-            }
-        }
-    }
-
     /// The least level on the way that the steps lead, from the root as level 0, whose item does not pass the test.
     pub fn first_failing<C: Test<T>>(&self, steps: &[u32], test: &C) -> Option<usize>
         requires { IsPosition self.now steps.now }
@@ -413,17 +381,24 @@ impl<T: TreeItem + Drop, A: Allocator + Copy> Branch<T, A> {
             Err(NoMemory) => return Err(NoMemory),
         }
         let children = self.children.as_slice();
-        let parts = match parts_of(alloc, children.len(), waiting) {
-            Ok(parts) => parts,
+        if children.is_empty() {
+            return Ok(());
+        }
+        let chains = match chains_of(alloc, children.len(), waiting) {
+            Ok(chains) => chains,
             Err(NoMemory) => return Err(NoMemory),
         };
-        let kids = match served_children(alloc, children, &parts) {
+        let kids = match served_children(alloc, children, &chains.heads) {
             Ok(kids) => kids,
             Err(NoMemory) => return Err(NoMemory),
         };
+        let Ok(mut part) = Vec::with_capacity(alloc, waiting.len()) else {
+            return Err(NoMemory);
+        };
         for kid in &kids {
             let child = &children[*kid as usize];
-            match child.serve(alloc, parts[*kid as usize].waiters(), order) {
+            chains.put_part(waiting, *kid, &mut part);
+            match child.serve(alloc, part.as_slice(), order) {
                 Ok(()) => {}
                 Err(NoMemory) => return Err(NoMemory),
             }

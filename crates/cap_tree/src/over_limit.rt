@@ -1,8 +1,11 @@
 //! The limit that a change of use would pass (`OverLimit`), and whether a queue stays within its maximum.
+ghost use Rattle.std.specs.Prelude.{◌≡◌};
+ghost use Rattle.cap_vector.specs.Vector.{amounts_exchanged};
+ghost use Rattle.cap_base.specs.LimitTests.{fits_maximum};
 
 use crate::branch::Test;
 use crate::queue::Queue;
-use cap_vector::Resource;
+use cap_vector::{Resource, Sum, fits_exchanged};
 use std::alloc::Allocator;
 
 /// The limit that a change of use would pass.
@@ -29,4 +32,19 @@ impl<'a, const K: usize, A: Allocator> Test<Queue<K, A>> for InMaximum<'a, K> {
     fn passes(&self, item: &Queue<K, A>) -> bool {
         item.stays_in_maximum(self.old, self.new)
     }
+}
+
+/// Whether a use stays within a maximum with `old` taken away and `new` added: always where nothing bounds it.
+pub(crate) fn fits_in_maximum<const K: usize>(
+    maximum: &Option<Resource<K>>,
+    used: &Sum<K>,
+    old: &Resource<K>,
+    new: &Resource<K>,
+) -> bool
+    ensures { result ≡ fits_maximum maximum.now (amounts_exchanged old.now new.now used.now) }
+{
+    let Some(maximum) = maximum else {
+        return true;
+    };
+    fits_exchanged(used, old, new, 1, maximum)
 }

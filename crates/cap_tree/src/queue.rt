@@ -1,5 +1,6 @@
 //! One queue of the tree (`Queue`): its settings, what is used and active in it and under it, a leaf's users by hash.
 ghost use Rattle.std.specs.Prelude.{◌≡◌, ◌≤◌, None, IfOk, OnOk, OnErr};
+ghost use Rattle.cap_vector.specs.Fullness.{shares};
 ghost use Rattle.cap_base.specs.Paths.{name_of};
 ghost use Rattle.cap_tree.specs.Count.{IsPart, MayMove};
 ghost use Rattle.cap_tree.specs.Measure.{Measure};
@@ -7,6 +8,7 @@ ghost use Rattle.cap_tree.specs.Queue.{IsUnused, HasSettingsOf, count_in, moved_
 
 use crate::branch::{CopyIn, Served, TreeItem};
 use crate::count::{Part, Total, moved};
+use crate::over_limit::fits_in_maximum;
 use cap_base::{NoMemory, PathText, QueueRow, ShortText};
 use cap_vector::{Resource, Shares, Sum, cmp_shares, fits_exchanged};
 use indexmap::IndexMap;
@@ -179,6 +181,13 @@ impl<const K: usize, A: Allocator> Queue<K, A> {
         self.count.used
     }
 
+    /// The shares of its guarantee that are used in it and under it.
+    pub(crate) fn shares(&self) -> Shares<K>
+        ensures { result ≡ shares self.now.used self.now.guaranteed }
+    {
+        self.shares
+    }
+
     /// How many applications are active in it and under it.
     pub fn active(&self) -> u64
         ensures { result ≡ self.now.active }
@@ -214,10 +223,7 @@ impl<const K: usize, A: Allocator> Queue<K, A> {
     pub(crate) fn stays_in_maximum(&self, old: &Resource<K>, new: &Resource<K>) -> bool
         ensures { result ≡ stays_in_maximum old.now new.now self.now }
     {
-        let Some(maximum) = self.maximum else {
-            return true;
-        };
-        fits_exchanged(&self.used(), old, new, 1, &maximum)
+        fits_in_maximum(&self.maximum, &self.count.used, old, new)
     }
 
     /// Whether a user stays within its user limit with `old` taken away and `new` added.

@@ -1,11 +1,11 @@
 //! The order of service in a tree: what waits at an item, and then what waits in its children.
-ghost use Rattle.std.specs.Prelude.{◌≡◌, ◌<◌, ◌≤◌, ◌++◌, [], filter, length, map, IfOk, OnOk};
+ghost use Rattle.std.specs.Prelude.{◌≡◌, ◌<◌, ◌≤◌, ◌++◌, filter, length, map, IfOk, OnOk};
 ghost use Rattle.std.specs.List.{All};
 ghost use Rattle.cap_tree.specs.Ranking.{IsPlace, IsRanked};
-ghost use Rattle.cap_tree.specs.ServedWaiters.{AreApart, AreKids, AreParts, BeginsWithin, HasTop, kid_at, kid_cmp, waits_here};
+ghost use Rattle.cap_tree.specs.ServedWaiters.{AreApart, AreKids, HasTop, kid_at, kid_cmp, waits_here};
 
 use crate::branch::{Branch, Served};
-use crate::waiting::{Part, Waiter};
+use crate::waiting::Waiter;
 use cap_base::NoMemory;
 use std::alloc::Allocator;
 
@@ -28,64 +28,24 @@ pub(crate) fn add_here<B: Allocator>(
     Ok(())
 }
 
-/// What waits in each of so many children, with the steps from there. An error means that an allocation failed.
-pub(crate) fn parts_of<'a, B: Allocator + Copy>(
-    alloc: B,
-    count: usize,
-    waiting: &[Waiter<'a>],
-) -> Result<Vec<Part<'a, B>, B>, NoMemory>
-    requires within { All (λ w. BeginsWithin count w.steps) waiting.now }
-    ensures as_many { IfOk result (λ parts. length parts.items ≡ count) }
-    ensures parts { IfOk result (λ parts. AreParts waiting.now parts.items) }
-{
-    let mut parts = match empty_parts(alloc, count) {
-        Ok(parts) => parts,
-        Err(NoMemory) => return Err(NoMemory),
-    };
-    for waiter in waiting {
-        let [first, rest @ ..] = waiter.steps() else {
-            continue;
-        };
-        match parts[*first as usize].add(waiter.below(rest)) {
-            Ok(()) => {}
-            Err(NoMemory) => return Err(NoMemory),
-        }
-    }
-    Ok(parts)
-}
-
-/// So many parts in which nothing waits. An error means that an allocation failed.
-fn empty_parts<'a, B: Allocator + Copy>(
-    alloc: B,
-    count: usize,
-) -> Result<Vec<Part<'a, B>, B>, NoMemory>
-    ensures as_many { IfOk result (λ parts. length parts.items ≡ count) }
-    ensures empty { IfOk result (λ parts. All (λ part. part ≡ []) parts.items) }
-{
-    let Ok(mut parts) = Vec::with_capacity(alloc, count) else {
-        return Err(NoMemory);
-    };
-    for _ in 0..count {
-        parts.push_reserved(Part::new(alloc));
-    }
-    Ok(parts)
-}
-
-/// The children in which something waits, in the order in which they are served. An error means that an allocation failed.
+/// The children in which something waits, which have heads other than 0, in the order in which they are served. An error means that
+/// an allocation failed.
 pub(crate) fn served_children<T: Served + Drop, A: Allocator + Copy, B: Allocator + Copy>(
     alloc: B,
     children: &[Branch<T, A>],
-    parts: &[Part<'_, B>],
+    heads: &[usize],
 ) -> Result<Vec<u32, B>, NoMemory>
-    requires as_many { length parts.now ≡ length children.now }
+    requires as_many { length heads.now ≡ length children.now }
     requires few { length children.now ≤ 4294967295 }
     requires apart { AreApart T.order T.name children.now }
     ensures { IfOk result (λ kids.
-        AreKids T.order T.name children.now parts.now (length children.now) kids.items) }
+        AreKids T.order T.name children.now heads.now (length children.now) kids.items) }
 {
-    let mut kids = Vec::new(alloc);
+    let Ok(mut kids) = Vec::with_capacity(alloc, children.len()) else {
+        return Err(NoMemory);
+    };
     for child in 0..children.len() as u32 {
-        if parts[child as usize].waiters().is_empty() {
+        if heads[child as usize] == 0 {
             continue;
         }
         let place = place_among(children, &kids, child);

@@ -1,6 +1,6 @@
 //! The tree of queues, seen as the list of its rows (`QueueTree`): its reads, and its changes at a queue.
 ghost use Rattle.std.specs.Prelude.{◌≡◌, ◌<◌, ◌≤◌, ◌+◌, ◌==◌, length, ◌++◌, ◌∷◌, [], map, None, Some, true, IfErr, IfOk, IfSome, MatchOption, OnOk, OnErr};
-ghost use Rattle.std.specs.List.{All, slice_get};
+ghost use Rattle.std.specs.List.{All};
 ghost use Rattle.cap_vector.specs.Vector.{IsWithin, amounts_exchanged, sum_max};
 ghost use Rattle.cap_base.specs.Limits.{factor_max, number_end, queues_max};
 ghost use Rattle.cap_base.specs.Trees.{depth, has_same_paths};
@@ -10,7 +10,7 @@ ghost use Rattle.cap_tree.specs.Limits.{over_limit};
 ghost use Rattle.cap_tree.specs.Paths.{TreeFitsInMemory};
 ghost use Rattle.cap_tree.specs.Count.{IsPart};
 ghost use Rattle.cap_tree.specs.Queue.{IsUnused, MayGive, MayLeave, count_in, stays_in_user_limit, use_of};
-ghost use Rattle.cap_tree.specs.Rows.{AreRows, FindsQueue, HasRoomAtRoot, active_in, applied_row, entered_row, is_running, items_to, left_row, lowered_row, moved_rows, queues_of, root_use, used_at, user_row_at, with_row, with_row_of_path, with_state};
+ghost use Rattle.cap_tree.specs.Rows.{AreRows, FindsQueue, HasRoomAtRoot, active_in, applied_row, entered_row, is_running, left_row, lowered_row, moved_rows, queues_of, root_use, used_at, user_row_at, with_row, with_row_of_path, with_state};
 ghost use Rattle.cap_tree.specs.Service.{HasNoChildAfter, IsNextChild};
 ghost use Rattle.cap_tree.specs.Spot.{IsPosition, item_at, path_at};
 
@@ -332,26 +332,6 @@ impl<const K: usize, A: Allocator + Copy> QueueTree<K, A> {
         ensures { item_at path.now.items self.now ≡ Some result.now }
     {
         self.root.get(path.as_slice())
-    }
-
-    /// How many queues are on the way to the queue, `root` and itself among them.
-    pub fn count_on_way(&self, path: &Path<A>) -> usize
-        requires { IsPosition self.now path.now.items }
-        ensures value { result ≡
-            length (items_to (path_at path.now.items self.now) self.now) }
-        ensures steps { result ≡ length path.now.items + 1 }
-    {
-        self.root.count_on_way(path.as_slice())
-    }
-
-    /// The queue at a level on the way to the queue, where `root` is level 0.
-    pub fn row_on_way(&self, path: &Path<A>, level: usize) -> &Queue<K, A>
-        requires position { IsPosition self.now path.now.items }
-        requires within { level ≤ length path.now.items }
-        ensures { slice_get (items_to (path_at path.now.items self.now) self.now) level
-            ≡ Some result.now }
-    {
-        self.root.get_on_way(path.as_slice(), level)
     }
 
     /// The index of the child of the queue that is served next after that child, and of the first where none is named: the

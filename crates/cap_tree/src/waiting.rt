@@ -1,8 +1,6 @@
 //! What waits at the queues of a tree, to be put into the order of service (`Waiter`).
-ghost use Rattle.std.specs.Prelude.{◌≡◌, ◌∷◌, ◌++◌, [], OnOk};
+ghost use Rattle.std.specs.Prelude.{◌≡◌};
 
-use cap_base::NoMemory;
-use std::alloc::Allocator;
 use std::marker::Model;
 
 /// What waits at a queue: its index, and the steps that lead to its queue from an item on the way.
@@ -50,49 +48,5 @@ impl<'a> Waiter<'a> {
             index: self.index,
             steps,
         }
-    }
-}
-
-/// What waits in a child, in order of index.
-#[derive(Drop)]
-pub(crate) struct Part<'a, B: Allocator> {
-    waiters: Vec<Waiter<'a>, B>,
-}
-
-impl<'a, B: Allocator> Model for Part<'a, B> {
-    ghost use Rattle.std.specs.Prelude.{List};
-    ghost use Rattle.cap_tree.specs.ServedWaiters.{Waiter as Waiting};
-
-    ghost Value = { List Waiting };
-
-    ghost view = { λ p. p.waiters.items };
-}
-
-impl<'a, B: Allocator> Part<'a, B> {
-    /// Nothing.
-    pub(crate) fn new(alloc: B) -> Part<'a, B>
-        ensures { result ≡ [] }
-    {
-        Part {
-            waiters: Vec::new(alloc),
-        }
-    }
-
-    /// All of it.
-    pub(crate) fn waiters(&self) -> &[Waiter<'a>]
-        ensures { result.now ≡ self.now }
-    {
-        self.waiters.as_slice()
-    }
-
-    /// One more. `NoMemory` changes nothing.
-    pub(crate) fn add(&mut self, waiter: Waiter<'a>) -> Result<(), NoMemory>
-        ensures { OnOk result (self.new ≡ self.old ++ waiter.entry ∷ []) }
-    {
-        match self.waiters.push(waiter) {
-            Ok(()) => {}
-            Err(_) => return Err(NoMemory),
-        }
-        Ok(())
     }
 }

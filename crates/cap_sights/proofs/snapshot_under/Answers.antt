@@ -10,7 +10,7 @@ tree-requires g c = (search, tree_fits _ c.requires.few)
 pub take-requires : goal.take-requires
 take-requires g c =
     let few = c.requires.few in
-    (tree_fits _ few, (omega arith, (nodes_of_few _ few, (omega arith, (c.requires.fits, (few, (rw c.apps.ensures.table c.apps.ensures.few, (rw (c.tree.ensures.rows, c.apps.ensures.accounts) c.apps.ensures.placed, (search rules, search rules)))))))))
+    (tree_fits _ few, (omega arith, (nodes_of_few _ few, (c.requires.fits.snapshot, (c.requires.fits, (few, (rw c.apps.ensures.table c.apps.ensures.few, rw (c.tree.ensures.rows, c.apps.ensures.accounts) c.apps.ensures.placed)))))))
 
 pub returns : goal.returns
 returns g c =

@@ -1,5 +1,5 @@
-use Rattle.std.proofs.lemmas.List.{take_all}
 use Rattle.cap_copy.proofs.Fitting.{reservation_by_nodes}
+use Rattle.std.proofs.lemmas.List.{take_all}
 use Rattle.cap_nodes.proofs.Sizes.{node_fits, amounts_fit}
 use Rattle.std.proofs.Common.{◌≡◌, ◌++◌, ◌∷◌, [], ap, sym, ◌∙◌, arith, map}
 use Rattle.std.specs.Prelude.{find, ◌==◌}
@@ -13,7 +13,7 @@ loop-index-preserved g c =
     let node = c.nth-node.result.now in
     let nodes = c.args.nodes.now in
     let free : c.free_at.result ≡ free_on g.row.K nodes node.number = rw c.nth-node.ensures.at at c.free_at.ensures in
-    let reservation = c.reservation_on.ensures ∙ ap (λ n. find (λ r. r.node == n) nodes.reserved) c.number-in-loop-index.ensures in
+    let reservation : c.reservation_at.result ≡ find (λ r. r.node == node.number) nodes.reserved = rw c.nth-node.ensures.at at c.reservation_at.ensures in
     record {
       entries =
           c.push_reserved.ensures.items
@@ -38,9 +38,6 @@ rack-requires g c = search node_fits
 pub host-requires : goal.host-requires
 host-requires g c = search node_fits
 
-pub number-requires-in-loop-index : goal.number-requires-in-loop-index
-number-requires-in-loop-index g c = search node_fits
-
 pub number-requires : goal.number-requires
 number-requires g c = search node_fits
 
@@ -50,8 +47,8 @@ nth-node-requires g c = let t = c.loop-index-test.true in let n = c.count-index-
 pub free_at-requires : goal.free_at-requires
 free_at-requires g c = let t = c.loop-index-test.true in let n = c.count-index-end.ensures.value in ((search), (search amounts_fit, omega (arith, t, n)))
 
-pub reservation_on-requires : goal.reservation_on-requires
-reservation_on-requires g c = search reservation_by_nodes
+pub reservation_at-requires : goal.reservation_at-requires
+reservation_at-requires g c = let t = c.loop-index-test.true in let n = c.count-index-end.ensures.value in ((search), (search reservation_by_nodes, omega (arith, t, n)))
 
 pub returns : goal.returns
 returns g c =

@@ -5,7 +5,7 @@ use Rattle.cap_copy.proofs.ranges.no_ranges.Given as goal
 
 abbrev pub invariant-loop-index : goal.invariant-loop-index
 invariant-loop-index g l = record {
-  empty : AreEmpty (map (λ r. r.app.number) (take l.index l.waiting)) l.ranges.items;
+  empty : AreEmpty (map (λ a. a.held.app.number) (take l.index l.apps)) l.ranges.items;
   count : vec_len l.ranges ≡ l.index;
-  room : vec_capacity l.ranges ≡ length l.waiting;
+  room : vec_capacity l.ranges ≡ length l.apps;
 }

@@ -1,5 +1,6 @@
-use Rattle.std.proofs.Common.{◌∙◌, sym, arith, ◌≤◌}
-use Rattle.cap_propose.proofs.Passing.{held_more, one_node_more}
+use Rattle.std.proofs.Common.{◌∙◌, sym, subst, arith, length, ◌<◌, ◌≤◌}
+use Rattle.cap_propose.specs.Proposing.{IsPassed}
+use Rattle.cap_propose.proofs.Passing.{held_more, last_turn, one_node_more, takes_here}
 use Rattle.cap_propose.proofs.choice.first_taker.Goals as goal
 
 pub loop-turn-preserved-then-skip-gt0 : goal.loop-turn-preserved-then-skip-gt0
@@ -19,3 +20,28 @@ loop-turn-preserved g c =
       one_node_more g.row.K c.args.snapshot.now c.args.first c.node_count-count.ensures.whole c.args.ask.now c.requires.ask c.loop-turn.turn c.wrapped-index.result c.node_count-count.result c.node-node.result.now
           c.node_count-count.ensures.count c.wrapped-index.ensures.ring c.node-node.ensures (sym c.takes.ensures ∙ c.if-takes.false) c.loop-turn.invariant.1,
     )
+
+pub skip-skip-requires : goal.skip-skip-requires
+skip-skip-requires g c =
+    let count = c.node_count-count.ensures.count in
+    let within = c.wrapped-index.ensures.within in
+    let there : c.wrapped-index.result < length c.args.snapshot.now.nodes = omega (arith, count, within) in
+    (c.requires.fits.snapshot, there)
+
+pub node-node-requires : goal.node-node-requires
+node-node-requires g c =
+    let count = c.node_count-count.ensures.count in
+    let within = c.wrapped-index.ensures.within in
+    let there : c.wrapped-index.result < length c.args.snapshot.now.nodes = omega (arith, count, within) in
+    (c.requires.fits.snapshot, (c.requires.fits.node, there))
+
+pub returns-then-takes : goal.returns-then-takes
+returns-then-takes g c = (
+  c.loop-turn-test.true,
+  c.loop-turn.invariant.1,
+  takes_here g.row.K c.args.snapshot.now c.args.first c.loop-turn.turn c.wrapped-index.result c.node_count-count.result c.node-node.result.now c.args.ask.now c.node_count-count.ensures.count c.wrapped-index.ensures.ring
+      c.node-node.ensures (sym c.takes.ensures ∙ c.if-takes.true),
+)
+
+pub returns : goal.returns
+returns g c = subst (λ n. IsPassed g.row.K c.args.snapshot.now c.args.first n c.args.ask.now) (last_turn c.loop-turn.turn c.args.end c.loop-turn.invariant.0 c.loop-turn-test.false) c.loop-turn.invariant.1

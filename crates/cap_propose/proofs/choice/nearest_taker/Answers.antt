@@ -78,3 +78,9 @@ returns-then-skip-nearest-clause-passed g c =
     let count = c.node_count.ensures.count in
     let n : c.node_count.result ≡ length seen.nodes = count in
     all_held g.row.K seen c.args.first c.node_count.result c.node_count.result n (subst (IsSkip seen.nodes 0) c.if-skip-nearest.true c.skip.ensures)
+
+pub skip-requires : goal.skip-requires
+skip-requires g c =
+    let first = c.requires.first in
+    let some : 0 < length c.args.snapshot.now.nodes = omega (arith, first) in
+    (c.requires.fits.snapshot, some)

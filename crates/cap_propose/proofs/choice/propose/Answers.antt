@@ -106,3 +106,6 @@ wrapped-requires-clause-first g c = within_count c.args.start c.node_count-count
 
 pub wrapped-requires-2-clause-first : goal.wrapped-requires-2-clause-first
 wrapped-requires-2-clause-first g c = within_count c.args.start c.node_count-count.result c.if-count-eq0.false
+
+pub reservation-requires : goal.reservation-requires
+reservation-requires g c = (c.requires.node, reservation_fits _ c.requires.proposal)

@@ -1,6 +1,6 @@
 use Rattle.std.proofs.Common.{◌∙◌, sym, arith, subst, ◌<◌, length}
 use Rattle.cap_copy.specs.AskRanges.{AreInside}
-use Rattle.cap_propose.proofs.Converting.{all_others, it_is_for, none_yet, one_other_more}
+use Rattle.cap_propose.proofs.Converting.{all_others, it_is_for, none_yet, one_other_more, reservation_fits}
 use Rattle.cap_propose.proofs.choice.reserved_ask.Goals as goal
 
 pub loop-index-init : goal.loop-index-init
@@ -31,3 +31,6 @@ returns-clause-first g c =
     let asks = c.asks_of-asks in
     all_others g.row.K c.args.snapshot.now c.args.reservation.now asks.result.start asks.result.end c.loop-index.index
     (subst (λ app. AreInside c.args.snapshot.now.asks app asks.result.start asks.result.end) c.app.ensures asks.ensures.inside) c.loop-index-test.false c.loop-index.invariant
+
+pub is_for-requires : goal.is_for-requires
+is_for-requires g c = (reservation_fits _ c.requires.proposal, c.requires.ask)

@@ -5,4 +5,4 @@ pub returns-clause-count : goal.returns-clause-count
 returns-clause-count g c = rw (← c.self.view_is) (search rules)
 
 pub returns-clause-whole : goal.returns-clause-whole
-returns-clause-whole g c = rw (← c.self.view_is) c.self.invariant
+returns-clause-whole g c = rw (← c.self.view_is) c.self.invariant.whole

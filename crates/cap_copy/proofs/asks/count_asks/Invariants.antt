@@ -1,7 +1,0 @@
-use Rattle.std.proofs.Common.{take}
-use Rattle.std.specs.List.{All}
-use Rattle.cap_asks.specs.Accounts.{AreKept}
-use Rattle.cap_copy.proofs.asks.count_asks.Given as goal
-
-abbrev pub invariant-loop-seen : goal.invariant-loop-seen
-invariant-loop-seen g l = All (λ r. AreKept r.app.asks) (take l.seen-index l.waiting)

@@ -1,0 +1,64 @@
+use Rattle.std.proofs.Common.{rules, ◌≡◌, ◌++◌, ◌∷◌, [], List, ap, map, subst, sym, ◌∙◌, arith}
+use Rattle.std.specs.List.{All}
+use Rattle.cap_tree.specs.Spot.{IsPosition}
+use Rattle.cap_asks.specs.Accounts.{AreKept, HeldApp}
+use Rattle.cap_copy.specs.SeenApp.{AreSeen, SeenApp}
+use Rattle.cap_copy.specs.Sources.{IsCopy, Parts, held_apps_in, nodes_in}
+use Rattle.cap_copy.proofs.Fitting.{tree_in_snapshot}
+use Rattle.cap_copy.proofs.Sights.{placed_all, positions_there}
+use Rattle.cap_copy.proofs.copied.ClusterCopy.take.Goals as goal
+
+pub seen_apps-requires : goal.seen_apps-requires
+seen_apps-requires g c =
+    let few = c.requires.resources in
+    let apps = c.args.apps.now in
+    let rows = c.args.tree.now in
+    let waiting = c.in-Ok.waiting.items in
+    let placed = positions_there rows waiting (placed_all rows apps.accounts apps.table.active waiting c.in-Ok.ensures.apps c.in-Ok.ensures.accounts c.requires.placed) in (
+      search rules,
+      (
+        search rules,
+        (
+          omega (arith, few),
+          (
+            omega (arith, few),
+            (few, subst (λ (rs : List HeldApp). All (λ r. IsPosition rows r.account.position) rs) (sym c.deref.ensures.value) placed),
+          ),
+        ),
+      ),
+    )
+
+pub seen_in-requires : goal.seen_in-requires
+seen_in-requires g c =
+    let few = c.requires.resources in
+    let fits = c.requires.fits.snapshot in
+    (search rules, search (tree_in_snapshot, fits))
+
+pub invariant_of-result : goal.invariant_of-result
+invariant_of-result g c =
+    let K = g.row.K in
+    let parts : Parts = record { rows = c.args.tree.now; apps = c.args.apps.now; nodes = c.args.nodes.now } in
+    let seen = c.in-Ok-seen_apps.copied.0.items in
+    let asks = c.in-Ok-seen_apps.copied.1.items in
+    let nodes = c.in-Ok-seen_nodes.present.items in
+    let live = c.live_count.result in
+    let next = c.next_container.result in
+    let sources = c.and.ensures ∙ ap (λ l. l ++ (c.args.apps.now, c.args.nodes.now) ∷ []) c.new.ensures in
+    let held = c.in-Ok-seen_apps.ensures.seen.held ∙ c.deref.ensures.value in
+    subst (λ (ps : Parts). IsCopy K ps (map (λ (a : SeenApp). a.held) seen) seen asks nodes live next)
+    (sym (λ k. record { rows = c.in-Ok-seen_in.ensures k; apps = held_apps_in (sources k); nodes = nodes_in (sources k) }))
+    (subst (λ ws. IsCopy K parts ws seen asks nodes live next) (sym held)
+    (record {
+      resources = c.requires.resources;
+      few = c.requires.few;
+      placed = c.requires.placed;
+      rising = c.numbers_rise.ensures;
+      numbers = c.numbers_rise-2.ensures.nodes;
+      apps_are = c.in-Ok.ensures.apps;
+      accounts_are = c.in-Ok.ensures.accounts;
+      kept = subst (λ (rs : List HeldApp). All (λ r. AreKept r.app.asks) rs) c.deref.ensures.value c.seen_apps.ensures.kept;
+      seen_are = subst (λ (rs : List HeldApp). AreSeen K parts.rows rs asks seen) c.deref.ensures.value c.in-Ok-seen_apps.ensures.seen;
+      nodes_are = c.in-Ok-seen_nodes.ensures;
+      live_is = c.live_count.ensures.value;
+      next_is = c.next_container.ensures;
+    }))

@@ -1,0 +1,11 @@
+use Rattle.std.proofs.Common.{◌≡◌, take, vec_len, vec_capacity}
+use Rattle.std.specs.Prelude.{length}
+use Rattle.cap_copy.specs.SeenApp.{AreSeen}
+use Rattle.cap_copy.proofs.seen_app.seen_apps.Given as goal
+
+abbrev pub invariant-loop-index : goal.invariant-loop-index
+invariant-loop-index g l = record {
+  are : AreSeen g.row.K l.tree (take l.index l.waiting) l.asks.items l.seen.items;
+  count : vec_len l.seen ≡ l.index;
+  room : vec_capacity l.seen ≡ length l.waiting;
+}

@@ -1,0 +1,13 @@
+use Rattle.std.proofs.Common.{◌<◌, ◌∙◌, length, subst, sym, arith}
+use Rattle.std.proofs.lemmas.Grind.{get_or_default_zero}
+use Rattle.cap_copy.specs.Snapshot.{IsSkip, Seen}
+use Rattle.cap_copy.proofs.snapshot.Snapshot.skip.Goals as goal
+
+pub returns : goal.returns
+returns g c =
+    let inside = c.self.inside in
+    let skips = c.self.invariant.whole.skips in
+    let within = subst (λ (s : Seen). c.args.index < length s.nodes) (sym c.self.view_is) c.requires in
+    let there : c.args.index < length inside.skips.items = (let n = skips.count in omega (arith, within, n)) in
+    rw (← c.self.view_is)
+    (subst (IsSkip inside.nodes.items c.args.index) (sym (c.index.ensures ∙ get_or_default_zero inside.skips.items c.args.index c.index.result.now there)) (skips.each c.args.index within))

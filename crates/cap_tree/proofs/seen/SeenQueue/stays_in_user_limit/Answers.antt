@@ -1,0 +1,12 @@
+use Rattle.std.proofs.Common.{◌∙◌}
+use Rattle.cap_vector.specs.Vector.{amounts_exchanged}
+use Rattle.cap_base.specs.LimitTests.{fits_user_limit}
+use Rattle.cap_tree.proofs.Within.{fits_times}
+use Rattle.cap_tree.proofs.seen.SeenQueue.stays_in_user_limit.Goals as goal
+
+pub returns : goal.returns
+returns g c =
+    let after = amounts_exchanged c.args.old.now c.args.new.now c.args.used.now in
+    fits_times c.fits_exchanged.result after c.self.inside.factor c.self.inside.guaranteed c.fits_exchanged.ensures
+    ∙ (λ i. fits_user_limit (c.self.invariant.factor_is i) (c.self.invariant.guaranteed_is i) after)
+    ∙ (λ i. fits_user_limit (c.self.view_is i).factor (c.self.view_is i).guaranteed after)
