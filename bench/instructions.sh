@@ -3,7 +3,7 @@
 # of 20 asks among 256 applications, a queue that is opened from its lines and shown, a Refresh of 1,024 queues; a turn of a worker (it copies, proposes and commits)
 # in a farm of 512 nodes, 64 leaf queues and 256 applications, one of 32 workers that all copy the same state first, one beside 10,000 masters that ask for nothing,
 # one with 1,023 applications in 64 leaf queues and one in as many, and one where each node holds a reservation, 2,048 asks are open and nothing is admissible (it
-# copies and proposes); an application of 10,000 that ends; and a node that registers, among the first 128 and after 3,968 others. Prints them a request, with those
+# copies and proposes); an application of 10,000 that ends; and a node that registers, among the first 128 and after 4,032 others. Prints them a request, with those
 # that clear and copy memory apart, of which callgrind counts about one a byte; fails where both together are past the bound beside each, or more than so many times
 # another work. Needs valgrind, a package of most distributions. Counts depend a little on the C library and the processor.
 . "$(dirname "${BASH_SOURCE[0]}")/common.sh"
