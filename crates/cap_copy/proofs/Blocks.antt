@@ -1,9 +1,9 @@
 -- Applications by their indexes, and the asks that stand together.
-use Rattle.std.proofs.Common.{◌≡◌, ℕ, zero, suc, ◌+◌, ◌<◌, Bool, true, false, List, [], ◌∷◌, ◌++◌, refl, sym, ◌∙◌, ap, inl, inr, arith}
+use Rattle.std.proofs.Common.{◌≡◌, ℕ, zero, suc, ◌+◌, ◌<◌, ◌≤◌, Bool, true, false, List, [], ◌∷◌, ◌++◌, refl, sym, ◌∙◌, ap, inl, inr, arith}
 use Rattle.std.specs.Prelude.{Option, Some, None, cond, filter, flat_map, map, ◌==◌}
 use Rattle.std.specs.List.{slice_get}
 use Rattle.std.specs.Option.{option_map_or}
-use Rattle.std.proofs.lemmas.Bool.{cases_lt, eq-eqb, eqb-true}
+use Rattle.std.proofs.lemmas.Bool.{cases_lt, eq-eqb, eqb-true, ne_eqb}
 use Rattle.std.proofs.lemmas.List.{append-nil, map-id}
 use Rattle.std.proofs.lemmas.List.Concat.{flat_map-cons}
 use Rattle.std.proofs.lemmas.List.Elements.{filter-append}
@@ -13,8 +13,9 @@ use Rattle.cap_model.specs.Flat.{App}
 use Rattle.cap_model.specs.Sight.{NodeSight}
 use Rattle.cap_base.proofs.lists.Filters.{map_twice}
 use Rattle.cap_model.proofs.lists.Numbered.{rising_from_low}
+use Rattle.cap_base.proofs.lists.Members.{IsIn, in_either}
 use Rattle.cap_base.proofs.lists.Tests.{same_test}
-use Rattle.cap_copy.specs.Entries.{ask_entries, ask_entry, asks_at, asks_of}
+use Rattle.cap_copy.specs.Entries.{ask_entries, ask_entry, asks_at, asks_of, indexes}
 use Rattle.cap_copy.specs.AskEntry.{AskEntry}
 use Rattle.cap_copy.specs.Snapshot.{asks_for}
 use Rattle.cap_copy.proofs.LoopSteps.{slice_get_in}
@@ -93,3 +94,29 @@ module _ (nodes : List NodeSight) (apps : List App) (high : ℕ) (rising : IsRis
       )
       ∙ map_twice (λ (e : AskEntry). e.ask) (ask_entry nodes app.number i) app.asks
       ∙ map-id app.asks
+
+-- of so many indexes each stands there once
+no_index : (n k : ℕ) → n ≤ k → filter (λ j. j == k) (indexes n) ≡ []
+no_index zero k h = refl
+no_index (suc n) k h =
+    filter-append (λ j. j == k) (indexes n) (n ∷ [])
+    ∙ (λ i. no_index n k (omega (arith, h)) i ++ cond (ne_eqb n k (λ e. omega (arith, e, h)) i) (n ∷ []) [])
+
+pub each_index : (n i : ℕ) → i < n → filter (λ j. j == i) (indexes n) ≡ i ∷ []
+each_index zero i lt = absurd (omega (arith, lt))
+each_index (suc n) i lt =
+    filter-append (λ j. j == i) (indexes n) (n ∷ [])
+    ∙ elim (cases_lt i n) [
+      | inl l ↦ (λ k. each_index n i l k ++ cond (ne_eqb n i (λ e. omega (arith, e, l)) k) (n ∷ []) [])
+      | inr g ↦
+          let e : n ≡ i = omega (arith, lt, g) in
+          (λ k. no_index n i (omega (arith, e)) k ++ cond (eq-eqb n i e k) (n ∷ []) []) ∙ ap (λ m. m ∷ []) e
+    ]
+
+pub index_below : (n i : ℕ) → IsIn i (indexes n) → i < n
+index_below zero i m = absurd m
+index_below (suc n) i m = elim (in_either i (indexes n) (n ∷ []) m) [
+  | inl h ↦ let lt = index_below n i h in omega (arith, lt)
+  | inr (inl e) ↦ omega (arith, e)
+  | inr (inr none) ↦ absurd none
+]

@@ -14,6 +14,7 @@ use Rattle.cap_tree.proofs.Sizes.{part, part_fits}
 use Rattle.cap_nodes.specs.contracts.nodes.Nodes as nodes
 use Rattle.cap_nodes.proofs.Sizes.{container_fits, nodes_of_few as fits_of_few}
 use Rattle.cap_copy.specs.contracts.snapshot.Snapshot as snapshot
+use Rattle.cap_copy.specs.contracts.copied.ClusterCopy as copied
 use Rattle.cap_copy.specs.contracts.seen_app.SeenApp as seen_app
 use Rattle.cap_copy.specs.contracts.seen.SeenAsk as seen_ask
 use Rattle.cap_copy.specs.contracts.seen.SeenNode as seen_node
@@ -44,6 +45,9 @@ tree_in_snapshot K A alloc = part_fits (layout (snapshot.the_row K A alloc)) (0 
 
 pub amounts_in_snapshot : (K MAX A : RattleType) (alloc : Ghosts A.Denot) → FitsInMemory (snapshot.the_row K A alloc) → FitsInMemory (amounts.the_row K MAX)
 amounts_in_snapshot K MAX A alloc = part_fits (layout (snapshot.the_row K A alloc)) (0 ∷ 0 ∷ 0 ∷ 1 ∷ [])
+
+pub tree_in_copy : (K A : RattleType) (alloc : Ghosts A.Denot) → FitsInMemory (copied.the_row K A alloc) → FitsInMemory (seen_tree.the_row K A alloc)
+tree_in_copy K A alloc = part_fits (layout (copied.the_row K A alloc)) (0 ∷ [])
 
 -- and so is a queue of its tree
 pub queue_in_snapshot : (K A : RattleType) (alloc : Ghosts A.Denot) → FitsInMemory (snapshot.the_row K A alloc) → size (part (layout (snapshot.the_row K A alloc)) (0 ∷ 0 ∷ 0 ∷ [])) < 2 ^ 63

@@ -1,6 +1,7 @@
 pub mod Blocks
 pub mod Found
 pub mod ServedAsks
+pub mod Order
 pub mod Ranging
 pub mod Reserving
 pub mod Seeing

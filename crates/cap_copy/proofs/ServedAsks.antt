@@ -1,6 +1,6 @@
 -- Asks in the order of service, where applications are in it by their queues.
-use Rattle.std.proofs.Common.{◌≡◌, ℕ, ◌<◌, ◌≤◌, Bool, true, false, List, [], ◌∷◌, ◌++◌, refl, sym, subst, ◌∙◌, ap, inl, inr, length, arith}
-use Rattle.std.specs.Prelude.{Option, Some, None, cond, drop, filter, flat_map, map, option_map, unwrap_or, ◌==◌}
+use Rattle.std.proofs.Common.{◌≡◌, ℕ, ◌<◌, ◌≤◌, true, false, List, [], ◌∷◌, ◌++◌, refl, sym, subst, ◌∙◌, ap, inl, inr, arith}
+use Rattle.std.specs.Prelude.{Option, Some, None, drop, flat_map, map, option_map, unwrap_or}
 use Rattle.std.specs.List.{slice_get}
 use Rattle.std.specs.Option.{option_map_or}
 use Rattle.std.specs.Ordering.{MatchOrdering, is_gt, is_lt, nat_cmp, ordering_then}
@@ -8,7 +8,6 @@ use Rattle.std.specs.declared.cmp.Ordering.{Ordering}
 use Rattle.std.specs.declared.cmp.Ordering.TheVariants.{Less, Equal, Greater}
 use Rattle.std.specs.Cmp.{nat_cmp_is}
 use Rattle.std.specs.Cmp.Lexicographic.{slice_cmp}
-use Rattle.std.proofs.lemmas.Bool.{eq-eqb}
 use Rattle.std.proofs.lemmas.Cmp.{lists_total, nat_cmp_total, ranked}
 use Rattle.std.proofs.lemmas.List.Concat.{flat_map-cons}
 use Rattle.cap_model.specs.Asks.{Ask, ask_key_cmp}
@@ -20,7 +19,7 @@ use Rattle.cap_model.specs.Sight.{NodeSight, queues_to, seen_app}
 use Rattle.cap_model.specs.declared.ask.Key.{Key}
 use Rattle.cap_model.proofs.choice.Orders.{not_after_itself}
 use Rattle.cap_base.proofs.Levels.{level_cmp_total}
-use Rattle.cap_base.proofs.lists.Members.{IsIn, each_of, in_either, in_filter, of_each, of_map}
+use Rattle.cap_base.proofs.lists.Members.{IsIn, each_of, in_either, of_each, of_map}
 use Rattle.cap_tree.specs.Service.{levels_at}
 use Rattle.cap_tree.specs.ServiceOrder.{AreInOrder, position_nth, waiting_cmp}
 use Rattle.cap_asks.specs.Accounts.{AreAfter, AreKept, is_before}
@@ -61,26 +60,8 @@ abbrev pub AreOnce : List ℕ → Type 0
 AreOnce [] = Unit {0}
 AreOnce (i ∷ is) = (IsIn i is → ⊥) × AreOnce is
 
-some_in : {A : Type 0} (xs : List A) (x : A) → IsIn x xs → 1 ≤ length xs
-some_in [] x m = absurd m
-some_in (y ∷ xs) x m = omega arith
-
-fewer : (b : Bool) (i : ℕ) (is : List ℕ) → length is ≤ length (cond b (i ∷ is) is)
-fewer true i is = omega arith
-fewer false i is = omega arith
-
-pub once : (order : List ℕ) → ((k : ℕ) → IsIn k order → length (filter (λ j. j == k) order) ≤ 1) → AreOnce order
-once [] h = tt
-once (i ∷ order) h = (
-  (λ m.
-      let here = ap (λ b. length (cond b (i ∷ filter (λ j. j == i) order) (filter (λ j. j == i) order))) (eq-eqb i i refl) in
-      let more = some_in (filter (λ j. j == i) order) i (in_filter (λ j. j == i) order i m (eq-eqb i i refl)) in
-      omega (arith, here, more, h i (inl refl))),
-  once order (λ k m. omega (arith, fewer (i == k) i (filter (λ j. j == k) order), h k (inr m))),
-)
-
 -- what stands in one of the parts
-of_parts : {A B : Type 0} (f : A → List B) (xs : List A) (b : B) → IsIn b (flat_map f xs) → (x : A) × IsIn x xs × IsIn b (f x)
+pub of_parts : {A B : Type 0} (f : A → List B) (xs : List A) (b : B) → IsIn b (flat_map f xs) → (x : A) × IsIn x xs × IsIn b (f x)
 of_parts f [] b m = absurd m
 of_parts f (x ∷ xs) b m =
     elim (in_either b (f x) (flat_map f xs) (subst (λ l. IsIn b l) (flat_map-cons f x xs) m)) [

@@ -1,55 +1,48 @@
 -- A snapshot of the parts of a cluster is whole, and its sight is that of the parts.
-use Rattle.std.proofs.Common.{◌≡◌, ℕ, suc, ◌<◌, ◌≤◌, Bool, true, false, ◌&&◌, List, [], ◌∷◌, refl, sym, subst, ◌∙◌, ap, inl, inr, length, arith}
-use Rattle.std.specs.Prelude.{Option, Some, None, IsSome, bytes_eq, cond, count_by, drop, filter, find, map, not, option_map, unwrap_or, ◌==◌}
+use Rattle.std.proofs.Common.{◌≡◌, ℕ, ◌<◌, ◌≤◌, Bool, true, false, ◌&&◌, List, [], ◌∷◌, refl, sym, subst, ◌∙◌, ap, inl, inr, length, arith}
+use Rattle.std.specs.Prelude.{Option, Some, None, bytes_eq, cond, drop, find, flat_map, map, not, option_map, unwrap_or, ◌==◌}
 use Rattle.std.specs.List.{All, slice_get}
 use Rattle.std.specs.Option.{option_map_or}
 use Rattle.std.proofs.lemmas.Bool.{and_parts, eqb-true}
-use Rattle.std.proofs.lemmas.Bool.Decides.{nat_tests}
 use Rattle.std.proofs.lemmas.List.{drop-map, length-map, nil_from_length}
 use Rattle.std.proofs.lemmas.Option.{same_Some, slice_get-map, slice_get_within}
 use Rattle.cap_model.specs.Asks.{Ask, same_key}
 use Rattle.cap_base.specs.Members.{IsRising}
-use Rattle.cap_base.specs.Cascade.{holds_of}
 use Rattle.cap_model.specs.Choice.{level_of}
 use Rattle.cap_model.specs.Flat.{App, AppTable, ClusterNode, NodeTable, ask_at}
 use Rattle.cap_base.specs.Paths.{is_under}
 use Rattle.cap_model.specs.Sight.{AppSight, NodeSight, QueueSight, app_sight, queues_to, seen_app}
 use Rattle.cap_model.proofs.calls.KeptAsks.{same_key_itself}
 use Rattle.cap_base.proofs.lists.Filters.{filter_mapped, filter_none, find_mapped_at, length-kept, map_twice}
-use Rattle.cap_base.proofs.lists.Members.{IsIn, each_of, found, in_filter, in_map, of_each, of_filter, of_map}
+use Rattle.cap_base.proofs.lists.Members.{IsIn, each_of, in_filter, in_flat_map, in_map, of_each, of_filter, of_map}
 use Rattle.cap_model.proofs.lists.Numbered.{found_by_number, rising_kept}
-use Rattle.cap_base.proofs.lists.Sums.{sum_by_map}
-use Rattle.cap_base.proofs.lists.Tests.{value_of}
 use Rattle.cap_tree.specs.Queue.{Queue}
 use Rattle.cap_tree.specs.Rows.{AreRows, IsAt, Row, items_to, rows_to}
 use Rattle.cap_tree.specs.Service.{levels_at}
-use Rattle.cap_tree.specs.ServiceOrder.{IsServiceOrder, position_nth}
-use Rattle.cap_tree.specs.ServedWaiters.{Waiter}
+use Rattle.cap_tree.specs.Seen.{SeenRows}
+use Rattle.cap_tree.specs.ServiceOrder.{position_nth, waiting_cmp}
 use Rattle.cap_tree.specs.Spot.{IsPosition, path_at}
 use Rattle.cap_tree.proofs.RowPaths.{at_position}
 use Rattle.cap_asks.specs.Apps.{account_of, is_waiting, position_of, waiting_of}
 use Rattle.cap_asks.specs.Accounts.{Account, AreKept, HeldApp}
 use Rattle.cap_asks.proofs.Keeping.{before_not_same}
-use Rattle.cap_copy.specs.Entries.{ask_entries, registered_of}
+use Rattle.cap_copy.specs.Entries.{ask_entries, asks_at, asks_of, asks_of_all, beside, indexes, registered_of}
 use Rattle.cap_copy.specs.Limits.{limit_in, limit_of, no_limit, queue_use}
-use Rattle.cap_copy.specs.SeenApp.{SeenApp}
-use Rattle.cap_copy.specs.Arranging.{IsArranged}
-use Rattle.cap_copy.specs.Sources.{IsCopy, IsStored, Parts}
+use Rattle.cap_copy.specs.Order.{service_order}
+use Rattle.cap_copy.specs.SeenApp.{SeenApp, range_in, user_used}
+use Rattle.cap_copy.specs.Sources.{IsCopy, IsStored, Parts, seen_of}
 use Rattle.cap_copy.specs.declared.ranges.AskRange.{AskRange}
 use Rattle.cap_copy.specs.AskEntry.{AskEntry}
-use Rattle.cap_copy.specs.AskRanges.{AreOfApps, AreRanges}
-use Rattle.cap_copy.specs.Snapshot.{AreSkips, IsAskEntry, IsLimitOf, IsSnapshot, QueueUse, Seen, asks_for, queue_seen, sight_in}
+use Rattle.cap_copy.specs.AskRanges.{AreRanges}
+use Rattle.cap_copy.specs.Snapshot.{AreServedInOrder, AreSkips, IsAskEntry, IsLimitOf, IsSnapshot, QueueUse, Seen, asks_between, asks_for, asks_nth, asks_served, queue_seen, sight_in}
 use Rattle.cap_copy.specs.Taking.{IsSnapshotOf, node_seen}
-use Rattle.cap_copy.proofs.Blocks.{asks_for_is, rising_apart}
+use Rattle.cap_copy.proofs.Blocks.{asks_for_is, each_index, index_below, rising_apart}
 use Rattle.cap_copy.proofs.Found.{row_found}
-use Rattle.cap_copy.proofs.ServedAsks.{after_in, all_in_order, ask_in, levels_of, once}
-use Rattle.cap_copy.proofs.LoopSteps.{slice_get_in}
-
--- the index of what is in a list
-index_in : {A : Type 0} (xs : List A) (x : A) → IsIn x xs → (i : ℕ) × (slice_get xs i ≡ Some x)
-index_in [] x m = absurd m
-index_in (y ∷ xs) x (inl e) = (0, ap (λ z. Some z) e)
-index_in (y ∷ xs) x (inr m) = let r = index_in xs x m in (suc (r.0), r.1)
+use Rattle.cap_copy.proofs.Order.{all_ordered, below_of, each_once, each_there, waiting_total}
+use Rattle.cap_copy.proofs.Reserving.{ranges_beside}
+use Rattle.cap_copy.proofs.Seeing.{all_beside, have_beside}
+use Rattle.cap_copy.proofs.ServedAsks.{after_in, all_in_order, ask_in, levels_of, of_parts}
+use Rattle.cap_copy.proofs.LoopSteps.{index_in, slice_get_in}
 
 -- an ask is found by its key
 asked_by_key : (asks : List Ask) (ask : Ask) → AreKept asks → IsIn ask asks → ask_at ask.key asks ≡ Some ask
@@ -81,7 +74,7 @@ placed_all rows accounts active waiting apps_are accounts_are placed =
     let at = each_of (λ app. IsAt rows app.leaf (position_of app.number accounts)) active placed held.app (of_filter is_waiting active held.app member).1 in
     subst (IsAt rows held.app.leaf) (position_is accounts held (each_of (λ r. account_of r.app.number accounts ≡ Some r.account) waiting accounts_are held m)) at)
 
-module _ (K : ℕ) (parts : Parts) (waiting : List HeldApp) (order skips : List ℕ) (ranges : List AskRange) where
+module _ (K : ℕ) (parts : Parts) (waiting : List HeldApp) (skips : List ℕ) (ranges : List AskRange) where
   abbrev rows : List Row
   rows = parts.rows
 
@@ -97,28 +90,33 @@ module _ (K : ℕ) (parts : Parts) (waiting : List HeldApp) (order skips : List 
   abbrev present : List NodeSight
   present = map (node_seen K nodes) nodes.present
 
+  abbrev positions : List (List ℕ)
+  positions = map (λ r. r.account.position) waiting
+
   -- what a snapshot of the parts sees
   abbrev pub taken : Seen
   taken = record {
     rows = rows;
     apps = map app_sight (registered_of apps.active);
     limits = map (limit_of K rows) waiting;
-    asks = ask_entries present (waiting_of apps.active) order;
+    asks = asks_of_all present (waiting_of apps.active);
     ranges = ranges;
+    order = service_order rows positions;
     nodes = present;
     skips = skips;
     live = length nodes.live;
     next_container = nodes.next_container;
   }
 
-  abbrev positions : List (List ℕ)
-  positions = map (λ r. r.account.position) waiting
-
   -- the numbers of the applications that wait
   numbers_are : map (λ r. r.app) waiting ≡ waiting_of apps.active → map (λ (r : HeldApp). r.app.number) waiting ≡ map (λ (app : App). app.number) (waiting_of apps.active)
   numbers_are same = sym (map_twice (λ (app : App). app.number) (λ (r : HeldApp). r.app) waiting) ∙ ap (map (λ (app : App). app.number)) same
 
-  module _ (seen : List SeenApp) (asks : List Ask) (live next : ℕ) (copied : IsCopy K parts waiting seen asks present live next) (rows_are : AreRows rows) (served : IsServiceOrder rows (map (λ r. r.account.position) waiting) order) where
+  module _ (seen : List SeenApp) (asks : List AskEntry) (live next : ℕ) (copied : IsCopy K parts waiting seen asks present live next) (rows_are : AreRows rows) where
+    -- as many wait as there are positions
+    count : length (waiting_of apps.active) ≡ length positions
+    count = let e = ap length copied.apps_are in let a = length-map waiting (λ (r : HeldApp). r.app) in let b = length-map waiting (λ (r : HeldApp). r.account.position) in omega (arith, e, a, b)
+
     rising : IsRising 1 (map (λ app. app.number) (waiting_of apps.active)) apps.next
     rising = rising_kept (λ (app : App). app.number) is_waiting 1 apps.active apps.next copied.rising
 
@@ -138,11 +136,10 @@ module _ (K : ℕ) (parts : Parts) (waiting : List HeldApp) (order skips : List 
     position_at i held at =
         ap (λ (o : Option (List ℕ)). option_map_or (λ p. p) o []) (slice_get-map (λ (r : HeldApp). r.account.position) waiting i ∙ ap (option_map (λ (r : HeldApp). r.account.position)) at)
 
-    asks_are : (i : ℕ) (app : App) → slice_get (waiting_of apps.active) i ≡ Some app → asks_for app.number (ask_entries present (waiting_of apps.active) order) ≡ app.asks
+    asks_are : (i : ℕ) (app : App) → slice_get (waiting_of apps.active) i ≡ Some app → asks_for app.number taken.asks ≡ app.asks
     asks_are i app at =
-        let within = slice_get_within waiting i ((held_of i app at).0) ((held_of i app at).1) in
-        let places = length-map waiting (λ (r : HeldApp). r.account.position) in
-        asks_for_is present (waiting_of apps.active) apps.next rising order i app at (served.each i (omega (arith, within, places)))
+        let n = length (waiting_of apps.active) in
+        asks_for_is present (waiting_of apps.active) apps.next rising (indexes n) i app at (each_index n i (slice_get_within (waiting_of apps.active) i app at))
 
     -- what waits has registered
     has_registered : (app : App) → IsIn app (waiting_of apps.active) → IsIn app (registered_of apps.active)
@@ -191,8 +188,8 @@ module _ (K : ℕ) (parts : Parts) (waiting : List HeldApp) (order skips : List 
 
     entry_is : (e : AskEntry) → IsIn e taken.asks → IsAskEntry K taken e
     entry_is e m =
-        let x = (ask_in present (waiting_of apps.active) order e m).2 in
-        let i = (ask_in present (waiting_of apps.active) order e m).0 in
+        let x = (ask_in present (waiting_of apps.active) (indexes (length (waiting_of apps.active))) e m).2 in
+        let i = (ask_in present (waiting_of apps.active) (indexes (length (waiting_of apps.active))) e m).0 in
         let h = held_of i x.app x.at in
         subst (IsAskEntry K taken) x.is (record {
           app = app_sight x.app;
@@ -203,12 +200,6 @@ module _ (K : ℕ) (parts : Parts) (waiting : List HeldApp) (order skips : List 
           asked = asked_by_key x.app.asks x.ask (kept i x.app x.at) x.member;
           wanted = refl;
         })
-
-    -- each index stands in the order once
-    each_once : (i : ℕ) → IsIn i order → length (filter (λ j. j == i) order) ≤ 1
-    each_once i m =
-        let e = ap length (served.each i (each_of (λ j. j < length positions) order served.within i m)) in
-        omega (arith, e)
 
     node_found : (x : NodeSight) → IsIn x taken.nodes → find (λ y. y.number == x.number) taken.nodes ≡ Some x
     node_found x m =
@@ -234,7 +225,7 @@ module _ (K : ℕ) (parts : Parts) (waiting : List HeldApp) (order skips : List 
         by : (b : Bool) → e.app == app.number ≡ b → b ≡ false
         by false h = refl
         by true h =
-            let r = ask_in present (waiting_of apps.active) order e n in
+            let r = ask_in present (waiting_of apps.active) (indexes (length (waiting_of apps.active))) e n in
             let x = r.2 in
             let active = (of_filter is_waiting apps.active x.app (slice_get_in (waiting_of apps.active) (r.0) x.app x.at)).1 in
             let number : x.app.number ≡ app.number = ap (λ (y : AskEntry). y.app) x.is ∙ eqb-true e.app app.number h in
@@ -257,16 +248,45 @@ module _ (K : ℕ) (parts : Parts) (waiting : List HeldApp) (order skips : List 
         let x = of_map app_sight (registered_of apps.active) a m in
         subst (λ (b : AppSight). asks_for b.number taken.asks ≡ b.asks) (x.2) (shown (x.0) (x.1))
 
-    pub is_whole : AreSkips taken.nodes skips → AreRanges taken.asks ranges → map (λ (b : AskRange). b.app) ranges ≡ map (λ (r : HeldApp). r.app.number) waiting → IsSnapshot K taken
-    is_whole are_skips are_ranges same = record {
-      entries = of_each (IsAskEntry K taken) taken.asks entry_is;
-      whole = of_each (λ a. asks_for a.number taken.asks ≡ a.asks) taken.apps app_whole;
-      order = all_in_order K taken present (waiting_of apps.active) apps.next rising positions levels_are kept order (once order each_once) served.sorted;
-      nodes = of_each (λ x. find (λ y. y.number == x.number) taken.nodes ≡ Some x) taken.nodes node_found;
-      skips = are_skips;
-      ranges = are_ranges;
-      apart = λ i j b d h e f. rising_apart (λ (r : AskRange). r.app) 1 ranges apps.next i j b d (subst (λ ns. IsRising 1 ns apps.next) (sym (same ∙ numbers_are copied.apps_are)) rising) e f h;
-    }
+    module _ (have : (i : ℕ) → asks_nth taken i ≡ asks_at present (waiting_of apps.active) i) where
+      served_are : (order : List ℕ) → asks_served taken order ≡ ask_entries present (waiting_of apps.active) order
+      served_are order = λ k. flat_map (λ i. have i k) order
+
+      in_service : AreServedInOrder K taken (asks_served taken taken.order)
+      in_service =
+          let total = waiting_total rows positions in
+          let n = length positions in
+          subst (λ es. AreServedInOrder K taken es) (sym (served_are taken.order))
+          (all_in_order K taken present (waiting_of apps.active) apps.next rising positions levels_are kept taken.order (each_once (waiting_cmp rows positions) total n) (all_ordered (waiting_cmp rows positions) total n))
+
+      -- each ask is one of an application in the order
+      is_reached : (e : AskEntry) → IsIn e taken.asks → IsIn e (asks_served taken taken.order)
+      is_reached e m =
+          let x = of_parts (asks_at present (waiting_of apps.active)) (indexes (length (waiting_of apps.active))) e m in
+          let lt = index_below (length (waiting_of apps.active)) (x.0) (x.1) in
+          subst (λ es. IsIn e es) (sym (served_are taken.order))
+          (in_flat_map (asks_at present (waiting_of apps.active)) taken.order (x.0) e (each_there (waiting_cmp rows positions) (waiting_total rows positions) (length positions) (x.0) (omega (arith, lt, count))) (x.2))
+
+      pub is_whole : AreSkips taken.nodes skips → AreRanges taken.asks ranges → map (λ (b : AskRange). b.app) ranges ≡ map (λ (r : HeldApp). r.app.number) waiting → IsSnapshot K taken
+      is_whole are_skips are_ranges same = record {
+        entries = of_each (IsAskEntry K taken) taken.asks entry_is;
+        whole = of_each (λ a. asks_for a.number taken.asks ≡ a.asks) taken.apps app_whole;
+        order = in_service;
+        within =
+            of_each (λ i. i < length ranges) taken.order
+            (λ i m.
+            let lt = below_of (waiting_cmp rows positions) (waiting_total rows positions) (length positions) i m in
+            let a = length-map ranges (λ (b : AskRange). b.app) in
+            let b = length-map waiting (λ (r : HeldApp). r.app.number) in
+            let c = length-map waiting (λ (r : HeldApp). r.account.position) in
+            let e = ap length same in
+            omega (arith, lt, a, b, c, e));
+        reached = is_reached;
+        nodes = of_each (λ x. find (λ y. y.number == x.number) taken.nodes ≡ Some x) taken.nodes node_found;
+        skips = are_skips;
+        ranges = are_ranges;
+        apart = λ i j b d h e f. rising_apart (λ (r : AskRange). r.app) 1 ranges apps.next i j b d (subst (λ ns. IsRising 1 ns apps.next) (sym (same ∙ numbers_are copied.apps_are)) rising) e f h;
+      }
 
     pub is_of_parts : IsSnapshotOf K rows apps nodes taken
     is_of_parts = record { rows = refl; sight = refl; numbers = copied.numbers }
@@ -297,34 +317,27 @@ few_apps active apps most same h =
     let few = few_waiting active (map (λ (a : SeenApp). a.held) apps) most same h in
     omega (arith, few, length-map apps (λ (a : SeenApp). a.held))
 
--- what is copied and arranged is a snapshot
-module _ (K : ℕ) (parts : Parts) (apps : List SeenApp) (raw : List Ask) (asks : List AskEntry) (ranges : List AskRange) (nodes : List NodeSight) (skips : List ℕ) (live next : ℕ)
-    (copied : IsCopy K parts (map (λ a. a.held) apps) apps raw nodes live next) where
+-- what is copied and arranged is a snapshot: the applications wait in the tree, the asks want what they want beside the reservations of the nodes
+module _ (K : ℕ) (parts : Parts) (apps : List SeenApp) (raw asks : List AskEntry) (nodes : List NodeSight) (skips : List ℕ) (live next : ℕ) (copied : IsCopy K parts (map (λ a. a.held) apps) apps raw nodes live next) (rows_are : AreRows parts.rows)
+    (tree : SeenRows) (same_rows : tree.rows ≡ parts.rows) (waits : tree.waiting ≡ map (λ a. a.held.account.position) apps) (asks_are : asks ≡ map (beside nodes) raw) (skips_are : AreSkips nodes skips) where
   abbrev pub made : Seen
-  made = record {
-    rows = parts.rows;
-    apps = map app_sight (registered_of parts.apps.table.active);
-    limits = map (λ a. limit_of K parts.rows a.held) apps;
-    asks = asks;
-    ranges = ranges;
-    nodes = nodes;
-    skips = skips;
-    live = live;
-    next_container = next;
-  }
+  made = seen_of K tree (map app_sight (registered_of parts.apps.table.active)) apps asks nodes skips live next
 
   abbrev waiting : List HeldApp
   waiting = map (λ a. a.held) apps
+
+  abbrev active : List App
+  active = parts.apps.table.active
 
   abbrev nodes_seen : List NodeSight
   nodes_seen = map (node_seen K parts.nodes) parts.nodes.present
 
   pub made_of_parts : IsSnapshotOf K parts.rows parts.apps.table parts.nodes made
   made_of_parts = record {
-    rows = refl;
+    rows = same_rows;
     sight = λ k. record {
-      queues = map (queue_seen K) parts.rows;
-      apps = map app_sight (registered_of parts.apps.table.active);
+      queues = map (queue_seen K) (same_rows k);
+      apps = map app_sight (registered_of active);
       nodes = copied.nodes_are k;
       live = copied.live_is k;
       next_container = copied.next_is k;
@@ -332,36 +345,50 @@ module _ (K : ℕ) (parts : Parts) (apps : List SeenApp) (raw : List Ask) (asks 
     numbers = copied.numbers;
   }
 
-  module _ (a : IsArranged parts.rows apps nodes asks ranges skips) where
-    entries_are : asks ≡ ask_entries nodes_seen (waiting_of parts.apps.table.active) a.order
-    entries_are =
-        a.asks_are ∙ (λ k. ask_entries (copied.nodes_are k) (map (λ (x : SeenApp). x.held.app) apps) a.order)
-        ∙ ap (λ list. ask_entries nodes_seen list a.order) (sym (map_twice (λ (r : HeldApp). r.app) (λ (x : SeenApp). x.held) apps) ∙ copied.apps_are)
+  entries_are : asks ≡ asks_of_all nodes_seen (waiting_of active)
+  entries_are =
+      asks_are ∙ ap (map (beside nodes)) copied.asks_are
+      ∙ all_beside nodes (map (λ (r : HeldApp). r.app) waiting) (indexes (length (map (λ (r : HeldApp). r.app) waiting)))
+      ∙ (λ k. asks_of_all (copied.nodes_are k) (copied.apps_are k))
 
-    made_is : made ≡ taken K parts waiting a.order skips ranges
-    made_is = λ k. record {
-      rows = parts.rows;
-      apps = map app_sight (registered_of parts.apps.table.active);
-      limits = sym (map_twice (limit_of K parts.rows) (λ (x : SeenApp). x.held) apps) k;
-      asks = entries_are k;
-      ranges = ranges;
-      nodes = copied.nodes_are k;
-      skips = skips;
-      live = copied.live_is k;
-      next_container = copied.next_is k;
-    }
+  made_is : made ≡ taken K parts waiting skips (map range_in apps)
+  made_is = λ k. record {
+    rows = same_rows k;
+    apps = map app_sight (registered_of active);
+    limits = (ap (λ rows. map (λ (a : SeenApp). limit_of K rows a.held) apps) same_rows ∙ sym (map_twice (limit_of K parts.rows) (λ (x : SeenApp). x.held) apps)) k;
+    asks = entries_are k;
+    ranges = map range_in apps;
+    order = service_order (same_rows k) ((waits ∙ sym (map_twice (λ (r : HeldApp). r.account.position) (λ (x : SeenApp). x.held) apps)) k);
+    nodes = copied.nodes_are k;
+    skips = skips;
+    live = copied.live_is k;
+    next_container = copied.next_is k;
+  }
 
-    order_served : IsServiceOrder parts.rows (map (λ r. r.account.position) waiting) a.order
-    order_served = subst (λ ps. IsServiceOrder parts.rows ps a.order) (sym (map_twice (λ (r : HeldApp). r.account.position) (λ (x : SeenApp). x.held) apps)) a.served
+  own : IsCopy K parts waiting apps raw nodes_seen live next
+  own = subst (λ ns. IsCopy K parts waiting apps raw ns live next) copied.nodes_are copied
 
-    own : IsCopy K parts waiting apps raw nodes_seen live next
-    own = subst (λ ns. IsCopy K parts waiting apps raw ns live next) copied.nodes_are copied
+  -- the asks of an application lie where it says
+  nth_is : (i : ℕ) → asks_nth (taken K parts waiting skips (map range_in apps)) i ≡ asks_at nodes_seen (waiting_of active) i
+  nth_is i =
+      ap (λ (o : Option AskRange). option_map_or (λ r. asks_between r.start r.end (asks_of_all nodes_seen (waiting_of active))) o []) (slice_get-map range_in apps i)
+      ∙ by (slice_get apps i) refl
+      ∙ ap (λ (o : Option App). option_map_or (asks_of nodes_seen i) o []) (sym (slice_get-map (λ (x : SeenApp). x.held.app) apps i) ∙ ap (λ list. slice_get list i) (sym (map_twice (λ (r : HeldApp). r.app) (λ (x : SeenApp). x.held) apps) ∙ copied.apps_are))
+    where
+      by : (o : Option SeenApp) → slice_get apps i ≡ o →
+          option_map_or (λ r. asks_between r.start r.end (asks_of_all nodes_seen (waiting_of active))) (option_map range_in o) [] ≡ option_map_or (asks_of nodes_seen i) (option_map (λ (x : SeenApp). x.held.app) o) []
+      by None at = refl
+      by (Some a) at =
+          ap (asks_between a.start a.end) (sym entries_are ∙ asks_are) ∙ have_beside nodes raw apps copied.seen_are.have i a at ∙ (λ k. asks_of (copied.nodes_are k) i a.held.app)
 
-    pub is_stored : IsStored K made apps
-    is_stored = record {
-      whole = subst (IsSnapshot K) (sym made_is)
-          (is_whole K parts waiting a.order skips ranges apps raw live next own a.rows_are order_served (subst (λ ns. AreSkips ns skips) copied.nodes_are a.skips_are) (subst (λ es. AreRanges es ranges) entries_are a.ranges_are)
-          (a.apps_are ∙ sym (map_twice (λ (r : HeldApp). r.app.number) (λ (x : SeenApp). x.held) apps)));
-      placed = placed_apps parts.rows apps (placed_all parts.rows parts.apps.accounts parts.apps.table.active waiting copied.apps_are copied.accounts_are copied.placed);
-      used = copied.seen_are.used;
-    }
+  pub is_stored : IsStored K tree apps made
+  is_stored = record {
+    resources = copied.resources;
+    whole = subst (IsSnapshot K) (sym made_is)
+        (is_whole K parts waiting skips (map range_in apps) apps raw live next own rows_are nth_is (subst (λ ns. AreSkips ns skips) copied.nodes_are skips_are)
+        (subst (λ es. AreRanges es (map range_in apps)) (sym asks_are ∙ entries_are) (ranges_beside nodes raw (map range_in apps) copied.seen_are.ranges))
+        (map_twice (λ (b : AskRange). b.app) range_in apps ∙ sym (map_twice (λ (r : HeldApp). r.app.number) (λ (x : SeenApp). x.held) apps)));
+    waiting = waits;
+    placed = subst (λ rs. All (λ a. IsPosition rs a.held.account.position) apps) (sym same_rows) (placed_apps parts.rows apps (placed_all parts.rows parts.apps.accounts active waiting copied.apps_are copied.accounts_are copied.placed));
+    used = subst (λ rs. All (λ a. a.used ≡ user_used K rs a.held) apps) (sym same_rows) copied.seen_are.used;
+  }

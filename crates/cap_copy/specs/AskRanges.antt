@@ -1,21 +1,8 @@
 -- Where the asks of each application lie among all asks of a snapshot.
-use Rattle.std.specs.Prelude.{◌≡◌, ℕ, ◌+◌, ◌<◌, ◌≤◌, ◌==◌, List, Option, Some, None, length, map, if◌then◌else◌}
+use Rattle.std.specs.Prelude.{◌≡◌, ℕ, ◌<◌, ◌≤◌, List, Option, Some, None, length}
 use Rattle.std.specs.List.{slice_get}
 use Rattle.cap_copy.specs.declared.ranges.AskRange.{AskRange}
 use Rattle.cap_copy.specs.AskEntry.{AskEntry}
-
--- a range with the ask at an index, which none that is in it follows
-abbrev pub with_ask : ℕ → AskRange → AskRange
-with_ask index b = record { app = b.app; start = if b.end == 0 then index else b.start; end = index + 1 }
-
--- each ask has the index of its application among these numbers
-abbrev pub AreOfApps : List ℕ → List AskEntry → Type 0
-AreOfApps apps asks = (j : ℕ) (e : AskEntry) → slice_get asks j ≡ Some e → slice_get apps e.index ≡ Some e.app
-
--- ranges without asks, of the applications of these numbers
-pub record AreEmpty (apps : List ℕ) (ranges : List AskRange) : Type 0 where
-  pub apps_are : map (λ b. b.app) ranges ≡ apps
-  pub ends : (i : ℕ) (b : AskRange) → slice_get ranges i ≡ Some b → (b.start ≡ 0) × (b.end ≡ 0)
 
 -- an ask at an index lies in the range of its application
 pub record LiesIn (ranges : List AskRange) (e : AskEntry) (j : ℕ) : Type 0 where
@@ -25,14 +12,10 @@ pub record LiesIn (ranges : List AskRange) (e : AskEntry) (j : ℕ) : Type 0 whe
   pub from : range.start ≤ j
   pub to : j < range.end
 
--- the first so many asks lie in the ranges of their applications, and ranges end before the others
-pub record AreFilled (asks : List AskEntry) (n : ℕ) (ranges : List AskRange) : Type 0 where
-  pub ends : (i : ℕ) (b : AskRange) → slice_get ranges i ≡ Some b → (b.start ≤ b.end) × (b.end ≤ n)
-  pub each : (j : ℕ) (e : AskEntry) → j < n → slice_get asks j ≡ Some e → LiesIn ranges e j
-
--- and so do all
-abbrev pub AreRanges : List AskEntry → List AskRange → Type 0
-AreRanges asks ranges = AreFilled asks (length asks) ranges
+-- all asks lie in the ranges of their applications, and no range goes beyond the last ask
+pub record AreRanges (asks : List AskEntry) (ranges : List AskRange) : Type 0 where
+  pub ends : (i : ℕ) (b : AskRange) → slice_get ranges i ≡ Some b → (b.start ≤ b.end) × (b.end ≤ length asks)
+  pub each : (j : ℕ) (e : AskEntry) → j < length asks → slice_get asks j ≡ Some e → LiesIn ranges e j
 
 -- ranges in order of application number
 abbrev pub AreApart : List AskRange → Type 0

@@ -1,5 +1,5 @@
 -- What a snapshot keeps of the parts of a cluster.
-use Rattle.std.specs.Prelude.{ℕ, ◌-◌, List, [], map, count_by, filter, flat_map, if◌then◌else◌}
+use Rattle.std.specs.Prelude.{ℕ, zero, suc, ◌-◌, List, [], ◌∷◌, ◌++◌, map, length, count_by, filter, flat_map, if◌then◌else◌}
 use Rattle.std.specs.List.{slice_get}
 use Rattle.std.specs.Option.{option_map_or}
 use Rattle.cap_base.specs.Cascade.{holds_of}
@@ -31,6 +31,15 @@ asks_at nodes apps index = option_map_or (asks_of nodes index) (slice_get apps i
 -- the asks of applications in an order of their indexes
 abbrev pub ask_entries : List NodeSight → List App → List ℕ → List AskEntry
 ask_entries nodes apps order = flat_map (asks_at nodes apps) order
+
+-- so many indexes, from 0 on
+abbrev pub indexes : ℕ → List ℕ
+indexes zero = []
+indexes (suc n) = indexes n ++ n ∷ []
+
+-- the asks of all applications, one after the other
+abbrev pub asks_of_all : List NodeSight → List App → List AskEntry
+asks_of_all nodes apps = ask_entries nodes apps (indexes (length apps))
 
 -- an ask beside a reservation, which may be for it, and beside those that nodes hold
 abbrev pub beside_one : Reservation → AskEntry → AskEntry

@@ -1,8 +1,8 @@
-pub mod Arranging
 pub mod AskEntry
 pub mod AskRanges
 pub mod Entries
 pub mod Limits
+pub mod Order
 pub mod SeenApp
 pub mod Sizes
 pub mod Snapshot

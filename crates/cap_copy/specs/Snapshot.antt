@@ -1,6 +1,7 @@
 -- What a snapshot keeps, and the sight that it is.
-use Rattle.std.specs.Prelude.{◌≡◌, ℕ, ◌+◌, ◌<◌, ◌≤◌, ◌==◌, Bool, false, ◌&&◌, List, [], ◌∷◌, length, slice_index, Option, Some, IsSome, map, filter, find}
+use Rattle.std.specs.Prelude.{◌≡◌, ℕ, ◌+◌, ◌-◌, ◌<◌, ◌≤◌, ◌==◌, Bool, false, ◌&&◌, List, [], ◌∷◌, ◌++◌, length, slice_index, Option, Some, IsSome, map, filter, flat_map, find, take, drop}
 use Rattle.std.specs.List.{All, list_all, slice_get}
+use Rattle.std.specs.Option.{option_map_or}
 use Rattle.std.specs.Ordering.{is_gt}
 use Rattle.std.specs.declared.cmp.Ordering.{Ordering}
 use Rattle.cap_model.specs.declared.proposal.ProposalKind.TheVariants.{Grant}
@@ -10,6 +11,7 @@ use Rattle.cap_model.specs.Sight.{Sight, QueueSight, AppSight, NodeSight, queues
 use Rattle.cap_vector.specs.Vector.{amounts_exchanged}
 use Rattle.cap_model.specs.Admission.{NodeProposal}
 use Rattle.cap_base.specs.LimitTests.{fits_maximum, fits_user_limit}
+use Rattle.cap_base.specs.Members.{IsIn}
 use Rattle.cap_model.specs.Choice.{rank_cmp, rank_of}
 use Rattle.cap_tree.specs.Queue.{use_of, user_row}
 use Rattle.cap_copy.specs.AskEntry.{AskEntry}
@@ -30,19 +32,42 @@ pub record Limit : Type 0 where
   pub guaranteed : List ℕ
   pub used : List ℕ
 
--- a snapshot: for contracts alone the rows of the tree and the registered applications as a proposal sees them; the limits of those that
--- have asks, the nodes in order of number, of each how many from it on hold reservations, how many containers are live, the number of
--- the next, the asks of all applications in the order in which they are served, and where those of each lie
+-- a snapshot: for contracts alone the rows of the tree and the registered applications as a proposal sees them; of those that have asks, each
+-- known by its index in order of number, the limits, the asks of all, one application after the other, where those of each lie, and the order in
+-- which they are served; the nodes in order of number, of each how many from it on hold reservations, how many containers are live, and the
+-- number of the next
 pub record Seen : Type 0 where
   pub rows : List Row
   pub apps : List AppSight
   pub limits : List Limit
   pub asks : List AskEntry
   pub ranges : List AskRange
+  pub order : List ℕ
   pub nodes : List NodeSight
   pub skips : List ℕ
   pub live : ℕ
   pub next_container : ℕ
+
+-- the asks from an index on, up to another
+abbrev pub asks_between : ℕ → ℕ → List AskEntry → List AskEntry
+asks_between start end asks = take (end - start) (drop start asks)
+
+-- the asks of the application of an index, and those of the applications of these indexes
+abbrev pub asks_nth : Seen → ℕ → List AskEntry
+asks_nth seen i = option_map_or (λ range. asks_between range.start range.end seen.asks) (slice_get seen.ranges i) []
+
+abbrev pub asks_served : Seen → List ℕ → List AskEntry
+asks_served seen order = flat_map (asks_nth seen) order
+
+-- an order begins with these, and this is what comes next in it, if anything does
+pub record IsUpTo (order before : List ℕ) (next : Option ℕ) : Type 0 where
+  pub rest : List ℕ
+  pub is : order ≡ before ++ rest
+  pub next_is : slice_get rest 0 ≡ next
+
+-- what comes next in an order after that index
+abbrev pub IsNextAfter : List ℕ → ℕ → Option ℕ → Type 0
+IsNextAfter order index next = (before : List ℕ) → IsUpTo order before (Some index) → IsUpTo order (before ++ index ∷ []) next
 
 -- the asks of the application of a number
 abbrev pub asks_for : ℕ → List AskEntry → List Ask
@@ -114,11 +139,13 @@ pub record AreSkips (nodes : List NodeSight) (skips : List ℕ) : Type 0 where
   pub count : length skips ≡ length nodes
   pub each : (index : ℕ) → index < length nodes → IsSkip nodes index (slice_index skips index)
 
--- a snapshot whose asks are those of its applications, in the order of service, and whose nodes are found by their numbers
+-- a snapshot whose asks are those of its applications, which are in the order of service, and whose nodes are found by their numbers
 pub record IsSnapshot (K : ℕ) (seen : Seen) : Type 0 where
   pub entries : All (IsAskEntry K seen) seen.asks
   pub whole : All (λ app. asks_for app.number seen.asks ≡ app.asks) seen.apps
-  pub order : AreServedInOrder K seen seen.asks
+  pub order : AreServedInOrder K seen (asks_served seen seen.order)
+  pub within : All (λ i. i < length seen.ranges) seen.order
+  pub reached : (e : AskEntry) → IsIn e seen.asks → IsIn e (asks_served seen seen.order)
   pub nodes : AreFound seen.nodes
   pub skips : AreSkips seen.nodes seen.skips
   pub ranges : AreRanges seen.asks seen.ranges

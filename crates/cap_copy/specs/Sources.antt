@@ -3,17 +3,20 @@ use Rattle.std.specs.Prelude.{◌≡◌, ℕ, ◌≤◌, List, [], ◌∷◌, ma
 use Rattle.std.specs.List.{All}
 use Rattle.cap_base.specs.Limits.{applications_max, resources_max}
 use Rattle.cap_base.specs.Members.{IsRising}
-use Rattle.cap_model.specs.Asks.{Ask}
 use Rattle.cap_model.specs.Flat.{NodeTable, no_apps, no_nodes}
-use Rattle.cap_model.specs.Sight.{AppSight, NodeSight, app_sight}
-use Rattle.cap_tree.specs.Rows.{Row, IsAt}
+use Rattle.cap_model.specs.Sight.{AppSight, NodeSight, Sight, app_sight}
+use Rattle.cap_tree.specs.Rows.{AreRows, IsAt, Row}
+use Rattle.cap_tree.specs.Seen.{SeenRows}
 use Rattle.cap_tree.specs.Spot.{IsPosition}
 use Rattle.cap_asks.specs.Accounts.{AreKept, HeldApp}
 use Rattle.cap_asks.specs.Apps.{HeldApps, account_of, position_of, waiting_of}
-use Rattle.cap_copy.specs.Entries.{registered_of}
-use Rattle.cap_copy.specs.SeenApp.{AreSeen, SeenApp, user_used}
+use Rattle.cap_copy.specs.AskEntry.{AskEntry}
+use Rattle.cap_copy.specs.Entries.{asks_of_all, registered_of}
+use Rattle.cap_copy.specs.Limits.{limit_of}
+use Rattle.cap_copy.specs.Order.{service_order}
+use Rattle.cap_copy.specs.SeenApp.{AreSeen, SeenApp, range_in, user_used}
 use Rattle.cap_copy.specs.Snapshot.{IsSnapshot, Seen}
-use Rattle.cap_copy.specs.Taking.{node_seen}
+use Rattle.cap_copy.specs.Taking.{node_seen, sight_of_parts}
 
 -- the applications and the nodes that were copied
 abbrev pub held_apps_in : List (HeldApps × NodeTable) → HeldApps
@@ -34,9 +37,13 @@ pub record Parts : Type 0 where
   pub apps : HeldApps
   pub nodes : NodeTable
 
+-- what is seen of them
+abbrev pub sight_of_copy : (K : ℕ) → Parts → Sight K
+sight_of_copy K parts = sight_of_parts K parts.rows parts.apps.table parts.nodes
+
 -- what is copied of the parts: each application that waits, with the asks of all, the nodes as they are seen, how many containers are live, and the
 -- number of the next
-pub record IsCopy (K : ℕ) (parts : Parts) (waiting : List HeldApp) (seen : List SeenApp) (asks : List Ask) (nodes : List NodeSight) (live next_container : ℕ) : Type 0 where
+pub record IsCopy (K : ℕ) (parts : Parts) (waiting : List HeldApp) (seen : List SeenApp) (asks : List AskEntry) (nodes : List NodeSight) (live next_container : ℕ) : Type 0 where
   pub resources : K ≤ resources_max
   pub few : length parts.apps.table.active ≤ applications_max
   pub placed : All (λ app. IsAt parts.rows app.leaf (position_of app.number parts.apps.accounts)) parts.apps.table.active
@@ -46,12 +53,39 @@ pub record IsCopy (K : ℕ) (parts : Parts) (waiting : List HeldApp) (seen : Lis
   pub accounts_are : All (λ r. account_of r.app.number parts.apps.accounts ≡ Some r.account) waiting
   pub kept : All (λ r. AreKept r.app.asks) waiting
   pub seen_are : AreSeen K parts.rows waiting asks seen
+  pub asks_are : asks ≡ asks_of_all [] (map (λ r. r.app) waiting)
   pub nodes_are : nodes ≡ map (node_seen K parts.nodes) parts.nodes.present
   pub live_is : live ≡ length parts.nodes.live
   pub next_is : next_container ≡ parts.nodes.next_container
 
--- a snapshot, whose applications know their leaves in its tree and what their users use there
-pub record IsStored (K : ℕ) (seen : Seen) (apps : List SeenApp) : Type 0 where
+-- and it has room for all that is arranged: in the tree nothing waits yet
+pub record IsCopied (K : ℕ) (parts : Parts) (waiting : List HeldApp) (tree : SeenRows) (seen : List SeenApp) (asks : List AskEntry) (nodes : List NodeSight) (skips : List ℕ) (live next_container : ℕ) : Type 0 where
+  pub copied : IsCopy K parts waiting seen asks nodes live next_container
+  pub rows_are : AreRows parts.rows
+  pub none : tree.waiting ≡ []
+  pub room : length seen ≤ tree.room
+  pub skips_are : length skips ≡ length nodes
+
+-- a snapshot of these: a tree in which applications wait, the registered applications, those that wait with the asks of all, the nodes, of each how many
+-- from it on hold reservations, how many containers are live, and the number of the next
+abbrev pub seen_of : ℕ → SeenRows → List AppSight → List SeenApp → List AskEntry → List NodeSight → List ℕ → ℕ → ℕ → Seen
+seen_of K tree apps seen asks nodes skips live next_container = record {
+  rows = tree.rows;
+  apps = apps;
+  limits = map (λ a. limit_of K tree.rows a.held) seen;
+  asks = asks;
+  ranges = map range_in seen;
+  order = service_order tree.rows tree.waiting;
+  nodes = nodes;
+  skips = skips;
+  live = live;
+  next_container = next_container;
+}
+
+-- a snapshot of few kinds of resources, whose applications wait in its tree, know their leaves there and what their users use in them
+pub record IsStored (K : ℕ) (tree : SeenRows) (apps : List SeenApp) (seen : Seen) : Type 0 where
+  pub resources : K ≤ resources_max
   pub whole : IsSnapshot K seen
-  pub placed : All (λ a. IsPosition seen.rows a.held.account.position) apps
-  pub used : All (λ a. a.used ≡ user_used K seen.rows a.held) apps
+  pub waiting : tree.waiting ≡ map (λ a. a.held.account.position) apps
+  pub placed : All (λ a. IsPosition tree.rows a.held.account.position) apps
+  pub used : All (λ a. a.used ≡ user_used K tree.rows a.held) apps

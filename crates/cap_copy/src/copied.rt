@@ -1,5 +1,5 @@
 //! What a snapshot is made of, copied from a cluster's parts (`ClusterCopy`).
-ghost use Rattle.std.specs.Prelude.{◌≡◌, ◌≤◌, IfOk, length, map};
+ghost use Rattle.std.specs.Prelude.{◌≡◌, ◌≤◌, IfOk, length};
 ghost use Rattle.std.specs.List.{All};
 ghost use Rattle.cap_base.specs.Limits.{applications_max, resources_max};
 ghost use Rattle.cap_tree.specs.Rows.{IsAt};
@@ -7,13 +7,14 @@ ghost use Rattle.cap_asks.specs.Apps.{position_of};
 ghost use Rattle.cap_copy.specs.Sizes.{CopyFitsInMemory};
 ghost use Rattle.cap_copy.specs.Taking.{IsSnapshotOf};
 
-use crate::arranged::arrange;
-use crate::nodes::seen_nodes;
-use crate::seen::SeenNode;
+use crate::asks::take_reserved;
+use crate::nodes::{seen_nodes, set_skips};
+use crate::seen::{SeenAsk, SeenNode};
 use crate::seen_app::{SeenApp, seen_apps};
 use crate::snapshot::Snapshot;
+use crate::waiting::note_waiting;
 use cap_asks::Apps;
-use cap_model::{Ask, NoMemory};
+use cap_model::NoMemory;
 use cap_nodes::Nodes;
 use cap_tree::{QueueTree, SeenTree};
 use http_server::Log;
@@ -21,14 +22,15 @@ use std::alloc::{Allocator, Global};
 use std::marker::Model;
 
 /// What a snapshot is made of: the tree of queues, the applications that wait with their asks, the nodes with what they have left and
-/// their reservations, how many containers are live, and the number of the next. It is copied as it lies, and arranged when no cluster
-/// is looked at any more. Contracts see the parts that it was copied from.
+/// their reservations, how many containers are live, and the number of the next. It is copied as it lies, with room for all that a
+/// snapshot keeps beside it, and arranged when no cluster is looked at any more. Contracts see the parts that it was copied from.
 #[derive(Drop)]
-pub(crate) struct ClusterCopy<const K: usize, B: Allocator> {
+pub struct ClusterCopy<const K: usize, B: Allocator> {
     tree: SeenTree<K, B>,
     apps: Vec<SeenApp<K>, B>,
-    asks: Vec<Ask<K>, B>,
+    asks: Vec<SeenAsk<K>, B>,
     nodes: Vec<SeenNode<K>, B>,
+    skips: Vec<usize, B>,
     live: usize,
     next_container: u64,
     // This is for contracts alone, and takes no room.
@@ -39,32 +41,32 @@ impl<const K: usize, B: Allocator> Model for ClusterCopy<K, B> {
     ghost use Rattle.std.specs.Prelude.{map};
     ghost use Rattle.std.specs.Coded.{codes};
     ghost use Rattle.cap_tree.specs.Queue.{users_code};
-    ghost use Rattle.cap_copy.specs.Sources.{IsCopy, Parts, held_apps_in, nodes_in};
+    ghost use Rattle.cap_copy.specs.Sources.{IsCopied, Parts, held_apps_in, nodes_in};
 
     ghost Value = { Parts };
 
     ghost coded = { Prim.hlevel (codes, users_code) };
 
     ghost view = { λ c. record {
-      rows = c.tree;
+      rows = c.tree.rows;
       apps = held_apps_in c.sources.items;
       nodes = nodes_in c.sources.items;
     } };
 
-    ghost invariant = { λ c. IsCopy K
+    ghost invariant = { λ c. IsCopied K
         (record {
-          rows = c.tree;
+          rows = c.tree.rows;
           apps = held_apps_in c.sources.items;
           nodes = nodes_in c.sources.items;
         })
-        (map (λ a. a.held) c.apps.items) c.apps.items c.asks.items c.nodes.items
-        c.live c.next_container };
+        (map (λ a. a.held) c.apps.items) c.tree c.apps.items c.asks.items c.nodes.items
+        c.skips.items c.live c.next_container };
 }
 
 impl<const K: usize, B: Allocator + Copy> ClusterCopy<K, B> {
     /// A copy of a tree of queues, of the active applications that wait, each of which knows where its leaf is in the tree, and of
-    /// the nodes. Nothing is sorted or looked up in it. An error means that an allocation failed.
-    pub(crate) fn take(
+    /// the nodes. Nothing is sorted; the user of each application is looked up. An error means that an allocation failed.
+    pub fn take(
         alloc: B,
         tree: &QueueTree<K, Global>,
         apps: &Apps<K>,
@@ -93,7 +95,10 @@ impl<const K: usize, B: Allocator + Copy> ClusterCopy<K, B> {
             Ok(present) => present,
             Err(NoMemory) => return Err(NoMemory),
         };
-        let tree = match tree.seen_in(alloc) {
+        let Ok(skips) = Vec::from_elem(alloc, 0, present.len()) else {
+            return Err(NoMemory);
+        };
+        let tree = match tree.seen_in(alloc, waiting.len()) {
             Ok(tree) => tree,
             Err(NoMemory) => return Err(NoMemory),
         };
@@ -102,31 +107,35 @@ impl<const K: usize, B: Allocator + Copy> ClusterCopy<K, B> {
             apps: seen,
             asks,
             nodes: present,
+            skips,
             live: nodes.live_count(),
             next_container: nodes.next_container(),
             sources: Log::new().and(apps, nodes),
         })
     }
 
-    /// The snapshot: what was copied, with the asks in the order in which they are served. An error means that an allocation failed.
-    pub(crate) fn arrange(self, alloc: B) -> Result<Snapshot<K, B>, NoMemory>
-        requires { CopyFitsInMemory K.row B.row B.Allocator }
-        ensures { IfOk result (λ snapshot. IsSnapshotOf K
-            self.rows self.apps.table self.nodes snapshot) }
+    /// The snapshot: what was copied, with each application that waits noted in the tree, what the asks want beside the reservations, and
+    /// which nodes hold reservations one after another. It takes no memory.
+    pub fn arrange(self) -> Snapshot<K, B>
+        ensures { IsSnapshotOf K self.rows self.apps.table self.nodes result }
     {
-        match arrange(alloc, &self.tree, &self.apps, &self.asks, &self.nodes) {
-            Ok(arranged) => Ok(Snapshot {
-                tree: self.tree,
-                apps: self.apps,
-                asks: arranged.asks,
-                ranges: arranged.ranges,
-                nodes: self.nodes,
-                skips: arranged.skips,
-                live: self.live,
-                next_container: self.next_container,
-                sources: self.sources,
-            }),
-            Err(NoMemory) => Err(NoMemory),
+        let mut tree = self.tree;
+        let apps = self.apps;
+        let mut asks = self.asks;
+        let nodes = self.nodes;
+        let mut skips = self.skips;
+        note_waiting(&mut tree, &apps);
+        take_reserved(&mut asks, &apps, &nodes);
+        set_skips(&mut skips, &nodes);
+        Snapshot {
+            tree,
+            apps,
+            asks,
+            nodes,
+            skips,
+            live: self.live,
+            next_container: self.next_container,
+            sources: self.sources,
         }
     }
 }

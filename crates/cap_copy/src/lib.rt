@@ -1,7 +1,6 @@
 //! Snapshots of a cluster: what a proposal looks at, and no more, in any allocator.
 #![tactic(auto)]
 
-mod arranged;
 mod asks;
 mod copied;
 mod nodes;
@@ -12,6 +11,7 @@ mod snapshot;
 mod taking;
 mod waiting;
 
+pub use copied::ClusterCopy;
 pub use ranges::AskRange;
 pub use seen::{SeenAsk, SeenNode};
 pub use snapshot::Snapshot;

@@ -1,6 +1,6 @@
 //! The nodes of a snapshot, in order of number and in one piece of memory (`seen_nodes`), and which of them hold reservations one
-//! after another (`skips_of`).
-ghost use Rattle.std.specs.Prelude.{◌≡◌, IfOk, map};
+//! after another (`set_skips`).
+ghost use Rattle.std.specs.Prelude.{◌≡◌, IfOk, length, map};
 ghost use Rattle.cap_copy.specs.Snapshot.{AreSkips};
 ghost use Rattle.cap_copy.specs.Taking.{node_seen};
 
@@ -33,17 +33,14 @@ pub(crate) fn seen_nodes<const K: usize, B: Allocator + Copy>(
     Ok(seen)
 }
 
-/// For each node how many from it on hold reservations, one after another: 0 for one that holds none. An error means that an allocation
-/// failed.
-pub(crate) fn skips_of<const K: usize, B: Allocator + Copy>(
-    alloc: B,
+/// Sets for each node how many from it on hold reservations, one after another: 0 for one that holds none.
+pub(crate) fn set_skips<const K: usize, B: Allocator + Copy>(
+    skips: &mut Vec<usize, B>,
     nodes: &[SeenNode<K>],
-) -> Result<Vec<usize, B>, NoMemory>
-    ensures { IfOk result (λ skips. AreSkips nodes.now skips.items) }
+)
+    requires { length skips.old.items ≡ length nodes.now }
+    ensures { AreSkips nodes.now skips.new.items }
 {
-    let Ok(mut skips) = Vec::from_elem(alloc, 0, nodes.len()) else {
-        return Err(NoMemory);
-    };
     let mut index = nodes.len();
     let mut skip = 0;
     while index > 0 {
@@ -56,5 +53,4 @@ pub(crate) fn skips_of<const K: usize, B: Allocator + Copy>(
         };
         skips[index] = skip;
     }
-    Ok(skips)
 }

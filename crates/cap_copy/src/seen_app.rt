@@ -1,13 +1,16 @@
 //! What a snapshot keeps of an application that waits (`SeenApp`), and the asks of all, one after the other (`seen_apps`).
-ghost use Rattle.std.specs.Prelude.{◌≡◌, ◌≤◌, ◌++◌, IfOk, OnOk, length};
+ghost use Rattle.std.specs.Prelude.{◌≡◌, ◌≤◌, ◌++◌, [], IfOk, OnOk, length, map};
 ghost use Rattle.std.specs.List.{All};
-ghost use Rattle.cap_base.specs.Limits.{resources_max};
+ghost use Rattle.cap_base.specs.Limits.{applications_max, resources_max};
 ghost use Rattle.cap_asks.specs.Accounts.{AreKept};
-ghost use Rattle.cap_copy.specs.SeenApp.{AreSeen, user_used};
+ghost use Rattle.cap_copy.specs.Entries.{asks_of, asks_of_all};
+ghost use Rattle.cap_copy.specs.SeenApp.{AreSeen, range_in, user_used};
 ghost use Rattle.cap_tree.specs.Spot.{IsPosition};
 
+use crate::ranges::AskRange;
+use crate::seen::SeenAsk;
 use cap_asks::{App, Position, Waiting};
-use cap_model::{Ask, NoMemory};
+use cap_model::NoMemory;
 use cap_tree::QueueTree;
 use cap_vector::Sum;
 use http_server::Log;
@@ -67,32 +70,32 @@ impl<const K: usize> SeenApp<K> {
         &self.used
     }
 
-    /// From where on its asks lie among those of all.
-    pub(crate) fn start(&self) -> usize
-        ensures { result ≡ self.now.start }
+    /// Where its asks lie among those of all.
+    pub(crate) fn range(&self) -> AskRange
+        ensures { result ≡ range_in self.now }
     {
-        self.start
-    }
-
-    /// Up to where they lie.
-    pub(crate) fn end(&self) -> usize
-        ensures { result ≡ self.now.end }
-    {
-        self.end
+        AskRange {
+            app: self.number,
+            start: self.start,
+            end: self.end,
+        }
     }
 }
 
-/// The applications that wait, in their order, in one piece of memory, and the asks of all in another. An error means that an allocation
-/// failed. The asks of each application are in order of key.
+/// The applications that wait, in their order, in one piece of memory, and the asks of all in another: of one application after the other,
+/// those of each in order of key. No reservation counts yet. An error means that an allocation failed.
 pub(crate) fn seen_apps<const K: usize, B: Allocator + Copy>(
     alloc: B,
     tree: &QueueTree<K, Global>,
     waiting: &[Waiting<'_, K>],
-) -> Result<(Vec<SeenApp<K>, B>, Vec<Ask<K>, B>), NoMemory>
+) -> Result<(Vec<SeenApp<K>, B>, Vec<SeenAsk<K>, B>), NoMemory>
     requires resources { K ≤ resources_max }
+    requires few { length waiting.now ≤ applications_max }
     requires placed { All (λ r. IsPosition tree.now r.account.position) waiting.now }
     ensures seen { IfOk result (λ copied.
         AreSeen K tree.now waiting.now copied.1.items copied.0.items) }
+    ensures asks { IfOk result (λ copied.
+        copied.1.items ≡ asks_of_all [] (map (λ r. r.app) waiting.now)) }
     ensures kept { All (λ r. AreKept r.app.asks) waiting.now }
 {
     let Ok(mut asks) = Vec::with_capacity(alloc, count_asks(waiting)) else {
@@ -101,8 +104,8 @@ pub(crate) fn seen_apps<const K: usize, B: Allocator + Copy>(
     let Ok(mut seen) = Vec::with_capacity(alloc, waiting.len()) else {
         return Err(NoMemory);
     };
-    for index in 0..waiting.len() {
-        match seen_app(tree, waiting[index].app(), &mut asks) {
+    for index in 0..waiting.len() as u32 {
+        match seen_app(tree, index, waiting[index as usize].app(), &mut asks) {
             Ok(app) => seen.push_reserved(app),
             Err(NoMemory) => return Err(NoMemory),
         }
@@ -110,23 +113,26 @@ pub(crate) fn seen_apps<const K: usize, B: Allocator + Copy>(
     Ok((seen, asks))
 }
 
-/// An application that waits, whose asks go to the end of those of the others. An error means that an allocation failed.
+/// An application that waits, the one of an index, whose asks go to the end of those of the others. An error means that an allocation
+/// failed.
 fn seen_app<const K: usize, B: Allocator + Copy>(
     tree: &QueueTree<K, Global>,
+    index: u32,
     app: &App<K>,
-    asks: &mut Vec<Ask<K>, B>,
+    asks: &mut Vec<SeenAsk<K>, B>,
 ) -> Result<SeenApp<K>, NoMemory>
     requires { IsPosition tree.now app.now.account.position }
     ensures held { IfOk result (λ seen. seen.held ≡ app.now) }
     ensures used { IfOk result (λ seen. seen.used ≡ user_used K tree.now app.now) }
     ensures start { IfOk result (λ seen. seen.start ≡ length asks.old.items) }
     ensures end { IfOk result (λ seen. seen.end ≡ length asks.new.items) }
-    ensures asks { OnOk result (asks.new.items ≡ asks.old.items ++ app.now.app.asks) }
+    ensures asks { OnOk result
+        (asks.new.items ≡ asks.old.items ++ asks_of [] index app.now.app) }
 {
     let start = asks.len();
-    match asks.extend_from_slice(app.asks()) {
+    match add_asks(asks, index, app) {
         Ok(()) => {}
-        Err(_) => return Err(NoMemory),
+        Err(NoMemory) => return Err(NoMemory),
     }
     let mut position = SmallVec::new(*app.position().allocator());
     match position.extend_from_slice(app.position().as_slice()) {
@@ -141,6 +147,32 @@ fn seen_app<const K: usize, B: Allocator + Copy>(
         end: asks.len(),
         source: Log::new().and(app, &0),
     })
+}
+
+/// Adds the asks of the application of an index, in order of key. An error means that an allocation failed, and comes only where there is
+/// too little room for all.
+fn add_asks<const K: usize, B: Allocator + Copy>(
+    asks: &mut Vec<SeenAsk<K>, B>,
+    index: u32,
+    app: &App<K>,
+) -> Result<(), NoMemory>
+    ensures { OnOk result
+        (asks.new.items ≡ asks.old.items ++ asks_of [] index app.now.app) }
+{
+    let number = app.number();
+    for ask in app.asks() {
+        let seen = SeenAsk {
+            app: number,
+            index,
+            ask: *ask,
+            wanted: ask.count(),
+        };
+        match asks.push(seen) {
+            Ok(()) => {}
+            Err(_) => return Err(NoMemory),
+        }
+    }
+    Ok(())
 }
 
 /// How many asks the applications have together. The asks of each are in order of key.

@@ -1,9 +1,9 @@
 //! The snapshot of a cluster that a worker proposes on, and its reads (`Snapshot`).
-ghost use Rattle.std.specs.Prelude.{◌≡◌, ◌<◌, ◌≤◌, Some, length};
+ghost use Rattle.std.specs.Prelude.{◌≡◌, ◌<◌, ◌≤◌, [], Some, length};
 ghost use Rattle.std.specs.List.{slice_get};
 ghost use Rattle.cap_base.specs.Cascade.{holds_of};
 ghost use Rattle.cap_copy.specs.AskRanges.{AreInside};
-ghost use Rattle.cap_copy.specs.Snapshot.{IsSkip, IsSnapshot, stays_within};
+ghost use Rattle.cap_copy.specs.Snapshot.{IsNextAfter, IsSkip, IsSnapshot, IsUpTo, stays_within};
 
 use crate::ranges::{AskRange, range_of};
 use crate::seen::{SeenAsk, SeenNode};
@@ -16,15 +16,14 @@ use http_server::Log;
 use std::alloc::Allocator;
 use std::marker::Model;
 
-/// What a proposal looks at: the tree of queues, the asks of the registered applications in the order in which they are served, what
-/// their users use, the nodes with what they have left and their reservations, how many containers are live, and the number of the
-/// next. It is a value of its own, and no change of the cluster is seen in it. Contracts see the sight of the cluster.
+/// What a proposal looks at: the tree of queues, in which the registered applications that have asks wait, these applications with their
+/// asks and what their users use, the nodes with what they have left and their reservations, how many containers are live, and the
+/// number of the next. It is a value of its own, and no change of the cluster is seen in it. Contracts see the sight of the cluster.
 #[derive(Drop)]
 pub struct Snapshot<const K: usize, B: Allocator> {
     pub(crate) tree: SeenTree<K, B>,
     pub(crate) apps: Vec<SeenApp<K>, B>,
     pub(crate) asks: Vec<SeenAsk<K>, B>,
-    pub(crate) ranges: Vec<AskRange, B>,
     pub(crate) nodes: Vec<SeenNode<K>, B>,
     pub(crate) skips: Vec<usize, B>,
     pub(crate) live: usize,
@@ -36,38 +35,19 @@ pub struct Snapshot<const K: usize, B: Allocator> {
 impl<const K: usize, B: Allocator> Model for Snapshot<K, B> {
     ghost use Rattle.std.specs.Coded.{codes};
     ghost use Rattle.cap_tree.specs.Queue.{users_code};
-    ghost use Rattle.std.specs.Prelude.{map};
-    ghost use Rattle.cap_copy.specs.Limits.{limit_of};
     ghost use Rattle.cap_copy.specs.Snapshot.{Seen};
-    ghost use Rattle.cap_copy.specs.Sources.{IsStored, apps_in};
+    ghost use Rattle.cap_copy.specs.Sources.{IsStored, apps_in, seen_of};
 
     ghost Value = { Seen };
 
     ghost coded = { Prim.hlevel (codes, users_code) };
 
-    ghost view = { λ s. record {
-      rows = s.tree;
-      apps = apps_in s.sources.items;
-      limits = map (λ a. limit_of K s.tree a.held) s.apps.items;
-      asks = s.asks.items;
-      ranges = s.ranges.items;
-      nodes = s.nodes.items;
-      skips = s.skips.items;
-      live = s.live;
-      next_container = s.next_container;
-    } };
+    ghost view = { λ s. seen_of K s.tree (apps_in s.sources.items) s.apps.items s.asks.items
+        s.nodes.items s.skips.items s.live s.next_container };
 
-    ghost invariant = { λ s. IsStored K (record {
-      rows = s.tree;
-      apps = apps_in s.sources.items;
-      limits = map (λ a. limit_of K s.tree a.held) s.apps.items;
-      asks = s.asks.items;
-      ranges = s.ranges.items;
-      nodes = s.nodes.items;
-      skips = s.skips.items;
-      live = s.live;
-      next_container = s.next_container;
-    }) s.apps.items };
+    ghost invariant = { λ s. IsStored K s.tree s.apps.items
+        (seen_of K s.tree (apps_in s.sources.items) s.apps.items s.asks.items
+        s.nodes.items s.skips.items s.live s.next_container) };
 }
 
 impl<const K: usize, B: Allocator + Copy> Snapshot<K, B> {
@@ -95,15 +75,42 @@ impl<const K: usize, B: Allocator + Copy> Snapshot<K, B> {
         self.skips[index]
     }
 
-    /// How many asks there are. Each is of one of the applications, and none is served after one that follows it.
-    pub fn ask_count(&self) -> usize
-        ensures count { result ≡ length self.now.asks }
+    /// How many applications have asks. Each is known by its index in order of number.
+    pub fn app_count(&self) -> usize
+        ensures count { result ≡ length self.now.order }
         ensures whole { IsSnapshot K self.now }
     {
-        self.asks.len()
+        self.apps.len()
     }
 
-    /// The ask at an index, in the order of service.
+    /// The index of the application that is served first: at the first level below `root` where two queues differ, the one under the less
+    /// full queue, of two that are as full the lesser name in byte order, and of two at one leaf the earlier application. None where
+    /// none has asks. It takes no memory.
+    pub fn first_app(&self) -> Option<u32>
+        ensures first { IsUpTo self.now.order [] result }
+        ensures whole { IsSnapshot K self.now }
+    {
+        self.tree.first_served()
+    }
+
+    /// The index of the application that is served next after that one. None where none is left. It takes no memory.
+    pub fn next_app(&self, index: u32) -> Option<u32>
+        requires { index < length self.now.ranges }
+        ensures { IsNextAfter self.now.order index result }
+    {
+        let app = &self.apps[index as usize];
+        self.tree.next_served(index, app.position().as_slice())
+    }
+
+    /// Where the asks of the application of an index lie among all asks.
+    pub fn asks_nth(&self, index: u32) -> AskRange
+        requires { index < length self.now.ranges }
+        ensures { slice_get self.now.ranges index ≡ Some result }
+    {
+        self.apps[index as usize].range()
+    }
+
+    /// The ask at an index.
     pub fn ask(&self, index: usize) -> &SeenAsk<K>
         requires { index < length self.now.asks }
         ensures { slice_get self.now.asks index ≡ Some result.now }
@@ -117,7 +124,7 @@ impl<const K: usize, B: Allocator + Copy> Snapshot<K, B> {
         ensures inside { AreInside self.now.asks app result.start result.end }
         ensures whole { IsSnapshot K self.now }
     {
-        match range_of(&self.ranges, app) {
+        match range_of(&self.apps, app) {
             Some(range) => range,
             None => AskRange {
                 app,

@@ -34,7 +34,7 @@ impl<const K: usize, B: Allocator + Copy> Snapshot<K, B> {
             IsSnapshotOf K tree.now apps.now.table nodes.now snapshot) }
     {
         match ClusterCopy::take(alloc, tree, apps, nodes) {
-            Ok(copied) => copied.arrange(alloc),
+            Ok(copied) => Ok(copied.arrange()),
             Err(NoMemory) => Err(NoMemory),
         }
     }

@@ -1,11 +1,10 @@
 -- The choice on a node is the first ask, in the order of service, that is admitted there.
-use Rattle.std.proofs.Common.{◌≡◌, ℕ, zero, suc, ◌+◌, ◌<◌, ◌≤◌, true, false, List, [], ◌∷◌, length, Some, None, refl, sym, ◌∙◌, ap, subst, inl, inr, arith}
-use Rattle.std.specs.Prelude.{◌==◌, Option, option_and_then, bytes_eq, filter, find, unwrap_or}
+use Rattle.std.proofs.Common.{◌≡◌, ℕ, zero, suc, true, false, List, [], ◌∷◌, ◌++◌, Some, None, refl, sym, ◌∙◌, ap, subst, inl, inr, arith}
+use Rattle.std.specs.Prelude.{◌==◌, ◌⊎◌, Option, option_and_then, bytes_eq, filter, find}
 use Rattle.std.specs.List.{slice_get}
 use Rattle.std.specs.Ordering.{is_gt}
-use Rattle.std.proofs.lemmas.Bool.{and_parts, cases_lt}
+use Rattle.std.proofs.lemmas.Bool.{and_parts}
 use Rattle.std.proofs.lemmas.Bool.Decides.{nat_tests}
-use Rattle.std.proofs.lemmas.Option.{slice_get_within}
 use Rattle.std.proofs.lemmas.Slice.Eq.{bytes_eq-Decides}
 use Rattle.cap_model.specs.declared.proposal.ProposalKind.{ProposalKind}
 use Rattle.cap_model.specs.Asks.{Ask, same_key}
@@ -13,49 +12,24 @@ use Rattle.cap_base.specs.Cascade.{holds_of}
 use Rattle.cap_model.specs.Flat.{ask_at}
 use Rattle.cap_model.specs.Sight.{Sight, AppSight, NodeSight, seen_app}
 use Rattle.cap_model.specs.Admission.{NodeProposal, IsAdmissible}
-use Rattle.cap_model.specs.Choice.{rank_cmp, rank_of, is_after, IsNodeChoice}
+use Rattle.cap_model.specs.Choice.{rank_cmp, rank_of, is_after}
 use Rattle.cap_model.specs.Candidates.{choice_on}
 use Rattle.cap_laws.proofs.choice.Choosing.{choice_is_computed}
 use Rattle.cap_model.proofs.choice.Orders.{rank_cmp_total, not_after_itself}
-use Rattle.cap_base.proofs.lists.Members.{IsIn, each_of, found, of_filter, of_map}
+use Rattle.cap_base.proofs.lists.Members.{IsIn, each_of, found, in_either, of_filter, of_map}
 use Rattle.cap_copy.specs.AskEntry.{AskEntry}
-use Rattle.cap_copy.specs.Snapshot.{Seen, IsSnapshot, IsAskEntry, AreServedInOrder, asks_for, served_cmp, sight_in}
+use Rattle.cap_copy.specs.Snapshot.{Seen, IsSnapshot, IsAskEntry, AreServedInOrder, asks_for, asks_served, grant_of, served_cmp, sight_in}
 use Rattle.cap_propose.specs.Proposing.{IsAdmittedAs, IsSeenNode, proposal_of}
+use Rattle.cap_copy.proofs.LoopSteps.{index_in, slice_get_in}
 use Rattle.cap_propose.proofs.Unique.{one_on_node}
-
--- the index of a member, and the member at an index
-index_of : {A : Type 0} (xs : List A) (x : A) → IsIn x xs → (n : ℕ) × (slice_get xs n ≡ Some x)
-index_of [] x m = absurd m
-index_of (y ∷ ys) x (inl e) = (zero, ap (λ z. Some z) e)
-index_of (y ∷ ys) x (inr m) = let r = index_of ys x m in (suc (r.0), r.1)
-
-pub read_in : {A : Type 0} (xs : List A) (n : ℕ) (x : A) → slice_get xs n ≡ Some x → IsIn x xs
-read_in [] n x e = absurd (cc e)
-read_in (y ∷ ys) zero x e = inl (cc e)
-read_in (y ∷ ys) (suc n) x e = inr (read_in ys n x e)
 
 module _ (K : ℕ) (seen : Seen) where
   abbrev sight : Sight K
   sight = sight_in K seen
 
-  -- none of the asks before an index is admitted on the node
-  pub record NoneBefore (n i : ℕ) : Type 0 where
-    pub refused : (j : ℕ) (f : AskEntry) → j < i → slice_get seen.asks j ≡ Some f → IsAdmittedAs sight n f None
-
-  pub none_before_first : (n : ℕ) → NoneBefore n 0
-  none_before_first n = record { refused = λ j f h e. absurd (omega (arith, h)) }
-
-  pub one_more_refused : (n i : ℕ) (e : AskEntry) → slice_get seen.asks i ≡ Some e → NoneBefore n i → IsAdmittedAs sight n e None → NoneBefore n (i + 1)
-  one_more_refused n i e at none here = record {
-    refused =
-        λ j f h g. elim (cases_lt j i) [
-          | inl below ↦ none.refused j f below g
-          | inr past ↦
-              let j_is : j ≡ i = omega (arith, h, past) in
-              let same : e ≡ f = ap (λ o. unwrap_or o e) (sym at ∙ ap (slice_get seen.asks) (sym j_is) ∙ g) in
-              subst (λ x. IsAdmittedAs sight n x None) same here
-        ];
-  }
+  -- none of these asks is admitted on the node
+  abbrev pub AreRefused : ℕ → List AskEntry → Type 0
+  AreRefused n asks = (f : AskEntry) → IsIn f asks → IsAdmittedAs sight n f None
 
   -- what is admissible is a proposal of one of the asks
   record IsOfEntry (q : NodeProposal) : Type 0 where
@@ -93,56 +67,46 @@ module _ (K : ℕ) (seen : Seen) where
     of_entry : IsSnapshot K seen → IsAdmissible sight q → IsOfEntry q
     of_entry whole a = of_app whole (seen_app sight q.app) refl a.0.resource
 
-  -- an ask that stands before another is not served after it
-  in_order : (asks : List AskEntry) → AreServedInOrder K seen asks → (i j : ℕ) (e f : AskEntry) → slice_get asks i ≡ Some e → slice_get asks j ≡ Some f → i < j → is_gt (served_cmp K seen e f) ≡ false
-  in_order [] o i j e f at to h = absurd (cc at)
-  in_order (x ∷ xs) o zero zero e f at to h = absurd (omega (arith, h))
-  in_order (x ∷ xs) o zero (suc j) e f at to h =
-      let same : x ≡ e = cc at in
-      subst (λ y. is_gt (served_cmp K seen y f) ≡ false) same (each_of (λ y. is_gt (served_cmp K seen x y) ≡ false) xs o.0 f (read_in xs j f to))
-  in_order (x ∷ xs) o (suc i) zero e f at to h = absurd (omega (arith, h))
-  in_order (x ∷ xs) o (suc i) (suc j) e f at to h = in_order xs o.1 i j e f at to (omega (arith, h))
+  -- an ask is not served after one that follows it
+  in_order : (before after : List AskEntry) (e f : AskEntry) → AreServedInOrder K seen (before ++ e ∷ after) → IsIn f after → is_gt (served_cmp K seen e f) ≡ false
+  in_order [] after e f o m = each_of (λ x. is_gt (served_cmp K seen e x) ≡ false) after o.0 f m
+  in_order (x ∷ before) after e f o m = in_order before after e f o.1 m
 
   module _ (whole : IsSnapshot K seen) (n : ℕ) where
-    -- the first that is admitted is the choice
-    first_is : (i : ℕ) (e : AskEntry) (k : ProposalKind) → slice_get seen.asks i ≡ Some e → NoneBefore n i → IsAdmissible sight (proposal_of k n e) → IsNodeChoice sight n (Some (proposal_of k n e))
-    first_is i e k at none a = (refl, a, λ q node b. not_before q node b (of_entry q whole b))
+    -- what is admissible is a proposal of one of the asks on the node
+    on_node : (q : NodeProposal) (c : IsOfEntry q) → q.node ≡ n → IsAdmissible sight q → IsAdmissible sight (proposal_of q.kind n c.entry)
+    on_node q c node a = subst (IsAdmissible sight) (sym (ap (λ m. proposal_of q.kind m c.entry) (sym node) ∙ c.is)) a
+
+    -- the ask that is admitted, and served after none that is, is the choice
+    pub least_chosen : (e : AskEntry) (k : ProposalKind) → IsAdmissible sight (proposal_of k n e) →
+        ((f : AskEntry) (l : ProposalKind) → IsIn f seen.asks → IsAdmissible sight (proposal_of l n f) → is_gt (served_cmp K seen e f) ≡ false) → Some (proposal_of k n e) ≡ choice_on sight n
+    least_chosen e k a least = one_on_node sight n (Some (proposal_of k n e)) (choice_on sight n) (refl, a, λ q node b. not_before q node b (of_entry q whole b)) (choice_is_computed K sight n)
       where
         not_before : (q : NodeProposal) → q.node ≡ n → IsAdmissible sight q → IsOfEntry q → is_after sight (proposal_of k n e) q ≡ false
-        not_before q node b c =
-            let j = index_of seen.asks c.entry c.member in
-            subst (λ x. is_after sight (proposal_of k n e) x ≡ false) c.is (elim (cases_lt j.0 i) [
-              | inl below ↦
-                  let here : proposal_of q.kind n c.entry ≡ q = ap (λ m. proposal_of q.kind m c.entry) (sym node) ∙ c.is in
-                  absurd (none.refused j.0 c.entry below j.1 q.kind (subst (IsAdmissible sight) (sym here) b))
-              | inr past ↦ elim (cases_lt i j.0) [
-                | inl later ↦ in_order seen.asks whole.order i j.0 e c.entry at j.1 later
-                | inr back ↦
-                    let j_is : j.0 ≡ i = omega (arith, past, back) in
-                    let same : e ≡ c.entry = ap (λ o. unwrap_or o e) (sym at ∙ ap (slice_get seen.asks) (sym j_is) ∙ j.1) in
-                    subst (λ x. is_gt (served_cmp K seen e x) ≡ false) same (not_after_itself rank_cmp rank_cmp_total (rank_of sight (proposal_of k n e)))
-              ]
-            ])
+        not_before q node b c = subst (λ x. is_after sight (proposal_of k n e) x ≡ false) c.is (least c.entry q.kind c.member (on_node q c node b))
 
-    none_is : (i : ℕ) → length seen.asks ≤ i → NoneBefore n i → IsNodeChoice sight n None
-    none_is i all none =
-        λ q node a.
-        let c = of_entry q whole a in
-        let j = index_of seen.asks c.entry c.member in
-        let here : proposal_of q.kind n c.entry ≡ q = ap (λ m. proposal_of q.kind m c.entry) (sym node) ∙ c.is in
-        let within = slice_get_within seen.asks j.0 c.entry j.1 in
-        none.refused j.0 c.entry (omega (arith, all, within)) j.1 q.kind (subst (IsAdmissible sight) (sym here) a)
+    -- an ask is not served after itself
+    pub not_after_same : (e : AskEntry) → is_gt (served_cmp K seen e e) ≡ false
+    not_after_same e = not_after_itself rank_cmp rank_cmp_total (rank_of sight (grant_of 0 e))
 
-    pub first_chosen : (i : ℕ) (e : AskEntry) (k : ProposalKind) → slice_get seen.asks i ≡ Some e → NoneBefore n i → IsAdmissible sight (proposal_of k n e) → Some (proposal_of k n e) ≡ choice_on sight n
-    first_chosen i e k at none a = one_on_node sight n (Some (proposal_of k n e)) (choice_on sight n) (first_is i e k at none a) (choice_is_computed K sight n)
+    -- the first that is admitted is the choice
+    pub first_chosen : (before after : List AskEntry) (e : AskEntry) (k : ProposalKind) → asks_served seen seen.order ≡ before ++ e ∷ after → AreRefused n before → IsAdmissible sight (proposal_of k n e) →
+        Some (proposal_of k n e) ≡ choice_on sight n
+    first_chosen before after e k is none a = least_chosen e k a (λ f l m b. by f l b (in_either f before (e ∷ after) (subst (IsIn f) is (whole.reached f m))))
+      where
+        by : (f : AskEntry) (l : ProposalKind) → IsAdmissible sight (proposal_of l n f) → IsIn f before ⊎ IsIn f (e ∷ after) → is_gt (served_cmp K seen e f) ≡ false
+        by f l b (inl m) = absurd (none f m l b)
+        by f l b (inr (inl same)) = subst (λ x. is_gt (served_cmp K seen e x) ≡ false) same (not_after_same e)
+        by f l b (inr (inr m)) = in_order before after e f (subst (AreServedInOrder K seen) is whole.order) m
 
-    pub none_chosen : (i : ℕ) → length seen.asks ≤ i → NoneBefore n i → None ≡ choice_on sight n
-    none_chosen i all none = one_on_node sight n None (choice_on sight n) (none_is i all none) (choice_is_computed K sight n)
+    pub none_chosen : AreRefused n seen.asks → None ≡ choice_on sight n
+    none_chosen none =
+        one_on_node sight n None (choice_on sight n) (λ q node a. let c = of_entry q whole a in none c.entry c.member q.kind (on_node q c node a)) (choice_is_computed K sight n)
 
 -- each ask and each node of a snapshot, by its index
 module _ (K : ℕ) (seen : Seen) (whole : IsSnapshot K seen) where
   pub entry_is : (i : ℕ) (e : AskEntry) → slice_get seen.asks i ≡ Some e → IsAskEntry K seen e
-  entry_is i e at = each_of (IsAskEntry K seen) seen.asks whole.entries e (read_in seen.asks i e at)
+  entry_is i e at = each_of (IsAskEntry K seen) seen.asks whole.entries e (slice_get_in seen.asks i e at)
 
   pub node_is : (i : ℕ) (node : NodeSight) → slice_get seen.nodes i ≡ Some node → IsSeenNode K seen node
-  node_is i node at = each_of (λ (n : NodeSight). find (λ (m : NodeSight). m.number == n.number) seen.nodes ≡ Some n) seen.nodes whole.nodes node (read_in seen.nodes i node at)
+  node_is i node at = each_of (λ (n : NodeSight). find (λ (m : NodeSight). m.number == n.number) seen.nodes ≡ Some n) seen.nodes whole.nodes node (slice_get_in seen.nodes i node at)

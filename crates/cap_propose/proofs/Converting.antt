@@ -1,24 +1,29 @@
 -- The choice on a node that holds a reservation.
 use Rattle.std.proofs.Common.{◌≡◌, ℕ, ◌+◌, ◌<◌, ◌≤◌, Bool, true, false, cond, length, Some, None, refl, sym, ◌∙◌, ap, subst, inl, inr, arith}
-use Rattle.std.specs.Prelude.{◌&&◌, ◌==◌, option_and_then, unwrap_or}
+use Rattle.std.specs.Prelude.{◌&&◌, ◌⊎◌, ◌==◌, option_and_then, unwrap_or}
 use Rattle.std.specs.List.{slice_get}
 use Rattle.std.proofs.lemmas.Bool.{and_parts, cases_Bool, cases_lt}
+use Rattle.std.specs.Ordering.{is_gt}
 use Rattle.std.proofs.lemmas.Bool.Decides.{nat_tests}
+use Rattle.std.proofs.lemmas.Option.{slice_get_within}
 use Rattle.cap_model.specs.declared.proposal.ProposalKind.{ProposalKind}
 use Rattle.cap_model.specs.declared.proposal.ProposalKind.TheVariants.{Grant}
 use Rattle.cap_base.specs.Amounts.{fits}
+use Rattle.cap_base.proofs.lists.Members.{IsIn, each_of}
 use Rattle.cap_model.specs.Asks.{same_key}
 use Rattle.cap_model.specs.Flat.{Reservation, ask_at, is_for}
 use Rattle.cap_model.specs.Sight.{AppSight, NodeSight, seen_app}
 use Rattle.cap_model.specs.Admission.{IsAdmissible}
 use Rattle.cap_model.specs.Candidates.{choice_on}
+use Rattle.cap_model.specs.Choice.{rank_cmp, rank_of}
 use Rattle.cap_model.proofs.calls.KeptAsks.{same_key_is}
 use Rattle.cap_copy.specs.AskEntry.{AskEntry}
 use Rattle.cap_copy.specs.AskRanges.{AreInside}
-use Rattle.cap_copy.specs.Snapshot.{IsAskEntry, IsSnapshot, Seen, sight_in}
+use Rattle.cap_copy.specs.Snapshot.{IsAskEntry, IsSnapshot, Seen, grant_of, sight_in}
 use Rattle.cap_propose.specs.Proposing.{AreForOthers, IsAdmittedAs, IsSeenNode, kind_beside, proposal_of}
 use Rattle.cap_propose.proofs.Admitting.{without_room}
-use Rattle.cap_propose.proofs.Choosing.{NoneBefore, entry_is, first_chosen, none_chosen}
+use Rattle.cap_copy.proofs.LoopSteps.{index_in}
+use Rattle.cap_propose.proofs.Choosing.{entry_is, least_chosen, none_chosen, not_after_same}
 
 -- a reservation is no larger than a proposal
 pub reservation_fits : (n : ℕ) → prog.Memory.up 8 (40 + n) < 9223372036854775808 → prog.Memory.up 8 (32 + n) < 9223372036854775808
@@ -78,19 +83,31 @@ module _ (K : ℕ) (seen : Seen) (r : Reservation) where
         without_room K seen node e at_node is
         (ap (λ o. kind_beside o node e) holds ∙ ap (λ b. cond (b && fits e.ask.resource node.free) (Some Grant) None) other)
 
-    others_refused : (i : ℕ) → AreForOthers seen r i → NoneBefore K seen node.number i
-    others_refused i all = record { refused = λ j f h there. other_refused f (entry_is K seen whole j f there) (all j f h there) }
-
     pub none_for : AreForOthers seen r (length seen.asks) → None ≡ choice_on (sight_in K seen) node.number
-    none_for all = none_chosen K seen whole node.number (length seen.asks) (omega arith) (others_refused (length seen.asks) all)
+    none_for all = none_chosen K seen whole node.number (λ f m. let j = index_in seen.asks f m in other_refused f (entry_is K seen whole j.0 f j.1) (all j.0 f (slice_get_within seen.asks j.0 f j.1) j.1))
 
     module _ (i : ℕ) (e : AskEntry) (at : slice_get seen.asks i ≡ Some e) (own : is_for e.app e.ask.key r ≡ true) where
-      pub refused_there : IsAdmittedAs (sight_in K seen) node.number e None → None ≡ choice_on (sight_in K seen) node.number
-      refused_there never = none_chosen K seen whole node.number (length seen.asks) (omega arith) (record { refused = λ j f h there. each f (entry_is K seen whole j f there) (is_for f.app f.ask.key r) refl })
+      -- an ask is for others, or makes the same proposal
+      others_or_same : (f : AskEntry) → IsIn f seen.asks → IsAdmittedAs (sight_in K seen) node.number f None ⊎ ((k : ProposalKind) (n : ℕ) → proposal_of k n e ≡ proposal_of k n f)
+      others_or_same f m = by (is_for f.app f.ask.key r) refl
         where
-          each : (f : AskEntry) → IsAskEntry K seen f → (b : Bool) → is_for f.app f.ask.key r ≡ b → IsAdmittedAs (sight_in K seen) node.number f None
-          each f is true h = λ k a. never k (subst (λ p. IsAdmissible (sight_in K seen) p) (same_proposal k node.number f e is (entry_is K seen whole i e at) h own) a)
-          each f is false h = other_refused f is h
+          is : IsAskEntry K seen f
+          is = each_of (IsAskEntry K seen) seen.asks whole.entries f m
 
-      pub admitted_own : (k : ProposalKind) → AreForOthers seen r i → IsAdmittedAs (sight_in K seen) node.number e (Some k) → Some (proposal_of k node.number e) ≡ choice_on (sight_in K seen) node.number
-      admitted_own k all a = first_chosen K seen whole node.number i e k at (others_refused i all) a
+          by : (b : Bool) → is_for f.app f.ask.key r ≡ b → IsAdmittedAs (sight_in K seen) node.number f None ⊎ ((k : ProposalKind) (n : ℕ) → proposal_of k n e ≡ proposal_of k n f)
+          by true h = inr (λ k n. same_proposal k n e f (entry_is K seen whole i e at) is own h)
+          by false h = inl (other_refused f is h)
+
+      pub refused_there : IsAdmittedAs (sight_in K seen) node.number e None → None ≡ choice_on (sight_in K seen) node.number
+      refused_there never =
+          none_chosen K seen whole node.number (λ f m k a. elim (others_or_same f m) [
+            | inl refused ↦ refused k a
+            | inr same ↦ never k (subst (IsAdmissible (sight_in K seen)) (sym (same k node.number)) a)
+          ])
+
+      pub admitted_own : (k : ProposalKind) → IsAdmittedAs (sight_in K seen) node.number e (Some k) → Some (proposal_of k node.number e) ≡ choice_on (sight_in K seen) node.number
+      admitted_own k a =
+          least_chosen K seen whole node.number e k a (λ f l m b. elim (others_or_same f m) [
+            | inl refused ↦ absurd (refused l b)
+            | inr same ↦ subst (λ p. is_gt (rank_cmp (rank_of (sight_in K seen) (grant_of 0 e)) (rank_of (sight_in K seen) p)) ≡ false) (same Grant 0) (not_after_same K seen whole node.number e)
+          ])

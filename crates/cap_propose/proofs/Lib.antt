@@ -5,4 +5,5 @@ pub mod Fitting
 pub mod Passing
 pub mod Ring
 pub mod Unique
+pub mod Walking
 pub mod WithinLimits

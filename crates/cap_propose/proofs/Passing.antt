@@ -1,5 +1,5 @@
 -- The nodes of the ring without a reservation that are passed over, since no ask is admitted there.
-use Rattle.std.proofs.Common.{◌≡◌, ℕ, ◌+◌, ◌-◌, ◌<◌, ◌≤◌, true, false, cond, length, Some, None, refl, sym, ◌∙◌, ap, subst, inl, inr, arith}
+use Rattle.std.proofs.Common.{◌≡◌, ℕ, ◌+◌, ◌-◌, ◌<◌, ◌≤◌, true, false, cond, List, ◌∷◌, ◌++◌, length, Some, None, refl, sym, ◌∙◌, ap, subst, inl, inr, arith}
 use Rattle.std.specs.Prelude.{Option, IsSome, nat_lt, not, option_map, unwrap_or}
 use Rattle.std.specs.List.{slice_get}
 use Rattle.std.proofs.lemmas.Bool.{cases_lt}
@@ -10,10 +10,10 @@ use Rattle.cap_model.specs.Admission.{NodeProposal}
 use Rattle.cap_model.specs.Candidates.{choice_on}
 use Rattle.cap_model.specs.declared.proposal.ProposalKind.{ProposalKind}
 use Rattle.cap_copy.specs.AskEntry.{AskEntry}
-use Rattle.cap_copy.specs.Snapshot.{IsAskEntry, IsSkip, IsSnapshot, Seen, sight_in}
+use Rattle.cap_copy.specs.Snapshot.{IsAskEntry, IsSkip, IsSnapshot, Seen, asks_served, sight_in}
 use Rattle.cap_propose.specs.Proposing.{ArePassed, IsAdmittedAs, IsChosenAt, IsClosed, IsOpen, IsPassed, IsProposed, IsSeenNode, TakesAt, kind_by_room, node_after, proposal_by_room, proposal_of, ring_index, takes}
 use Rattle.cap_propose.proofs.Admitting.{holds_none, not_taken, room_there}
-use Rattle.cap_propose.proofs.Choosing.{NoneBefore, entry_is, first_chosen, node_is, none_chosen}
+use Rattle.cap_propose.proofs.Choosing.{AreRefused, entry_is, first_chosen, node_is, none_chosen}
 
 pub at_most : (l m n : ℕ) → l < m → m ≤ n → l ≤ n
 at_most l m n h g = omega (arith, h, g)
@@ -31,10 +31,6 @@ pub last_turn : (turn end : ℕ) → turn ≤ end → end ≤ turn → turn ≡ 
 last_turn turn end h g = omega (arith, h, g)
 
 module _ (K : ℕ) (seen : Seen) (first : ℕ) where
-  -- no node yet
-  pub none_yet : (e : AskEntry) → IsPassed K seen first 0 e
-  none_yet e turn node h at unreserved = absurd (omega (arith, h))
-
   -- fewer nodes
   pub fewer : (e : AskEntry) (m n : ℕ) → m ≤ n → IsPassed K seen first n e → IsPassed K seen first m e
   fewer e m n le p turn node h at unreserved = p turn node (omega (arith, le, h)) at unreserved
@@ -76,8 +72,8 @@ module _ (K : ℕ) (seen : Seen) (first : ℕ) where
   ]
 
   -- all nodes, where each holds a reservation
-  pub all_held : (n m : ℕ) → n ≡ length seen.nodes → IsSkip seen.nodes 0 n → ArePassed K seen first m (length seen.asks)
-  all_held n m count s j e inside at turn node h there unreserved =
+  pub all_held : (n m : ℕ) (asks : List AskEntry) → n ≡ length seen.nodes → IsSkip seen.nodes 0 n → ArePassed K seen first m asks
+  all_held n m asks count s e inside turn node h there unreserved =
       let index = ring_index first turn (length seen.nodes) in
       let within = slice_get_within seen.nodes index node there in
       let held = s.hold index node (omega arith) (omega (arith, within, count)) there in
@@ -99,28 +95,15 @@ module _ (K : ℕ) (seen : Seen) (first : ℕ) where
     pub closed_passed : (n : ℕ) → IsClosed K seen e → IsPassed K seen first n e
     closed_passed n closed turn node h at unreserved = closed node (node_is K seen whole (ring_index first turn (length seen.nodes)) node at) unreserved
 
-  -- one ask more, and as many nodes or fewer
-  pub one_ask_more : (m n i : ℕ) (e : AskEntry) → m ≤ n → slice_get seen.asks i ≡ Some e → ArePassed K seen first n i → IsPassed K seen first m e → ArePassed K seen first m (i + 1)
-  one_ask_more m n i e le at all here j f h there = elim (cases_lt j i) [
-    | inl below ↦ fewer f m n le (all j f below there)
-    | inr past ↦
-        let j_is : j ≡ i = omega (arith, h, past) in
-        let same : e ≡ f = ap (λ o. unwrap_or o e) (sym at ∙ ap (slice_get seen.asks) (sym j_is) ∙ there) in
-        subst (IsPassed K seen first m) same here
-  ]
-
-  pub all_asks : (n i : ℕ) → length seen.asks ≤ i → ArePassed K seen first n i → ArePassed K seen first n (length seen.asks)
-  all_asks n i le all j f h there = all j f (omega (arith, le, h)) there
-
   -- a node that is passed over has no choice
   pub passed_has_none : (whole : IsSnapshot K seen) (turn index count n : ℕ) (node : NodeSight) → count ≡ length seen.nodes → index ≡ ring_index first turn count → slice_get seen.nodes index ≡ Some node →
-      turn < n → node.reservation ≡ None → ArePassed K seen first n (length seen.asks) → None ≡ choice_on (sight_in K seen) node.number
+      turn < n → node.reservation ≡ None → ArePassed K seen first n seen.asks → None ≡ choice_on (sight_in K seen) node.number
   passed_has_none whole turn index count n node count_is index_is at h unreserved all =
-      none_chosen K seen whole node.number (length seen.asks) (omega arith)
-      (record { refused = λ j f below there. all j f below there turn node h (node_at turn index count node count_is index_is at) unreserved })
+      none_chosen K seen whole node.number (λ f m. all f m turn node h (node_at turn index count node count_is index_is at) unreserved)
 
   -- what a node takes that none of the asks before is admitted on is its choice
-  module _ (whole : IsSnapshot K seen) (turn n i : ℕ) (e : AskEntry) (at : slice_get seen.asks i ≡ Some e) (is_open : IsOpen K seen e) (takes_it : TakesAt seen first turn e) (h : turn < n) (all : ArePassed K seen first n i) where
+  module _ (whole : IsSnapshot K seen) (turn n i : ℕ) (e : AskEntry) (before after : List AskEntry) (at : slice_get seen.asks i ≡ Some e) (served : asks_served seen seen.order ≡ before ++ e ∷ after)
+      (is_open : IsOpen K seen e) (takes_it : TakesAt seen first turn e) (h : turn < n) (all : ArePassed K seen first n before) where
     proposed_there : (node : NodeSight) → node_after seen first turn ≡ Some node → IsProposed K seen node e
     proposed_there node there = by (kind_by_room node e) refl
       where
@@ -137,11 +120,11 @@ module _ (K : ℕ) (seen : Seen) (first : ℕ) where
         by None k = let room = room_there K seen node e at_node is (takes_it node there) in absurd (cc (room, k))
         by (Some kind) k =
             let a = is_open node kind at_node (takes_it node there) k in
-            let none : NoneBefore K seen node.number i = record { refused = λ j f below to. all j f below to turn node h there unreserved } in
+            let none : AreRefused K seen node.number before = λ f m. all f m turn node h there unreserved in
             let same : proposal_by_room node e ≡ Some (proposal_of kind node.number e) = ap (option_map (λ x. proposal_of x node.number e)) k in
             record {
               some = subst (λ o. IsSome o) (sym same) cc;
-              chosen = same ∙ first_chosen K seen whole node.number i e kind at none a;
+              chosen = same ∙ first_chosen K seen whole node.number before after e kind served none a;
             }
 
     pub chosen_there : IsChosenAt K seen first turn i

@@ -1,11 +1,12 @@
 -- What an ask may be proposed as on a node.
-use Rattle.std.specs.Prelude.{◌≡◌, ℕ, ◌+◌, ◌-◌, ◌<◌, Bool, true, false, ◌&&◌, List, length, Option, Some, None, IsSome, is_none, is_some, option_map, nat_le, nat_lt, if◌then◌else◌}
+use Rattle.std.specs.Prelude.{◌≡◌, ℕ, ◌+◌, ◌-◌, ◌<◌, ◌++◌, Bool, true, false, ◌&&◌, List, length, Option, Some, None, IsSome, is_none, is_some, option_map, nat_le, nat_lt, if◌then◌else◌}
 use Rattle.std.specs.Option.{option_map_or}
 use Rattle.std.specs.List.{slice_get}
 use Rattle.cap_vector.specs.Vector.{zeros}
 use Rattle.cap_base.specs.Limits.{live_max, number_end}
 use Rattle.cap_base.specs.Cascade.{holds_of}
 use Rattle.cap_base.specs.Amounts.{fits}
+use Rattle.cap_base.specs.Members.{IsIn}
 use Rattle.cap_model.specs.declared.proposal.ProposalKind.{ProposalKind}
 use Rattle.cap_model.specs.declared.proposal.ProposalKind.TheVariants.{Grant, Reserve}
 use Rattle.cap_model.specs.Flat.{Reservation, is_for}
@@ -14,7 +15,8 @@ use Rattle.cap_model.specs.Admission.{NodeProposal, IsAdmissible, takes_place}
 use Rattle.cap_model.specs.Choice.{IsNodeChoice, IsChoiceFrom}
 use Rattle.cap_model.specs.Candidates.{choice_on}
 use Rattle.cap_copy.specs.AskEntry.{AskEntry}
-use Rattle.cap_copy.specs.Snapshot.{Seen, sight_in, stays_within}
+use Rattle.cap_copy.specs.Snapshot.{Seen, asks_served, sight_in, stays_within}
+use Rattle.cap_propose.specs.declared.choice.Taker.{Taker}
 
 -- the proposal of an ask on the node of a number
 abbrev pub proposal_of : ProposalKind → ℕ → AskEntry → NodeProposal
@@ -74,12 +76,12 @@ IsClosed K seen e = (node : NodeSight) → IsSeenNode K seen node → node.reser
 abbrev pub IsOpen : ℕ → Seen → AskEntry → Type 0
 IsOpen K seen e = (node : NodeSight) (kind : ProposalKind) → IsSeenNode K seen node → takes node e ≡ true → kind_by_room node e ≡ Some kind → IsAdmissible (sight_in K seen) (proposal_of kind node.number e)
 
--- of the first so many nodes of the ring, none without a reservation admits the ask; nor any of the first so many asks
+-- of the first so many nodes of the ring, none without a reservation admits the ask; nor any of these asks
 abbrev pub IsPassed : ℕ → Seen → ℕ → ℕ → AskEntry → Type 0
 IsPassed K seen first nodes e = (turn : ℕ) (node : NodeSight) → turn < nodes → node_after seen first turn ≡ Some node → node.reservation ≡ None → IsAdmittedAs (sight_in K seen) node.number e None
 
-abbrev pub ArePassed : ℕ → Seen → ℕ → ℕ → ℕ → Type 0
-ArePassed K seen first nodes asks = (index : ℕ) (e : AskEntry) → index < asks → slice_get seen.asks index ≡ Some e → IsPassed K seen first nodes e
+abbrev pub ArePassed : ℕ → Seen → ℕ → ℕ → List AskEntry → Type 0
+ArePassed K seen first nodes asks = (e : AskEntry) → IsIn e asks → IsPassed K seen first nodes e
 
 -- the node after so many takes the ask
 abbrev pub TakesAt : Seen → ℕ → ℕ → AskEntry → Type 0
@@ -105,6 +107,17 @@ pub record IsChosenThere (K : ℕ) (seen : Seen) (first turn index : ℕ) : Type
 
 abbrev pub IsChosenAt : ℕ → Seen → ℕ → ℕ → ℕ → Type 0
 IsChosenAt K seen first turn index = turn < length seen.nodes → IsChosenThere K seen first turn index
+
+-- the nearest node without a reservation that takes one of these asks, if the ring has one: none before it admits any of them, and the ask at
+-- the index is the choice there
+pub record IsNearest (K : ℕ) (seen : Seen) (first : ℕ) (asks : List AskEntry) (t : Taker) : Type 0 where
+  pub passed : ArePassed K seen first t.turn asks
+  pub chosen : IsChosenAt K seen first t.turn t.ask
+
+-- the nearest one with these asks too, if the old one is the nearest with all that are served before them
+abbrev pub IsNearer : ℕ → Seen → ℕ → List AskEntry → Taker → Taker → Type 0
+IsNearer K seen first asks old new =
+    (before after : List AskEntry) → asks_served seen seen.order ≡ before ++ asks ++ after → IsNearest K seen first before old → IsNearest K seen first (before ++ asks) new
 
 -- none of the first so many asks is for a reservation's application and key
 abbrev pub AreForOthers : Seen → Reservation → ℕ → Type 0

@@ -1,9 +1,9 @@
 //! The choice of a proposal, on one node and from a starting node over the ring of all nodes (`propose`).
 ghost use Rattle.std.specs.Prelude.{◌≡◌, ◌<◌, ◌≤◌, Some, length};
 ghost use Rattle.cap_model.specs.Candidates.{choice_from, choice_on};
-ghost use Rattle.cap_copy.specs.Snapshot.{IsAskEntry, IsSnapshot, sight_in};
+ghost use Rattle.cap_copy.specs.Snapshot.{IsAskEntry, IsSnapshot, asks_nth, sight_in};
 ghost use Rattle.cap_propose.specs.Sizes.{SnapshotFitsInMemory};
-ghost use Rattle.cap_propose.specs.Proposing.{ArePassed, IsChosenAt, IsFirstTaker, IsReservedAsk, IsSeenNode, proposal_by_room, proposal_of, ring_index};
+ghost use Rattle.cap_propose.specs.Proposing.{IsFirstTaker, IsNearer, IsNearest, IsReservedAsk, IsSeenNode, proposal_by_room, proposal_of, ring_index};
 
 use crate::admission::{admits, is_for, is_open, kind_by_room, takes};
 use cap_copy::{SeenAsk, SeenNode, Snapshot};
@@ -57,8 +57,8 @@ fn wrapped(first: usize, turn: usize, count: usize) -> usize
     }
 }
 
-/// A node of the ring that holds no reservation and takes an ask: how many nodes come before it, and the index of the first ask that
-/// it takes, in the order of service.
+/// A node of the ring that holds no reservation and takes an ask: how many nodes come before it, and the index among all asks of the
+/// one that is served first of those that it takes.
 #[derive(Clone, Copy)]
 struct Taker {
     turn: usize,
@@ -66,8 +66,8 @@ struct Taker {
 }
 
 /// The nearest node that holds no reservation and takes an ask, in the ring from the node at index `first` on. Where there is none,
-/// all nodes come before it, and where each node holds a reservation no ask is looked at. The limits of an ask are tested once for all
-/// these nodes, since they don't depend on the node.
+/// all nodes come before it, and where each node holds a reservation no ask is looked at. It goes from one application to the next in
+/// the order of service, and no further once the first node of the ring takes an ask.
 fn nearest_taker<const K: usize, B: Allocator + Copy>(
     snapshot: &Snapshot<K, B>,
     first: usize,
@@ -75,8 +75,7 @@ fn nearest_taker<const K: usize, B: Allocator + Copy>(
     requires fits { SnapshotFitsInMemory K.row B.row B.Allocator }
     requires first { first < length snapshot.now.nodes }
     ensures within { result.turn ≤ length snapshot.now.nodes }
-    ensures passed { ArePassed K snapshot.now first result.turn (length snapshot.now.asks) }
-    ensures chosen { IsChosenAt K snapshot.now first result.turn result.ask }
+    ensures nearest { IsNearest K snapshot.now first snapshot.now.asks result }
 {
     let mut nearest = Taker {
         turn: snapshot.node_count(),
@@ -85,7 +84,39 @@ fn nearest_taker<const K: usize, B: Allocator + Copy>(
     if snapshot.skip(0) == nearest.turn {
         return nearest;
     }
-    for index in 0..snapshot.ask_count() {
+    let mut next = snapshot.first_app();
+    for _ in 0..snapshot.app_count() {
+        let Some(index) = next else {
+            return nearest;
+        };
+        nearest = nearer_taker(snapshot, first, index, nearest);
+        if nearest.turn == 0 {
+            return nearest;
+        }
+        next = snapshot.next_app(index);
+    }
+    nearest
+}
+
+/// The nearest taker where `nearest` is the one of all asks that are served before those of the application of that index: a node that
+/// takes one of these asks, if one comes before it, and else `nearest`. The limits of an ask are tested once for all nodes, since they
+/// don't depend on the node.
+fn nearer_taker<const K: usize, B: Allocator + Copy>(
+    snapshot: &Snapshot<K, B>,
+    first: usize,
+    app: u32,
+    mut nearest: Taker,
+) -> Taker
+    requires fits { SnapshotFitsInMemory K.row B.row B.Allocator }
+    requires whole { IsSnapshot K snapshot.now }
+    requires first { first < length snapshot.now.nodes }
+    requires app { app < length snapshot.now.ranges }
+    requires within { nearest.turn ≤ length snapshot.now.nodes }
+    ensures within { result.turn ≤ length snapshot.now.nodes }
+    ensures nearer { IsNearer K snapshot.now first (asks_nth snapshot.now app) nearest result }
+{
+    let asks = snapshot.asks_nth(app);
+    for index in asks.start..asks.end {
         if nearest.turn == 0 {
             return nearest;
         }

@@ -2,7 +2,7 @@
 use Rattle.std.specs.Prelude.{◌≡◌, ℕ, ◌<◌, ◌≤◌, List, [], ◌∷◌, ◌++◌, length, false}
 use Rattle.cap_base.specs.Limits.{resources}
 use Rattle.cap_model.specs.Flat.{Flat}
-use Rattle.cap_model.specs.Sight.{sight_of}
+use Rattle.cap_model.specs.Sight.{Sight, sight_of}
 use Rattle.cap_model.specs.News.{Reply}
 use Rattle.cap_model.specs.Admission.{NodeProposal}
 use Rattle.cap_model.specs.Events.{is_no_memory}
@@ -11,7 +11,6 @@ use Rattle.cap_model.specs.declared.request.Request.{Request}
 use Rattle.cap_model.specs.declared.proposal.Verdict.{Verdict}
 use Rattle.cap_model.specs.declared.proposal.Verdict.TheVariants as verdict
 use Rattle.cap_grammar.specs.Spelling.{IsOfKind, kind_of}
-use Rattle.cap_copy.specs.Snapshot.{Seen, sight_in}
 use Rattle.cap_sights.specs.Sights.{ShowTheSame}
 use Rattle.cap_shared.specs.declared.entry.Entry.{Entry}
 use Rattle.cap_shared.specs.declared.entry.Receipt.TheVariants as receipt
@@ -77,6 +76,6 @@ TellsFullFirst limit log (refusal.Sealed back) = limit ≤ length log
 TellsFullFirst limit log (refusal.NoMemory back) = length log < limit
 
 -- a copy shows what the cluster showed after the entries of its note
-abbrev pub CopyIs : Flat resources → Sitting → Sitting → Seen → Type 0
-CopyIs opening old new snapshot =
-    (es : List Entry) × (mid : Flat resources) × Replays opening es mid × ShowTheSame (sight_in resources snapshot) (sight_of mid) × HasMore old new (Noted es answer.Copied ∷ [])
+abbrev pub CopyIs : Flat resources → Sitting → Sitting → Sight resources → Type 0
+CopyIs opening old new sight =
+    (es : List Entry) × (mid : Flat resources) × Replays opening es mid × ShowTheSame sight (sight_of mid) × HasMore old new (Noted es answer.Copied ∷ [])

@@ -1,6 +1,8 @@
 //! What lies under the lock: the cluster, its journal, and the pass that knows the journal (`Desk`).
 ghost use Rattle.std.specs.Prelude.{◌≡◌, ◌<◌, ◌≤◌, MatchResult, IfErr, OnErr, length, ◌↔◌, IsTrue, None};
 ghost use Rattle.cap_model.specs.Sight.{sight_of};
+ghost use Rattle.cap_base.specs.Limits.{resources};
+ghost use Rattle.cap_copy.specs.Sources.{sight_of_copy};
 ghost use Rattle.cap_model.specs.Admission.{reason_of};
 ghost use Rattle.cap_shared.specs.Calls.{CallsOk, CallMisses, CommitAnswers, CommitsBack, CopyIs, TellsFull, TellsFullFirst};
 
@@ -19,9 +21,9 @@ use crate::seat::{Naming, Seat};
 use bumpalo::Bump;
 use cap_base::RESOURCES;
 use cap_commit::Cluster;
-use cap_copy::Snapshot;
+use cap_copy::ClusterCopy;
 use cap_model::{Event, NoMemory, OwnedReply, Proposal, Request, Verdict};
-use cap_sights::snapshot_in;
+use cap_sights::copy_in;
 use std::alloc::Global;
 use std::marker::{Model, PhantomData};
 
@@ -215,21 +217,22 @@ impl<J: Naming> Desk<J> {
         Ok(Verdict::Done(made.event()))
     }
 
-    /// A snapshot of the cluster as it is, which is noted. If an allocation fails nothing changes.
+    /// A copy of the cluster as it is, which is noted. If an allocation fails nothing changes.
     pub fn copy<'a>(
         &mut self,
         arena: &'a Bump,
         word: &Word,
         seat: &mut Seat<J>,
-    ) -> Result<Snapshot<RESOURCES, &'a Bump>, NoMemory>
+    ) -> Result<ClusterCopy<RESOURCES, &'a Bump>, NoMemory>
         requires word { (word.now.table_id ≡ J.table) × (0 < word.now.table_id.words) }
-        ensures { MatchResult result (CopyIs J.opening seat.old seat.new)
+        ensures { MatchResult result
+            (λ copied. CopyIs J.opening seat.old seat.new (sight_of_copy resources copied))
             (λ _. seat.new ≡ seat.old) }
     {
-        let Ok(snapshot) = snapshot_in(arena, &self.cluster) else {
+        let Ok(copied) = copy_in(arena, &self.cluster) else {
             return Err(NoMemory);
         };
         note_copied(word, &mut self.pass, &self.journal, &mut seat.pass);
-        Ok(snapshot)
+        Ok(copied)
     }
 }

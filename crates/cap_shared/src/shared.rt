@@ -1,5 +1,8 @@
 //! The cluster that threads share, with its seats (`Shared`), and what one thread does under one lock (`Hold`).
 ghost use Rattle.std.specs.Prelude.{◌≡◌, ℕ, ◌<◌, ◌≤◌, [], length, map, vec_capacity, IfOk, OnOk, OnErr, MatchResult};
+ghost use Rattle.cap_base.specs.Limits.{resources};
+ghost use Rattle.cap_copy.specs.Snapshot.{sight_in};
+ghost use Rattle.cap_copy.specs.Sources.{sight_of_copy};
 ghost use Rattle.cap_shared.specs.Calls.{CallsOk, CallsBack, CallMisses, CommitAnswers, CommitsBack, CopyIs};
 ghost use Rattle.cap_shared.specs.Journal.{Replays, TagsBelow, AllHonest};
 ghost use Rattle.cap_shared.specs.Parts.{report_of};
@@ -19,7 +22,7 @@ use atomic_table::Table;
 use bumpalo::Bump;
 use cap_base::RESOURCES;
 use cap_commit::Cluster;
-use cap_copy::Snapshot;
+use cap_copy::{ClusterCopy, Snapshot};
 use cap_model::{NoMemory, OwnedReply, Proposal, Request, Verdict};
 use std::alloc::Global;
 use std::marker::PhantomData;
@@ -99,13 +102,15 @@ impl<'a, J: Naming> Hold<'a, J> {
         self.desk.commit(self.word, seat, proposal)
     }
 
-    /// A snapshot of the cluster in an arena, as `Shared::copy`.
+    /// A copy of the cluster in an arena, of which `arrange` makes the snapshot once the cluster is given back. If an allocation fails
+    /// nothing changes.
     pub fn copy<'b>(
         &mut self,
         arena: &'b Bump,
         seat: &mut Seat<J>,
-    ) -> Result<Snapshot<RESOURCES, &'b Bump>, NoMemory>
-        ensures { MatchResult result (CopyIs J.opening seat.old seat.new)
+    ) -> Result<ClusterCopy<RESOURCES, &'b Bump>, NoMemory>
+        ensures { MatchResult result
+            (λ copied. CopyIs J.opening seat.old seat.new (sight_of_copy resources copied))
             (λ _. seat.new ≡ seat.old) }
     {
         self.desk.copy(arena, self.word, seat)
@@ -187,17 +192,23 @@ impl<J: Naming> Shared<J> {
         self.hold_to_schedule(rt).commit(seat, proposal)
     }
 
-    /// A snapshot of the cluster in an arena. If an allocation fails nothing changes.
+    /// A snapshot of the cluster in an arena, which is copied under the lock and arranged after it. If an allocation fails nothing
+    /// changes.
     pub fn copy<'a, R: Wait>(
         &self,
         rt: &R,
         arena: &'a Bump,
         seat: &mut Seat<J>,
     ) -> Result<Snapshot<RESOURCES, &'a Bump>, NoMemory>
-        ensures { MatchResult result (CopyIs J.opening seat.old seat.new)
+        ensures { MatchResult result
+            (λ snapshot. CopyIs J.opening seat.old seat.new (sight_in resources snapshot))
             (λ _. seat.new ≡ seat.old) }
     {
-        self.hold_to_schedule(rt).copy(arena, seat)
+        let copied = self.hold_to_schedule(rt).copy(arena, seat);
+        match copied {
+            Ok(copied) => Ok(copied.arrange()),
+            Err(NoMemory) => Err(NoMemory),
+        }
     }
 
     /// Whether the journal is full. Once it is, it stays so.

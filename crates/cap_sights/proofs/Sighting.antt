@@ -1,12 +1,12 @@
--- A snapshot of the parts of a cluster shows the same as the cluster.
-use Rattle.std.proofs.Common.{◌≡◌, ℕ, Bool, true, false, cond, List, [], ◌∷◌, map, Result, Ok, Err, refl, sym, ◌∙◌, subst, inl, inr}
+-- A copy of the parts of a cluster shows the same as the cluster.
+use Rattle.std.proofs.Common.{◌≡◌, ℕ, Bool, true, false, cond, List, [], ◌∷◌, map, Result, Ok, Err, refl, sym, ◌∙◌, ap, subst, inl, inr}
 use Rattle.std.specs.Prelude.{Some, IfOk, bytes_eq, find}
 use Rattle.std.specs.List.{All}
 use Rattle.std.specs.Option.{option_map_or}
 use Rattle.cap_vector.specs.Vector.{amount}
 use Rattle.cap_base.specs.Members.{IsRising}
 use Rattle.cap_base.specs.declared.no_memory.NoMemory.{NoMemory}
-use Rattle.cap_model.specs.Flat.{Flat, AppTable, ClusterNode, NodeTable, node_in}
+use Rattle.cap_model.specs.Flat.{Flat, ClusterNode, NodeTable, node_in}
 use Rattle.cap_model.specs.Uses.{user_use, held_on}
 use Rattle.cap_model.specs.Sight.{Sight, QueueSight, sight_of, queue_sight, node_sight}
 use Rattle.cap_base.proofs.lists.Members.{IsIn, each_of}
@@ -16,8 +16,9 @@ use Rattle.cap_tree.specs.Queue.{use_of, user_row}
 use Rattle.cap_tree.specs.QueueLaws.{user_counts}
 use Rattle.cap_tree.specs.Rows.{Row, queues_of, settings_of_row}
 use Rattle.cap_nodes.specs.Tables.{left_of}
-use Rattle.cap_copy.specs.Snapshot.{Seen, queue_seen, sight_in}
-use Rattle.cap_copy.specs.Taking.{IsSnapshotOf, node_seen, sight_of_parts}
+use Rattle.cap_copy.specs.Snapshot.{queue_seen}
+use Rattle.cap_copy.specs.Sources.{Parts, sight_of_copy}
+use Rattle.cap_copy.specs.Taking.{node_seen, sight_of_parts}
 use Rattle.cap_commit.specs.ClusterState.{IsRowOf}
 use Rattle.cap_sights.specs.Sights.{ShowTheSame, shown_queue}
 
@@ -61,11 +62,11 @@ module _ {K : ℕ} (flat : Flat K) where
     next_container = refl;
   }
 
--- a snapshot of the parts of a cluster, if there was memory for it
-pub snapshot_shows : {K : ℕ} (flat : Flat K) (held tree : List Row) (apps : AppTable) (nodes : NodeTable) → tree ≡ held → apps ≡ flat.apps → nodes ≡ flat.nodes → queues_of held ≡ flat.settings.queues → All (IsRowOf flat) held
-    → (r : Result Seen NoMemory) → IfOk r (λ seen. IsSnapshotOf K tree apps nodes seen) → IfOk r (λ seen. ShowTheSame (sight_in K seen) (sight_of flat))
-snapshot_shows {K} flat held tree apps nodes t a n queues tied (Err e) is = tt
-snapshot_shows {K} flat held tree apps nodes t a n queues tied (Ok seen) is =
-    let same : sight_in K seen ≡ sight_of_parts K held flat.apps flat.nodes = is.sight ∙ (λ i. sight_of_parts K (t i) (a i) (n i)) in
-    let numbers = subst (λ (x : NodeTable). IsRising 1 (map (λ node. node.number) x.present) x.next_node) n is.numbers in
+-- a copy of the parts of a cluster, if there was memory for it
+pub copy_shows : {K : ℕ} (flat : Flat K) (held : List Row) (parts : Parts) → parts.rows ≡ held → parts.apps.table ≡ flat.apps → parts.nodes ≡ flat.nodes → queues_of held ≡ flat.settings.queues → All (IsRowOf flat) held
+    → IsRising 1 (map (λ node. node.number) parts.nodes.present) parts.nodes.next_node → (r : Result Parts NoMemory) → IfOk r (λ copied. copied ≡ parts) → IfOk r (λ copied. ShowTheSame (sight_of_copy K copied) (sight_of flat))
+copy_shows {K} flat held parts t a n queues tied rising (Err e) is = tt
+copy_shows {K} flat held parts t a n queues tied rising (Ok copied) is =
+    let same : sight_of_copy K copied ≡ sight_of_parts K held flat.apps flat.nodes = ap (sight_of_copy K) is ∙ (λ i. sight_of_parts K (t i) (a i) (n i)) in
+    let numbers = subst (λ (x : NodeTable). IsRising 1 (map (λ node. node.number) x.present) x.next_node) n rising in
     subst (λ (s : Sight K). ShowTheSame s (sight_of flat)) (sym same) (parts_same flat held queues (λ r m. each_of (IsRowOf flat) held tied r m) numbers)

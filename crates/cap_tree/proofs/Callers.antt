@@ -3,7 +3,7 @@ use Rattle.std.proofs.Common.{ℕ, ◌<◌, List, [], ◌∷◌, Option, Some, N
 use Rattle.std.specs.Option.{option_map_or}
 use Rattle.cap_vector.proofs.AmountLemmas.{amount-zeros}
 use Rattle.cap_base.specs.Limits.{number_end}
-use Rattle.cap_tree.specs.Spot.{item_at, HoldsOfItem, IsPosition}
+use Rattle.cap_tree.specs.Spot.{Spot, item_at, HoldsOfItem, IsPosition}
 use Rattle.cap_tree.specs.Measure.{Measure}
 use Rattle.cap_tree.specs.Count.{Count, IsPart, zero_count, one_app, use_alone}
 use Rattle.cap_tree.specs.QueueLaws.{zero_counts}
@@ -36,12 +36,12 @@ module _ (user position : List ℕ) (rows : List Row) (P : Option Count → Type
       by (Some q) h = tt
 
 -- a change for which no item grows needs no memory
-pub never_grows : (position : List ℕ) (rows : List Row) → HoldsOfItem (λ (_ : Queue). ⊥) (item_at position rows) → ⊥
-never_grows position rows h = by (item_at position rows) h
+pub never_grows : {T : Type 0} (position : List ℕ) (ss : List (Spot T)) → HoldsOfItem (λ (_ : T). ⊥) (item_at position ss) → ⊥
+never_grows {T} position ss h = by (item_at position ss) h
   where
-    by : (o : Option Queue) → HoldsOfItem (λ (_ : Queue). ⊥) o → ⊥
+    by : (o : Option T) → HoldsOfItem (λ (_ : T). ⊥) o → ⊥
     by None h = h
-    by (Some q) h = h
+    by (Some x) h = h
 
 -- the parts that calls move are in the user's count
 

@@ -1,6 +1,6 @@
 -- The order of service, in a tree and its children.
-use Rattle.std.proofs.Common.{◌≡◌, ℕ, zero, suc, ◌+◌, ◌<◌, true, false, List, [], ◌∷◌, ◌++◌, length, get_or, Option, Some, None, refl, sym, ◌∙◌, ap, arith, map, subst, drop, inl, inr, ◌⊎◌}
-use Rattle.std.specs.Prelude.{MatchOption}
+use Rattle.std.proofs.Common.{◌≡◌, ℕ, zero, suc, ◌+◌, ◌<◌, Bool, true, false, cond, List, [], ◌∷◌, ◌++◌, length, get_or, Option, Some, None, refl, sym, ◌∙◌, ap, arith, map, subst, drop, inl, inr, ◌⊎◌}
+use Rattle.std.specs.Prelude.{IfSome, MatchOption}
 use Rattle.std.specs.Option.{option_cmp}
 use Rattle.std.specs.Ordering.{ordering_reverse, is_gt, is_lt}
 use Rattle.std.specs.declared.cmp.Ordering.{Ordering}
@@ -8,13 +8,15 @@ use Rattle.std.specs.declared.cmp.Ordering.TheVariants.{Less, Equal, Greater}
 use Rattle.std.specs.Cmp.{IsTotalOrder}
 use Rattle.std.specs.Cmp.Lexicographic.{options_total}
 use Rattle.std.proofs.lemmas.Bool.{cases_lt}
+use Rattle.std.proofs.lemmas.Map.Entries.{option_filter}
 use Rattle.std.proofs.lemmas.Cmp.{on_total, tied_itself, upto}
 use Rattle.std.proofs.lemmas.List.{get_or_default}
 use Rattle.cap_base.proofs.lists.Members.{IsIn, in_left, in_right, in_map}
+use Rattle.cap_base.specs.Cascade.{holds_of}
 use Rattle.cap_base.specs.Texts.{dot}
 use Rattle.cap_tree.specs.Spot.{Spot, along, under, below, spots, item_at, HoldsOfItem}
-use Rattle.cap_tree.specs.Service.{HasPathsOnce, IsTop, items_along, children_at, child_item, is_after, is_before, IsThere, child_cmp, ComesAfter, HasNoneAfter, IsFirstAfter}
-use Rattle.cap_tree.proofs.Spots.{item_at-spots}
+use Rattle.cap_tree.specs.Service.{HasPathsOnce, IsTop, items_along, children_at, child_item, is_after, is_before, IsThere, child_cmp, ComesAfter, HasNoneAfter, IsFirstAfter, that_pass}
+use Rattle.cap_tree.proofs.Spots.{holds-within, item_at-spots}
 use Rattle.cap_tree.proofs.Looking.{along-below, along-root_below}
 
 module _ {T : Type 0} where
@@ -39,7 +41,7 @@ module _ {T : Type 0} where
       kid_is : get_or kids i [] ≡ kid
       kid_is = get_or_default kids i [] kid within ∙ sym is
 
-      item_in_child : (p : List ℕ) → item_at (i ∷ p) value ≡ item_at p kid
+      pub item_in_child : (p : List ℕ) → item_at (i ∷ p) value ≡ item_at p kid
       item_in_child p = ap (item_at (i ∷ p)) (sym e) ∙ item_at-spots name item i p kids ∙ ap (item_at p) kid_is
 
       pub children_in_child : (p : List ℕ) → children_at (i ∷ p) value ≡ children_at p kid
@@ -80,6 +82,45 @@ named child (Some i) = child i
 pub child_named : {T : Type 0} (ss : List (Spot T)) (a : Option ℕ) → child_item ss a ≡ named (children_at [] ss) a
 child_named ss None = refl
 child_named ss (Some i) = refl
+
+-- the children that pass a test
+
+module _ {T : Type 0} (test : T → Bool) (child : ℕ → Option T) where
+  pub passing : (i : ℕ) (x : T) → child i ≡ Some x → test x ≡ true → that_pass test child i ≡ Some x
+  passing i x e t = ap (option_filter test) e ∙ ap (λ b. cond b (Some x) None) t
+
+  pub failing : (i : ℕ) (x : T) → child i ≡ Some x → test x ≡ false → that_pass test child i ≡ None
+  failing i x e t = ap (option_filter test) e ∙ ap (λ b. cond b (Some x) None) t
+
+  pub passing_there : (i : ℕ) → holds_of test (child i) ≡ true → that_pass test child i ≡ child i
+  passing_there i h = by (child i) refl h
+    where
+      by : (o : Option T) → child i ≡ o → holds_of test o ≡ true → that_pass test child i ≡ child i
+      by None e h = absurd (cc h)
+      by (Some x) e h = passing i x e h ∙ sym e
+
+  there_passing : (i : ℕ) → HoldsOfItem (λ _. Unit {0}) (that_pass test child i) → that_pass test child i ≡ child i
+  there_passing i h = by (child i) h
+    where
+      by : (o : Option T) → HoldsOfItem (λ _. Unit {0}) (option_filter test o) → option_filter test o ≡ o
+      by None h = absurd h
+      by (Some x) h = kept (test x) h
+        where
+          kept : (b : Bool) → HoldsOfItem (λ (y : T). Unit {0}) (cond b (Some x) None) → cond b (Some x) None ≡ Some x
+          kept true h = refl
+          kept false h = absurd h
+
+  pub named_passing : (a : Option ℕ) → IfSome a (λ i. holds_of test (child i) ≡ true) → named child a ≡ named (that_pass test child) a
+  named_passing None h = refl
+  named_passing (Some i) h = sym (passing_there i h)
+
+-- every child passes a test that all items pass
+pub all_pass : {T : Type 0} (child : ℕ → Option T) → that_pass (λ _. true) child ≡ child
+all_pass {T} child = λ k i. by (child i) k
+  where
+    by : (o : Option T) → option_filter (λ _. true) o ≡ o
+    by None = refl
+    by (Some x) = refl
 
 -- the next of the children, one after the other
 
@@ -167,6 +208,20 @@ module _ {T : Type 0} (order : T → T → Ordering) (total : IsTotalOrder order
         later None eo t b = absurd t
         later (Some y) eo t b = ap is_gt ((λ i. option_cmp order (eo i) (is i)) ∙ total.antisymm y x) ∙ turned (order x y) b
 
+  -- there is none of that number
+  pub skipped : (k : ℕ) → child k ≡ None → (next : Option ℕ) → IsFirstOf k next → IsFirstOf (k + 1) next
+  skipped k none next s = by next s
+    where
+      not_there : IsThere order child k → ⊥
+      not_there t = subst (HoldsOfItem (λ _. Unit {0})) none t
+
+      earlier : (j : ℕ) → j < k + 1 → IsThere order child j → j < k
+      earlier j h t = elim (cases_lt j k) [ inl l ↦ l | inr g ↦ absurd (not_there (subst (IsThere order child) (let e : j ≡ k = omega (arith, h, g) in e) t)) ]
+
+      by : (o : Option ℕ) → IsFirstOf k o → IsFirstOf (k + 1) o
+      by None s = λ j l t c. s j (earlier j l t) t c
+      by (Some n) s = let w = s.0 in (omega (arith, w), s.1, s.2, λ j l t c. s.3 j (earlier j l t) t c)
+
   -- of all
   pub of_all : (k : ℕ) (next : Option ℕ) → ((j : ℕ) → IsThere order child j → j < k) → IsFirstOf k next → MatchOption next (HasNoneAfter order child after) (IsFirstAfter order child after)
   of_all k None within s = λ j t c. s j (within j t) t c
@@ -175,3 +230,15 @@ module _ {T : Type 0} (order : T → T → Ordering) (total : IsTotalOrder order
   pub named_there : (k : ℕ) (next : Option ℕ) → IsFirstOf k next → (n : ℕ) → next ≡ Some n → IsThere order child n
   named_there k None s n e = absurd (cc e)
   named_there k (Some m) s n e = subst (IsThere order child) (cc e) s.1
+
+-- a next one so far is among those that pass
+pub named_so_far : {T : Type 0} (order : T → T → Ordering) (total : IsTotalOrder order) (test : T → Bool) (child : ℕ → Option T) (after : Option ℕ) (k : ℕ) (next : Option ℕ) → IsFirstOf order total (that_pass test child) after k next →
+    named child next ≡ named (that_pass test child) next
+named_so_far order total test child after k None s = refl
+named_so_far order total test child after k (Some n) s = sym (there_passing test child n s.1)
+
+-- there are as many numbers as children
+pub there_within : {T : Type 0} (name : T → List ℕ) (item : T) (kids : List (List (Spot T))) (value : List (Spot T)) → spots name item kids ≡ value → (test : T → Bool) (j : ℕ) → HoldsOfItem (λ _. Unit {0}) (that_pass test (children_at [] value) j) → j < length kids
+there_within name item kids value e test j t =
+    let there = subst (HoldsOfItem (λ _. Unit {0})) (there_passing test (children_at [] value) j t) t in
+    holds-within (λ _. Unit {0}) name item j [] kids (subst (λ v. HoldsOfItem (λ _. Unit {0}) (item_at (j ∷ []) v)) (sym e) there)

@@ -2,7 +2,8 @@
 use Rattle.std.proofs.Common.{◌≡◌, ℕ, Bool, true, false, cond, List, [], ◌∷◌, ◌++◌, Option, Some, None, refl, sym, ◌∙◌, ap, map, filter, subst, drop, inl, inr}
 use Rattle.std.specs.Prelude.{MatchOption, bytes_eq, option_map}
 use Rattle.std.specs.Option.{option_cmp}
-use Rattle.std.specs.Ordering.{ordering_then, is_gt}
+use Rattle.std.specs.Ordering.{on, ordering_then, is_gt}
+use Rattle.std.specs.declared.cmp.Ordering.{Ordering}
 use Rattle.std.specs.Cmp.Lexicographic.{slice_cmp}
 use Rattle.std.proofs.lemmas.List.{drop-map}
 use Rattle.std.proofs.lemmas.Slice.Eq.{bytes_eq-Decides}
@@ -39,15 +40,15 @@ levels_are position rows a h =
     ∙ ap (drop 1) (levels_of _ rows (each_of HasLastName rows a.names))
     ∙ drop-map level_of_queue 1 (items_along position rows)
 
-cmp_levels : (xs ys : List Queue) → slice_cmp queue_cmp xs ys ≡ slice_cmp level_cmp (map level_of_queue xs) (map level_of_queue ys)
-cmp_levels [] [] = refl
-cmp_levels [] (y ∷ ys) = refl
-cmp_levels (x ∷ xs) [] = refl
-cmp_levels (x ∷ xs) (y ∷ ys) = ap (ordering_then (queue_cmp x y)) (cmp_levels xs ys)
+pub cmp_mapped : {A B : Type 0} (f : A → B) (cmp : B → B → Ordering) (xs ys : List A) → slice_cmp (on f cmp) xs ys ≡ slice_cmp cmp (map f xs) (map f ys)
+cmp_mapped f cmp [] [] = refl
+cmp_mapped f cmp [] (y ∷ ys) = refl
+cmp_mapped f cmp (x ∷ xs) [] = refl
+cmp_mapped f cmp (x ∷ xs) (y ∷ ys) = ap (ordering_then (cmp (f x) (f y))) (cmp_mapped f cmp xs ys)
 
 pub served_rows : (a b : List ℕ) (rows : List Row) → AreRows rows → IsPosition rows a → IsPosition rows b →
     slice_cmp queue_cmp (drop 1 (items_along a rows)) (drop 1 (items_along b rows)) ≡ slice_cmp level_cmp (levels_at a rows) (levels_at b rows)
-served_rows a b rows are h k = cmp_levels (drop 1 (items_along a rows)) (drop 1 (items_along b rows)) ∙ (λ i. slice_cmp level_cmp (sym (levels_are a rows are h) i) (sym (levels_are b rows are k) i))
+served_rows a b rows are h k = cmp_mapped level_of_queue level_cmp (drop 1 (items_along a rows)) (drop 1 (items_along b rows)) ∙ (λ i. slice_cmp level_cmp (sym (levels_are a rows are h) i) (sym (levels_are b rows are k) i))
 
 -- the children of a position, by their levels
 

@@ -7,12 +7,11 @@ pub mod Measure
 pub mod Paths
 pub mod Queue
 pub mod QueueLaws
-pub mod Ranking
 pub mod Rows
 pub mod Seen
 pub mod Service
 pub mod ServiceLaws
 pub mod ServiceOrder
-pub mod ServedWaiters
 pub mod Spot
 pub mod UserLaws
+pub mod Walk

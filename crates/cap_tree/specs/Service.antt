@@ -1,6 +1,7 @@
 -- The order in which queues are served.
 use Rattle.std.specs.Prelude.{◌≡◌, ℕ, Bool, true, false, List, [], ◌∷◌, ◌++◌, Option, Some, None, map, drop, find, bytes_eq, option_map}
 use Rattle.std.specs.Option.{option_cmp}
+use Rattle.std.proofs.lemmas.Map.Entries.{option_filter}
 use Rattle.std.specs.Ordering.{is_gt, is_lt}
 use Rattle.std.specs.declared.cmp.Ordering.{Ordering}
 use Rattle.std.specs.declared.cmp.Ordering.TheVariants.{Less}
@@ -56,6 +57,10 @@ module _ {T : Type 0} where
   abbrev pub child_item : List (Spot T) → Option ℕ → Option T
   child_item ss None = None
   child_item ss (Some i) = item_at (i ∷ []) ss
+
+  -- the children that pass a test
+  abbrev pub that_pass : (T → Bool) → (ℕ → Option T) → ℕ → Option T
+  that_pass test child i = option_filter test (child i)
 
   -- whether an item comes after that one, or before it, if there is one
   abbrev pub is_after : (T → T → Ordering) → T → Option T → Bool

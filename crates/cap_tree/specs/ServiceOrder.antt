@@ -1,9 +1,10 @@
 -- The order in which what waits at queues is served.
-use Rattle.std.specs.Prelude.{◌≡◌, ℕ, ◌<◌, ◌==◌, false, List, [], ◌∷◌, length, filter}
+use Rattle.std.specs.Prelude.{◌≡◌, ℕ, ◌<◌, false, List, [], ◌∷◌, length, Option, Some, None}
 use Rattle.std.specs.List.{All, slice_get}
 use Rattle.std.specs.Option.{option_map_or}
 use Rattle.std.specs.Ordering.{nat_cmp, then_cmp, on, is_gt}
 use Rattle.std.specs.declared.cmp.Ordering.{Ordering}
+use Rattle.std.specs.declared.cmp.Ordering.TheVariants.{Less}
 use Rattle.std.specs.Cmp.Lexicographic.{slice_cmp}
 use Rattle.cap_base.specs.Levels.{level_cmp}
 use Rattle.cap_tree.specs.Rows.{Row}
@@ -22,8 +23,18 @@ abbrev pub AreInOrder : (ℕ → ℕ → Ordering) → List ℕ → Type 0
 AreInOrder cmp [] = Unit {0}
 AreInOrder cmp (i ∷ is) = All (λ j. is_gt (cmp i j) ≡ false) is × AreInOrder cmp is
 
--- the index of each position, once, in the order of service
-pub record IsServiceOrder (rows : List Row) (positions : List (List ℕ)) (order : List ℕ) : Type 0 where
-  pub each : (i : ℕ) → i < length positions → filter (λ j. j == i) order ≡ i ∷ []
-  pub within : All (λ i. i < length positions) order
-  pub sorted : AreInOrder (waiting_cmp rows positions) order
+-- it comes after that one, if one is named
+abbrev pub IsLater : List Row → List (List ℕ) → Option ℕ → ℕ → Type 0
+IsLater rows waiting None i = Unit {0}
+IsLater rows waiting (Some a) i = waiting_cmp rows waiting a i ≡ Less
+
+-- the first that comes after that one
+pub record IsFirstLater (rows : List Row) (waiting : List (List ℕ)) (after : Option ℕ) (i : ℕ) : Type 0 where
+  pub there : i < length waiting
+  pub later : IsLater rows waiting after i
+  pub first : (j : ℕ) → j < length waiting → IsLater rows waiting after j → is_gt (waiting_cmp rows waiting i j) ≡ false
+
+-- the one that comes next after that one, the first where none is named; and that none does
+abbrev pub IsNextServed : List Row → List (List ℕ) → Option ℕ → Option ℕ → Type 0
+IsNextServed rows waiting after None = (j : ℕ) → j < length waiting → ¬ IsLater rows waiting after j
+IsNextServed rows waiting after (Some i) = IsFirstLater rows waiting after i

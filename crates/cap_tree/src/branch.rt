@@ -1,5 +1,5 @@
-//! A tree of items over any allocator, seen as a list of its spots (`Branch`): changed, tested, copied and served.
-ghost use Rattle.std.specs.Prelude.{◌≡◌, ◌+◌, ◌-◌, ◌<◌, ◌≤◌, ◌∷◌, [], ℕ, List, Some, Bool, IfSome, IfOk, OnOk, OnErr, MatchOption, map, length, ◌++◌};
+//! A tree of items over any allocator, seen as a list of its spots (`Branch`): changed, tested, copied and walked.
+ghost use Rattle.std.specs.Prelude.{◌≡◌, ◌+◌, ◌-◌, ◌<◌, ◌≤◌, ◌∷◌, [], ℕ, List, Some, Bool, true, IfSome, IfOk, OnOk, OnErr, MatchOption, map, length, ◌++◌};
 ghost use Rattle.std.specs.List.{All};
 ghost use Rattle.std.specs.Cmp.{IsTotalOrder};
 ghost use Rattle.std.specs.Option.{option_copied};
@@ -8,14 +8,12 @@ ghost use Rattle.std.specs.declared.cmp.Ordering.TheVariants.{Equal};
 ghost use Rattle.cap_tree.specs.Measure.{Measure, MayChange};
 ghost use Rattle.cap_tree.specs.Spot.{HoldsOfItem, IsAdded, IsPosition, along, change_along, first, first_failing, has_below, item_at, made_of, spots};
 ghost use Rattle.cap_tree.specs.Finding.{IsFound, IsStart, is_parent};
-ghost use Rattle.cap_tree.specs.Branch.{IsBranch, root_count};
-ghost use Rattle.cap_tree.specs.ServedWaiters.{AreRanked, AreServed, index_cmp};
-ghost use Rattle.cap_tree.specs.Service.{HasNoneAfter, HasPathsOnce, IsFirstAfter, IsTop, child_item, children_at, is_after, is_before};
+ghost use Rattle.cap_base.specs.Cascade.{holds_of};
+ghost use Rattle.cap_tree.specs.Branch.{AreSpots, IsBranch, root_count};
+ghost use Rattle.cap_tree.specs.Service.{HasNoneAfter, HasPathsOnce, IsFirstAfter, IsTop, child_item, children_at, is_after, is_before, that_pass};
+ghost use Rattle.cap_tree.specs.Walk.{AreMarked, HasNoMarkAfter, HasNoMarkBelow, IsFirstMark, IsMarkAfter, IsMarkBelow, mark_at, place_cmp};
 
-use crate::chains::chains_of;
 use crate::found::{Kind, Path};
-use crate::serving::{add_here, served_children};
-use crate::waiting::Waiter;
 use cap_base::NoMemory;
 use std::alloc::Allocator;
 use std::cmp::Ordering;
@@ -112,6 +110,46 @@ pub trait Served: TreeItem {
     ghost names: { (x y : Self) → order x y ≡ Equal → Self.name x ≡ Self.name y };
 }
 
+/// An item with a mark of what waits at it, 0 for nothing.
+pub trait Marked: Served {
+    ghost mark: { Self → ℕ };
+
+    ghost waits: { Self → Bool };
+
+    fn mark(&self) -> u32
+        ensures { result ≡ mark self.now };
+
+    /// Whether something waits at it or below it.
+    fn waits(&self) -> bool
+        ensures { result ≡ waits self.now };
+}
+
+/// Whether something waits at an item or below it.
+#[derive(Drop)]
+struct Waits;
+
+impl<T: Marked> Test<T> for Waits {
+    ghost passes = { λ t x. T.waits x };
+
+    fn passes(&self, item: &T) -> bool {
+        item.waits()
+    }
+}
+
+/// It passes every item.
+#[derive(Drop)]
+struct Every;
+
+impl<T> Test<T> for Every {
+    ghost use Rattle.std.specs.Prelude.{true};
+
+    ghost passes = { λ t x. true };
+
+    fn passes(&self, _item: &T) -> bool {
+        true
+    }
+}
+
 /// An item, with the trees under it.
 #[derive(Drop)]
 pub struct Branch<T: TreeItem, A: Allocator> {
@@ -132,7 +170,7 @@ impl<T: TreeItem, A: Allocator> Model for Branch<T, A> {
 
     ghost view = { λ b. spots T.name b.item b.children.items };
 
-    ghost invariant = { λ b. IsBranch T.stored T.own b.item b.children.items };
+    ghost invariant = { λ b. IsBranch T.name T.stored T.own b.item b.children.items };
 
     ghost size = { length };
 
@@ -162,7 +200,7 @@ impl<T: TreeItem + Drop, A: Allocator + Copy> Branch<T, A> {
         ensures err { OnErr result (self.new ≡ self.old) }
         ensures kept { (m : Measure) →
             root_count T.stored self.new m ≡ root_count T.stored self.old m }
-        ensures filled { 1 ≤ length self.new }
+        ensures tree { AreSpots T.name self.new }
     {
         if levels == 0 {
             return self.add_child(alloc, item);
@@ -182,7 +220,7 @@ impl<T: TreeItem + Drop, A: Allocator + Copy> Branch<T, A> {
         ensures err { OnErr result (self.new ≡ self.old) }
         ensures kept { (m : Measure) →
             root_count T.stored self.new m ≡ root_count T.stored self.old m }
-        ensures filled { 1 ≤ length self.new }
+        ensures tree { AreSpots T.name self.new }
     {
         match self.children.push(Branch::leaf(alloc, item)) {
             Ok(()) => {}
@@ -360,52 +398,6 @@ impl<T: TreeItem + Drop, A: Allocator + Copy> Branch<T, A> {
         &self.item
     }
 
-    /// Adds the indexes of what waits in the tree to an order, in the order in which it is served: the items on the ways decide, an item
-    /// before those under it, and of what waits at one item the earlier index comes first. An error means that an allocation failed.
-    pub fn serve<B: Allocator + Copy>(
-        &self,
-        alloc: B,
-        waiting: &[Waiter<'_>],
-        order: &mut Vec<u32, B>,
-    ) -> Result<(), NoMemory>
-    where
-        T: Served,
-        requires placed { All (λ w. IsPosition self.now w.steps) waiting.now }
-        requires rising { AreRanked index_cmp waiting.now }
-        requires once { HasPathsOnce self.now }
-        ensures { OnOk result
-            (AreServed T.order self.now waiting.now order.old.items order.new.items) }
-    {
-        match add_here(waiting, order) {
-            Ok(()) => {}
-            Err(NoMemory) => return Err(NoMemory),
-        }
-        let children = self.children.as_slice();
-        if children.is_empty() {
-            return Ok(());
-        }
-        let chains = match chains_of(alloc, children.len(), waiting) {
-            Ok(chains) => chains,
-            Err(NoMemory) => return Err(NoMemory),
-        };
-        let kids = match served_children(alloc, children, &chains.heads) {
-            Ok(kids) => kids,
-            Err(NoMemory) => return Err(NoMemory),
-        };
-        let Ok(mut part) = Vec::with_capacity(alloc, waiting.len()) else {
-            return Err(NoMemory);
-        };
-        for kid in &kids {
-            let child = &children[*kid as usize];
-            chains.put_part(waiting, *kid, &mut part);
-            match child.serve(alloc, part.as_slice(), order) {
-                Ok(()) => {}
-                Err(NoMemory) => return Err(NoMemory),
-            }
-        }
-        Ok(())
-    }
-
     /// The index of the child that is served next after that one, the first where none is named, under the item that the steps
     /// lead to. None where no child is left. It takes no memory.
     pub fn next_child(&self, steps: &[u32], after: Option<u32>) -> Option<u32>
@@ -418,7 +410,7 @@ impl<T: TreeItem + Drop, A: Allocator + Copy> Branch<T, A> {
             (IsFirstAfter T.order (children_at steps.now self.now) after) }
     {
         match steps {
-            [] => self.next_below(after),
+            [] => self.next_below(&Every, after),
             [i, rest @ ..] => {
                 let child = &self.children[*i as usize];
                 child.next_child(rest, after)
@@ -426,20 +418,22 @@ impl<T: TreeItem + Drop, A: Allocator + Copy> Branch<T, A> {
         }
     }
 
-    /// The index of the child of its own item that is served next after that one, the first where none is named.
-    fn next_below(&self, after: Option<u32>) -> Option<u32>
+    /// The index of the child of its own item that is served next after that one, the first where none is named, of those that pass
+    /// the test.
+    fn next_below<C: Test<T>>(&self, test: &C, after: Option<u32>) -> Option<u32>
     where
         T: Served,
-        requires { IfSome after (λ i. IsPosition self.now (i ∷ [])) }
+        requires { IfSome after (λ i.
+            holds_of (C.passes test.now) (item_at (i ∷ []) self.now) ≡ true) }
         ensures { MatchOption result
-            (HasNoneAfter T.order (children_at [] self.now) after)
-            (IsFirstAfter T.order (children_at [] self.now) after) }
+            (HasNoneAfter T.order (that_pass (C.passes test.now) (children_at [] self.now)) after)
+            (IsFirstAfter T.order (that_pass (C.passes test.now) (children_at [] self.now)) after) }
     {
         let last = self.child(after);
         let mut next = None;
         for i in 0..self.children.len() {
             let child = self.children[i].top();
-            if is_after(child, last) && is_before(child, self.child(next)) {
+            if test.passes(child) && is_after(child, last) && is_before(child, self.child(next)) {
                 next = Some(i as u32);
             }
         }
@@ -455,6 +449,77 @@ impl<T: TreeItem + Drop, A: Allocator + Copy> Branch<T, A> {
             None => None,
             Some(i) => Some(self.children[i as usize].top()),
         }
+    }
+
+    /// The mark that is served first: its own item's, or else the first in the first child in which something waits.
+    pub fn first_waiting(&self) -> u32
+    where
+        T: Marked,
+        requires once { HasPathsOnce self.now }
+        requires marked { AreMarked T.mark T.waits self.now }
+        requires some { holds_of T.waits (item_at [] self.now) ≡ true }
+        ensures { IsFirstMark T.order T.mark self.now result }
+    {
+        let mark = self.item.mark();
+        if mark != 0 {
+            return mark;
+        }
+        let Some(child) = self.next_below(&Waits, None) else {
+            unreachable!()
+        };
+        self.children[child as usize].first_waiting()
+    }
+
+    /// The mark that is served first of those in the children after that one. None where nothing waits in these.
+    fn first_below(&self, after: Option<u32>) -> Option<u32>
+    where
+        T: Marked,
+        requires once { HasPathsOnce self.now }
+        requires marked { AreMarked T.mark T.waits self.now }
+        requires after { IfSome after (λ i.
+            holds_of T.waits (item_at (i ∷ []) self.now) ≡ true) }
+        ensures { MatchOption result
+            (HasNoMarkBelow T.order T.mark self.now after)
+            (IsMarkBelow T.order T.mark self.now after) }
+    {
+        match self.next_below(&Waits, after) {
+            None => None,
+            Some(child) => Some(self.children[child as usize].first_waiting()),
+        }
+    }
+
+    /// The mark that is served next after the one of the item that the steps lead to. None where none is left.
+    pub fn next_waiting(&self, after: &[u32]) -> Option<u32>
+    where
+        T: Marked,
+        requires once { HasPathsOnce self.now }
+        requires marked { AreMarked T.mark T.waits self.now }
+        requires after { 1 ≤ mark_at T.mark after.now self.now }
+        ensures { MatchOption result
+            (HasNoMarkAfter T.order T.mark self.now after.now)
+            (IsMarkAfter T.order T.mark self.now after.now) }
+    {
+        match after {
+            [] => self.first_below(None),
+            [i, rest @ ..] => {
+                let child = &self.children[*i as usize];
+                match child.next_waiting(rest) {
+                    Some(mark) => Some(mark),
+                    None => self.first_below(Some(*i)),
+                }
+            }
+        }
+    }
+
+    /// No two items are alike in the order of service. It does nothing.
+    pub(crate) fn places_differ(&self)
+    where
+        T: Served,
+        requires { HasPathsOnce self.now }
+        ensures { (p q : List ℕ) → IsPosition self.now p → IsPosition self.now q →
+            place_cmp T.order self.now p q ≡ Equal → p ≡ q }
+    {
+        let _ = &self.item;
     }
 }
 

@@ -2,20 +2,16 @@
 #![tactic(auto)]
 
 mod branch;
-mod chains;
 mod change;
 mod count;
 mod found;
 mod over_limit;
 mod queue;
 mod seen;
-mod serving;
 mod tree;
-mod waiting;
 
 pub use found::{Found, Path};
 pub use over_limit::OverLimit;
 pub use queue::Queue;
 pub use seen::SeenTree;
 pub use tree::QueueTree;
-pub use waiting::Waiter;

@@ -3,6 +3,7 @@ ghost use Rattle.std.specs.Prelude.{◌≡◌, ◌+◌, ◌%◌, ◌^◌, MatchR
 ghost use Rattle.cap_base.specs.Limits.{resources};
 ghost use Rattle.cap_model.specs.Candidates.{choice_from};
 ghost use Rattle.cap_copy.specs.Snapshot.{sight_in};
+ghost use Rattle.cap_copy.specs.Sources.{sight_of_copy};
 ghost use Rattle.cap_shared.specs.Calls.{CopyIs};
 ghost use Rattle.cap_workers.specs.Worker.{Chooses, GoesOn, IsCommitted, IsOffer, IsPut, IsTurn, end_by, end_by_fault};
 
@@ -10,7 +11,7 @@ use crate::coordinator::{BATCH, Coordinator, Outcomes};
 use crate::gate::{CommitOutcome, Gate, Point};
 use bumpalo::Bump;
 use cap_base::RESOURCES;
-use cap_copy::Snapshot;
+use cap_copy::{ClusterCopy, Snapshot};
 use cap_lanes::Putter;
 use cap_model::{Event, NoMemory, Proposal, Reason, Verdict};
 use cap_propose::propose;
@@ -301,19 +302,21 @@ fn choose<J: Naming, R: Wait, G: Gate>(
 {
     let (copied, entries) = copy(held, seat, arena);
     notices.notify(rt, gate);
-    let Ok(snapshot) = copied else {
+    let Ok(copied) = copied else {
         return (Err(NoMemory), entries);
     };
+    let snapshot = copied.arrange();
     (Ok(propose_on(&snapshot, gate, worker, start)), entries)
 }
 
-/// Copies the cluster, and gives it back: the snapshot, and how many entries the journal had.
+/// Copies the cluster, and gives it back: the copy, and how many entries the journal had.
 fn copy<'a, J: Naming>(
     held: Hold<'_, J>,
     seat: &mut Seat<J>,
     arena: &'a Bump,
-) -> (Result<Snapshot<RESOURCES, &'a Bump>, NoMemory>, usize)
-    ensures { MatchResult result.0 (CopyIs J.opening seat.old seat.new)
+) -> (Result<ClusterCopy<RESOURCES, &'a Bump>, NoMemory>, usize)
+    ensures { MatchResult result.0
+        (λ copied. CopyIs J.opening seat.old seat.new (sight_of_copy resources copied))
         (λ _. seat.new ≡ seat.old) }
 {
     let mut held = held;

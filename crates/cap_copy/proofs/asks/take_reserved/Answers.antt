@@ -6,6 +6,7 @@ use Rattle.cap_model.specs.Sight.{NodeSight}
 use Rattle.cap_copy.specs.AskEntry.{AskEntry}
 use Rattle.cap_copy.specs.AskRanges.{AreRanges, IsRangeOf}
 use Rattle.cap_copy.specs.Entries.{beside, beside_one}
+use Rattle.cap_copy.specs.SeenApp.{range_in}
 use Rattle.cap_copy.proofs.Fitting.{reservation_of_few, seen_ask_of_few}
 use Rattle.cap_copy.proofs.Ranging.{inside_range}
 use Rattle.cap_copy.proofs.Reserving.{free_more, held_more, none_beside_all, not_there, ranges_beside}
@@ -29,7 +30,7 @@ loop-node-preserved-in_default-range_of g c =
     let i = c.loop-node.node-index in
     let node = c.node-item.result in
     let asks = c.args.asks.now.items in
-    let ranges = c.args.ranges.now in
+    let ranges = map range_in c.args.apps.now in
     let r = c.in-Some.reservation in
     let at : slice_get nodes i ≡ Some node = slice_get_read nodes (length nodes) i node refl c.loop-node-test.true c.node-item.is in
     let some = sym (ap (λ (n : NodeSight). n.reservation) c.node.view_is) ∙ c.in-Some.is in
@@ -42,7 +43,7 @@ pub take_one-requires : goal.take_one-requires
 take_one-requires g c =
     let nodes = c.args.nodes.now in
     let i = c.loop-node.node-index in
-    let ranges = c.args.ranges.now in
+    let ranges = map range_in c.args.apps.now in
     let few = c.requires.resources in
     let found = subst (λ n. IsRangeOf n ranges (Some c.in-Some-range_of.range)) c.app.ensures c.in-Some-range_of.ensures in
     let are = subst (λ (es : List AskEntry). AreRanges es ranges) (sym c.loop-node.invariant) (ranges_beside (take i nodes) c.args.asks.now.items ranges c.requires.ranges) in

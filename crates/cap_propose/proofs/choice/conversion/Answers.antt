@@ -33,5 +33,5 @@ returns g c =
     let own = subst (IsReservedAsk c.args.snapshot.now c.args.reservation.now) c.in-Some.is c.reserved_ask.ensures.first in
     ap (λ p. Some p) c.proposal.ensures
     ∙ admitted_own g.row.K c.args.snapshot.now c.args.reservation.now c.reserved_ask.ensures.whole c.args.node.now c.requires.node c.requires.reservation c.in-Some.index c.ask-ask.result.now c.ask-ask.ensures
-    (own.2 c.ask-ask.result.now c.ask-ask.ensures) c.in-Some-admits.kind own.1
+    (own.2 c.ask-ask.result.now c.ask-ask.ensures) c.in-Some-admits.kind
     (subst (IsAdmittedAs (sight_in g.row.K c.args.snapshot.now) c.args.node.now.number c.ask-ask.result.now) c.in-Some-admits.is c.admits.ensures)

@@ -1,7 +1,6 @@
 use Rattle.std.specs.Prelude.{◌≤◌, length}
-use Rattle.cap_propose.specs.Proposing.{ArePassed, IsChosenAt}
+use Rattle.cap_propose.proofs.Walking.{IsWalked}
 use Rattle.cap_propose.proofs.choice.nearest_taker.Given as goal
 
-abbrev pub invariant-loop-index : goal.invariant-loop-index
-invariant-loop-index g l =
-    (l.nearest.turn ≤ length l.snapshot.nodes) × ArePassed g.row.K l.snapshot l.first l.nearest.turn l.index × IsChosenAt g.row.K l.snapshot l.first l.nearest.turn l.nearest.ask
+abbrev pub invariant-loop : goal.invariant-loop
+invariant-loop g l = (l.nearest.turn ≤ length l.snapshot.nodes) × IsWalked g.row.K l.snapshot l.first l.counter l.next l.nearest

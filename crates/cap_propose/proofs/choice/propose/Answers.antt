@@ -70,7 +70,7 @@ loop-turn-preserved-in_default g c =
     node_passed (sight_in g.row.K c.args.snapshot.now) c.args.start c.loop-turn.turn (c.args.start % c.node_count-count.result) c.node_count-count.result c.wrapped.result c.node-node.result.now count
     (ap (λ n. c.args.start % n) count) first (below c.loop-turn.turn c.nearest_taker-nearest.result.turn (length c.args.snapshot.now.nodes) c.node_count-count.result c.loop-turn-test.true c.nearest_taker-nearest.ensures.within count) c.wrapped.ensures.ring c.node-node.ensures c.loop-turn.invariant
     (passed_has_none g.row.K c.args.snapshot.now (c.args.start % c.node_count-count.result) c.node_count-count.ensures.whole c.loop-turn.turn c.wrapped.result c.node_count-count.result c.nearest_taker-nearest.result.turn
-    c.node-node.result.now count c.wrapped.ensures.ring c.node-node.ensures c.loop-turn-test.true unreserved c.nearest_taker-nearest.ensures.passed)
+    c.node-node.result.now count c.wrapped.ensures.ring c.node-node.ensures c.loop-turn-test.true unreserved c.nearest_taker-nearest.ensures.nearest.passed)
 
 pub returns-then-nearest-count : goal.returns-then-nearest-count
 returns-then-nearest-count g c =
@@ -83,7 +83,7 @@ node-node-requires-2 g c = (c.requires.snapshot, (c.requires.node, subst (λ n. 
 pub ask-requires : goal.ask-requires
 ask-requires g c =
     let within = before_end c.nearest_taker-nearest.result.turn c.node_count-count.result (length c.args.snapshot.now.nodes) c.nearest_taker-nearest.ensures.within c.node_count-count.ensures.count c.if-nearest-count.false in
-    let there = c.nearest_taker-nearest.ensures.chosen within.0 in
+    let there = c.nearest_taker-nearest.ensures.nearest.chosen within.0 in
     (c.requires.snapshot, (c.requires.ask, there.within))
 
 pub returns : goal.returns
@@ -92,7 +92,7 @@ returns g c =
     let turn = c.nearest_taker-nearest.result.turn in
     let first = within_count c.args.start c.node_count-count.result c.if-count-eq0.false in
     let within = before_end turn c.node_count-count.result (length c.args.snapshot.now.nodes) c.nearest_taker-nearest.ensures.within count c.if-nearest-count.false in
-    let there = c.nearest_taker-nearest.ensures.chosen within.0 in
+    let there = c.nearest_taker-nearest.ensures.nearest.chosen within.0 in
     let node = node_at g.row.K c.args.snapshot.now (c.args.start % c.node_count-count.result) turn c.wrapped-2.result c.node_count-count.result c.node-node-2.result.now count c.wrapped-2.ensures.ring c.node-node-2.ensures in
     let proposed = there.proposed c.node-node-2.result.now c.ask.result.now node c.ask.ensures in
     let some = some_proposal (proposal_by_room c.node-node-2.result.now c.ask.result.now) proposed.some in

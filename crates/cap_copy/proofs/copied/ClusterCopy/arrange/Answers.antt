@@ -1,83 +1,87 @@
-use Rattle.std.proofs.Common.{◌≡◌, ◌≤◌, List, length, map, subst, sym, ◌∙◌, ap, arith}
+use Rattle.std.proofs.Common.{◌≤◌, List, length, map, subst, sym, ap, arith, ◌∙◌}
 use Rattle.std.specs.List.{All}
 use Rattle.cap_base.specs.Limits.{applications_max}
-use Rattle.cap_base.specs.Members.{IsRising}
-use Rattle.cap_model.specs.Asks.{Ask}
 use Rattle.cap_model.specs.Sight.{NodeSight}
 use Rattle.cap_tree.specs.Spot.{IsPosition}
-use Rattle.cap_copy.specs.Arranging.{IsArranged}
-use Rattle.cap_copy.specs.SeenApp.{HasAsks, SeenApp}
+use Rattle.cap_base.proofs.lists.Filters.{map_twice}
+use Rattle.cap_copy.specs.declared.ranges.AskRange.{AskRange}
+use Rattle.cap_copy.specs.AskRanges.{AreApart, AreRanges}
+use Rattle.cap_copy.specs.Entries.{beside}
+use Rattle.cap_copy.specs.SeenApp.{SeenApp, range_in}
+use Rattle.cap_copy.specs.Snapshot.{AreSkips}
 use Rattle.cap_copy.specs.Sources.{Parts, held_apps_in, nodes_in}
-use Rattle.cap_copy.specs.Taking.{IsSnapshotOf}
-use denote.Param.{copied, number, param}
-use Rattle.cap_copy.proofs.Fitting.{queue_in_snapshot, tree_in_snapshot}
+use Rattle.cap_copy.proofs.Fitting.{tree_in_copy}
+use Rattle.cap_copy.proofs.Seeing.{apart_ranges}
 use Rattle.cap_copy.proofs.Sights.{few_apps, is_stored, made_of_parts, placed_all, placed_apps, rising_apps}
 use Rattle.cap_copy.proofs.copied.ClusterCopy.arrange.Goals as goal
 
-pub arrange-requires : goal.arrange-requires
-arrange-requires g c =
-    let copied = c.self.invariant in
-    let few = copied.resources in
-    let fits = c.requires.snapshot in
+pub note_waiting-requires : goal.note_waiting-requires
+note_waiting-requires g c =
+    let copy = c.self.invariant.copied in
     let apps = c.self.inside.apps.items in
-    let rows = c.self.inside.tree in
-    let table = (held_apps_in c.self.inside.sources.items).table in
-    let placed = placed_apps rows apps (placed_all rows (held_apps_in c.self.inside.sources.items).accounts table.active (map (λ (a : SeenApp). a.held) apps) copied.apps_are copied.accounts_are copied.placed) in
-    let asks = subst (λ (es : List Ask). All (HasAsks es) apps) (sym c.deref-2.ensures.value) copied.seen_are.asks_are in (
-      search (tree_in_snapshot, fits),
+    let rows = c.self.inside.tree.rows in
+    let held = held_apps_in c.self.inside.sources.items in
+    let placed = placed_apps rows apps (placed_all rows held.accounts held.table.active (map (λ (a : SeenApp). a.held) apps) copy.apps_are copy.accounts_are copy.placed) in
+    let few = copy.resources in (
+      search tree_in_copy,
       (
         omega (arith, few),
         (
-          omega (arith, few),
+          subst (λ (list : List SeenApp). length list ≤ applications_max) (sym c.deref.ensures.value) (few_apps held.table.active apps applications_max copy.apps_are copy.few),
           (
-            omega (arith, few),
+            c.self.invariant.none,
             (
-              c.requires.arranged,
-              (
-                c.requires,
-                (
-                  few,
-                  (
-                    subst (λ (list : List SeenApp). length list ≤ applications_max) (sym c.deref.ensures.value) (few_apps table.active apps applications_max copied.apps_are copied.few),
-                    (
-                      subst (λ (list : List SeenApp). All (λ a. IsPosition rows a.held.account.position) list) (sym c.deref.ensures.value) placed,
-                      (
-                        subst (λ (list : List SeenApp). All (HasAsks c.deref-2.result.now) list) (sym c.deref.ensures.value) asks,
-                        (table.next, subst (λ (list : List SeenApp). IsRising 1 (map (λ a. a.held.app.number) list) table.next) (sym c.deref.ensures.value) (rising_apps table.active table.next apps copied.rising copied.apps_are)),
-                      ),
-                    ),
-                  ),
-                ),
-              ),
+              subst (λ (list : List SeenApp). length list ≤ c.self.inside.tree.room) (sym c.deref.ensures.value) c.self.invariant.room,
+              subst (λ (list : List SeenApp). All (λ a. IsPosition rows a.held.account.position) list) (sym c.deref.ensures.value) placed,
             ),
           ),
         ),
       ),
     )
 
+pub take_reserved-requires : goal.take_reserved-requires
+take_reserved-requires g c =
+    let copy = c.self.invariant.copied in
+    let few = copy.resources in
+    let apps = c.self.inside.apps.items in
+    let table = (held_apps_in c.self.inside.sources.items).table in
+    let apart = apart_ranges (map (λ (a : SeenApp). a.held.app.number) apps) table.next (map range_in apps) (rising_apps table.active table.next apps copy.rising copy.apps_are) (map_twice (λ (b : AskRange). b.app) range_in apps) in (
+      omega (arith, few),
+      (
+        omega (arith, few),
+        (
+          omega (arith, few),
+          (
+            few,
+            (
+              subst (λ (list : List SeenApp). AreRanges c.self.inside.asks.items (map range_in list)) (sym c.deref-2.ensures.value) copy.seen_are.ranges,
+              subst (λ (list : List SeenApp). AreApart (map range_in list)) (sym c.deref-2.ensures.value) apart,
+            ),
+          ),
+        ),
+      ),
+    )
+
+pub set_skips-requires : goal.set_skips-requires
+set_skips-requires g c = let few = c.self.invariant.copied.resources in (omega (arith, few), c.self.invariant.skips_are ∙ ap length (sym c.deref-4.ensures.value))
+
 pub invariant_of-result : goal.invariant_of-result
 invariant_of-result g c =
     let inside = c.self.inside in
-    let parts : Parts = record { rows = inside.tree; apps = held_apps_in inside.sources.items; nodes = nodes_in inside.sources.items } in
-    let made = c.in-Ok.arranged in
-    let arranged =
-    subst (λ (ns : List NodeSight). IsArranged inside.tree inside.apps.items ns made.asks.items made.ranges.items made.skips.items) c.deref-3.ensures.value
-    (subst (λ (list : List SeenApp). IsArranged inside.tree list c.deref-3.result.now made.asks.items made.ranges.items made.skips.items) c.deref.ensures.value c.in-Ok.ensures) in
-    is_stored g.row.K parts inside.apps.items inside.asks.items made.asks.items made.ranges.items inside.nodes.items made.skips.items inside.live inside.next_container c.self.invariant arranged
+    let parts : Parts = record { rows = inside.tree.rows; apps = held_apps_in inside.sources.items; nodes = nodes_in inside.sources.items } in
+    let waits = c.note_waiting.ensures.waiting ∙ ap (map (λ (a : SeenApp). a.held.account.position)) c.deref.ensures.value in
+    let wanted = c.take_reserved.ensures ∙ ap (λ (ns : List NodeSight). map (beside ns) inside.asks.items) c.deref-3.ensures.value in
+    let skips = subst (λ (ns : List NodeSight). AreSkips ns c.set_skips.new.skips.items) c.deref-4.ensures.value c.set_skips.ensures in
+    is_stored g.row.K parts inside.apps.items inside.asks.items c.take_reserved.new.asks.items inside.nodes.items c.set_skips.new.skips.items inside.live inside.next_container c.self.invariant.copied c.self.invariant.rows_are c.note_waiting.new.tree
+    c.note_waiting.ensures.rows waits wanted skips
 
-pub drop-self-inside-requires-in-Err-2-room-T-Destruct : goal.drop-self-inside-requires-in-Err-2-room-T-Destruct
-drop-self-inside-requires-in-Err-2-room-T-Destruct g c κs within = queue_in_snapshot (param 0 (number g.row.K)) (copied 1 g.row.B) g.B.Allocator c.requires.snapshot
-
-pub drop-self-inside-requires-in-Err-2-room-T-Destruct-2 : goal.drop-self-inside-requires-in-Err-2-room-T-Destruct-2
-drop-self-inside-requires-in-Err-2-room-T-Destruct-2 g c κs within = queue_in_snapshot (param 0 (number g.row.K)) (copied 1 g.row.B) g.B.Allocator c.requires.snapshot
-
-pub drop-self-inside-requires-in-Err-3-room-T-Destruct : goal.drop-self-inside-requires-in-Err-3-room-T-Destruct
-drop-self-inside-requires-in-Err-3-room-T-Destruct g c κs within = let few = c.self.invariant.resources in omega (arith, few)
-
-pub returns-in-Ok : goal.returns-in-Ok
-returns-in-Ok g c =
+pub returns : goal.returns
+returns g c =
     let inside = c.self.inside in
-    let parts : Parts = record { rows = inside.tree; apps = held_apps_in inside.sources.items; nodes = nodes_in inside.sources.items } in
-    let made = c.in-Ok.arranged in
+    let parts : Parts = record { rows = inside.tree.rows; apps = held_apps_in inside.sources.items; nodes = nodes_in inside.sources.items } in
+    let waits = c.note_waiting.ensures.waiting ∙ ap (map (λ (a : SeenApp). a.held.account.position)) c.deref.ensures.value in
+    let wanted = c.take_reserved.ensures ∙ ap (λ (ns : List NodeSight). map (beside ns) inside.asks.items) c.deref-3.ensures.value in
+    let skips = subst (λ (ns : List NodeSight). AreSkips ns c.set_skips.new.skips.items) c.deref-4.ensures.value c.set_skips.ensures in
     rw (← c.self.view_is)
-    (made_of_parts g.row.K parts inside.apps.items inside.asks.items made.asks.items made.ranges.items inside.nodes.items made.skips.items inside.live inside.next_container c.self.invariant)
+    (made_of_parts g.row.K parts inside.apps.items inside.asks.items c.take_reserved.new.asks.items inside.nodes.items c.set_skips.new.skips.items inside.live inside.next_container c.self.invariant.copied c.self.invariant.rows_are
+    c.note_waiting.new.tree c.note_waiting.ensures.rows waits wanted skips)

@@ -1,11 +1,14 @@
-use Rattle.std.proofs.Common.{rules, ◌≡◌, ◌++◌, ◌∷◌, [], List, ap, map, subst, sym, ◌∙◌, arith}
+use Rattle.std.proofs.Common.{rules, ◌++◌, ◌∷◌, [], List, ◌≤◌, ap, length, map, subst, sym, ◌∙◌, arith}
 use Rattle.std.specs.List.{All}
+use Rattle.std.proofs.lemmas.List.{length-map}
+use Rattle.cap_base.specs.Limits.{applications_max}
 use Rattle.cap_tree.specs.Spot.{IsPosition}
 use Rattle.cap_asks.specs.Accounts.{AreKept, HeldApp}
 use Rattle.cap_copy.specs.SeenApp.{AreSeen, SeenApp}
-use Rattle.cap_copy.specs.Sources.{IsCopy, Parts, held_apps_in, nodes_in}
+use Rattle.cap_copy.specs.Entries.{asks_of_all}
+use Rattle.cap_copy.specs.Sources.{IsCopied, IsCopy, Parts, held_apps_in, nodes_in}
 use Rattle.cap_copy.proofs.Fitting.{tree_in_snapshot}
-use Rattle.cap_copy.proofs.Sights.{placed_all, positions_there}
+use Rattle.cap_copy.proofs.Sights.{few_waiting, placed_all, positions_there}
 use Rattle.cap_copy.proofs.copied.ClusterCopy.take.Goals as goal
 
 pub seen_apps-requires : goal.seen_apps-requires
@@ -22,7 +25,7 @@ seen_apps-requires g c =
           omega (arith, few),
           (
             omega (arith, few),
-            (few, subst (λ (rs : List HeldApp). All (λ r. IsPosition rows r.account.position) rs) (sym c.deref.ensures.value) placed),
+            (few, (subst (λ (rs : List HeldApp). length rs ≤ applications_max) (sym c.deref.ensures.value) (few_waiting apps.table.active waiting applications_max c.in-Ok.ensures.apps c.requires.few), subst (λ (rs : List HeldApp). All (λ r. IsPosition rows r.account.position) rs) (sym c.deref.ensures.value) placed)),
           ),
         ),
       ),
@@ -41,24 +44,35 @@ invariant_of-result g c =
     let seen = c.in-Ok-seen_apps.copied.0.items in
     let asks = c.in-Ok-seen_apps.copied.1.items in
     let nodes = c.in-Ok-seen_nodes.present.items in
+    let skips = c.in-Ok-from_elem.skips.items in
+    let tree = c.in-Ok-seen_in.tree in
     let live = c.live_count.result in
     let next = c.next_container.result in
     let sources = c.and.ensures ∙ ap (λ l. l ++ (c.args.apps.now, c.args.nodes.now) ∷ []) c.new.ensures in
     let held = c.in-Ok-seen_apps.ensures.seen.held ∙ c.deref.ensures.value in
-    subst (λ (ps : Parts). IsCopy K ps (map (λ (a : SeenApp). a.held) seen) seen asks nodes live next)
-    (sym (λ k. record { rows = c.in-Ok-seen_in.ensures k; apps = held_apps_in (sources k); nodes = nodes_in (sources k) }))
-    (subst (λ ws. IsCopy K parts ws seen asks nodes live next) (sym held)
+    subst (λ (ps : Parts). IsCopied K ps (map (λ (a : SeenApp). a.held) seen) tree seen asks nodes skips live next)
+    (sym (λ k. record { rows = c.in-Ok-seen_in.ensures.rows k; apps = held_apps_in (sources k); nodes = nodes_in (sources k) }))
     (record {
-      resources = c.requires.resources;
-      few = c.requires.few;
-      placed = c.requires.placed;
-      rising = c.numbers_rise.ensures;
-      numbers = c.numbers_rise-2.ensures.nodes;
-      apps_are = c.in-Ok.ensures.apps;
-      accounts_are = c.in-Ok.ensures.accounts;
-      kept = subst (λ (rs : List HeldApp). All (λ r. AreKept r.app.asks) rs) c.deref.ensures.value c.seen_apps.ensures.kept;
-      seen_are = subst (λ (rs : List HeldApp). AreSeen K parts.rows rs asks seen) c.deref.ensures.value c.in-Ok-seen_apps.ensures.seen;
-      nodes_are = c.in-Ok-seen_nodes.ensures;
-      live_is = c.live_count.ensures.value;
-      next_is = c.next_container.ensures;
-    }))
+      copied = subst (λ ws. IsCopy K parts ws seen asks nodes live next) (sym held)
+          (record {
+            resources = c.requires.resources;
+            few = c.requires.few;
+            placed = c.requires.placed;
+            rising = c.numbers_rise.ensures;
+            numbers = c.numbers_rise-2.ensures.nodes;
+            apps_are = c.in-Ok.ensures.apps;
+            accounts_are = c.in-Ok.ensures.accounts;
+            kept = subst (λ (rs : List HeldApp). All (λ r. AreKept r.app.asks) rs) c.deref.ensures.value c.seen_apps.ensures.kept;
+            seen_are = subst (λ (rs : List HeldApp). AreSeen K parts.rows rs asks seen) c.deref.ensures.value c.in-Ok-seen_apps.ensures.seen;
+            asks_are = c.in-Ok-seen_apps.ensures.asks ∙ ap (λ (rs : List HeldApp). asks_of_all [] (map (λ r. r.app) rs)) c.deref.ensures.value;
+            nodes_are = c.in-Ok-seen_nodes.ensures;
+            live_is = c.live_count.ensures.value;
+            next_is = c.next_container.ensures;
+          });
+      rows_are = c.seen_in.ensures.whole;
+      none = c.in-Ok-seen_in.ensures.none;
+      room =
+          (let n = length-map seen (λ (a : SeenApp). a.held) in
+          subst (λ n. n ≤ tree.room) (c.len-2.ensures ∙ c.in-Ok.waiting.ok.0 ∙ ap length (sym held) ∙ n) c.in-Ok-seen_in.ensures.room);
+      skips_are = sym c.in-Ok-from_elem.skips.ok.0 ∙ c.in-Ok-from_elem.ensures.len ∙ c.len.ensures ∙ c.in-Ok-seen_nodes.present.ok.0;
+    })

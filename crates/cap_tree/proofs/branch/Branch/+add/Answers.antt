@@ -6,7 +6,8 @@ use Rattle.std.proofs.lemmas.List.Elements.{All-set}
 use Rattle.cap_tree.specs.Spot.{first_of, spots, IsAdded}
 use Rattle.cap_tree.proofs.Spots.{sum-set_child}
 use Rattle.cap_tree.proofs.Adding.{added_below, added_at_leaf, none_below}
-use Rattle.cap_tree.specs.Branch.{root_count}
+use Rattle.cap_tree.specs.Branch.{AreSpots, root_count}
+use Rattle.cap_tree.proofs.Trees.{tree_of, trees_filled}
 use Rattle.cap_tree.proofs.branch.Branch.+add.Goals as goal
 
 pub invariant_of-self : goal.invariant_of-self
@@ -22,7 +23,7 @@ invariant_of-self g t c =
           let e = sum-set_child (first_of (λ x. g.T.TreeItem.stored x m)) kids n c.in-Some.last.now c.add.new.self (omega arith) c.in-Some.ensures.value in
           let k = c.add.ensures.kept m in
           omega arith;
-      filled = All-set (λ kid. 1 ≤ length kid) kids n c.add.new.self c.add.ensures.filled c.self.invariant.filled;
+      trees = All-set (AreSpots g.T.TreeItem.name) kids n c.add.new.self c.add.ensures.tree c.self.invariant.trees;
       few = omega (arith, ls, c.self.invariant.few);
     }
 
@@ -31,7 +32,7 @@ returns-in-Some-clause-ok g t c =
     let some = c.in-Some.ensures.variant.0 refl in
     let l : vec_len c.self.inside.children ≡ length c.self.inside.children.items = omega arith in
     on_ok_weaker c.add.result
-    (added_below c.args.levels (vec_len c.self.inside.children - 1) (g.T.TreeItem.name c.args.item) g.T.TreeItem.name c.self.inside.item c.args.item c.self.inside.children.items c.args.self.now c.in-Some.last.now c.add.new.self c.self.view_is c.self.invariant.filled
+    (added_below c.args.levels (vec_len c.self.inside.children - 1) (g.T.TreeItem.name c.args.item) g.T.TreeItem.name c.self.inside.item c.args.item c.self.inside.children.items c.args.self.now c.in-Some.last.now c.add.new.self c.self.view_is (trees_filled g.T.TreeItem.name c.self.inside.children.items c.self.invariant.trees)
     (omega arith) (omega arith) c.in-Some.ensures.value (omega arith))
     c.add.ensures.ok
 
@@ -53,8 +54,14 @@ returns-then-levels-eq0-clause-err g t c = search rules
 pub returns-then-levels-eq0-clause-kept : goal.returns-then-levels-eq0-clause-kept
 returns-then-levels-eq0-clause-kept g t c = search rules
 
-pub returns-then-levels-eq0-clause-filled : goal.returns-then-levels-eq0-clause-filled
-returns-then-levels-eq0-clause-filled g t c = search rules
+pub returns-then-levels-eq0-clause-tree : goal.returns-then-levels-eq0-clause-tree
+returns-then-levels-eq0-clause-tree g t c = search rules
+
+pub returns-in-Some-clause-tree : goal.returns-in-Some-clause-tree
+returns-in-Some-clause-tree g t c =
+    let kids = c.self.inside.children.items in
+    let n = vec_len c.self.inside.children - 1 in
+    tree_of g.T.TreeItem.name c.self.inside.item (set kids n c.add.new.self) (All-set (AreSpots g.T.TreeItem.name) kids n c.add.new.self c.add.ensures.tree c.self.invariant.trees)
 
 pub returns-in-Some-clause-err : goal.returns-in-Some-clause-err
 returns-in-Some-clause-err g t c =

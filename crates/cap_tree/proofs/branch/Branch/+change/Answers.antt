@@ -1,13 +1,14 @@
 use Rattle.cap_tree.proofs.branch.Branch.+change.Goals.{In-Err}
-use Rattle.cap_tree.specs.Branch.{IsBranch}
-use Rattle.std.proofs.Common.{ℕ, rules, ap, arith, get_or, drop, ◌≤◌, ◌-◌, take, length, subst, sym, ◌∙◌, ◌≡◌, set, ◌+◌, ◌<◌, List, Result, Ok, Err}
+use Rattle.cap_tree.specs.Branch.{AreSpots, IsBranch}
+use Rattle.std.proofs.Common.{ℕ, rules, ap, arith, get_or, drop, ◌-◌, take, length, subst, sym, ◌∙◌, ◌≡◌, set, ◌+◌, ◌<◌, List, Result, Ok, Err}
 use Rattle.std.proofs.lemmas.Result.{on_ok_weaker}
-use Rattle.std.proofs.lemmas.List.{length-map, length-set, set-get_or}
-use Rattle.std.proofs.lemmas.List.Elements.{All-set, All-get_or}
+use Rattle.std.proofs.lemmas.List.{length-set, set-get_or}
+use Rattle.std.proofs.lemmas.List.Elements.{All-set}
 use Rattle.std.specs.Prelude.{OnOk, OnErr}
-use Rattle.cap_tree.specs.Spot.{HoldsOfItem, Spot, first_of, change_along, item_at, spots}
+use Rattle.cap_tree.specs.Spot.{HoldsOfItem, Spot, first_of, item_at, spots}
 use Rattle.cap_tree.proofs.Spots.{steps-empty, as_in_child, changed_at_root, in_child, changed_in_child, child-le-sum, sum-set_child}
 use Rattle.cap_tree.proofs.Rooms.{room_in_child}
+use Rattle.cap_tree.proofs.Trees.{tree_changed}
 use Rattle.cap_tree.proofs.branch.Branch.+change.Goals as goal
 
 pub index_mut-child-requires : goal.index_mut-child-requires
@@ -78,9 +79,10 @@ pub invariant_of-self-in-Ok : goal.invariant_of-self-in-Ok
 invariant_of-self-in-Ok g t c =
     let into = in_child (g.C.Change.can c.args.change.now) g.T.TreeItem.name c.self.inside.item c.self.inside.children.items c.args.self.now c.args.steps.now c.self.view_is c.in-len1-up.len_at_least c.requires.can in
     let i = get_or c.args.steps.now 0 0 in
-    let filled = All-get_or (λ kid. 1 ≤ length kid) c.self.inside.children.items i c.index_mut-child.result.now into.within c.self.invariant.filled in
     let same = c.index_mut-child.ensures.value in
-    let longer : 1 ≤ length c.change.new.self = rw c.in-Ok.ensures.changed (let n = length-map c.index_mut-child.result.now (change_along (g.C.Change.above c.args.change.now) (g.C.Change.at c.args.change.now) (take (length c.args.steps.now - 1) (drop 1 c.args.steps.now))) in let s = ap length same in omega arith) in
+    let tree : AreSpots g.T.TreeItem.name c.index_mut-child.result.now = subst (AreSpots g.T.TreeItem.name) (sym same) (c.self.invariant.trees i c.index_mut-child.result.now into.within) in
+    let changed : AreSpots g.T.TreeItem.name c.change.new.self = subst (AreSpots g.T.TreeItem.name) (sym c.in-Ok.ensures.changed)
+    (tree_changed (g.C.Change.above c.args.change.now) (g.C.Change.at c.args.change.now) g.T.TreeItem.name (g.met.C.Change.name_above c.args.change.now) (g.met.C.Change.name_at c.args.change.now) tree (take (length c.args.steps.now - 1) (drop 1 c.args.steps.now))) in
     record {
       sums = λ m.
           let s = c.self.invariant.sums m in
@@ -91,7 +93,7 @@ invariant_of-self-in-Ok g t c =
           let u = g.met.C.Change.stored_above c.args.change.now c.self.inside.item m in
           let v = g.met.C.Change.own_above c.args.change.now c.self.inside.item m in
           rw c.change_above.ensures (omega arith);
-      filled = All-set (λ kid. 1 ≤ length kid) c.self.inside.children.items i c.change.new.self longer c.self.invariant.filled;
+      trees = All-set (AreSpots g.T.TreeItem.name) c.self.inside.children.items i c.change.new.self changed c.self.invariant.trees;
       few = let l = length-set c.self.inside.children.items i c.change.new.self in omega (arith, l, c.self.invariant.few);
     }
 
@@ -130,7 +132,7 @@ same_kids g t c =
     ap (set kids i) (c.in-Err.ensures.unchanged ∙ c.index_mut-child.ensures.value) ∙ set-get_or kids i c.index_mut-child.result.now
 
 pub invariant_of-self-in-Err : goal.invariant_of-self-in-Err
-invariant_of-self-in-Err g t c = subst (IsBranch g.T.TreeItem.stored g.T.TreeItem.own c.self.inside.item) (sym (same_kids g t c)) c.self.invariant
+invariant_of-self-in-Err g t c = subst (IsBranch g.T.TreeItem.name g.T.TreeItem.stored g.T.TreeItem.own c.self.inside.item) (sym (same_kids g t c)) c.self.invariant
 
 pub returns-in-Err-clause-unchanged : goal.returns-in-Err-clause-unchanged
 returns-in-Err-clause-unchanged g t c = ap (spots g.T.TreeItem.name c.self.inside.item) (same_kids g t c) ∙ c.self.view_is
@@ -175,6 +177,6 @@ invariant_of-self g t c =
           let u = g.met.C.Change.stored_at c.args.change.now c.self.inside.item m in
           let v = g.met.C.Change.own_at c.args.change.now c.self.inside.item m can in
           sums_either c.change_at.result (λ x. g.T.TreeItem.stored x m) (λ x. g.T.TreeItem.own x m) c.self.inside.item (g.C.Change.at c.args.change.now c.self.inside.item) c.change_at.new.item _ c.change_at.ensures.ok c.change_at.ensures.err s (omega (arith, s, f, u, v));
-      filled = c.self.invariant.filled;
+      trees = c.self.invariant.trees;
       few = c.self.invariant.few;
     }

@@ -1,10 +1,11 @@
-use Rattle.std.proofs.Common.{rules, arith, ◌≡◌, ◌≤◌, ◌++◌, ◌∷◌, [], ap, sym, ◌∙◌, subst, refl, length, length-append}
+use Rattle.std.proofs.Common.{rules, arith, ◌≡◌, ◌++◌, ◌∷◌, [], ap, sym, ◌∙◌, subst, refl, length, length-append}
 use Rattle.std.specs.List.{All, sum_by}
 use Rattle.std.proofs.lemmas.List.Elements.{All-append, All-cons, All-nil}
 use Rattle.std.proofs.lemmas.List.Sums.{sum_by-append}
 use Rattle.cap_tree.specs.Spot.{spots, first_of, IsAdded}
 use Rattle.cap_tree.proofs.Adding.{added_here, kids-lt}
-use Rattle.cap_tree.specs.Branch.{IsBranch, root_count}
+use Rattle.cap_tree.specs.Branch.{AreSpots, IsBranch, root_count}
+use Rattle.cap_tree.proofs.Trees.{tree_of, trees_filled}
 use Rattle.cap_tree.proofs.branch.Branch.add_child.Goals as goal
 
 pub returns-clause-ok : goal.returns-clause-ok
@@ -20,12 +21,28 @@ returns-in-Err-clause-ok g c = search rules
 pub returns-clause-err : goal.returns-clause-err
 returns-clause-err g c = search rules
 
+trees_more : (g : _) (c : goal.In-Ok g) → All (AreSpots g.T.TreeItem.name) c.push.new.self.items
+trees_more g c =
+    let kids = c.self.inside.children.items in
+    let name = g.T.TreeItem.name in
+    let more = spots name c.args.item [] in
+    let e : c.push.new.self.items ≡ kids ++ more ∷ [] = c.in-Ok.ensures.items ∙ ap (λ x. kids ++ x ∷ []) c.leaf.ensures in
+    subst (All (AreSpots name)) (sym e)
+    (All-append (AreSpots name) kids (more ∷ []) c.self.invariant.trees (All-cons (AreSpots name) more [] (tree_of name c.args.item [] (All-nil (AreSpots name))) (All-nil (AreSpots name))))
+
+pub returns-clause-tree : goal.returns-clause-tree
+returns-clause-tree g c = tree_of g.T.TreeItem.name c.self.inside.item c.push.new.self.items (trees_more g c)
+
+pub returns-in-Err-clause-tree : goal.returns-in-Err-clause-tree
+returns-in-Err-clause-tree g c =
+    tree_of g.T.TreeItem.name c.self.inside.item c.push.new.self.items (subst (All (AreSpots g.T.TreeItem.name)) (sym c.in-Err.ensures.items) c.self.invariant.trees)
+
 pub invariant_of-self-2 : goal.invariant_of-self-2
 invariant_of-self-2 g c =
     let kids = c.self.inside.children.items in
     let more = spots g.T.TreeItem.name c.args.item [] in
     let e : c.push.new.self.items ≡ kids ++ more ∷ [] = c.in-Ok.ensures.items ∙ ap (λ x. kids ++ x ∷ []) c.leaf.ensures in
-    let fewer = kids-lt g.T.TreeItem.name c.self.inside.item kids c.args.self.now c.self.view_is c.self.invariant.filled in
+    let fewer = kids-lt g.T.TreeItem.name c.self.inside.item kids c.args.self.now c.self.view_is (trees_filled g.T.TreeItem.name kids c.self.invariant.trees) in
     let n = length-append kids (more ∷ []) in
     let l = ap length e in
     record {
@@ -35,7 +52,7 @@ invariant_of-self-2 g c =
           let b = ap (sum_by (first_of (λ x. g.T.TreeItem.stored x m))) e in
           let z = c.requires.stored m in
           omega (arith, s, a, b, z);
-      filled = subst (All (λ kid. 1 ≤ length kid)) (sym e) (All-append (λ kid. 1 ≤ length kid) kids (more ∷ []) c.self.invariant.filled (All-cons (λ kid. 1 ≤ length kid) more [] (omega arith) (All-nil (λ kid. 1 ≤ length kid))));
+      trees = trees_more g c;
       few = omega (arith, fewer, n, l, c.requires.few);
     }
 
@@ -46,4 +63,4 @@ pub returns-in-Err-clause-kept : goal.returns-in-Err-clause-kept
 returns-in-Err-clause-kept g c = λ m. ap (λ ss. root_count g.T.TreeItem.stored ss m) c.self.view_is
 
 pub invariant_of-self : goal.invariant_of-self
-invariant_of-self g c = subst (IsBranch g.T.TreeItem.stored g.T.TreeItem.own c.self.inside.item) (sym c.in-Err.ensures.items) c.self.invariant
+invariant_of-self g c = subst (IsBranch g.T.TreeItem.name g.T.TreeItem.stored g.T.TreeItem.own c.self.inside.item) (sym c.in-Err.ensures.items) c.self.invariant

@@ -1,10 +1,22 @@
-use Rattle.std.proofs.Common.{◌∙◌, sym, subst}
-use Rattle.cap_tree.specs.Rows.{AreRows}
-use Rattle.cap_tree.proofs.Copies.{made-itself}
+use Rattle.std.proofs.Common.{ap, ◌∙◌, map, subst, sym}
+use Rattle.cap_tree.specs.Seen.{IsSeenTree}
+use Rattle.cap_tree.proofs.Sizes.{seen_fits}
+use Rattle.cap_tree.proofs.Waits.{none_waits, rows_copied}
 use Rattle.cap_tree.proofs.seen.QueueTree+K+Global.seen_in.Goals as goal
 
-pub invariant_of-result : goal.invariant_of-result
-invariant_of-result g c = subst AreRows (sym (c.in-Ok.ensures ∙ made-itself c.self.inside.root)) c.self.invariant.rows_are
+pub copy_in-requires-room-U-TreeItem : goal.copy_in-requires-room-U-TreeItem
+copy_in-requires-room-U-TreeItem g c κs within = search seen_fits
 
-pub returns-in-Ok : goal.returns-in-Ok
-returns-in-Ok g c = c.in-Ok.ensures ∙ made-itself c.self.inside.root ∙ c.self.view_is
+pub copy_in-requires-room-T-CopyIn-2 : goal.copy_in-requires-room-T-CopyIn-2
+copy_in-requires-room-T-CopyIn-2 g c κs within = search seen_fits
+
+pub copy_in-requires-room-U-Destruct : goal.copy_in-requires-room-U-Destruct
+copy_in-requires-room-U-Destruct g c κs within = search seen_fits
+
+pub invariant_of-result : goal.invariant_of-result
+invariant_of-result g c =
+    subst (λ ps. IsSeenTree c.in-Ok-copy_in.root ps c.in-Ok.links.items) (ap (map (λ e. e.0.items)) (sym c.new.ensures))
+    (subst (IsSeenTree c.in-Ok-copy_in.root _) (sym c.in-Ok.ensures.items) (none_waits c.self.inside.root c.in-Ok-copy_in.root c.in-Ok-copy_in.ensures c.self.invariant.rows_are))
+
+pub returns-in-Ok-copy_in-clause-rows : goal.returns-in-Ok-copy_in-clause-rows
+returns-in-Ok-copy_in-clause-rows g c = rows_copied c.self.inside.root c.in-Ok-copy_in.root c.in-Ok-copy_in.ensures ∙ c.self.view_is

@@ -9,4 +9,4 @@ returns g c =
     let after = amounts_exchanged c.args.old.now c.args.new.now c.args.used.now in
     fits_times c.fits_exchanged.result after c.self.inside.factor c.self.inside.guaranteed c.fits_exchanged.ensures
     ∙ (λ i. fits_user_limit (c.self.invariant.factor_is i) (c.self.invariant.guaranteed_is i) after)
-    ∙ (λ i. fits_user_limit (c.self.view_is i).factor (c.self.view_is i).guaranteed after)
+    ∙ (λ i. fits_user_limit (c.self.view_is i).queue.factor (c.self.view_is i).queue.guaranteed after)

@@ -6,17 +6,18 @@ use Rattle.std.specs.Cmp.Lexicographic.{slice_cmp}
 use Rattle.cap_vector.specs.Fullness.{shares, shares_cmp}
 use Rattle.cap_base.proofs.Levels.{shares_cmp_total}
 use Rattle.cap_tree.specs.Queue.{Queue}
+use Rattle.cap_tree.specs.Seen.{SeenQueue}
 use Rattle.cap_tree.proofs.seen.SeenQueueServed.cmp_served.Goals as goal
 
 pub returns-then-eq-2 : goal.returns-then-eq-2
 returns-then-eq-2 g c =
-    let p : Queue = c.args.self.now in
-    let q : Queue = c.args.other.now in
+    let p : Queue = c.args.self.now.queue in
+    let q : Queue = c.args.other.now.queue in
     let own = c.self.invariant in
     let others = c.other.invariant in
     let same_used : c.self.inside.used ≡ c.other.inside.used = (bytes_eq-Decides c.self.inside.used c.other.inside.used).0 (sym c.eq.ensures ∙ c.if-eq.true) in
     let same_guaranteed : c.self.inside.guaranteed ≡ c.other.inside.guaranteed = (bytes_eq-Decides c.self.inside.guaranteed c.other.inside.guaranteed).0 (sym c.eq-then-eq.ensures ∙ c.if-eq-2.true) in
-    let used : p.used ≡ q.used = sym (own.used_is ∙ ap (λ (r : Queue). r.used) c.self.view_is) ∙ same_used ∙ others.used_is ∙ ap (λ (r : Queue). r.used) c.other.view_is in
-    let guaranteed : p.guaranteed ≡ q.guaranteed = sym (own.guaranteed_is ∙ ap (λ (r : Queue). r.guaranteed) c.self.view_is) ∙ same_guaranteed ∙ others.guaranteed_is ∙ ap (λ (r : Queue). r.guaranteed) c.other.view_is in
+    let used : p.used ≡ q.used = sym (own.used_is ∙ ap (λ (r : SeenQueue). r.queue.used) c.self.view_is) ∙ same_used ∙ others.used_is ∙ ap (λ (r : SeenQueue). r.queue.used) c.other.view_is in
+    let guaranteed : p.guaranteed ≡ q.guaranteed = sym (own.guaranteed_is ∙ ap (λ (r : SeenQueue). r.queue.guaranteed) c.self.view_is) ∙ same_guaranteed ∙ others.guaranteed_is ∙ ap (λ (r : SeenQueue). r.queue.guaranteed) c.other.view_is in
     let tied = sym (tied_itself shares_cmp_total (shares p.used p.guaranteed)) ∙ (λ i. shares_cmp (shares p.used p.guaranteed) (shares (used i) (guaranteed i))) in
     c.cmp_name.ensures ∙ ap (λ o. ordering_then o (slice_cmp nat_cmp p.name q.name)) tied

@@ -1,0 +1,8 @@
+use Rattle.std.proofs.Common.{◌≡◌, ◌++◌, [], take}
+use Rattle.std.specs.Prelude.{map}
+use Rattle.cap_copy.specs.Entries.{ask_entry}
+use Rattle.cap_copy.proofs.seen_app.add_asks.Given as goal
+
+abbrev pub invariant-loop-ask : goal.invariant-loop-ask
+invariant-loop-ask g l =
+    l.asks.items ≡ l.initial.asks.items ++ map (ask_entry [] l.app.app.number l.index) (take l.ask-index l.app.app.asks)

@@ -1,0 +1,18 @@
+use Rattle.std.proofs.Common.{ap, length, arith}
+use Rattle.std.proofs.lemmas.List.{length-map}
+use Rattle.cap_copy.specs.SeenApp.{SeenApp}
+use Rattle.cap_tree.specs.ServiceOrder.{waiting_cmp}
+use Rattle.cap_copy.proofs.Order.{as_many, waiting_total}
+use Rattle.cap_copy.proofs.snapshot.Snapshot.app_count.Goals as goal
+
+pub returns-clause-count : goal.returns-clause-count
+returns-clause-count g c =
+    let inside = c.self.inside in
+    let many = as_many (waiting_cmp inside.tree.rows inside.tree.waiting) (waiting_total inside.tree.rows inside.tree.waiting) (length inside.tree.waiting) in
+    let waits = ap length c.self.invariant.waiting in
+    let apps = length-map inside.apps.items (λ (a : SeenApp). a.held.account.position) in
+    let n = c.len.ensures in
+    rw (← c.self.view_is) (omega (arith, many, waits, apps, n))
+
+pub returns-clause-whole : goal.returns-clause-whole
+returns-clause-whole g c = rw (← c.self.view_is) c.self.invariant.whole

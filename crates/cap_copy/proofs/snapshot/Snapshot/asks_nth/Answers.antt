@@ -1,0 +1,21 @@
+use Rattle.std.proofs.Common.{◌∙◌, ◌<◌, ap, arith, length, refl, subst, sym}
+use Rattle.std.specs.Prelude.{Some, option_map}
+use Rattle.std.proofs.lemmas.List.{length-map}
+use Rattle.std.proofs.lemmas.Option.{slice_get-map, slice_get_read}
+use Rattle.cap_copy.specs.SeenApp.{range_in}
+use Rattle.cap_copy.specs.Snapshot.{Seen}
+use Rattle.cap_copy.proofs.Fitting.{seen_app_of_few}
+use Rattle.cap_copy.proofs.snapshot.Snapshot.asks_nth.Goals as goal
+
+pub range-requires : goal.range-requires
+range-requires g c = seen_app_of_few _ c.self.invariant.resources
+
+pub returns : goal.returns
+returns g c =
+    let apps = c.self.inside.apps.items in
+    let app = c.index.result.now in
+    let n = subst (λ (s : Seen). c.args.index < length s.ranges) (sym c.self.view_is) c.requires in
+    let m = length-map apps range_in in
+    let within : c.args.index < length apps = omega (arith, n, m) in
+    let at = slice_get_read apps (length apps) c.args.index app refl within c.index.ensures in
+    rw (← c.self.view_is) (slice_get-map range_in apps c.args.index ∙ ap (option_map range_in) at ∙ ap (λ r. Some r) (sym c.range.ensures))

@@ -1,0 +1,18 @@
+use Rattle.std.proofs.Common.{ap, ◌∙◌, ◌≡◌, ℕ, cond, sym}
+use Rattle.std.specs.Prelude.{◌==◌}
+use Rattle.std.proofs.lemmas.Bool.{eq-eqb, ne_eqb}
+use Rattle.cap_tree.specs.Seen.{SeenQueue, waiting_at}
+use Rattle.cap_tree.proofs.seen.SeenQueue.mark_at.Goals.{then-self-eq0, else-self-eq0}
+use Rattle.cap_tree.proofs.seen.SeenQueue.mark_at.Goals as goal
+
+-- the first of all that wait there stays
+first_is : (g : _) (c : goal.After-self-3-1 g) → c.if-self-eq0.self ≡ cond (c.self.inside.first == 0) c.args.mark c.self.inside.first
+first_is g c = elim c.if-self-eq0.branch [
+  | then-self-eq0 w ↦ w.self-is ∙ ap (λ b. cond b c.args.mark c.self.inside.first) (sym (eq-eqb c.self.inside.first 0 w.if-self-eq0.true))
+  | else-self-eq0 w ↦ w.self-is ∙ ap (λ b. cond b c.args.mark c.self.inside.first) (sym (ne_eqb c.self.inside.first 0 w.if-self-eq0.false))
+]
+
+pub returns : goal.returns
+returns g c =
+    (λ i. record { queue = Rattle.cap_tree.specs.Seen.queue_in c.self.inside.source.items; first = first_is g c i; last = c.args.mark; waits = Rattle.std.proofs.Common.true })
+    ∙ ap (waiting_at c.args.mark) c.self.view_is
