@@ -1,11 +1,12 @@
 #!/usr/bin/env bash
 # Counts the instructions of works by valgrind's callgrind, from the difference of two sizes: a ClusterInfo on one of 16 connections, a heartbeat, an allocate
-# of 20 asks among 256 applications, a queue that is opened from its lines and shown, a Refresh of 1,024 queues; a turn of a worker (it copies, proposes and commits)
-# in a farm of 512 nodes, 64 leaf queues and 256 applications, one of 32 workers that all copy the same state first, one beside 10,000 masters that ask for nothing,
-# one with 1,023 applications in 64 leaf queues and one in as many, and one where each node holds a reservation, 2,048 asks are open and nothing is admissible (it
-# copies and proposes); an application of 10,000 that ends; and a node that registers, among the first 128 and after 4,032 others. Prints them a request, with those
-# that clear and copy memory apart, of which callgrind counts about one a byte; fails where both together are past the bound beside each, or more than so many times
-# another work. Needs valgrind, a package of most distributions. Counts depend a little on the C library and the processor.
+# of 20 asks among 256 applications, a queue that is opened from its lines and shown, a Refresh of 1,024 queues; a turn of a worker (it copies, proposes and
+# commits) in a farm of 512 nodes, 64 leaf queues and 256 applications, one of 32 workers that all copy the same state first, one beside 10,000 masters that ask
+# for nothing, one with 1,023 applications in 64 leaf queues and one in as many, one where each leaf queue's user is at the limit, and one where each node holds
+# a reservation and 2,048 asks are open (nothing is admissible in either: it copies and proposes); an application of 10,000 that ends; and a node that
+# registers, among the first 128 and after 4,032 others. Prints them a request, with those that clear and copy memory apart, of which callgrind counts about one
+# a byte; fails where both together are past the bound beside each, or more than so many times another work. Needs valgrind, a package of most distributions.
+# Counts depend a little on the C library and the processor.
 . "$(dirname "${BASH_SOURCE[0]}")/common.sh"
 need_valgrind
 build_capsched
@@ -146,6 +147,11 @@ turn_beside_idle_masters() { farm 512 256 64 10000 "$1" 1; }
 # n turns with 1,023 applications, in 64 leaf queues and in as many as there are applications
 turn_of_1023_applications() { farm 512 1023 64 0 "$1" 1; }
 turn_of_flat_tree() { farm 512 1023 1023 0 "$1" 1; }
+# the farm with little guaranteed, of which each leaf queue's user is at the limit after 192 turns; then n turns that find nothing
+turn_at_limits() {
+  farm 512 256 64 0 192 1 | sed 's/capacity=\[memory=65536,vcores=64\]/capacity=[memory=1024,vcores=1]/; s/user-limit-factor=16/user-limit-factor=3/'
+  for ((i = 0; i < $1; i++)); do printf 'copy 0\npropose 0 %d\n' "$i"; done
+}
 # n applications of 10,000 that end
 finish_master() { farm 0 0 1 10000 "$1" 0 finish; }
 # n nodes, the first ones and after 4,032 others
@@ -215,14 +221,15 @@ measure allocate 1024 45000 '^out 1 0000000f0103[0-9a-f]\{8\}00'
 measure queue 480 40000 '^out 1 000000[0-9a-f]\{2\}0108[0-9a-f]\{8\}00'
 measure refresh 8 30000000 '^out 1 00000007010b[0-9a-f]\{8\}00'
 measure turn 512 220000 '^done 0 grant'
-measure turn_of_32 512 250000 '^done [0-9]* grant'
-measure turn_of_full_farm 64 750000 '^proposed 0 none'
+measure turn_of_32 512 220000 '^done [0-9]* grant'
+measure turn_of_full_farm 64 550000 '^proposed 0 none'
 compare turn_of_full_farm turn 3
 measure turn_beside_idle_masters 64 250000 '^done 0 grant'
 compare turn_beside_idle_masters turn 1.1
-measure turn_of_1023_applications 64 1000000 '^done 0 grant'
-measure turn_of_flat_tree 64 3000000 '^done 0 grant'
+measure turn_of_1023_applications 64 700000 '^done 0 grant'
+measure turn_of_flat_tree 64 1200000 '^done 0 grant'
 compare turn_of_flat_tree turn_of_1023_applications 3
+measure turn_at_limits 16 800000 '^proposed 0 none'
 measure finish_master 256 10000 '^out 1 0000000b0104[0-9a-f]\{8\}00'
 measure register_first_nodes 64 10000 '^out 1 0000000f0105[0-9a-f]\{8\}00'
 measure register_last_nodes 64 10000 '^out 1 0000000f0105[0-9a-f]\{8\}00' 3968
