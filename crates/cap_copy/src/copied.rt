@@ -114,8 +114,8 @@ impl<const K: usize, B: Allocator + Copy> ClusterCopy<K, B> {
         })
     }
 
-    /// The snapshot: what was copied, with each application that waits noted in the tree, what the asks want beside the reservations, and
-    /// which nodes hold reservations one after another. It takes no memory.
+    /// The snapshot: what was copied, with each application that waits noted in the tree, the queues of these in the order of service, what
+    /// the asks want beside the reservations, and which nodes hold reservations one after another. It takes no memory.
     pub fn arrange(self) -> Snapshot<K, B>
         ensures { IsSnapshotOf K self.rows self.apps.table self.nodes result }
     {
@@ -125,6 +125,7 @@ impl<const K: usize, B: Allocator + Copy> ClusterCopy<K, B> {
         let nodes = self.nodes;
         let mut skips = self.skips;
         note_waiting(&mut tree, &apps);
+        tree.sort();
         take_reserved(&mut asks, &apps, &nodes);
         set_skips(&mut skips, &nodes);
         Snapshot {

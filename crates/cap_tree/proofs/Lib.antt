@@ -10,6 +10,7 @@ pub mod Looking
 pub mod Names
 pub mod NextServed
 pub mod OneUser
+pub mod Orders
 pub mod Rooms
 pub mod RowPaths
 pub mod RowSettings

@@ -99,7 +99,7 @@ module _ {T : Type 0} (test : T → Bool) (child : ℕ → Option T) where
       by None e h = absurd (cc h)
       by (Some x) e h = passing i x e h ∙ sym e
 
-  there_passing : (i : ℕ) → HoldsOfItem (λ _. Unit {0}) (that_pass test child i) → that_pass test child i ≡ child i
+  pub there_passing : (i : ℕ) → HoldsOfItem (λ _. Unit {0}) (that_pass test child i) → that_pass test child i ≡ child i
   there_passing i h = by (child i) h
     where
       by : (o : Option T) → HoldsOfItem (λ _. Unit {0}) (option_filter test o) → option_filter test o ≡ o
@@ -122,6 +122,18 @@ all_pass {T} child = λ k i. by (child i) k
     by None = refl
     by (Some x) = refl
 
+-- what a test of an order says
+
+pub less_is : (o : Ordering) → is_lt o ≡ true → o ≡ Less
+less_is Less h = refl
+less_is Equal h = absurd (cc h)
+less_is Greater h = absurd (cc h)
+
+pub not_less : (o : Ordering) → is_lt o ≡ false → o ≡ Less → ⊥
+not_less Less h e = absurd (cc h)
+not_less Equal h e = absurd (cc e)
+not_less Greater h e = absurd (cc e)
+
 -- the next of the children, one after the other
 
 module _ {T : Type 0} (order : T → T → Ordering) (total : IsTotalOrder order) (child : ℕ → Option T) (after : Option ℕ) where
@@ -132,16 +144,6 @@ module _ {T : Type 0} (order : T → T → Ordering) (total : IsTotalOrder order
 
   order_total : IsTotalOrder (child_cmp order child)
   order_total = on_total child (options_total total)
-
-  less_is : (o : Ordering) → is_lt o ≡ true → o ≡ Less
-  less_is Less h = refl
-  less_is Equal h = absurd (cc h)
-  less_is Greater h = absurd (cc h)
-
-  not_less : (o : Ordering) → is_lt o ≡ false → o ≡ Less → ⊥
-  not_less Less h e = absurd (cc h)
-  not_less Equal h e = absurd (cc e)
-  not_less Greater h e = absurd (cc e)
 
   module _ (k : ℕ) (x : T) (is : child k ≡ Some x) where
     there : IsThere order child k

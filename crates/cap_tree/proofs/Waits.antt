@@ -78,9 +78,6 @@ module _ {T : Type 0} (above at : T → T) (way : List ℕ) where
       by (Some x) h = tt
 
   module _ (ss : List (Spot T)) where
-    after_change : List (Spot T)
-    after_change = map (change_along above at way) ss
-
     -- a number that the change leaves above the way's end
     other_number : (number : T → ℕ) → ((x : T) → number (above x) ≡ number x) → (p : List ℕ) → (p ≡ way → ⊥) → mark_at number p (map (change_along above at way) ss) ≡ mark_at number p ss
     other_number number keeps p apart = ap (λ o. option_map_or number o 0) (item_at-changed p ss) ∙ by (item_at p ss)

@@ -1,10 +1,10 @@
 -- The order in which queues are served.
-use Rattle.std.specs.Prelude.{◌≡◌, ℕ, Bool, true, false, List, [], ◌∷◌, ◌++◌, Option, Some, None, map, drop, find, bytes_eq, option_map}
+use Rattle.std.specs.Prelude.{◌≡◌, ℕ, ◌<◌, ◌≤◌, Bool, true, false, List, [], ◌∷◌, ◌++◌, Option, Some, None, length, map, drop, find, bytes_eq, option_map, slice_index_or}
 use Rattle.std.specs.Option.{option_cmp}
 use Rattle.std.proofs.lemmas.Map.Entries.{option_filter}
 use Rattle.std.specs.Ordering.{is_gt, is_lt}
 use Rattle.std.specs.declared.cmp.Ordering.{Ordering}
-use Rattle.std.specs.declared.cmp.Ordering.TheVariants.{Less}
+use Rattle.std.specs.declared.cmp.Ordering.TheVariants.{Less, Equal}
 use Rattle.cap_vector.specs.Fullness.{shares}
 use Rattle.cap_base.specs.Levels.{Level, level_cmp}
 use Rattle.cap_base.specs.Paths.{name_of}
@@ -53,6 +53,10 @@ module _ {T : Type 0} where
   abbrev pub children_at : List ℕ → List (Spot T) → ℕ → Option T
   children_at position ss i = item_at (position ++ i ∷ []) ss
 
+  -- the item of each of these children, by its index
+  abbrev pub kid_items : List (List (Spot T)) → ℕ → Option T
+  kid_items kids i = item_at [] (slice_index_or kids i [])
+
   -- the child with that index, none where none is named
   abbrev pub child_item : List (Spot T) → Option ℕ → Option T
   child_item ss None = None
@@ -92,6 +96,27 @@ module _ {T : Type 0} where
 
     abbrev pub HasNoneAfter : Option ℕ → Type 0
     HasNoneAfter after = (j : ℕ) → IsThere j → ¬ ComesAfter after j
+
+    -- no two children are alike
+    abbrev pub AreApart : Type 0
+    AreApart = (i j : ℕ) → IsThere i → IsThere j → child_cmp i j ≡ Equal → i ≡ j
+
+    -- indexes of children, in the order
+    pub record AreSorted (indexes : List ℕ) : Type 0 where
+      pub there : (a : ℕ) → a < length indexes → IsThere (slice_index_or indexes a 0)
+      pub rises : (a b : ℕ) → a < b → b < length indexes → child_cmp (slice_index_or indexes a 0) (slice_index_or indexes b 0) ≡ Less
+
+    -- those of the first so many children, each of them
+    pub record IsOrderOf (count : ℕ) (indexes : List ℕ) : Type 0 where
+      pub sorted : AreSorted indexes
+      pub early : (a : ℕ) → a < length indexes → slice_index_or indexes a 0 < count
+      pub all : (j : ℕ) → j < count → IsThere j → (a : ℕ) × (a < length indexes) × (slice_index_or indexes a 0 ≡ j)
+
+    -- the children from a place on come after an item, and those before do not
+    pub record IsPlaceAfter (item : T) (indexes : List ℕ) (place : ℕ) : Type 0 where
+      pub within : place ≤ length indexes
+      pub before : (a : ℕ) → a < place → ¬ (option_cmp order (Some item) (child (slice_index_or indexes a 0)) ≡ Less)
+      pub after : (a : ℕ) → place ≤ a → a < length indexes → option_cmp order (Some item) (child (slice_index_or indexes a 0)) ≡ Less
 
 -- the level of each child of a position, by the child's index
 abbrev pub child_levels : List ℕ → List Row → ℕ → Option Level

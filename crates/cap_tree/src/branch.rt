@@ -10,7 +10,7 @@ ghost use Rattle.cap_tree.specs.Spot.{HoldsOfItem, IsAdded, IsPosition, along, c
 ghost use Rattle.cap_tree.specs.Finding.{IsFound, IsStart, is_parent};
 ghost use Rattle.cap_base.specs.Cascade.{holds_of};
 ghost use Rattle.cap_tree.specs.Branch.{AreSpots, IsBranch, root_count};
-ghost use Rattle.cap_tree.specs.Service.{HasNoneAfter, HasPathsOnce, IsFirstAfter, IsTop, child_item, children_at, is_after, is_before, that_pass};
+ghost use Rattle.cap_tree.specs.Service.{AreApart, AreSorted, HasNoneAfter, HasPathsOnce, IsFirstAfter, IsOrderOf, IsPlaceAfter, IsTop, child_item, children_at, is_after, is_before, kid_items, that_pass};
 ghost use Rattle.cap_tree.specs.Walk.{AreMarked, HasNoMarkAfter, HasNoMarkBelow, IsFirstMark, IsMarkAfter, IsMarkBelow, mark_at, place_cmp};
 
 use crate::found::{Kind, Path};
@@ -19,13 +19,18 @@ use std::alloc::Allocator;
 use std::cmp::Ordering;
 use std::marker::Model;
 
-/// What a branch holds: a name, and counts of what is its own and all below.
+/// What a branch holds: a name, counts of what is its own and all below, whether something waits at it or below it, and its place in
+/// the order of service.
 pub trait TreeItem {
     ghost name: { Self → List ℕ };
 
     ghost stored: { Self → Measure → ℕ };
 
     ghost own: { Self → Measure → ℕ };
+
+    ghost waits: { Self → Bool };
+
+    ghost order: { Self → Self → Ordering };
 
     fn name(&self) -> &[u8]
         ensures { result.now ≡ name self.now };
@@ -98,30 +103,26 @@ pub trait CopyIn<U: TreeItem, B: Allocator>: TreeItem {
     ghost own_copied: { (x : Self) (m : Measure) → U.own (copied x) m ≡ Self.own x m };
 }
 
-/// An item with its place in the order of service.
+/// An item that knows its place in the order of service.
 pub trait Served: TreeItem {
-    ghost order: { Self → Self → Ordering };
-
     fn cmp_served(&self, other: &Self) -> Ordering
-        ensures { result ≡ order self.now other.now };
+        ensures { result ≡ Self.order self.now other.now };
 
-    ghost total: { IsTotalOrder order };
+    ghost total: { IsTotalOrder Self.order };
 
-    ghost names: { (x y : Self) → order x y ≡ Equal → Self.name x ≡ Self.name y };
+    ghost names: { (x y : Self) → Self.order x y ≡ Equal → Self.name x ≡ Self.name y };
 }
 
 /// An item with a mark of what waits at it, 0 for nothing.
 pub trait Marked: Served {
     ghost mark: { Self → ℕ };
 
-    ghost waits: { Self → Bool };
-
     fn mark(&self) -> u32
         ensures { result ≡ mark self.now };
 
     /// Whether something waits at it or below it.
     fn waits(&self) -> bool
-        ensures { result ≡ waits self.now };
+        ensures { result ≡ Self.waits self.now };
 }
 
 /// Whether something waits at an item or below it.
@@ -155,13 +156,17 @@ impl<T> Test<T> for Every {
 pub struct Branch<T: TreeItem, A: Allocator> {
     item: T,
     children: Vec<Branch<T, A>, A>,
+    // Where it is sorted, the indexes of the children in which something waits, in the order of service.
+    order: Vec<u32, A>,
+    is_sorted: bool,
 }
 
 impl<T: TreeItem, A: Allocator> Model for Branch<T, A> {
-    ghost use Rattle.std.specs.Prelude.{List, length, ℕ};
+    ghost use Rattle.std.specs.Prelude.{◌≡◌, List, length, true, ℕ};
     ghost use Rattle.std.specs.Coded.{coded_list};
     ghost use Rattle.std.proofs.Common.{arith};
     ghost use Rattle.cap_tree.specs.Branch.{IsBranch};
+    ghost use Rattle.cap_tree.specs.Service.{IsOrderOf, kid_items, that_pass};
     ghost use Rattle.cap_tree.specs.Spot.{Spot, spot_code, spots, most_le-length-below};
 
     ghost Value = { List (Spot T) };
@@ -170,7 +175,10 @@ impl<T: TreeItem, A: Allocator> Model for Branch<T, A> {
 
     ghost view = { λ b. spots T.name b.item b.children.items };
 
-    ghost invariant = { λ b. IsBranch T.name T.stored T.own b.item b.children.items };
+    ghost invariant = { λ b. IsBranch T.name T.stored T.own b.item b.children.items
+        × (b.is_sorted ≡ true
+        → IsOrderOf T.order (that_pass T.waits (kid_items b.children.items))
+        (length b.children.items) b.order.items) };
 
     ghost size = { length };
 
@@ -187,6 +195,8 @@ impl<T: TreeItem + Drop, A: Allocator + Copy> Branch<T, A> {
         Branch {
             item,
             children: Vec::new(alloc),
+            order: Vec::new(alloc),
+            is_sorted: false,
         }
     }
 
@@ -206,7 +216,10 @@ impl<T: TreeItem + Drop, A: Allocator + Copy> Branch<T, A> {
             return self.add_child(alloc, item);
         }
         match self.children.last_mut() {
-            Some(last) => last.add(alloc, levels - 1, item),
+            Some(last) => {
+                self.is_sorted = false;
+                last.add(alloc, levels - 1, item)
+            }
             None => self.add_child(alloc, item),
         }
     }
@@ -222,6 +235,7 @@ impl<T: TreeItem + Drop, A: Allocator + Copy> Branch<T, A> {
             root_count T.stored self.new m ≡ root_count T.stored self.old m }
         ensures tree { AreSpots T.name self.new }
     {
+        self.is_sorted = false;
         match self.children.push(Branch::leaf(alloc, item)) {
             Ok(()) => {}
             Err(_) => return Err(NoMemory),
@@ -249,6 +263,7 @@ impl<T: TreeItem + Drop, A: Allocator + Copy> Branch<T, A> {
         match steps {
             [] => change.change_at(&mut self.item),
             [i, rest @ ..] => {
+                self.is_sorted = false;
                 let child = &mut self.children[*i as usize];
                 match child.change(rest, change) {
                     Err(NoMemory) => Err(NoMemory),
@@ -365,8 +380,8 @@ impl<T: TreeItem + Drop, A: Allocator + Copy> Branch<T, A> {
         None
     }
 
-    /// A copy of the tree under another allocator, the children of an item in one piece of memory. The error means that an
-    /// allocation failed.
+    /// A copy of the tree under another allocator, the children of an item in one piece of memory, with room for their order. The error
+    /// means that an allocation failed.
     pub fn copy_in<U: TreeItem + Drop, B: Allocator + Copy>(
         &self,
         alloc: B,
@@ -382,13 +397,21 @@ impl<T: TreeItem + Drop, A: Allocator + Copy> Branch<T, A> {
         let Ok(mut children) = Vec::with_capacity(alloc, self.children.len()) else {
             return Err(NoMemory);
         };
+        let Ok(order) = Vec::with_capacity(alloc, self.children.len()) else {
+            return Err(NoMemory);
+        };
         for child in &self.children {
             match child.copy_in(alloc) {
                 Ok(copy) => children.push_reserved(copy),
                 Err(NoMemory) => return Err(NoMemory),
             }
         }
-        Ok(Branch { item, children })
+        Ok(Branch {
+            item,
+            children,
+            order,
+            is_sorted: false,
+        })
     }
 
     /// Its own item, which is above all others.
@@ -451,6 +474,40 @@ impl<T: TreeItem + Drop, A: Allocator + Copy> Branch<T, A> {
         }
     }
 
+    /// The index of the child of its own item that is served next after that one, the first where none is named, of those in which
+    /// something waits. Where the children are sorted, it costs a binary search, else a look at each.
+    fn next_that_waits(&self, after: Option<u32>) -> Option<u32>
+    where
+        T: Marked,
+        requires { IfSome after (λ i. holds_of T.waits (item_at (i ∷ []) self.now) ≡ true) }
+        ensures { MatchOption result
+            (HasNoneAfter T.order (that_pass T.waits (children_at [] self.now)) after)
+            (IsFirstAfter T.order (that_pass T.waits (children_at [] self.now)) after) }
+    {
+        if !self.is_sorted {
+            return self.next_below(&Waits, after);
+        }
+        let place = match self.child(after) {
+            None => 0,
+            Some(last) => place_after(&self.children, &self.order, last),
+        };
+        self.order.get(place).copied()
+    }
+
+    /// Sorts the children of each item in which something waits by the order of service, for `first_waiting` and `next_waiting`. It takes no
+    /// memory; where there is no room, children stay as they were.
+    pub fn sort_waiting(&mut self)
+    where
+        T: Marked,
+        requires once { HasPathsOnce self.old }
+        ensures { self.new ≡ self.old }
+    {
+        for i in 0..self.children.len() {
+            self.children[i].sort_waiting();
+        }
+        self.is_sorted = sort_children(&self.children, &mut self.order);
+    }
+
     /// The mark that is served first: its own item's, or else the first in the first child in which something waits.
     pub fn first_waiting(&self) -> u32
     where
@@ -464,7 +521,7 @@ impl<T: TreeItem + Drop, A: Allocator + Copy> Branch<T, A> {
         if mark != 0 {
             return mark;
         }
-        let Some(child) = self.next_below(&Waits, None) else {
+        let Some(child) = self.next_that_waits(None) else {
             unreachable!()
         };
         self.children[child as usize].first_waiting()
@@ -482,7 +539,7 @@ impl<T: TreeItem + Drop, A: Allocator + Copy> Branch<T, A> {
             (HasNoMarkBelow T.order T.mark self.now after)
             (IsMarkBelow T.order T.mark self.now after) }
     {
-        match self.next_below(&Waits, after) {
+        match self.next_that_waits(after) {
             None => None,
             Some(child) => Some(self.children[child as usize].first_waiting()),
         }
@@ -521,6 +578,56 @@ impl<T: TreeItem + Drop, A: Allocator + Copy> Branch<T, A> {
     {
         let _ = &self.item;
     }
+}
+
+/// Puts the indexes of the children in which something waits in the order of service. Whether there was room for all.
+fn sort_children<T: Marked + Drop, A: Allocator + Copy>(
+    children: &[Branch<T, A>],
+    order: &mut Vec<u32, A>,
+) -> bool
+    requires apart { AreApart T.order (kid_items children.now) }
+    requires few { length children.now ≤ 4294967295 }
+    ensures { result ≡ true → IsOrderOf T.order (that_pass T.waits (kid_items children.now))
+        (length children.now) order.new.items }
+{
+    order.clear();
+    for i in 0..children.len() {
+        let child = children[i].top();
+        if child.waits() {
+            let place = place_after(children, order, child);
+            match order.insert(place, i as u32) {
+                Ok(()) => {}
+                Err(_) => return false,
+            }
+        }
+    }
+    true
+}
+
+/// How many of the children in the order of service are not served after that item, by a binary search.
+fn place_after<T: Marked + Drop, A: Allocator + Copy>(
+    children: &[Branch<T, A>],
+    order: &[u32],
+    item: &T,
+) -> usize
+    requires { AreSorted T.order (that_pass T.waits (kid_items children.now)) order.now }
+    ensures { IsPlaceAfter T.order (that_pass T.waits (kid_items children.now)) item.now
+        order.now result }
+{
+    let mut low = 0;
+    let mut high = order.len();
+    while low < high {
+        let middle = low + (high - low) / 2;
+        if item
+            .cmp_served(children[order[middle] as usize].top())
+            .is_lt()
+        {
+            high = middle;
+        } else {
+            low = middle + 1;
+        }
+    }
+    low
 }
 
 /// Whether an item is served after that one: always where there is none.

@@ -57,13 +57,20 @@ impl<const K: usize, A: Allocator> Model for Queue<K, A> {
 }
 
 impl<const K: usize, A: Allocator> TreeItem for Queue<K, A> {
+    ghost use Rattle.std.specs.Prelude.{false};
     ghost use Rattle.cap_tree.specs.Queue.{of_queue, of_users};
+    ghost use Rattle.cap_tree.specs.Service.{queue_cmp};
 
     ghost name = { λ q. q.name };
 
     ghost stored = { of_queue };
 
     ghost own = { of_users };
+
+    // What waits at queues is marked in the tree of a snapshot alone.
+    ghost waits = { λ q. false };
+
+    ghost order = { queue_cmp };
 
     fn name(&self) -> &[u8] {
         &self.name
@@ -103,10 +110,7 @@ impl<const K: usize, A: Allocator, B: Allocator + Copy> CopyIn<Queue<K, B>, B> f
 }
 
 impl<const K: usize, A: Allocator> Served for Queue<K, A> {
-    ghost use Rattle.cap_tree.specs.Service.{queue_cmp};
     ghost use Rattle.cap_tree.specs.ServiceLaws.{queue_cmp_total, same_name};
-
-    ghost order = { queue_cmp };
 
     fn cmp_served(&self, other: &Queue<K, A>) -> Ordering {
         let order = cmp_shares(&self.shares, &other.shares);

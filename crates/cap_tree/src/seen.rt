@@ -27,7 +27,7 @@ use std::cmp::Ordering;
 use std::marker::Model;
 
 /// A queue without its users, and marks of what waits there, which are 1 + an index, or 0: of the first at the queue and of the last.
-/// Contracts see the queue that it was copied from.
+/// Contracts see the queue that it was copied from, and the marks.
 #[derive(Drop)]
 pub(crate) struct SeenQueue<const K: usize, B: Allocator> {
     name: SmallVec<u8, 24, B>,
@@ -65,12 +65,17 @@ impl<const K: usize, B: Allocator> Model for SeenQueue<K, B> {
 
 impl<const K: usize, B: Allocator> TreeItem for SeenQueue<K, B> {
     ghost use Rattle.cap_tree.specs.Queue.{of_queue, of_users};
+    ghost use Rattle.cap_tree.specs.Seen.{seen_cmp};
 
     ghost name = { λ q. q.queue.name };
 
     ghost stored = { λ q. of_queue q.queue };
 
     ghost own = { λ q. of_users q.queue };
+
+    ghost waits = { λ q. q.waits };
+
+    ghost order = { seen_cmp };
 
     fn name(&self) -> &[u8] {
         self.name.as_slice()
@@ -110,10 +115,7 @@ impl<const K: usize, B: Allocator + Copy> CopyIn<SeenQueue<K, B>, B> for Queue<K
 
 impl<const K: usize, B: Allocator> Served for SeenQueue<K, B> {
     ghost use Rattle.std.proofs.lemmas.Cmp.{on_total};
-    ghost use Rattle.cap_tree.specs.Seen.{seen_cmp};
     ghost use Rattle.cap_tree.specs.ServiceLaws.{queue_cmp_total, same_name};
-
-    ghost order = { seen_cmp };
 
     fn cmp_served(&self, other: &SeenQueue<K, B>) -> Ordering {
         // Queues that are used alike are frequent, and need no products.
@@ -134,8 +136,6 @@ impl<const K: usize, B: Allocator> Served for SeenQueue<K, B> {
 
 impl<const K: usize, B: Allocator> Marked for SeenQueue<K, B> {
     ghost mark = { λ q. q.first };
-
-    ghost waits = { λ q. q.waits };
 
     fn mark(&self) -> u32 {
         self.first
@@ -239,10 +239,18 @@ impl<const K: usize, B: Allocator + Copy> SeenTree<K, B> {
         self.places = self.places.and(path, &0);
     }
 
+    /// Sorts the queues in which something waits, those of each parent by the order in which they are served, so that a walk looks at no
+    /// queue twice. It takes no memory.
+    pub fn sort(&mut self)
+        ensures { self.new ≡ self.old }
+    {
+        self.root.sort_waiting();
+    }
+
     /// The index that is served first: at the first level below `root` where two queues differ, that of the one that uses the smaller
     /// part of its own guarantee, by its dominant share first, and of two that are as full the lesser name in byte order. A queue is
     /// before those under it, and of two that wait at one queue the earlier index. None where nothing waits. It goes level by level
-    /// to the least full child in which something waits, looks at no other queue but to pass it over, and takes no memory.
+    /// to the least full child in which something waits, and takes no memory.
     pub fn first_served(&self) -> Option<u32>
         ensures next { IsNextServed self.now.rows self.now.waiting None result }
     {
@@ -253,8 +261,8 @@ impl<const K: usize, B: Allocator + Copy> SeenTree<K, B> {
     }
 
     /// The index that is served next, in the order of `first_served`, after one that waits at a position. None where none is left.
-    /// It looks at the queues on the way to the position, at their siblings, and on from there as `first_served` does, and takes no
-    /// memory.
+    /// It looks at the queues on the way to the position, for each at the sibling that is served next, and goes on from there as
+    /// `first_served` does. It takes no memory.
     pub fn next_served(&self, index: u32, position: &[u32]) -> Option<u32>
         requires { slice_get self.now.waiting index ≡ Some position.now }
         ensures next { IsNextServed self.now.rows self.now.waiting (Some index) result }

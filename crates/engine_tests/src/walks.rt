@@ -108,8 +108,9 @@ fn next_of(waiting: &Waiting, places: &[Path<Global>], last: Option<u32>) -> Opt
     }
 }
 
-/// The indexes of what waits at these paths, in the order of service. `None` if more comes after 8, or an allocation fails.
-fn walked(alloc: Global, tree: &Tree, paths: &[&str]) -> Option<[u32; 8]> {
+/// The indexes of what waits at these paths, in the order of service, where the queues are sorted before or not. `None` if more comes
+/// after 8, or an allocation fails.
+fn walked(alloc: Global, tree: &Tree, paths: &[&str], is_sorted: bool) -> Option<[u32; 8]> {
     if paths.len() > 8 {
         return None;
     }
@@ -117,6 +118,9 @@ fn walked(alloc: Global, tree: &Tree, paths: &[&str]) -> Option<[u32; 8]> {
         return None;
     };
     let places = wait_at_each(alloc, tree, &mut waiting, paths)?;
+    if is_sorted {
+        waiting.sort();
+    }
     let mut order = [NONE; 8];
     let mut next = next_of(&waiting, &places, None);
     for i in 0..8 {
@@ -129,15 +133,17 @@ fn walked(alloc: Global, tree: &Tree, paths: &[&str]) -> Option<[u32; 8]> {
     if next.is_some() { None } else { Some(order) }
 }
 
-fn walked_in_uses(alloc: Global, paths: &[&str]) -> Option<[u32; 8]> {
+fn walked_in_uses(alloc: Global, paths: &[&str], is_sorted: bool) -> Option<[u32; 8]> {
     let tree = tree_after(alloc, WALKED_QUEUES, &USES)?;
-    walked(alloc, &tree, paths)
+    walked(alloc, &tree, paths, is_sorted)
 }
 
 #[test]
 fn what_waits_is_served_in_order(rt: HostRuntime) {
     for &(paths, order) in &WALKS {
-        let given = walked_in_uses(rt.alloc(), paths);
-        assert!(rt; given == Some(order));
+        for is_sorted in [false, true] {
+            let given = walked_in_uses(rt.alloc(), paths, is_sorted);
+            assert!(rt; given == Some(order));
+        }
     }
 }

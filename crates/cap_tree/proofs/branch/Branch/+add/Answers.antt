@@ -16,23 +16,25 @@ invariant_of-self g t c =
     let n = vec_len c.self.inside.children - 1 in
     let some = c.in-Some.ensures.variant.0 refl in
     let l : vec_len c.self.inside.children ≡ length kids = omega arith in
-    let ls = length-set kids n c.add.new.self in
-    record {
-      sums = λ m.
-          let s = c.self.invariant.sums m in
-          let e = sum-set_child (first_of (λ x. g.T.TreeItem.stored x m)) kids n c.in-Some.last.now c.add.new.self (omega arith) c.in-Some.ensures.value in
-          let k = c.add.ensures.kept m in
-          omega arith;
-      trees = All-set (AreSpots g.T.TreeItem.name) kids n c.add.new.self c.add.ensures.tree c.self.invariant.trees;
-      few = omega (arith, ls, c.self.invariant.few);
-    }
+    let ls = length-set kids n c.add.new.self in (
+      record {
+        sums = λ m.
+            let s = c.self.invariant.0.sums m in
+            let e = sum-set_child (first_of (λ x. g.T.TreeItem.stored x m)) kids n c.in-Some.last.now c.add.new.self (omega arith) c.in-Some.ensures.value in
+            let k = c.add.ensures.kept m in
+            omega arith;
+        trees = All-set (AreSpots g.T.TreeItem.name) kids n c.add.new.self c.add.ensures.tree c.self.invariant.0.trees;
+        few = omega (arith, ls, c.self.invariant.0.few);
+      },
+      λ sorted. absurd (cc sorted),
+    )
 
 pub returns-in-Some-clause-ok : goal.returns-in-Some-clause-ok
 returns-in-Some-clause-ok g t c =
     let some = c.in-Some.ensures.variant.0 refl in
     let l : vec_len c.self.inside.children ≡ length c.self.inside.children.items = omega arith in
     on_ok_weaker c.add.result
-    (added_below c.args.levels (vec_len c.self.inside.children - 1) (g.T.TreeItem.name c.args.item) g.T.TreeItem.name c.self.inside.item c.args.item c.self.inside.children.items c.args.self.now c.in-Some.last.now c.add.new.self c.self.view_is (trees_filled g.T.TreeItem.name c.self.inside.children.items c.self.invariant.trees)
+    (added_below c.args.levels (vec_len c.self.inside.children - 1) (g.T.TreeItem.name c.args.item) g.T.TreeItem.name c.self.inside.item c.args.item c.self.inside.children.items c.args.self.now c.in-Some.last.now c.add.new.self c.self.view_is (trees_filled g.T.TreeItem.name c.self.inside.children.items c.self.invariant.0.trees)
     (omega arith) (omega arith) c.in-Some.ensures.value (omega arith))
     c.add.ensures.ok
 
@@ -61,7 +63,7 @@ pub returns-in-Some-clause-tree : goal.returns-in-Some-clause-tree
 returns-in-Some-clause-tree g t c =
     let kids = c.self.inside.children.items in
     let n = vec_len c.self.inside.children - 1 in
-    tree_of g.T.TreeItem.name c.self.inside.item (set kids n c.add.new.self) (All-set (AreSpots g.T.TreeItem.name) kids n c.add.new.self c.add.ensures.tree c.self.invariant.trees)
+    tree_of g.T.TreeItem.name c.self.inside.item (set kids n c.add.new.self) (All-set (AreSpots g.T.TreeItem.name) kids n c.add.new.self c.add.ensures.tree c.self.invariant.0.trees)
 
 pub returns-in-Some-clause-err : goal.returns-in-Some-clause-err
 returns-in-Some-clause-err g t c =

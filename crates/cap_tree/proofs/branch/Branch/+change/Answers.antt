@@ -32,7 +32,7 @@ change-requires g t c =
               rw c.index_mut-child.ensures.value (into.holds c.index_mut-child.result.now),
               λ m.
                   let w = rw (← c.self.view_is) at (c.requires.within m) in
-                  let s = c.self.invariant.sums m in
+                  let s = c.self.invariant.0.sums m in
                   let b = child-le-sum (first_of (λ x. g.T.TreeItem.stored x m)) c.self.inside.children.items (get_or c.args.steps.now 0 0) c.index_mut-child.result.now into.within c.index_mut-child.ensures.value in
                   room_in_child _ _ _ _ _ (omega arith) w,
             ),
@@ -42,12 +42,12 @@ change-requires g t c =
     )
 
 pub change_at-requires-clause-sums : goal.change_at-requires-clause-sums
-change_at-requires-clause-sums g t c m = let s = c.self.invariant.sums m in omega arith
+change_at-requires-clause-sums g t c m = let s = c.self.invariant.0.sums m in omega arith
 
 pub change_above-requires-clause-fits : goal.change_above-requires-clause-fits
 change_above-requires-clause-fits g t c m =
     let into = in_child (g.C.Change.can c.args.change.now) g.T.TreeItem.name c.self.inside.item c.self.inside.children.items c.args.self.now c.args.steps.now c.self.view_is c.in-len1-up.len_at_least c.requires.can in
-    let s = c.self.invariant.sums m in
+    let s = c.self.invariant.0.sums m in
     let b = child-le-sum (first_of (λ x. g.T.TreeItem.stored x m)) c.self.inside.children.items (get_or c.args.steps.now 0 0) c.index_mut-child.result.now into.within c.index_mut-child.ensures.value in
     let f = c.change.ensures.fitted m in
     omega arith
@@ -62,7 +62,7 @@ returns-in-Ok-clause-changed g t c =
 pub returns-in-Ok-clause-fitted : goal.returns-in-Ok-clause-fitted
 returns-in-Ok-clause-fitted g t c m =
     let into = in_child (g.C.Change.can c.args.change.now) g.T.TreeItem.name c.self.inside.item c.self.inside.children.items c.args.self.now c.args.steps.now c.self.view_is c.in-len1-up.len_at_least c.requires.can in
-    let s = c.self.invariant.sums m in
+    let s = c.self.invariant.0.sums m in
     let b = child-le-sum (first_of (λ x. g.T.TreeItem.stored x m)) c.self.inside.children.items (get_or c.args.steps.now 0 0) c.index_mut-child.result.now into.within c.index_mut-child.ensures.value in
     let f = c.change.ensures.fitted m in
     rw (← c.self.view_is) (omega arith)
@@ -70,7 +70,7 @@ returns-in-Ok-clause-fitted g t c m =
 pub returns-in-Err-clause-fitted : goal.returns-in-Err-clause-fitted
 returns-in-Err-clause-fitted g t c m =
     let into = in_child (g.C.Change.can c.args.change.now) g.T.TreeItem.name c.self.inside.item c.self.inside.children.items c.args.self.now c.args.steps.now c.self.view_is c.in-len1-up.len_at_least c.requires.can in
-    let s = c.self.invariant.sums m in
+    let s = c.self.invariant.0.sums m in
     let b = child-le-sum (first_of (λ x. g.T.TreeItem.stored x m)) c.self.inside.children.items (get_or c.args.steps.now 0 0) c.index_mut-child.result.now into.within c.index_mut-child.ensures.value in
     let f = c.change.ensures.fitted m in
     rw (← c.self.view_is) (omega arith)
@@ -80,22 +80,24 @@ invariant_of-self-in-Ok g t c =
     let into = in_child (g.C.Change.can c.args.change.now) g.T.TreeItem.name c.self.inside.item c.self.inside.children.items c.args.self.now c.args.steps.now c.self.view_is c.in-len1-up.len_at_least c.requires.can in
     let i = get_or c.args.steps.now 0 0 in
     let same = c.index_mut-child.ensures.value in
-    let tree : AreSpots g.T.TreeItem.name c.index_mut-child.result.now = subst (AreSpots g.T.TreeItem.name) (sym same) (c.self.invariant.trees i c.index_mut-child.result.now into.within) in
+    let tree : AreSpots g.T.TreeItem.name c.index_mut-child.result.now = subst (AreSpots g.T.TreeItem.name) (sym same) (c.self.invariant.0.trees i c.index_mut-child.result.now into.within) in
     let changed : AreSpots g.T.TreeItem.name c.change.new.self = subst (AreSpots g.T.TreeItem.name) (sym c.in-Ok.ensures.changed)
-    (tree_changed (g.C.Change.above c.args.change.now) (g.C.Change.at c.args.change.now) g.T.TreeItem.name (g.met.C.Change.name_above c.args.change.now) (g.met.C.Change.name_at c.args.change.now) tree (take (length c.args.steps.now - 1) (drop 1 c.args.steps.now))) in
-    record {
-      sums = λ m.
-          let s = c.self.invariant.sums m in
-          let b = child-le-sum (first_of (λ x. g.T.TreeItem.stored x m)) c.self.inside.children.items i c.index_mut-child.result.now into.within same in
-          let e = sum-set_child (first_of (λ x. g.T.TreeItem.stored x m)) c.self.inside.children.items i c.index_mut-child.result.now c.change.new.self into.within same in
-          let f = c.change.ensures.fitted m in
-          let k = c.in-Ok.ensures.moved m in
-          let u = g.met.C.Change.stored_above c.args.change.now c.self.inside.item m in
-          let v = g.met.C.Change.own_above c.args.change.now c.self.inside.item m in
-          rw c.change_above.ensures (omega arith);
-      trees = All-set (AreSpots g.T.TreeItem.name) c.self.inside.children.items i c.change.new.self changed c.self.invariant.trees;
-      few = let l = length-set c.self.inside.children.items i c.change.new.self in omega (arith, l, c.self.invariant.few);
-    }
+    (tree_changed (g.C.Change.above c.args.change.now) (g.C.Change.at c.args.change.now) g.T.TreeItem.name (g.met.C.Change.name_above c.args.change.now) (g.met.C.Change.name_at c.args.change.now) tree (take (length c.args.steps.now - 1) (drop 1 c.args.steps.now))) in (
+      record {
+        sums = λ m.
+            let s = c.self.invariant.0.sums m in
+            let b = child-le-sum (first_of (λ x. g.T.TreeItem.stored x m)) c.self.inside.children.items i c.index_mut-child.result.now into.within same in
+            let e = sum-set_child (first_of (λ x. g.T.TreeItem.stored x m)) c.self.inside.children.items i c.index_mut-child.result.now c.change.new.self into.within same in
+            let f = c.change.ensures.fitted m in
+            let k = c.in-Ok.ensures.moved m in
+            let u = g.met.C.Change.stored_above c.args.change.now c.self.inside.item m in
+            let v = g.met.C.Change.own_above c.args.change.now c.self.inside.item m in
+            rw c.change_above.ensures (omega arith);
+        trees = All-set (AreSpots g.T.TreeItem.name) c.self.inside.children.items i c.change.new.self changed c.self.invariant.0.trees;
+        few = let l = length-set c.self.inside.children.items i c.change.new.self in omega (arith, l, c.self.invariant.0.few);
+      },
+      λ sorted. absurd (cc sorted),
+    )
 
 pub returns-in-empty-clause-changed : goal.returns-in-empty-clause-changed
 returns-in-empty-clause-changed g t c =
@@ -132,7 +134,7 @@ same_kids g t c =
     ap (set kids i) (c.in-Err.ensures.unchanged ∙ c.index_mut-child.ensures.value) ∙ set-get_or kids i c.index_mut-child.result.now
 
 pub invariant_of-self-in-Err : goal.invariant_of-self-in-Err
-invariant_of-self-in-Err g t c = subst (IsBranch g.T.TreeItem.name g.T.TreeItem.stored g.T.TreeItem.own c.self.inside.item) (sym (same_kids g t c)) c.self.invariant
+invariant_of-self-in-Err g t c = (subst (IsBranch g.T.TreeItem.name g.T.TreeItem.stored g.T.TreeItem.own c.self.inside.item) (sym (same_kids g t c)) c.self.invariant.0, λ sorted. absurd (cc sorted))
 
 pub returns-in-Err-clause-unchanged : goal.returns-in-Err-clause-unchanged
 returns-in-Err-clause-unchanged g t c = ap (spots g.T.TreeItem.name c.self.inside.item) (same_kids g t c) ∙ c.self.view_is
@@ -154,7 +156,7 @@ change_at-requires-clause-can g t c =
 pub returns-in-empty-clause-fitted : goal.returns-in-empty-clause-fitted
 returns-in-empty-clause-fitted g t c m =
     let can = of_item (g.C.Change.can c.args.change.now) g.T.TreeItem.name c.self.inside.item c.self.inside.children.items c.args.self.now c.args.steps.now c.self.view_is c.in-empty.len_below c.requires.can in
-    let s = c.self.invariant.sums m in
+    let s = c.self.invariant.0.sums m in
     let f = g.met.C.Change.old_fits c.args.change.now c.self.inside.item m can in
     rw (← c.self.view_is) (omega (arith, s, f))
 
@@ -169,14 +171,16 @@ sums_either (Err v) f own x y z below ok err a b = rw err a
 
 pub invariant_of-self : goal.invariant_of-self
 invariant_of-self g t c =
-    let can = of_item (g.C.Change.can c.args.change.now) g.T.TreeItem.name c.self.inside.item c.self.inside.children.items c.args.self.now c.args.steps.now c.self.view_is c.in-empty.len_below c.requires.can in
-    record {
-      sums = λ m.
-          let s = c.self.invariant.sums m in
-          let f = g.met.C.Change.old_fits c.args.change.now c.self.inside.item m can in
-          let u = g.met.C.Change.stored_at c.args.change.now c.self.inside.item m in
-          let v = g.met.C.Change.own_at c.args.change.now c.self.inside.item m can in
-          sums_either c.change_at.result (λ x. g.T.TreeItem.stored x m) (λ x. g.T.TreeItem.own x m) c.self.inside.item (g.C.Change.at c.args.change.now c.self.inside.item) c.change_at.new.item _ c.change_at.ensures.ok c.change_at.ensures.err s (omega (arith, s, f, u, v));
-      trees = c.self.invariant.trees;
-      few = c.self.invariant.few;
-    }
+    let can = of_item (g.C.Change.can c.args.change.now) g.T.TreeItem.name c.self.inside.item c.self.inside.children.items c.args.self.now c.args.steps.now c.self.view_is c.in-empty.len_below c.requires.can in (
+      record {
+        sums = λ m.
+            let s = c.self.invariant.0.sums m in
+            let f = g.met.C.Change.old_fits c.args.change.now c.self.inside.item m can in
+            let u = g.met.C.Change.stored_at c.args.change.now c.self.inside.item m in
+            let v = g.met.C.Change.own_at c.args.change.now c.self.inside.item m can in
+            sums_either c.change_at.result (λ x. g.T.TreeItem.stored x m) (λ x. g.T.TreeItem.own x m) c.self.inside.item (g.C.Change.at c.args.change.now c.self.inside.item) c.change_at.new.item _ c.change_at.ensures.ok c.change_at.ensures.err s (omega (arith, s, f, u, v));
+        trees = c.self.invariant.0.trees;
+        few = c.self.invariant.0.few;
+      },
+      c.self.invariant.1,
+    )

@@ -37,9 +37,11 @@ loop-child-preserved g t c = record {
 
 pub invariant_of-result : goal.invariant_of-result
 invariant_of-result g t c =
-    let all = copied_all g.T.CopyIn.copied c.deref-child-items.result.now c.loop-child.child-index c.self.inside.children.items c.loop-child.children.items c.deref-child-items.ensures.value (omega (arith, c.loop-child-test.false)) c.loop-child.invariant.items in
-    rw (all, c.in-Ok.ensures)
-    (branch_made g.T.CopyIn.copied g.T.TreeItem.name g.T.TreeItem.stored g.T.TreeItem.own g.U.TreeItem.name g.U.TreeItem.stored g.U.TreeItem.own g.met.T.CopyIn.name_copied g.met.T.CopyIn.stored_copied g.met.T.CopyIn.own_copied c.self.inside.item c.self.inside.children.items c.self.invariant)
+    let all = copied_all g.T.CopyIn.copied c.deref-child-items.result.now c.loop-child.child-index c.self.inside.children.items c.loop-child.children.items c.deref-child-items.ensures.value (omega (arith, c.loop-child-test.false)) c.loop-child.invariant.items in (
+      rw (all, c.in-Ok.ensures)
+          (branch_made g.T.CopyIn.copied g.T.TreeItem.name g.T.TreeItem.stored g.T.TreeItem.own g.U.TreeItem.name g.U.TreeItem.stored g.U.TreeItem.own g.met.T.CopyIn.name_copied g.met.T.CopyIn.stored_copied g.met.T.CopyIn.own_copied c.self.inside.item c.self.inside.children.items c.self.invariant.0),
+      λ sorted. absurd (cc sorted),
+    )
 
 pub returns : goal.returns
 returns g t c =

@@ -29,4 +29,4 @@ returns-in-len1-up g t c =
     let into = in_child (λ _. Unit {0}) g.T.TreeItem.name c.self.inside.item c.self.inside.children.items c.args.self.now c.args.steps.now c.self.view_is c.in-len1-up.len_at_least c.requires.position in
     let same : children_at c.args.steps.now c.args.self.now ≡ children_at rest kid =
     ap (λ s. children_at s c.args.self.now) (steps-is c.args.steps.now c.in-len1-up.len_at_least) ∙ children_in_child g.T.TreeItem.name c.self.inside.item c.self.inside.children.items c.args.self.now c.self.view_is i kid into.within c.index-child.ensures rest in
-    subst (λ ch. MatchOption c.next_child.result (HasNoneAfter g.T.Served.order ch c.args.after) (IsFirstAfter g.T.Served.order ch c.args.after)) (sym same) c.next_child.ensures
+    subst (λ ch. MatchOption c.next_child.result (HasNoneAfter g.T.TreeItem.order ch c.args.after) (IsFirstAfter g.T.TreeItem.order ch c.args.after)) (sym same) c.next_child.ensures

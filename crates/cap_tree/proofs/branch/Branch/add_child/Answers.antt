@@ -28,33 +28,35 @@ trees_more g c =
     let more = spots name c.args.item [] in
     let e : c.push.new.self.items ≡ kids ++ more ∷ [] = c.in-Ok.ensures.items ∙ ap (λ x. kids ++ x ∷ []) c.leaf.ensures in
     subst (All (AreSpots name)) (sym e)
-    (All-append (AreSpots name) kids (more ∷ []) c.self.invariant.trees (All-cons (AreSpots name) more [] (tree_of name c.args.item [] (All-nil (AreSpots name))) (All-nil (AreSpots name))))
+    (All-append (AreSpots name) kids (more ∷ []) c.self.invariant.0.trees (All-cons (AreSpots name) more [] (tree_of name c.args.item [] (All-nil (AreSpots name))) (All-nil (AreSpots name))))
 
 pub returns-clause-tree : goal.returns-clause-tree
 returns-clause-tree g c = tree_of g.T.TreeItem.name c.self.inside.item c.push.new.self.items (trees_more g c)
 
 pub returns-in-Err-clause-tree : goal.returns-in-Err-clause-tree
 returns-in-Err-clause-tree g c =
-    tree_of g.T.TreeItem.name c.self.inside.item c.push.new.self.items (subst (All (AreSpots g.T.TreeItem.name)) (sym c.in-Err.ensures.items) c.self.invariant.trees)
+    tree_of g.T.TreeItem.name c.self.inside.item c.push.new.self.items (subst (All (AreSpots g.T.TreeItem.name)) (sym c.in-Err.ensures.items) c.self.invariant.0.trees)
 
 pub invariant_of-self-2 : goal.invariant_of-self-2
 invariant_of-self-2 g c =
     let kids = c.self.inside.children.items in
     let more = spots g.T.TreeItem.name c.args.item [] in
     let e : c.push.new.self.items ≡ kids ++ more ∷ [] = c.in-Ok.ensures.items ∙ ap (λ x. kids ++ x ∷ []) c.leaf.ensures in
-    let fewer = kids-lt g.T.TreeItem.name c.self.inside.item kids c.args.self.now c.self.view_is (trees_filled g.T.TreeItem.name kids c.self.invariant.trees) in
+    let fewer = kids-lt g.T.TreeItem.name c.self.inside.item kids c.args.self.now c.self.view_is (trees_filled g.T.TreeItem.name kids c.self.invariant.0.trees) in
     let n = length-append kids (more ∷ []) in
-    let l = ap length e in
-    record {
-      sums = λ m.
-          let s = c.self.invariant.sums m in
-          let a = sum_by-append (first_of (λ x. g.T.TreeItem.stored x m)) kids (more ∷ []) in
-          let b = ap (sum_by (first_of (λ x. g.T.TreeItem.stored x m))) e in
-          let z = c.requires.stored m in
-          omega (arith, s, a, b, z);
-      trees = trees_more g c;
-      few = omega (arith, fewer, n, l, c.requires.few);
-    }
+    let l = ap length e in (
+      record {
+        sums = λ m.
+            let s = c.self.invariant.0.sums m in
+            let a = sum_by-append (first_of (λ x. g.T.TreeItem.stored x m)) kids (more ∷ []) in
+            let b = ap (sum_by (first_of (λ x. g.T.TreeItem.stored x m))) e in
+            let z = c.requires.stored m in
+            omega (arith, s, a, b, z);
+        trees = trees_more g c;
+        few = omega (arith, fewer, n, l, c.requires.few);
+      },
+      λ sorted. absurd (cc sorted),
+    )
 
 pub returns-clause-kept : goal.returns-clause-kept
 returns-clause-kept g c = λ m. ap (λ ss. root_count g.T.TreeItem.stored ss m) c.self.view_is
@@ -63,4 +65,4 @@ pub returns-in-Err-clause-kept : goal.returns-in-Err-clause-kept
 returns-in-Err-clause-kept g c = λ m. ap (λ ss. root_count g.T.TreeItem.stored ss m) c.self.view_is
 
 pub invariant_of-self : goal.invariant_of-self
-invariant_of-self g c = subst (IsBranch g.T.TreeItem.name g.T.TreeItem.stored g.T.TreeItem.own c.self.inside.item) (sym c.in-Err.ensures.items) c.self.invariant
+invariant_of-self g c = (subst (IsBranch g.T.TreeItem.name g.T.TreeItem.stored g.T.TreeItem.own c.self.inside.item) (sym c.in-Err.ensures.items) c.self.invariant.0, λ sorted. absurd (cc sorted))

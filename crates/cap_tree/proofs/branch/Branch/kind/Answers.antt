@@ -6,7 +6,7 @@ use Rattle.cap_tree.proofs.branch.Branch.kind.Goals as goal
 
 pub returns-else-is_empty : goal.returns-else-is_empty
 returns-else-is_empty g c =
-    parent_has_below g.T.TreeItem.name c.self.inside.item c.self.inside.children.items c.args.self.now c.self.view_is (trees_filled g.T.TreeItem.name c.self.inside.children.items c.self.invariant.trees) (grind (arith, nat_tests, c.if-is_empty.false, c.is_empty.ensures))
+    parent_has_below g.T.TreeItem.name c.self.inside.item c.self.inside.children.items c.args.self.now c.self.view_is (trees_filled g.T.TreeItem.name c.self.inside.children.items c.self.invariant.0.trees) (grind (arith, nat_tests, c.if-is_empty.false, c.is_empty.ensures))
 
 pub returns-then-is_empty : goal.returns-then-is_empty
 returns-then-is_empty g c =

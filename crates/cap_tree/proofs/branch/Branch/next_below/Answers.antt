@@ -12,7 +12,7 @@ loop-i-preserved g c =
     let test = g.C.Test.passes c.args.test.now in
     let child = children_at [] value in
     let those = that_pass test child in
-    let order = g.T.Served.order in
+    let order = g.T.TreeItem.order in
     let total = g.met.T.Served.total in
     let k = c.loop-i.i in
     let x = c.top-child.result.now in
@@ -42,6 +42,6 @@ loop-i-preserved g c =
 pub returns : goal.returns
 returns g c =
     let test = g.C.Test.passes c.args.test.now in
-    of_all g.T.Served.order g.met.T.Served.total (that_pass test (children_at [] c.args.self.now)) c.args.after c.loop-i.i c.loop-i.next
+    of_all g.T.TreeItem.order g.met.T.Served.total (that_pass test (children_at [] c.args.self.now)) c.args.after c.loop-i.i c.loop-i.next
     (λ j t. let w = there_within g.T.TreeItem.name c.self.inside.item c.self.inside.children.items c.args.self.now c.self.view_is test j t in omega (arith, w, c.loop-i-test.false))
     c.loop-i.invariant

@@ -7,6 +7,9 @@ use Rattle.cap_tree.proofs.Sizes.{path_fits, row_in_tree}
 use Rattle.cap_tree.proofs.tree.QueueTree.set_limits.Goals as goal
 use Rattle.cap_tree.proofs.tree.QueueTree.set_limits.Goals.{in-Leaf+in-Heap-1, in-Leaf+in-Inline-1, in-Parent+in-Heap-1, in-Parent+in-Inline-1}
 
+pub queues-rows-requires : goal.queues-rows-requires
+queues-rows-requires g c = search row_in_tree
+
 pub set_row-requires : goal.set_row-requires
 set_row-requires g c =
     let listing = subst IsListing (sym c.queues-rows.ensures.rows) c.queues-rows.ensures.listing in

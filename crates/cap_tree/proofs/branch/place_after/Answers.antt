@@ -1,0 +1,34 @@
+use Rattle.std.proofs.Common.{arith, ◌≡◌, ◌∙◌, ◌+◌, ◌-◌, ◌/◌, ◌<◌, false, length, subst, sym, true}
+use Rattle.std.specs.Ordering.{is_lt}
+use Rattle.cap_tree.proofs.Orders.{later_than_middle, not_later_than_middle}
+use Rattle.cap_tree.proofs.branch.place_after.Goals as goal
+
+pub loop-low-preserved-then-is_lt : goal.loop-low-preserved-then-is_lt
+loop-low-preserved-then-is_lt g c =
+    let middle = c.loop-low.low + (c.loop-low.high - c.loop-low.low) / 2 in
+    let test = c.loop-low-test.true in
+    let before = c.loop-low.invariant in
+    let most = before.within in
+    let lt : middle < length c.args.order.now = omega (arith, test, most) in
+    record {
+      within = omega (arith, lt);
+      ordered = omega arith;
+      before = before.before;
+      after = later_than_middle g.T.TreeItem.order g.met.T.Served.total g.T.TreeItem.name g.T.TreeItem.waits c.args.children.now c.args.order.now c.requires middle lt
+          c.args.item.now c.top.result.now c.index-children-order.result c.index-children-order.is c.top.ensures (subst (λ o. is_lt o ≡ true) c.cmp_served.ensures (sym c.is_lt.ensures ∙ c.if-is_lt.true));
+    }
+
+pub loop-low-preserved : goal.loop-low-preserved
+loop-low-preserved g c =
+    let middle = c.loop-low.low + (c.loop-low.high - c.loop-low.low) / 2 in
+    let test = c.loop-low-test.true in
+    let before = c.loop-low.invariant in
+    let most = before.within in
+    let lt : middle < length c.args.order.now = omega (arith, test, most) in
+    record {
+      within = before.within;
+      ordered = omega (arith, test);
+      before = not_later_than_middle g.T.TreeItem.order g.met.T.Served.total g.T.TreeItem.name g.T.TreeItem.waits c.args.children.now c.args.order.now c.requires middle lt
+          c.args.item.now c.top.result.now c.index-children-order.result c.index-children-order.is c.top.ensures (subst (λ o. is_lt o ≡ false) c.cmp_served.ensures (sym c.is_lt.ensures ∙ c.if-is_lt.false));
+      after = before.after;
+    }

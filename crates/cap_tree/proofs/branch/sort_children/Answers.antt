@@ -1,0 +1,30 @@
+use Rattle.std.proofs.Common.{arith, ◌≡◌, ◌∙◌, length, subst, sym, Some}
+use Rattle.cap_tree.specs.Service.{IsOrderOf, IsPlaceAfter, kid_items, that_pass}
+use Rattle.cap_tree.specs.Spot.{HoldsOfItem}
+use Rattle.cap_tree.proofs.Orders.{kid_item, left_out, passing_differ, put_in}
+use Rattle.cap_tree.proofs.Service.{failing, passing}
+use Rattle.cap_tree.proofs.branch.sort_children.Goals.{then-waits+in-Ok, else-waits}
+use Rattle.cap_tree.proofs.branch.sort_children.Goals as goal
+
+pub loop-i-preserved : goal.loop-i-preserved
+loop-i-preserved g c =
+    let order = g.T.TreeItem.order in
+    let waits = g.T.TreeItem.waits in
+    let kids = c.args.children.now in
+    let k = c.loop-i.i in
+    let x = c.top-child.result.now in
+    let child = that_pass waits (kid_items kids) in
+    let is : kid_items kids k ≡ Some x = kid_item g.T.TreeItem.name kids k c.index-children-i.result x c.loop-i-test.true c.index-children-i.is c.top-child.ensures in
+    elim c.if-waits.branch [
+      | then-waits+in-Ok w ↦
+          let place = w.place_after-place.result in
+          let at : child k ≡ Some x = passing waits (kid_items kids) k x is (sym c.waits.ensures ∙ w.if-waits.true) in
+          let put : IsPlaceAfter order child x c.loop-i.order.items place = subst (λ is. IsPlaceAfter order child x is place) w.deref.ensures.value w.place_after-place.ensures in
+          rw (w.order-is, w.in-Ok.ensures.items) (put_in order g.met.T.Served.total child k c.loop-i.order.items c.loop-i.invariant x at (passing_differ order waits (kid_items kids) c.requires.apart) place put)
+      | else-waits w ↦ rw w.order-is (left_out order g.met.T.Served.total child k c.loop-i.order.items c.loop-i.invariant (λ there. subst (HoldsOfItem (λ _. Unit {0})) (failing waits (kid_items kids) k x is (sym c.waits.ensures ∙ w.if-waits.false)) there))
+    ]
+
+pub returns : goal.returns
+returns g c =
+    let all : c.loop-i.i ≡ length c.args.children.now = omega (arith, c.loop-i.auto.i-end, c.loop-i-test.false) in
+    λ room. subst (λ n. IsOrderOf g.T.TreeItem.order (that_pass g.T.TreeItem.waits (kid_items c.args.children.now)) n c.loop-i.order.items) all c.loop-i.invariant
