@@ -4,8 +4,7 @@
 # times as much in the larger. Needs valgrind, a package of most distributions.
 . "$(dirname "${BASH_SOURCE[0]}")/common.sh"
 command -v valgrind >/dev/null || { echo "valgrind is not installed: it is a package of most distributions" >&2; exit 1; }
-(cd "$top/crates/engine_runs" && rt run <stdin >"$work/log" 2>&1) || { tail -n 5 "$work/log" >&2; exit 1; }
-program=$top/crates/engine_runs/out/engine_runs
+build_engine_runs
 
 # instructions of a run of nodes, leaves, applications, grants and ends
 instructions() {

@@ -10,6 +10,12 @@ build_capsched() {
   program=$top/crates/capsched/out/capsched
 }
 
+# builds engine_runs where it isn't built, and runs it
+build_engine_runs() {
+  (cd "$top/crates/engine_runs" && rt run <stdin >"$work/log" 2>&1) || { tail -n 5 "$work/log" >&2; exit 1; }
+  program=$top/crates/engine_runs/out/engine_runs
+}
+
 # runs a command three times: `best` is the least time in milliseconds
 best_of_three() {
   best=
@@ -29,9 +35,10 @@ need_valgrind() {
   command -v valgrind >/dev/null || { echo "valgrind is not installed: it is a package of most distributions" >&2; exit 1; }
 }
 
-# plays the script under callgrind: the instructions that clear and copy memory, of which it counts about one a byte, and all others: `moved` and `other`
+# count WORDS..: runs the program with these words on the script under callgrind: the instructions that clear and copy memory, of which it counts about one a
+# byte, and all others: `moved` and `other`
 count() {
-  valgrind --tool=callgrind --callgrind-out-file="$work/counts" "$program" replay <"$work/script" >"$work/output" 2>"$work/messages" || { tail -n 5 "$work/messages" >&2; exit 1; }
+  valgrind --tool=callgrind --callgrind-out-file="$work/counts" "$program" "$@" <"$work/script" >"$work/output" 2>"$work/messages" || { tail -n 5 "$work/messages" >&2; exit 1; }
   read -r moved other < <(callgrind_annotate --threshold=100 "$work/counts" | awk '
     /^ *[0-9,]+ \(.*\)/ { n = $1; gsub(",", "", n); if (/PROGRAM TOTALS/) total = n; else if (/mem(set|move|cpy)/) moved += n }
     END { print moved + 0, total - moved }')

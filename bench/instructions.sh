@@ -2,11 +2,11 @@
 # Counts the instructions of works by valgrind's callgrind, from the difference of two sizes: a ClusterInfo on one of 16 connections, a heartbeat, an allocate
 # of 20 asks among 256 applications, a queue that is opened from its lines and shown, a Refresh of 1,024 queues; a turn of a worker (it copies, proposes and
 # commits) in a farm of 512 nodes, 64 leaf queues and 256 applications, one of 32 workers that all copy the same state first, one beside 10,000 masters that ask
-# for nothing, one with 1,023 applications in 64 leaf queues and one in as many, one where each leaf queue's user is at the limit, and one where each node holds
-# a reservation and 2,048 asks are open (nothing is admissible in either: it copies and proposes); an application of 10,000 that ends; and a node that
-# registers, among the first 128 and after 4,032 others. Prints them a request, with those that clear and copy memory apart, of which callgrind counts about one
-# a byte; fails where both together are past the bound beside each, or more than so many times another work. Needs valgrind, a package of most distributions.
-# Counts depend a little on the C library and the processor.
+# for nothing, one that begins at a node that holds a reservation, one with 1,023 applications in 64 leaf queues and one in as many, one where each leaf queue's
+# user is at the limit, in the farm and with 1,023 leaf queues, and one where each node holds a reservation and 2,048 asks are open (nothing is admissible in the
+# last three: it copies and proposes); an application of 10,000 that ends; and a node that registers, among the first 128 and after 4,032 others. Prints them
+# a request, with those that clear and copy memory apart, of which callgrind counts about one a byte; fails where both together are past the bound beside each,
+# or more than so many times another work. Needs valgrind, a package of most distributions. Counts depend a little on the C library and the processor.
 . "$(dirname "${BASH_SOURCE[0]}")/common.sh"
 need_valgrind
 build_capsched
@@ -112,6 +112,16 @@ farm() {
       request(sprintf("0101%08x", i) text(leaf) text("u1"))
       request(sprintf("0102%08x%016x", i, i))
     }
+    function ask(i, response, id, count, mb, vcores) {
+      request(sprintf("0103%08x%016x%08x0001%08x%016x%08x%016x%016x", i, i, response, 1, id, count, mb, vcores) "012a0000")
+    }
+    # the first node has a container of the first application, and then keeps all of its room for another
+    function reserve() {
+      ask(1, 0, 1, 1, 1024, 1)
+      print "copy 0\npropose 0 0\ncommit 0"
+      ask(1, 1, 1, 1, 65536, 64)
+      print "copy 0\npropose 0 0\ncommit 0"
+    }
     BEGIN {
       for (i = 32; i < 127; i++) ascii = ascii sprintf("%c", i)
       for (i = 1; i <= queues; i++) leaves = leaves (i > 1 ? "," : "") "q" i
@@ -126,14 +136,15 @@ farm() {
       for (i = 1; i <= nodes; i++) node(i)
       for (i = 1; i <= apps; i++) {
         master(i, "root.q" ((i - 1) % queues + 1))
-        request(sprintf("0103%08x%016x%08x0001%08x%016x%08x%016x%016x", i, i, 0, 1, 0, 9999, 1024, 1) "012a0000")
+        if (i == 1 && work == "reserve") reserve()
+        ask(i, i == 1 && work == "reserve" ? 2 : 0, 0, 9999, 1024, 1)
       }
       for (i = 1; i <= idle; i++) master(apps + i, "root.idle")
       for (i = 0; i < n; i++) {
         if (work == "finish") request(sprintf("0104%08x%016x", i, apps + i + 1))
         if (work == "register") node(nodes + i + 1)
         for (w = 0; w < workers; w++) print "copy " w
-        for (w = 0; w < workers; w++) print "propose " w " " i + w
+        for (w = 0; w < workers; w++) print "propose " w " " (work == "reserve" ? 0 : i + w)
         for (w = 0; w < workers; w++) print "commit " w
       }
     }'
@@ -147,11 +158,16 @@ turn_beside_idle_masters() { farm 512 256 64 10000 "$1" 1; }
 # n turns with 1,023 applications, in 64 leaf queues and in as many as there are applications
 turn_of_1023_applications() { farm 512 1023 64 0 "$1" 1; }
 turn_of_flat_tree() { farm 512 1023 1023 0 "$1" 1; }
-# the farm with little guaranteed, of which each leaf queue's user is at the limit after 192 turns; then n turns that find nothing
-turn_at_limits() {
-  farm 512 256 64 0 192 1 | sed 's/capacity=\[memory=65536,vcores=64\]/capacity=[memory=1024,vcores=1]/; s/user-limit-factor=16/user-limit-factor=3/'
-  for ((i = 0; i < $1; i++)); do printf 'copy 0\npropose 0 %d\n' "$i"; done
+# so many applications in so many leaf queues, of each of which the user may have so many containers, and has them; then n turns that find nothing
+at_limits() {
+  farm 512 "$1" "$2" 0 $(($3 * $2)) 1 | sed "s/capacity=\[memory=65536,vcores=64\]/capacity=[memory=1024,vcores=1]/; s/user-limit-factor=16/user-limit-factor=$3/"
+  for ((i = 0; i < $4; i++)); do printf 'copy 0\npropose 0 %d\n' "$i"; done
 }
+# n turns that find nothing in the farm, and in a flat tree of 1,023 leaf queues
+turn_at_limits() { at_limits 256 64 3 "$1"; }
+turn_of_flat_tree_at_limits() { at_limits 1023 1023 1 "$1"; }
+# n turns of the farm that begin at its first node, which holds a reservation
+turn_at_a_reservation() { farm 512 256 64 0 "$1" 1 reserve; }
 # n applications of 10,000 that end
 finish_master() { farm 0 0 1 10000 "$1" 0 finish; }
 # n nodes, the first ones and after 4,032 others
@@ -200,7 +216,7 @@ declare -A cost
 measure() {
   for size in "$2" $((2 * $2)); do
     "$1" "$size" >"$work/script"
-    count
+    count replay
     [ "$(grep -c "$4" "$work/output")" = "$((size + ${5:-0}))" ] || { echo "$1: not every request is answered with success" >&2; exit 1; }
     if [ "$size" = "$2" ]; then first=("$moved" "$other"); fi
   done
@@ -229,7 +245,9 @@ compare turn_beside_idle_masters turn 1.1
 measure turn_of_1023_applications 64 700000 '^done 0 grant'
 measure turn_of_flat_tree 64 1200000 '^done 0 grant'
 compare turn_of_flat_tree turn_of_1023_applications 3
-measure turn_at_limits 16 800000 '^proposed 0 none'
+measure turn_at_limits 16 400000 '^proposed 0 none'
+measure turn_of_flat_tree_at_limits 8 3000000 '^proposed 0 none'
+measure turn_at_a_reservation 16 250000 '^done 0 grant' 1
 measure finish_master 256 10000 '^out 1 0000000b0104[0-9a-f]\{8\}00'
 measure register_first_nodes 64 10000 '^out 1 0000000f0105[0-9a-f]\{8\}00'
 measure register_last_nodes 64 10000 '^out 1 0000000f0105[0-9a-f]\{8\}00' 3968

@@ -27,7 +27,7 @@ script() {
 counts=()
 for n in 500 1000; do
   script "$n" >"$work/script"
-  count
+  count replay
   [ "$(grep -c '^out 1 0000000f0103[0-9a-f]\{8\}00' "$work/output")" = "$((20 * n))" ] || { echo "an allocate is not answered with success" >&2; exit 1; }
   echo "N=$n: $other instructions, and $moved that clear and copy"
   counts+=($((moved + other)))

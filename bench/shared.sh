@@ -4,8 +4,7 @@
 # or a shared allocate more than 1.3 times as many. Then prints how many of each are made a second without a lock and by 1, 2 and 4 threads, the best of three runs.
 . "$(dirname "${BASH_SOURCE[0]}")/common.sh"
 need_valgrind
-(cd "$top/crates/engine_runs" && rt run <stdin >"$work/log" 2>&1) || { tail -n 5 "$work/log" >&2; exit 1; }
-program=$top/crates/engine_runs/out/engine_runs
+build_engine_runs
 
 # run KIND THREADS CALLS: fails where a call is refused
 run() {

@@ -1,10 +1,12 @@
 #!/usr/bin/env bash
-# Times a snapshot in an arena beside a copy of as many bytes as the snapshot takes there: in a cluster of 512 nodes, 64 leaf queues and 256 applications, each
-# with an ask and two live containers, the best of three runs of 20,000 of each, by the difference to a run of none. Prints both, and fails where a snapshot takes more
-# than 3.5 times as long.
+# What a turn does under the cluster's lock, and before it proposes: in a cluster of 512 nodes, 64 leaf queues and 256 applications, each with an ask and two
+# live containers, it copies the cluster's parts into an arena under the lock, and makes a snapshot of them once the cluster is given back. Times 20,000 of each
+# beside as many copies of the bytes that the parts take there, the best of three runs, by the difference to a run of none; and counts by valgrind's callgrind
+# the instructions of each, with those that clear and copy memory apart. Fails where the copy under the lock takes more than 2.5 times as long as one of its bytes,
+# or more instructions than the bound beside it. Needs valgrind, a package of most distributions.
 . "$(dirname "${BASH_SOURCE[0]}")/common.sh"
-(cd "$top/crates/engine_runs" && rt run <stdin >"$work/log" 2>&1) || { tail -n 5 "$work/log" >&2; exit 1; }
-program=$top/crates/engine_runs/out/engine_runs
+need_valgrind
+build_engine_runs
 cluster=(512 64 256 512 0)
 times=20000
 
@@ -12,12 +14,30 @@ times=20000
 run() { echo "$@" | "$program" >"$work/output"; }
 
 run "${cluster[@]}" 2
-bytes=$(sed 's/.*; \([0-9]*\) bytes a snapshot$/\1/' "$work/output")
+bytes=$(sed 's/.*; \([0-9]*\) bytes a copy$/\1/' "$work/output")
 best_of_three run "${cluster[@]}" 0
 none=$best
 best_of_three run "${cluster[@]}" "$times"
-snapshot=$((best - none))
+parts=$((best - none))
+best_of_three run "${cluster[@]}" "$times" 0 0 "$times"
+snapshots=$((best - none))
 best_of_three run "${cluster[@]}" 0 "$times" "$bytes"
-copy=$((best - none))
-echo "$times snapshots of $bytes bytes: $snapshot ms; as many copies of the bytes: $copy ms"
-ratio "$copy" "$snapshot" 3.5
+copies=$((best - none))
+echo "$times copies of the parts, of $bytes bytes: $parts ms; with their snapshots: $snapshots ms; as many copies of the bytes: $copies ms"
+
+# measure SNAPSHOTS: what a copy of the parts costs by the difference of 200 and 100, with snapshots of all or of none
+measure() {
+  for size in 100 200; do
+    echo "${cluster[*]} $size 0 0 $(($1 * size))" >"$work/script"
+    count
+    if [ "$size" = 100 ]; then first=("$moved" "$other"); fi
+  done
+  moved=$(((moved - first[0]) / 100)) other=$(((other - first[1]) / 100))
+}
+measure 0
+locked=$((moved + other))
+echo "under the lock: $other instructions, and $moved that clear and copy (together at most 200000)"
+measure 1
+echo "with the snapshot: $other instructions, and $moved that clear and copy"
+ratio "$copies" "$parts" 2.5
+[ "$locked" -le 200000 ]

@@ -25,12 +25,6 @@ reservation_by_nodes n fits = let whole = container_fits n fits in omega (arith,
 pub nodes_of_few : (n : ℕ) → n ≤ resources_max → FitsInMemory (nodes.the_row (param 0 (number n)))
 nodes_of_few n few = fits_of_few n few
 
-pub seen_node_of_few : (n : ℕ) → n ≤ resources_max → FitsInMemory (seen_node.the_row (param 0 (number n)))
-seen_node_of_few n few = omega (arith, few)
-
-pub ask_of_few : (n : ℕ) → n ≤ resources_max → FitsInMemory (ask.the_row (param 0 (number n)))
-ask_of_few n few = omega (arith, few)
-
 pub reservation_of_few : (n : ℕ) → n ≤ resources_max → FitsInMemory (reservation.the_row (param 0 (number n)))
 reservation_of_few n few = omega (arith, few)
 
@@ -48,7 +42,3 @@ amounts_in_snapshot K MAX A alloc = part_fits (layout (snapshot.the_row K A allo
 
 pub tree_in_copy : (K A : RattleType) (alloc : Ghosts A.Denot) → FitsInMemory (copied.the_row K A alloc) → FitsInMemory (seen_tree.the_row K A alloc)
 tree_in_copy K A alloc = part_fits (layout (copied.the_row K A alloc)) (0 ∷ [])
-
--- and so is a queue of its tree
-pub queue_in_snapshot : (K A : RattleType) (alloc : Ghosts A.Denot) → FitsInMemory (snapshot.the_row K A alloc) → size (part (layout (snapshot.the_row K A alloc)) (0 ∷ 0 ∷ 0 ∷ [])) < 2 ^ 63
-queue_in_snapshot K A alloc = part_fits (layout (snapshot.the_row K A alloc)) (0 ∷ 0 ∷ 0 ∷ [])

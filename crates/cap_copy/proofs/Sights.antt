@@ -288,9 +288,6 @@ module _ (K : ℕ) (parts : Parts) (waiting : List HeldApp) (skips : List ℕ) (
         apart = λ i j b d h e f. rising_apart (λ (r : AskRange). r.app) 1 ranges apps.next i j b d (subst (λ ns. IsRising 1 ns apps.next) (sym (same ∙ numbers_are copied.apps_are)) rising) e f h;
       }
 
-    pub is_of_parts : IsSnapshotOf K rows apps nodes taken
-    is_of_parts = record { rows = refl; sight = refl; numbers = copied.numbers }
-
 -- no more wait than are active
 pub few_waiting : (active : List App) (waiting : List HeldApp) (most : ℕ) → map (λ r. r.app) waiting ≡ waiting_of active → length active ≤ most → length waiting ≤ most
 few_waiting active waiting most e h =

@@ -30,6 +30,9 @@ before_end turn count n h e some = (omega (arith, h, e, some), omega (arith, h, 
 pub last_turn : (turn end : ℕ) → turn ≤ end → end ≤ turn → turn ≡ end
 last_turn turn end h g = omega (arith, h, g)
 
+pub ring_begins : (first count : ℕ) → first < count → first ≡ ring_index first 0 count
+ring_begins first count h = let test : nat_lt 0 (count - first) ≡ true = grind (arith, nat_tests, h) in sym (ap (λ b. cond b (first + 0) (0 - (count - first))) test)
+
 module _ (K : ℕ) (seen : Seen) (first : ℕ) where
   -- fewer nodes
   pub fewer : (e : AskEntry) (m n : ℕ) → m ≤ n → IsPassed K seen first n e → IsPassed K seen first m e

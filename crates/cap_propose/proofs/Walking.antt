@@ -10,15 +10,19 @@ use Rattle.std.proofs.lemmas.Grind.{flat_map-append}
 use Rattle.cap_base.proofs.lists.Members.{IsIn, each_of, in_either, in_right}
 use Rattle.cap_copy.specs.AskEntry.{AskEntry}
 use Rattle.cap_copy.specs.declared.ranges.AskRange.{AskRange}
-use Rattle.cap_copy.specs.Snapshot.{IsNextAfter, IsSnapshot, IsUpTo, Seen, asks_between, asks_nth, asks_served}
+use Rattle.cap_copy.specs.Snapshot.{IsNextAfter, IsSkip, IsSnapshot, IsUpTo, Seen, asks_between, asks_nth, asks_served}
 use Rattle.cap_propose.specs.declared.choice.Taker.{Taker}
 use Rattle.cap_propose.specs.Proposing.{ArePassed, IsNearer, IsNearest, IsOpen, IsPassed, TakesAt}
-use Rattle.cap_propose.proofs.Passing.{at_most, chosen_there, fewer}
+use Rattle.cap_propose.proofs.Passing.{at_most, chosen_there, fewer, held_more, ring_begins}
 
 module _ (K : ℕ) (seen : Seen) (first : ℕ) where
-  -- no node comes before the first of the ring
-  pub nothing_nearer : (asks all : List AskEntry) (t : Taker) → t.turn ≡ 0 → IsNearest K seen first asks t → IsNearest K seen first all t
-  nothing_nearer asks all t none near = record { passed = λ e m turn node h. absurd (omega (arith, h, none)); chosen = near.chosen }
+  -- the first nodes of the ring hold reservations
+  module _ (least : ℕ) (within : first < length seen.nodes) (held : IsSkip seen.nodes first least) where
+    pub nothing_nearer : (asks all : List AskEntry) (t : Taker) → t.turn ≤ least → IsNearest K seen first asks t → IsNearest K seen first all t
+    nothing_nearer asks all t few near = record {
+      passed = λ e m. held_more K seen first e 0 t.turn first (length seen.nodes) least refl (ring_begins first (length seen.nodes) within) held few (λ turn node h. absurd (omega (arith, h)));
+      chosen = near.chosen;
+    }
 
   -- asks, and then others
   pub and_then : (xs ys : List AskEntry) (a b c : Taker) → IsNearer K seen first xs a b → IsNearer K seen first ys b c → IsNearer K seen first (xs ++ ys) a c
@@ -75,14 +79,14 @@ module _ (K : ℕ) (seen : Seen) (first : ℕ) where
     pub none_left : range.end ≡ i → IsNearer K seen first (asks_nth seen app) old t
     none_left end = subst (λ asks. IsNearer K seen first asks old t) (sym (asks_are ∙ ap (λ n. asks_between range.start n seen.asks) end)) near
 
-    pub all_nearer : i ≤ range.end → t.turn ≡ 0 → IsNearer K seen first (asks_nth seen app) old t
-    all_nearer to none =
+    pub all_nearer : (least : ℕ) → first < length seen.nodes → IsSkip seen.nodes first least → i ≤ range.end → t.turn ≤ least → IsNearer K seen first (asks_nth seen app) old t
+    all_nearer least within held to few =
         let rest = take (range.end - i) (drop (i - range.start) (drop range.start seen.asks)) in
         let n : range.end - range.start ≡ i - range.start + (range.end - i) = omega (arith, from, to) in
         let parts : asks_between range.start range.end seen.asks ≡ asks_between range.start i seen.asks ++ rest =
         ap (λ n. take n (drop range.start seen.asks)) n ∙ take-add (i - range.start) (range.end - i) (drop range.start seen.asks) in
         subst (λ asks. IsNearer K seen first asks old t) (sym (asks_are ∙ parts))
-        (and_then (asks_between range.start i seen.asks) rest old t t near (λ before after is here. nothing_nearer before (before ++ rest) t none here))
+        (and_then (asks_between range.start i seen.asks) rest old t t near (λ before after is here. nothing_nearer least within held before (before ++ rest) t few here))
 
 -- so many applications were walked over, and this is the next
 pub record IsWalked (K : ℕ) (seen : Seen) (first count : ℕ) (next : Option ℕ) (t : Taker) : Type 0 where

@@ -1,7 +1,7 @@
 //! The choice of a proposal, on one node and from a starting node over the ring of all nodes (`propose`).
 ghost use Rattle.std.specs.Prelude.{◌≡◌, ◌<◌, ◌≤◌, Some, length};
 ghost use Rattle.cap_model.specs.Candidates.{choice_from, choice_on};
-ghost use Rattle.cap_copy.specs.Snapshot.{IsAskEntry, IsSnapshot, asks_nth, sight_in};
+ghost use Rattle.cap_copy.specs.Snapshot.{IsAskEntry, IsSkip, IsSnapshot, asks_nth, sight_in};
 ghost use Rattle.cap_propose.specs.Sizes.{SnapshotFitsInMemory};
 ghost use Rattle.cap_propose.specs.Proposing.{IsFirstTaker, IsNearer, IsNearest, IsReservedAsk, IsSeenNode, proposal_by_room, proposal_of, ring_index};
 
@@ -67,7 +67,7 @@ struct Taker {
 
 /// The nearest node that holds no reservation and takes an ask, in the ring from the node at index `first` on. Where there is none,
 /// all nodes come before it, and where each node holds a reservation no ask is looked at. It goes from one application to the next in
-/// the order of service, and no further once the first node of the ring takes an ask.
+/// the order of service, and no further once the first node of the ring that holds no reservation takes an ask.
 fn nearest_taker<const K: usize, B: Allocator + Copy>(
     snapshot: &Snapshot<K, B>,
     first: usize,
@@ -84,13 +84,14 @@ fn nearest_taker<const K: usize, B: Allocator + Copy>(
     if snapshot.skip(0) == nearest.turn {
         return nearest;
     }
+    let least = snapshot.skip(first);
     let mut next = snapshot.first_app();
     for _ in 0..snapshot.app_count() {
         let Some(index) = next else {
             return nearest;
         };
-        nearest = nearer_taker(snapshot, first, index, nearest);
-        if nearest.turn == 0 {
+        nearest = nearer_taker(snapshot, first, least, index, nearest);
+        if nearest.turn <= least {
             return nearest;
         }
         next = snapshot.next_app(index);
@@ -100,16 +101,18 @@ fn nearest_taker<const K: usize, B: Allocator + Copy>(
 
 /// The nearest taker where `nearest` is the one of all asks that are served before those of the application of that index: a node that
 /// takes one of these asks, if one comes before it, and else `nearest`. The limits of an ask are tested once for all nodes, since they
-/// don't depend on the node.
+/// don't depend on the node. The first `least` nodes of the ring hold reservations, so that none of them takes an ask.
 fn nearer_taker<const K: usize, B: Allocator + Copy>(
     snapshot: &Snapshot<K, B>,
     first: usize,
+    least: usize,
     app: u32,
     mut nearest: Taker,
 ) -> Taker
     requires fits { SnapshotFitsInMemory K.row B.row B.Allocator }
     requires whole { IsSnapshot K snapshot.now }
     requires first { first < length snapshot.now.nodes }
+    requires least { IsSkip snapshot.now.nodes first least }
     requires app { app < length snapshot.now.ranges }
     requires within { nearest.turn ≤ length snapshot.now.nodes }
     ensures within { result.turn ≤ length snapshot.now.nodes }
@@ -117,7 +120,7 @@ fn nearer_taker<const K: usize, B: Allocator + Copy>(
 {
     let asks = snapshot.asks_nth(app);
     for index in asks.start..asks.end {
-        if nearest.turn == 0 {
+        if nearest.turn <= least {
             return nearest;
         }
         let ask = snapshot.ask(index);

@@ -10,14 +10,14 @@ use crate::commits::work::run;
 use std::alloc::Global;
 use std::io;
 
-/// Prints what becomes of the grants, ends and snapshots that a line asks for.
+/// Prints what becomes of the grants, ends and copies that a line asks for.
 pub fn print(rt: &impl Print, alloc: Global, line: &str) -> io::Result<()> {
     let Some(size) = read_size(line) else {
-        return println!(rt; "five to eight numbers are wanted");
+        return println!(rt; "five to nine numbers are wanted");
     };
     match run(alloc, &size) {
         Some(done) => println!(rt;
-            "{} granted, {} ended; then {:?}; {} bytes a snapshot",
+            "{} granted, {} ended; then {:?}; {} bytes a copy",
             done.granted, done.ended, done.reasons, done.bytes
         ),
         None => println!(rt; "no memory"),

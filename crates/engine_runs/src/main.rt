@@ -1,8 +1,9 @@
 //! Does what each line of standard input asks for, and prints what comes of it.
 //! Five numbers are nodes, leaf queues, applications, grants and ends: so many grants are made, and then some of their
 //! containers end by heartbeats. It prints how many were made, and what becomes of one more grant, of a reservation
-//! that fits, and of one that never fits. Three more numbers may follow: how many snapshots are then taken in an arena,
-//! one after the other, and how often how many bytes are copied there. It prints how many bytes the last snapshot takes.
+//! that fits, and of one that never fits. Four more numbers may follow: how many times the cluster's parts are then copied
+//! in an arena, one copy after the other; how often how many bytes are copied there; and of how many copies of the parts
+//! snapshots are made. It prints how many bytes the last copy of the parts takes.
 //! The word `info` or `allocate` and two numbers are calls of one kind on one cluster: how many threads make them (0 for
 //! none and no lock), and how many each makes. It prints how many calls were not refused.
 //! The word `echo` and two numbers are a port of 127.0.0.1 and how many connections are accepted there, once `listening`

@@ -2,7 +2,8 @@
 
 use cap_text::number_of;
 
-/// How much there is of what, how many grants and ends are made, how many snapshots are then taken, and how often so many bytes are copied.
+/// How much there is of what, how many grants and ends are made, how many times the cluster's parts are then copied, how often so many bytes
+/// are copied, and of how many copies of the parts snapshots are made.
 #[derive(Clone, Copy)]
 pub struct Size {
     pub nodes: u64,
@@ -10,12 +11,13 @@ pub struct Size {
     pub applications: u64,
     pub grants: u64,
     pub ends: u64,
-    pub snapshots: u64,
+    pub parts: u64,
     pub copies: u64,
     pub bytes: u64,
+    pub snapshots: u64,
 }
 
-/// The size that the numbers of a line say, of which the last three may be left out for 0.
+/// The size that the numbers of a line say, of which the last four may be left out for 0.
 pub fn read_size(line: &str) -> Option<Size> {
     let mut words = line.split(' ');
     let size = Size {
@@ -24,9 +26,10 @@ pub fn read_size(line: &str) -> Option<Size> {
         applications: number(words.next())?,
         grants: number(words.next())?,
         ends: number(words.next())?,
-        snapshots: number_or_0(words.next())?,
+        parts: number_or_0(words.next())?,
         copies: number_or_0(words.next())?,
         bytes: number_or_0(words.next())?,
+        snapshots: number_or_0(words.next())?,
     };
     Some(size)
 }

@@ -1,25 +1,34 @@
-//! Snapshots that are taken one after the other in one arena, and copies of as many bytes.
+//! Copies of a cluster's parts one after the other in one arena, of which snapshots are made or not, and copies of as many bytes.
 
 use bumpalo::Bump;
 use cap_base::RESOURCES;
 use cap_commit::Cluster;
-use cap_copy::Snapshot;
+use cap_copy::ClusterCopy;
 use std::alloc::Global;
 
-/// Takes so many snapshots of the cluster, one after the other in one arena. The result is how many bytes the last one takes there.
-pub fn take_all(alloc: Global, cluster: &Cluster<RESOURCES>, count: u64) -> Option<usize> {
+/// Copies the parts of the cluster so many times, one copy after the other in one arena, and makes snapshots of the first so many. The
+/// result is how many bytes the last copy takes there.
+pub fn take_all(
+    alloc: Global,
+    cluster: &Cluster<RESOURCES>,
+    copies: u64,
+    snapshots: u64,
+) -> Option<usize> {
     let mut arena = Bump::new(alloc);
     let mut bytes = 0;
-    for _ in 0..count {
-        bytes = take(&arena, cluster)?;
+    for copy in 0..copies {
+        bytes = take(&arena, cluster, copy < snapshots)?;
         arena.reset().ok()?;
     }
     Some(bytes)
 }
 
-/// Takes a snapshot in the arena. The result is how many bytes the arena then holds.
-fn take(arena: &Bump, cluster: &Cluster<RESOURCES>) -> Option<usize> {
-    let _snapshot = Snapshot::take(arena, cluster.tree(), cluster.apps(), cluster.nodes()).ok()?;
+/// Copies the parts of the cluster in the arena, and makes the snapshot of them or not. The result is how many bytes the arena then holds.
+fn take(arena: &Bump, cluster: &Cluster<RESOURCES>, is_arranged: bool) -> Option<usize> {
+    let copied = ClusterCopy::take(arena, cluster.tree(), cluster.apps(), cluster.nodes()).ok()?;
+    if is_arranged {
+        let _snapshot = copied.arrange();
+    }
     Some(
         arena
             .allocated_bytes()

@@ -11,7 +11,7 @@ use cap_vector::Resource;
 use std::alloc::Global;
 
 /// What was made: how many grants and ends, why one more grant, a reservation that fits and one that never fits are rejected, and how
-/// many bytes the last snapshot took.
+/// many bytes the last copy of the cluster's parts took.
 #[derive(Clone, Copy)]
 pub struct Done {
     pub granted: u64,
@@ -34,7 +34,7 @@ fn work(alloc: Global, cluster: &mut Cluster<RESOURCES>, size: &Size) -> Option<
     let granted = grant_all(cluster, size)?;
     end_all(alloc, cluster, size)?;
     let live = cluster.nodes().live_count() as u64;
-    let bytes = take_all(alloc, cluster, size.snapshots)?;
+    let bytes = take_all(alloc, cluster, size.parts, size.snapshots)?;
     copy_all(alloc, size.bytes as usize, size.copies)?;
     Some(Done {
         granted,

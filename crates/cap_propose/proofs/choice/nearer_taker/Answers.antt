@@ -12,11 +12,11 @@ asks_nth-asks-requires g c = (c.requires.fits.snapshot, c.requires.app)
 pub loop-index-init : goal.loop-index-init
 loop-index-init g c = (c.requires.within, no_asks g.row.K c.args.snapshot.now c.args.first c.asks_nth-asks.result.start c.args.nearest)
 
-pub returns-then-nearest-eq0-clause-nearer : goal.returns-then-nearest-eq0-clause-nearer
-returns-then-nearest-eq0-clause-nearer g c =
+pub returns-then-nearest-least-clause-nearer : goal.returns-then-nearest-least-clause-nearer
+returns-then-nearest-least-clause-nearer g c =
     let ends = c.requires.whole.ranges.ends c.args.app c.asks_nth-asks.result c.asks_nth-asks.ensures in
     all_nearer g.row.K c.args.snapshot.now c.args.first c.args.app c.asks_nth-asks.result c.asks_nth-asks.ensures c.loop-index.index c.loop-index.auto.index c.args.nearest c.loop-index.nearest c.loop-index.invariant.1
-    (c.loop-index.auto.index-end ends.0) c.if-nearest-eq0.true
+    c.args.least c.requires.first c.requires.least (c.loop-index.auto.index-end ends.0) c.if-nearest-least.true
 
 pub ask-ask-requires : goal.ask-ask-requires
 ask-ask-requires g c =

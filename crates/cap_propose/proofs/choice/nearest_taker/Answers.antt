@@ -28,6 +28,9 @@ loop-init g c =
 pub returns-in_default-clause-nearest : goal.returns-in_default-clause-nearest
 returns-in_default-clause-nearest g c = no_next g.row.K c.args.snapshot.now c.args.first c.node_count.ensures.whole c.loop.counter c.loop.next c.loop.nearest c.loop.invariant.1 c.in_default.is
 
+pub skip-least-requires : goal.skip-least-requires
+skip-least-requires g c = (c.requires.fits.snapshot, c.requires.first)
+
 pub nearer_taker-nearest-requires : goal.nearer_taker-nearest-requires
 nearer_taker-nearest-requires g c = (
   c.requires.fits.snapshot,
@@ -37,15 +40,15 @@ nearer_taker-nearest-requires g c = (
       c.node_count.ensures.whole,
       (
         c.requires.first,
-        (next_within g.row.K c.args.snapshot.now c.args.first c.node_count.ensures.whole c.loop.counter c.loop.next c.loop.nearest c.loop.invariant.1 c.in-Some.index c.in-Some.is, c.loop.invariant.0),
+        (c.skip-least.ensures, (next_within g.row.K c.args.snapshot.now c.args.first c.node_count.ensures.whole c.loop.counter c.loop.next c.loop.nearest c.loop.invariant.1 c.in-Some.index c.in-Some.is, c.loop.invariant.0)),
       ),
     ),
   ),
 )
 
-pub returns-then-nearest-eq0-clause-nearest : goal.returns-then-nearest-eq0-clause-nearest
-returns-then-nearest-eq0-clause-nearest g c =
-    nothing_nearer g.row.K c.args.snapshot.now c.args.first _ c.args.snapshot.now.asks c.nearer_taker-nearest.result c.if-nearest-eq0.true
+pub returns-then-nearest-least-clause-nearest : goal.returns-then-nearest-least-clause-nearest
+returns-then-nearest-least-clause-nearest g c =
+    nothing_nearer g.row.K c.args.snapshot.now c.args.first c.skip-least.result c.requires.first c.skip-least.ensures _ c.args.snapshot.now.asks c.nearer_taker-nearest.result c.if-nearest-least.true
     (with_next g.row.K c.args.snapshot.now c.args.first c.node_count.ensures.whole c.loop.counter c.loop.next c.loop.nearest c.loop.invariant.1 c.in-Some.index c.in-Some.is c.nearer_taker-nearest.result
     c.nearer_taker-nearest.ensures.nearer)
 
