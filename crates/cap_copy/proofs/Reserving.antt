@@ -118,31 +118,3 @@ module _ (r : Reservation) (start end : ℕ) (old : List AskEntry) (inside : Are
           own : (b : Bool) → nat_lt j n ≡ b → cond b (beside_one r e) e ≡ beside_one r e
           own true t = refl
           own false t = sym (not_for r e (λ same. let i = inside j e there same in let s = i.1 in absurd (grind (arith, nat_tests, t, s, past))))
-
--- and one more
-pub taken_more : (r : Reservation) (old now : List AskEntry) (n : ℕ) (e f : AskEntry) → IsTakenTo r old n now → slice_get now n ≡ Some e → f ≡ beside_one r e → IsTakenTo r old (n + 1) (set now n f)
-taken_more r old now n e f is at f_is j = by (j == n) refl
-  where
-    here : (slice_get old n) ≡ Some e
-    here = own (slice_get old n) (sym (is n) ∙ at)
-      where
-        own : (o : Option AskEntry) → option_map (λ x. cond (nat_lt n n) (beside_one r x) x) o ≡ Some e → o ≡ Some e
-        own None h = absurd (cc h)
-        own (Some x) h = let t : nat_lt n n ≡ false = grind (arith, nat_tests) in sym (ap (λ b. Some (cond b (beside_one r x) x)) t) ∙ h
-
-    by : (b : Bool) → (j == n) ≡ b → slice_get (set now n f) j ≡ option_map (λ x. cond (nat_lt j (n + 1)) (beside_one r x) x) (slice_get old j)
-    by true t =
-        let same : j ≡ n = eqb-true j n t in
-        let less : nat_lt n (n + 1) ≡ true = grind (arith, nat_tests) in
-        subst (λ k. slice_get (set now n f) k ≡ option_map (λ x. cond (nat_lt k (n + 1)) (beside_one r x) x) (slice_get old k)) (sym same)
-        (set_here now n f e at ∙ ap (λ x. Some x) f_is ∙ (λ k. Some (cond (sym less k) (beside_one r e) e)) ∙ sym (ap (option_map (λ x. cond (nat_lt n (n + 1)) (beside_one r x) x)) here))
-    by false t =
-        let other : j ≡ n → ⊥ = (λ same. let u = eq-eqb j n same in absurd (cc (t, u))) in
-        let tests : nat_lt j n ≡ nat_lt j (n + 1) = less_more (nat_lt j n) (nat_lt j (n + 1)) refl refl other in
-        set_other now n j f other ∙ is j ∙ (λ k. option_map (λ x. cond (tests k) (beside_one r x) x) (slice_get old j))
-      where
-        less_more : (a b : Bool) → nat_lt j n ≡ a → nat_lt j (n + 1) ≡ b → (j ≡ n → ⊥) → a ≡ b
-        less_more true true u v o = refl
-        less_more false false u v o = refl
-        less_more true false u v o = absurd (grind (arith, nat_tests, u, v))
-        less_more false true u v o = let same : j ≡ n = grind (arith, nat_tests, u, v) in absurd (o same)

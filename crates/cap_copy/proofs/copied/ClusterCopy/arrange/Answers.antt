@@ -2,6 +2,7 @@ use Rattle.std.proofs.Common.{◌≤◌, List, length, map, subst, sym, ap, arit
 use Rattle.std.specs.List.{All}
 use Rattle.cap_base.specs.Limits.{applications_max}
 use Rattle.cap_model.specs.Sight.{NodeSight}
+use Rattle.cap_tree.specs.Seen.{SeenRows}
 use Rattle.cap_tree.specs.Spot.{IsPosition}
 use Rattle.cap_base.proofs.lists.Filters.{map_twice}
 use Rattle.cap_copy.specs.declared.ranges.AskRange.{AskRange}
@@ -39,6 +40,9 @@ note_waiting-requires g c =
       ),
     )
 
+pub sort-requires : goal.sort-requires
+sort-requires g c = search tree_in_copy
+
 pub take_reserved-requires : goal.take_reserved-requires
 take_reserved-requires g c =
     let copy = c.self.invariant.copied in
@@ -69,19 +73,21 @@ pub invariant_of-result : goal.invariant_of-result
 invariant_of-result g c =
     let inside = c.self.inside in
     let parts : Parts = record { rows = inside.tree.rows; apps = held_apps_in inside.sources.items; nodes = nodes_in inside.sources.items } in
-    let waits = c.note_waiting.ensures.waiting ∙ ap (map (λ (a : SeenApp). a.held.account.position)) c.deref.ensures.value in
+    let rows = ap (λ (t : SeenRows). t.rows) c.sort.ensures ∙ c.note_waiting.ensures.rows in
+    let waits = ap (λ (t : SeenRows). t.waiting) c.sort.ensures ∙ c.note_waiting.ensures.waiting ∙ ap (map (λ (a : SeenApp). a.held.account.position)) c.deref.ensures.value in
     let wanted = c.take_reserved.ensures ∙ ap (λ (ns : List NodeSight). map (beside ns) inside.asks.items) c.deref-3.ensures.value in
     let skips = subst (λ (ns : List NodeSight). AreSkips ns c.set_skips.new.skips.items) c.deref-4.ensures.value c.set_skips.ensures in
-    is_stored g.row.K parts inside.apps.items inside.asks.items c.take_reserved.new.asks.items inside.nodes.items c.set_skips.new.skips.items inside.live inside.next_container c.self.invariant.copied c.self.invariant.rows_are c.note_waiting.new.tree
-    c.note_waiting.ensures.rows waits wanted skips
+    is_stored g.row.K parts inside.apps.items inside.asks.items c.take_reserved.new.asks.items inside.nodes.items c.set_skips.new.skips.items inside.live inside.next_container c.self.invariant.copied c.self.invariant.rows_are c.sort.new.self
+    rows waits wanted skips
 
 pub returns : goal.returns
 returns g c =
     let inside = c.self.inside in
     let parts : Parts = record { rows = inside.tree.rows; apps = held_apps_in inside.sources.items; nodes = nodes_in inside.sources.items } in
-    let waits = c.note_waiting.ensures.waiting ∙ ap (map (λ (a : SeenApp). a.held.account.position)) c.deref.ensures.value in
+    let rows = ap (λ (t : SeenRows). t.rows) c.sort.ensures ∙ c.note_waiting.ensures.rows in
+    let waits = ap (λ (t : SeenRows). t.waiting) c.sort.ensures ∙ c.note_waiting.ensures.waiting ∙ ap (map (λ (a : SeenApp). a.held.account.position)) c.deref.ensures.value in
     let wanted = c.take_reserved.ensures ∙ ap (λ (ns : List NodeSight). map (beside ns) inside.asks.items) c.deref-3.ensures.value in
     let skips = subst (λ (ns : List NodeSight). AreSkips ns c.set_skips.new.skips.items) c.deref-4.ensures.value c.set_skips.ensures in
     rw (← c.self.view_is)
     (made_of_parts g.row.K parts inside.apps.items inside.asks.items c.take_reserved.new.asks.items inside.nodes.items c.set_skips.new.skips.items inside.live inside.next_container c.self.invariant.copied c.self.invariant.rows_are
-    c.note_waiting.new.tree c.note_waiting.ensures.rows waits wanted skips)
+    c.sort.new.self rows waits wanted skips)
