@@ -62,6 +62,12 @@ queue_fits K A alloc = part_fits (layout (tree.the_row K A alloc)) (0 ∷ 0 ∷ 
 pub seen_fits : (K A : RattleType) (alloc : Ghosts A.Denot) → FitsInMemory (seen_tree.the_row K A alloc) → FitsInMemory (seen_queue.the_row K A alloc)
 seen_fits K A alloc = part_fits (layout (seen_tree.the_row K A alloc)) (0 ∷ 0 ∷ [])
 
+pub amounts_in_seen : (K MAX A : RattleType) (alloc : Ghosts A.Denot) → FitsInMemory (seen_queue.the_row K A alloc) → FitsInMemory (amounts.the_row K MAX)
+amounts_in_seen K MAX A alloc = part_fits (layout (seen_queue.the_row K A alloc)) (1 ∷ [])
+
+pub shares_in_seen : (K A : RattleType) (alloc : Ghosts A.Denot) → FitsInMemory (seen_queue.the_row K A alloc) → FitsInMemory (shares.the_row K)
+shares_in_seen K A alloc = part_fits (layout (seen_queue.the_row K A alloc)) (5 ∷ [])
+
 pub count_fits : (K MAX A : RattleType) (alloc : Ghosts A.Denot) → FitsInMemory (tree.the_row K A alloc) → FitsInMemory (count.the_row K MAX)
 count_fits K MAX A alloc = part_fits (layout (tree.the_row K A alloc)) (0 ∷ 0 ∷ 5 ∷ [])
 

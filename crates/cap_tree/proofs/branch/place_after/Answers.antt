@@ -1,6 +1,6 @@
 use Rattle.std.proofs.Common.{arith, ◌≡◌, ◌∙◌, ◌+◌, ◌-◌, ◌/◌, ◌<◌, false, length, subst, sym, true}
 use Rattle.std.specs.Ordering.{is_lt}
-use Rattle.cap_tree.proofs.Orders.{later_than_middle, not_later_than_middle}
+use Rattle.cap_tree.proofs.Orders.{entry_within, later_than_middle, not_later_than_middle}
 use Rattle.cap_tree.proofs.branch.place_after.Goals as goal
 
 pub loop-low-preserved-then-is_lt : goal.loop-low-preserved-then-is_lt
@@ -31,4 +31,21 @@ loop-low-preserved g c =
       before = not_later_than_middle g.T.TreeItem.order g.met.T.Served.total g.T.TreeItem.name g.T.TreeItem.waits c.args.children.now c.args.order.now c.requires middle lt
           c.args.item.now c.top.result.now c.index-children-order.result c.index-children-order.is c.top.ensures (subst (λ o. is_lt o ≡ false) c.cmp_served.ensures (sym c.is_lt.ensures ∙ c.if-is_lt.false));
       after = before.after;
+    }
+
+pub bounds-children-order : goal.bounds-children-order
+bounds-children-order g c =
+    let most = c.loop-low.invariant.within in
+    let test = c.loop-low-test.true in
+    entry_within g.T.TreeItem.order g.met.T.Served.total g.T.TreeItem.name g.T.TreeItem.waits c.args.children.now c.args.order.now c.requires (c.loop-low.low + (c.loop-low.high - c.loop-low.low) / 2) (omega (arith, test, most))
+
+pub returns : goal.returns
+returns g c =
+    let test = c.loop-low-test.false in
+    let within = c.loop-low.invariant.within in
+    let ordered = c.loop-low.invariant.ordered in
+    record {
+      within = omega (arith, ordered, within);
+      before = c.loop-low.invariant.before;
+      after = λ a le lt. c.loop-low.invariant.after a (omega (arith, test, le)) lt;
     }

@@ -66,3 +66,6 @@ returns-in-Err-clause-kept g c = λ m. ap (λ ss. root_count g.T.TreeItem.stored
 
 pub invariant_of-self : goal.invariant_of-self
 invariant_of-self g c = (subst (IsBranch g.T.TreeItem.name g.T.TreeItem.stored g.T.TreeItem.own c.self.inside.item) (sym c.in-Err.ensures.items) c.self.invariant.0, λ sorted. absurd (cc sorted))
+
+pub leaf-requires : goal.leaf-requires
+leaf-requires g c = λ m. c.requires.stored m ∙ sym (c.requires.own m)

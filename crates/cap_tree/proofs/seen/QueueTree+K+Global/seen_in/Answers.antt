@@ -1,4 +1,4 @@
-use Rattle.std.proofs.Common.{ap, ◌∙◌, map, subst, sym}
+use Rattle.std.proofs.Common.{arith, ap, ◌∙◌, map, subst, sym}
 use Rattle.cap_tree.specs.Seen.{IsSeenTree}
 use Rattle.cap_tree.proofs.Sizes.{seen_fits}
 use Rattle.cap_tree.proofs.Waits.{none_waits, rows_copied}
@@ -20,3 +20,6 @@ invariant_of-result g c =
 
 pub returns-in-Ok-copy_in-clause-rows : goal.returns-in-Ok-copy_in-clause-rows
 returns-in-Ok-copy_in-clause-rows g c = rows_copied c.self.inside.root c.in-Ok-copy_in.root c.in-Ok-copy_in.ensures ∙ c.self.view_is
+
+pub returns-in-Ok-copy_in-clause-room : goal.returns-in-Ok-copy_in-clause-room
+returns-in-Ok-copy_in-clause-room g c = let room = c.in-Ok.ensures.capacity in omega (arith, room)

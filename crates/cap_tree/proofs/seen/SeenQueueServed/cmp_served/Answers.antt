@@ -7,6 +7,7 @@ use Rattle.cap_vector.specs.Fullness.{shares, shares_cmp}
 use Rattle.cap_base.proofs.Levels.{shares_cmp_total}
 use Rattle.cap_tree.specs.Queue.{Queue}
 use Rattle.cap_tree.specs.Seen.{SeenQueue}
+use Rattle.cap_tree.proofs.Sizes.{amounts_in_seen, shares_in_seen}
 use Rattle.cap_tree.proofs.seen.SeenQueueServed.cmp_served.Goals as goal
 
 pub returns-then-eq-2 : goal.returns-then-eq-2
@@ -21,3 +22,12 @@ returns-then-eq-2 g c =
     let guaranteed : p.guaranteed ≡ q.guaranteed = sym (own.guaranteed_is ∙ ap (λ (r : SeenQueue). r.queue.guaranteed) c.self.view_is) ∙ same_guaranteed ∙ others.guaranteed_is ∙ ap (λ (r : SeenQueue). r.queue.guaranteed) c.other.view_is in
     let tied = sym (tied_itself shares_cmp_total (shares p.used p.guaranteed)) ∙ (λ i. shares_cmp (shares p.used p.guaranteed) (shares (used i) (guaranteed i))) in
     c.cmp_name.ensures ∙ ap (λ o. ordering_then o (slice_cmp nat_cmp p.name q.name)) tied
+
+pub eq-requires : goal.eq-requires
+eq-requires g c = search amounts_in_seen
+
+pub eq-requires-then-eq : goal.eq-requires-then-eq
+eq-requires-then-eq g c = search amounts_in_seen
+
+pub cmp_shares-order-requires : goal.cmp_shares-order-requires
+cmp_shares-order-requires g c = search shares_in_seen

@@ -96,3 +96,11 @@ invariant_of-self g c =
     let mark : c.len.result + 1 ≡ length waiting + 1 = (let m = c.self.invariant.many in let l = c.len.ensures in omega (arith, m, l)) in
     subst (λ ps. IsSeenTree c.change.new.self ps c.push_reserved.new.self.items) (sym (waiting_is g c))
     (one_more c.self.inside.root waiting c.self.inside.links.items c.self.invariant c.args.path.now.items (there g c) (c.len.result + 1) mark c.change.new.self c.push_reserved.new.self.items (changed_is g c) (links_are g c))
+
+pub overflow_cast-mark : goal.overflow_cast-mark
+overflow_cast-mark g c =
+    let many = c.self.invariant.many in
+    let few = rw (← c.self.view_is) at c.requires.few in
+    let l = c.len.ensures in
+    let items = c.self.inside.links.ok.0 in
+    omega (arith, many, few, l, items)
