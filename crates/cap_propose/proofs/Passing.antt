@@ -31,7 +31,10 @@ pub last_turn : (turn end : ℕ) → turn ≤ end → end ≤ turn → turn ≡ 
 last_turn turn end h g = omega (arith, h, g)
 
 pub ring_begins : (first count : ℕ) → first < count → first ≡ ring_index first 0 count
-ring_begins first count h = let test : nat_lt 0 (count - first) ≡ true = grind (arith, nat_tests, h) in sym (ap (λ b. cond b (first + 0) (0 - (count - first))) test)
+ring_begins first count h =
+    let test : nat_lt 0 (count - first) ≡ true = grind (arith, nat_tests, h) in
+    let same : first ≡ first + 0 = omega arith in
+    same ∙ ap (λ b. cond b (first + 0) (0 - (count - first))) (sym test)
 
 module _ (K : ℕ) (seen : Seen) (first : ℕ) where
   -- fewer nodes

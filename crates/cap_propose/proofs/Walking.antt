@@ -20,7 +20,8 @@ module _ (K : ℕ) (seen : Seen) (first : ℕ) where
   module _ (least : ℕ) (within : first < length seen.nodes) (held : IsSkip seen.nodes first least) where
     pub nothing_nearer : (asks all : List AskEntry) (t : Taker) → t.turn ≤ least → IsNearest K seen first asks t → IsNearest K seen first all t
     nothing_nearer asks all t few near = record {
-      passed = λ e m. held_more K seen first e 0 t.turn first (length seen.nodes) least refl (ring_begins first (length seen.nodes) within) held few (λ turn node h. absurd (omega (arith, h)));
+      passed = λ e m. subst (λ n. IsPassed K seen first n e) (let none : 0 + t.turn ≡ t.turn = omega arith in none)
+          (held_more K seen first e 0 t.turn first (length seen.nodes) least refl (ring_begins first (length seen.nodes) within) held few (λ turn node h. absurd (omega (arith, h))));
       chosen = near.chosen;
     }
 
