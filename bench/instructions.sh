@@ -236,14 +236,14 @@ measure heartbeat 2000 4000 '^out 1 000000110106[0-9a-f]\{8\}00'
 measure allocate 1024 45000 '^out 1 0000000f0103[0-9a-f]\{8\}00'
 measure queue 480 40000 '^out 1 000000[0-9a-f]\{2\}0108[0-9a-f]\{8\}00'
 measure refresh 8 30000000 '^out 1 00000007010b[0-9a-f]\{8\}00'
-measure turn 512 220000 '^done 0 grant'
-measure turn_of_32 512 220000 '^done [0-9]* grant'
+measure turn 512 240000 '^done 0 grant'
+measure turn_of_32 512 240000 '^done [0-9]* grant'
 measure turn_of_full_farm 64 550000 '^proposed 0 none'
 compare turn_of_full_farm turn 3
 measure turn_beside_idle_masters 64 250000 '^done 0 grant'
 compare turn_beside_idle_masters turn 1.1
 measure turn_of_1023_applications 64 700000 '^done 0 grant'
-measure turn_of_flat_tree 64 1200000 '^done 0 grant'
+measure turn_of_flat_tree 64 1700000 '^done 0 grant'
 compare turn_of_flat_tree turn_of_1023_applications 3
 measure turn_at_limits 16 400000 '^proposed 0 none'
 measure turn_of_flat_tree_at_limits 8 3000000 '^proposed 0 none'
