@@ -3,7 +3,7 @@
 # live containers, it copies the cluster's parts into an arena under the lock, and makes a snapshot of them once the cluster is given back. Times 20,000 of each
 # beside as many copies of the bytes that the parts take there, the best of three runs, by the difference to a run of none; and counts by valgrind's callgrind
 # the instructions of each, with those that clear and copy memory apart. Fails where the copy under the lock takes more than 2.5 times as long as one of its bytes,
-# or more instructions than the bound beside it. Needs valgrind, a package of most distributions.
+# or more instructions than the bound beside it, and where the snapshot takes memory. Needs valgrind, a package of most distributions.
 . "$(dirname "${BASH_SOURCE[0]}")/common.sh"
 need_valgrind
 build_engine_runs
@@ -13,8 +13,11 @@ times=20000
 # runs the program on the numbers
 run() { echo "$@" | "$program" >"$work/output"; }
 
-run "${cluster[@]}" 2
-bytes=$(sed 's/.*; \([0-9]*\) bytes a copy$/\1/' "$work/output")
+# taken SNAPSHOTS: how many bytes the second of two copies takes in the arena, with so many snapshots made of them
+taken() { run "${cluster[@]}" 2 0 0 "$1" && sed 's/.*; \([0-9]*\) bytes a copy$/\1/' "$work/output"; }
+
+bytes=$(taken 0)
+[ "$(taken 2)" = "$bytes" ] || { echo "a snapshot takes memory beside the copy of the parts" >&2; exit 1; }
 best_of_three run "${cluster[@]}" 0
 none=$best
 best_of_three run "${cluster[@]}" "$times"
