@@ -3,9 +3,8 @@ use Rattle.std.proofs.Common.{◌≡◌, ℕ, ◌+◌, ◌≤◌, ◌<◌, Bool,
 use Rattle.std.specs.Prelude.{Option, Some, None, is_some, IsSome, IfSome, option_and_then, nat_eq, not, find, filter, option_map, ◌==◌, if◌then◌else◌}
 use Rattle.std.specs.Option.{option_map_or}
 use Rattle.std.specs.Map.{lookup, set_value, remove_entry}
-use Rattle.std.specs.BTreeMap.{insert_entry, is_at}
-use Rattle.std.specs.Cmp.{unsigned_ties, nat_cmp_is, nat_eq_equiv}
-use Rattle.std.specs.declared.cmp.Ordering.TheVariants.{Greater}
+use Rattle.std.specs.BTreeMap.{is_at}
+use Rattle.std.specs.Cmp.{unsigned_ties, nat_eq_equiv}
 use Rattle.std.proofs.lemmas.Bool.Decides.{nat_tests}
 use Rattle.std.proofs.lemmas.List.{map_push}
 use Rattle.std.proofs.lemmas.Map.{lookup-set_value}
@@ -28,7 +27,7 @@ accounts_of es = map (λ e. (e.0, e.1.account)) es
 pub is_number : (n : ℕ) → is_at (nat_cmp n) ≡ nat_eq n
 is_number n i k = sym (unsigned_ties n k) i
 
-pub by_number : (n : ℕ) (es : List (ℕ × HeldApp)) {o : Option HeldApp} → o ≡ lookup (is_at (nat_cmp n)) es → lookup (nat_eq n) es ≡ o
+pub by_number : {X : Type 0} (n : ℕ) (es : List (ℕ × X)) {o : Option X} → o ≡ lookup (is_at (nat_cmp n)) es → lookup (nat_eq n) es ≡ o
 by_number n es e = ap (λ t. lookup t es) (sym (is_number n)) ∙ sym e
 
 -- the numbers of the rows are those of the entries
@@ -81,6 +80,17 @@ some_is false x y o e f = absurd (cc e)
 
 pub same_number : (n : ℕ) (e : ℕ × HeldApp) → nat_eq n e.0 ≡ true → n ≡ e.0
 same_number n e b = grind (arith, nat_tests, b)
+
+pub found_number : (low n next : ℕ) (es : List (ℕ × HeldApp)) (x : HeldApp) → AreNumbered low es next → lookup (nat_eq n) es ≡ Some x → (low ≤ n) × (x.app.number ≡ n)
+found_number low n next [] x h a = absurd (cc a)
+found_number low n next (e ∷ es) x h a = by (nat_eq n e.0) refl a (found_number (e.0 + 1) n next es x h.2)
+  where
+    first : low ≤ e.0
+    first = h.0
+
+    by : (b : Bool) → nat_eq n e.0 ≡ b → cond b (Some e.1) (lookup (nat_eq n) es) ≡ Some x → (lookup (nat_eq n) es ≡ Some x → (e.0 + 1 ≤ n) × (x.app.number ≡ n)) → (low ≤ n) × (x.app.number ≡ n)
+    by true b a r = let n_is = same_number n e b in let x_is : e.1 ≡ x = cc a in (omega (arith, first, n_is), ap (λ (y : HeldApp). y.app.number) (sym x_is) ∙ h.1 ∙ sym n_is)
+    by false b a r = let above = (r a).0 in (omega (arith, first, above), (r a).1)
 
 -- where there is, it alone changes
 pub one_changed : (low n next : ℕ) (es : List (ℕ × HeldApp)) (old new : HeldApp) (change : App → App) → AreNumbered low es next → lookup (nat_eq n) es ≡ Some old → new.app ≡ change old.app
@@ -177,19 +187,14 @@ reply_is (Some k) reported reply is numbers =
     let same : reported_of k ≡ reported = cc numbers in
     ap Some (ap (λ (r : Reported). record k { response = r.response; ignored = r.ignored }) same ∙ sym is)
 
-pub replied : (low n next : ℕ) (es : List (ℕ × HeldApp)) (now : HeldApp) (reported : Reported) (reply : AllocateReply) → AreNumbered low es next → lookup (nat_eq n) es ≡ Some now
-    → IfSome now.app.kept (λ k. reply ≡ record k { response = reported.response; ignored = reported.ignored })
-    → option_map reported_of (option_and_then (λ (a : App). a.kept) (find (λ (app : App). app.number == n) (apps_of es))) ≡ Some reported
-    → option_and_then (λ (a : App). a.kept) (find (λ (app : App). app.number == n) (apps_of es)) ≡ Some reply
-replied low n next es now reported reply h found is numbers =
-    let there = ap (option_and_then (λ (a : App). a.kept)) (app_found low n next es h ∙ ap (option_map (λ (x : HeldApp). x.app)) found) in
-    there ∙ reply_is now.app.kept reported reply is (ap (option_map reported_of) (sym there) ∙ numbers)
+pub replied : (o : Option App) (app : App) (reported : Reported) (reply : AllocateReply) → Some app ≡ o → IfSome app.kept (λ k. reply ≡ record k { response = reported.response; ignored = reported.ignored })
+    → option_map reported_of (option_and_then (λ (a : App). a.kept) o) ≡ Some reported → option_and_then (λ (a : App). a.kept) o ≡ Some reply
+replied o app reported reply e is numbers =
+    let there = ap (option_and_then (λ (a : App). a.kept)) (sym e) in
+    there ∙ reply_is app.kept reported reply is (ap (option_map reported_of) (sym there) ∙ numbers)
 
-pub unreplied : {A : Type 0} (low n next : ℕ) (es : List (ℕ × HeldApp)) (reported : Reported) → AreNumbered low es next → lookup (nat_eq n) es ≡ None
-    → option_map reported_of (option_and_then (λ (a : App). a.kept) (find (λ (app : App). app.number == n) (apps_of es))) ≡ Some reported → A
-unreplied low n next es reported h none numbers =
-    let missing = ap (λ o. option_map reported_of (option_and_then (λ (a : App). a.kept) o)) (app_found low n next es h ∙ ap (option_map (λ (x : HeldApp). x.app)) none) in
-    absurd (cc (sym missing ∙ numbers))
+pub unreplied : {A : Type 0} (o : Option App) (reported : Reported) → None ≡ o → option_map reported_of (option_and_then (λ (a : App). a.kept) o) ≡ Some reported → A
+unreplied o reported e numbers = absurd (cc (ap (λ p. option_map reported_of (option_and_then (λ (a : App). a.kept) p)) e ∙ numbers))
 
 pub missing_app : {A : Type 0} (low n next : ℕ) (es : List (ℕ × HeldApp)) → AreNumbered low es next → lookup (nat_eq n) es ≡ None → IsSome (find (λ (app : App). app.number == n) (apps_of es)) → A
 missing_app low n next es h none there = absurd (cc (subst IsSome (app_found low n next es h ∙ ap (option_map (λ (x : HeldApp). x.app)) none) there))
@@ -272,7 +277,7 @@ own_pushed n (e ∷ es) x a = by (nat_eq n e.0) a (own_pushed n es x)
     by true h r = absurd (cc h)
     by false h r = r h
 
-other_pushed : (m n : ℕ) (es : List (ℕ × HeldApp)) (x : HeldApp) → m == n ≡ false → lookup (nat_eq m) (es ++ (n, x) ∷ []) ≡ lookup (nat_eq m) es
+pub other_pushed : {X : Type 0} (m n : ℕ) (es : List (ℕ × X)) (x : X) → m == n ≡ false → lookup (nat_eq m) (es ++ (n, x) ∷ []) ≡ lookup (nat_eq m) es
 other_pushed m n [] x o = let no : nat_eq m n ≡ false = grind (arith, nat_tests, o) in ap (λ c. cond c (Some x) None) no
 other_pushed m n (e ∷ es) x o = ap (λ r. cond (nat_eq m e.0) (Some e.1) r) (other_pushed m n es x o)
 
@@ -309,14 +314,6 @@ same_apps n (e ∷ es) old new a is = by (nat_eq n e.0) refl (same_apps n es old
     by : (b : Bool) → nat_eq n e.0 ≡ b → (lookup (nat_eq n) es ≡ Some old → new.app ≡ old.app → apps_of (set_value (nat_eq n) es new) ≡ apps_of es) → apps_of (cond b ((e.0, new) ∷ es) (e ∷ set_value (nat_eq n) es new)) ≡ e.1.app ∷ apps_of es
     by true b r = ap (λ x. x ∷ apps_of es) (is ∙ ap (λ (o : HeldApp). o.app) (sym (some_is (nat_eq n e.0) e.1 old (lookup (nat_eq n) es) b a)))
     by false b r = ap (λ xs. e.1.app ∷ xs) (r (sym (ap (λ c. cond c (Some e.1) (lookup (nat_eq n) es)) b) ∙ a) is)
-
--- the last of all numbers goes last
-pub inserted_last : (low next : ℕ) (es : List (ℕ × HeldApp)) (x : HeldApp) → AreNumbered low es next → insert_entry nat_cmp es next x ≡ es ++ (next, x) ∷ []
-inserted_last low next [] x h = refl
-inserted_last low next (e ∷ es) x h =
-    let below = low_below (e.0 + 1) next es h.2 in
-    let greater : nat_cmp next e.0 ≡ Greater = sym (nat_cmp_is next e.0 Greater (omega (arith, below))) in
-    rw greater (ap (λ ys. e ∷ ys) (inserted_last (e.0 + 1) next es x h.2))
 
 -- and those before the last stay numbered without it
 pub numbered_front : (low next : ℕ) (es : List (ℕ × HeldApp)) (p : ℕ × HeldApp) → AreNumbered low (es ++ p ∷ []) next → AreNumbered low es p.0 × (p.1.app.number ≡ p.0)

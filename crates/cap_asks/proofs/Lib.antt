@@ -1,4 +1,5 @@
 pub mod Entries
 pub mod Keeping
+pub mod Slots
 pub mod Telling
 pub mod Waiters

@@ -1,10 +1,13 @@
 -- The numbers of the applications that wait.
 use Rattle.std.proofs.Common.{◌≡◌, ℕ, zero, suc, ◌+◌, ◌≤◌, ◌<◌, Bool, true, false, cond, inl, inr, List, [], ◌∷◌, ◌++◌, length, length-append, take, map, refl, sym, ◌∙◌, ap, subst, arith, nat_cmp, get_or}
-use Rattle.std.specs.Prelude.{Option, Some, None, Ok, Err, IsSome, nat_eq, nat_lt, nat_le, filter, find, option_map, insert, remove, ◌==◌}
-use Rattle.std.specs.List.{All, slice_get}
+use Rattle.std.specs.Prelude.{Box, Option, is_some, Some, None, Ok, Err, nat_eq, nat_lt, find, option_map, insert, remove, ◌==◌}
+use Rattle.std.specs.List.{slice_get}
+use Rattle.slab.specs.Slab.{Slab, Updates, with_value, get, ContainsKey}
 use Rattle.std.specs.List.Sorted.{IsBinarySearchResult}
-use Rattle.std.specs.Map.{lookup, set_value, remove_entry, values_of}
-use Rattle.std.specs.BTreeMap.{is_at}
+use Rattle.std.specs.Map.{lookup, set_value, remove_entry}
+use Rattle.std.specs.BTreeMap.{is_at, insert_entry}
+use Rattle.std.specs.Box.{with_value as with_boxed}
+use Rattle.std.specs.Option.{option_map_or}
 use Rattle.std.proofs.lemmas.Bool.Decides.{nat_tests}
 use Rattle.std.proofs.lemmas.List.{length-map, map_push, take_at, append_cancel_left}
 use Rattle.std.proofs.lemmas.Map.{length-set_value}
@@ -13,13 +16,15 @@ use Rattle.std.proofs.lemmas.List.Sorted.{searched}
 use Rattle.std.proofs.lemmas.Option.{slice_get-map, slice_get_read}
 use Rattle.cap_base.specs.Members.{IsIn, IsRising}
 use Rattle.cap_base.proofs.lists.Filters.{length-kept}
-use Rattle.cap_base.proofs.lists.Members.{of_each, of_filter, of_map}
+use Rattle.cap_base.proofs.lists.Members.{of_filter}
 use Rattle.cap_model.specs.Flat.{App, AppTable, change_app}
 use Rattle.cap_model.specs.Submit.{add_app, new_app}
 use Rattle.cap_model.proofs.lists.Numbered.{rising_kept, found_by_number}
 use Rattle.cap_asks.specs.Accounts.{Account, HeldApp, TakesRoom}
-use Rattle.cap_asks.specs.Apps.{AreNumbered, AreIndexed, UsesRoom, account_of, is_waiting, waiting_of, put_number}
-use Rattle.cap_asks.proofs.Entries.{apps_of, accounts_of, account_there, is_number, by_number, none_changed, numbers_rise, above_absent, some_is, same_number, low_below, one_changed, one_uses, still_numbered, still_without, app_found, numbered_front, numbered_push}
+use Rattle.cap_model.specs.FinishMaster.{remove_app}
+use Rattle.cap_asks.specs.Apps.{AreNumbered, AreIndexed, AreBeside, IsLeft, UsesRoom, account_of, is_waiting, waiting_of, put_number, entries_at, held_at, nobody, slot_in}
+use Rattle.cap_asks.proofs.Entries.{apps_of, accounts_of, account_there, is_number, by_number, none_changed, numbers_rise, some_is, same_number, found_number, low_below, one_changed, one_uses, still_numbered, still_without, app_found, numbered_front, numbered_push, next_absent, table_without, account_left}
+use Rattle.cap_asks.proofs.Slots.{written, updated, looked_at, slot_is, held_set, held_without, held_push, held_back, entries_without, slot_pushed, slot_taken, opened}
 
 -- where a number stands among others in order, or would stand
 rising_at : (low high i : ℕ) (ns : List ℕ) → IsRising low ns high → i < length ns → low ≤ get_or ns i 0
@@ -123,13 +128,6 @@ first_waits : (x : HeldApp) (es : List (ℕ × HeldApp)) → (w : Bool) → map 
 first_waits x es true = refl
 first_waits x es false = refl
 
-found_from : (low n next : ℕ) (es : List (ℕ × HeldApp)) (x : HeldApp) → AreNumbered low es next → lookup (nat_eq n) es ≡ Some x → low ≤ n
-found_from low n next es x h a = by (nat_le low n) refl
-  where
-    by : (b : Bool) → nat_le low n ≡ b → low ≤ n
-    by true e = grind (arith, nat_tests, e)
-    by false e = absurd (cc (sym (above_absent low n next es h (grind (arith, nat_tests, e))) ∙ a))
-
 -- after one application was changed
 put_set : (low n next : ℕ) (es : List (ℕ × HeldApp)) (old now : HeldApp) → AreNumbered low es next → lookup (nat_eq n) es ≡ Some old → now.app.number ≡ old.app.number
     → numbers_of (set_value (nat_eq n) es now) ≡ put_number n (is_waiting now.app) (numbers_of es)
@@ -149,7 +147,7 @@ put_set low n next (e ∷ es) old now h a i = by (nat_eq n e.0) refl (put_set (e
         ∙ sym (here n next (is_waiting now.app) e es (number ∙ sym n_is) (subst (λ k. AreNumbered (k + 1) es next) (sym n_is) h.2))
     by false b r =
         let there = sym (ap (λ c. cond c (Some e.1) (lookup (nat_eq n) es)) b) ∙ a in
-        let above = found_from (e.0 + 1) n next es old h.2 there in
+        let above = (found_number (e.0 + 1) n next es old h.2 there).0 in
         behind n (is_waiting now.app) e es (set_value (nat_eq n) es now) (omega (arith, above, number)) (r there i)
 
 -- after one was taken out
@@ -189,89 +187,169 @@ in_at [] i a e = absurd (cc e)
 in_at (b ∷ apps) zero a e = inl (cc e)
 in_at (b ∷ apps) (suc i) a e = inr (in_at apps i a e)
 
-pub record IsWaiter (i n : ℕ) (es : List (ℕ × HeldApp)) : Type 0 where
-  pub there : IsSome (lookup (is_at (nat_cmp n)) es)
-  pub app : (x : HeldApp) → lookup (is_at (nat_cmp n)) es ≡ Some x → slice_get (waiting_of (apps_of es)) i ≡ Some x.app
-  pub account : (x : HeldApp) → lookup (is_at (nat_cmp n)) es ≡ Some x → account_of x.app.number (accounts_of es) ≡ Some x.account
+-- the one at an index among those that wait is in the slot beside its number
+pub record IsWaiter {A : Type 0} (apps : Slab (Box HeldApp A)) (index : List (ℕ × ℕ)) (i slot : ℕ) : Type 0 where
+  pub there : ContainsKey apps slot
+  pub app : (b : Box HeldApp A) (x : HeldApp) → get apps slot ≡ Some b → x ≡ b.value → slice_get (waiting_of (apps_of (entries_at (held_at apps) index))) i ≡ Some x.app
+  pub account : (b : Box HeldApp A) (x : HeldApp) → get apps slot ≡ Some b → x ≡ b.value → account_of x.app.number (accounts_of (entries_at (held_at apps) index)) ≡ Some x.account
 
-pub waiter_at : {es : List (ℕ × HeldApp)} {next : ℕ} {ns : List ℕ} {room : ℕ} → AreIndexed es next ns room → (i n : ℕ) → i < length (waiting_of (apps_of es)) → n ≡ get_or ns i n → IsWaiter i n es
-waiter_at {es} {next} {ns} {room} h i n l e = by (slice_get (waiting_of (apps_of es)) i) refl
+pub waiter_at : {A : Type 0} (apps : Slab (Box HeldApp A)) (index : List (ℕ × ℕ)) {next : ℕ} {ns ss : List ℕ} {room slots : ℕ} → AreIndexed (entries_at (held_at apps) index) next ns room × AreBeside index ns ss slots → (i slot : ℕ)
+    → i < length (waiting_of (apps_of (entries_at (held_at apps) index))) → slot ≡ get_or ss i slot → IsWaiter apps index i slot
+waiter_at {A} apps index {next} {ns} {ss} h i slot l e = by (slice_get (waiting_of (apps_of es)) i) refl
   where
+    es : List (ℕ × HeldApp)
+    es = entries_at (held_at apps) index
+
     num : App → ℕ
     num app = app.number
 
-    seen : slice_get (numbers_of es) i ≡ Some n
-    seen = let all = length-map (waiting_of (apps_of es)) num in slice_get_read (numbers_of es) (length (numbers_of es)) i n refl (omega (arith, l, all)) (e ∙ ap (λ xs. get_or xs i n) h.waiting)
+    led : (o : Option App) → slice_get (waiting_of (apps_of es)) i ≡ o → option_map (slot_in index) (option_map num o) ≡ Some slot
+    led o at =
+        let sides = h.1.beside ∙ ap (map (slot_in index)) h.0.waiting in
+        let some = ap length sides ∙ length-map (numbers_of es) (slot_in index) ∙ length-map (waiting_of (apps_of es)) num in
+        sym (slice_get-map (slot_in index) (numbers_of es) i ∙ ap (option_map (slot_in index)) (slice_get-map num (waiting_of (apps_of es)) i ∙ ap (option_map num) at))
+        ∙ ap (λ xs. slice_get xs i) (sym sides) ∙ slice_get_read ss (length ss) i slot refl (omega (arith, l, some)) e
 
-    by : (o : Option App) → slice_get (waiting_of (apps_of es)) i ≡ o → IsWaiter i n es
-    by None o = absurd (cc (sym (slice_get-map num (waiting_of (apps_of es)) i ∙ ap (option_map num) o) ∙ seen))
-    by (Some a) o =
-        let number : a.number ≡ n = cc (sym (slice_get-map num (waiting_of (apps_of es)) i ∙ ap (option_map num) o) ∙ seen) in
-        let among = (of_filter is_waiting (apps_of es) a (in_at (waiting_of (apps_of es)) i a o)).1 in
-        let own = ap (λ k. find (λ (app : App). app.number == k) (apps_of es)) (sym number) ∙ found_by_number num 1 (apps_of es) next a (numbers_rise 1 next es h.numbered) among in
-        let held : option_map (λ (x : HeldApp). x.app) (lookup (is_at (nat_cmp n)) es) ≡ Some a = ap (λ t. option_map (λ (x : HeldApp). x.app) (lookup t es)) (is_number n) ∙ sym (app_found 1 n next es h.numbered) ∙ own in
-        let is : (x : HeldApp) → lookup (is_at (nat_cmp n)) es ≡ Some x → x.app ≡ a = (λ x f. cc (sym (ap (option_map (λ (y : HeldApp). y.app)) f) ∙ held)) in
-        record {
-          there = some_there (lookup (is_at (nat_cmp n)) es) held;
-          app = λ x f. o ∙ ap (λ (y : App). Some y) (sym (is x f));
-          account = λ x f. rw (ap num (is x f) ∙ number) (account_there n es x (by_number n es (sym f)));
-        }
+    by : (o : Option App) → slice_get (waiting_of (apps_of es)) i ≡ o → IsWaiter apps index i slot
+    by None at = absurd (cc (led None at))
+    by (Some a) at =
+        let among = (of_filter is_waiting (apps_of es) a (in_at (waiting_of (apps_of es)) i a at)).1 in
+        let own = ap (λ t. option_map (λ (x : HeldApp). x.app) (lookup t es)) (is_number a.number) ∙ sym (app_found 1 a.number next es h.0.numbered) ∙ found_by_number num 1 (apps_of es) next a (numbers_rise 1 next es h.0.numbered) among in
+        there a at (lookup (is_at (nat_cmp a.number)) index) refl (cc (led (Some a) at)) own
       where
-        some_there : (q : Option HeldApp) → option_map (λ (x : HeldApp). x.app) q ≡ Some a → IsSome q
-        some_there None e = absurd (cc e)
-        some_there (Some x) e = refl
+        there : (a : App) → slice_get (waiting_of (apps_of es)) i ≡ Some a → (q : Option ℕ) → q ≡ lookup (is_at (nat_cmp a.number)) index → slot_in index a.number ≡ slot
+            → option_map (λ (x : HeldApp). x.app) (lookup (is_at (nat_cmp a.number)) es) ≡ Some a → IsWaiter apps index i slot
+        there a at None q leads own = absurd (cc (ap (option_map (λ (x : HeldApp). x.app)) (looked_at (held_at apps) a.number index q) ∙ own))
+        there a at (Some s) q leads own =
+            let found = ap (λ k. Some k) (sym (slot_is a.number index q ∙ leads)) ∙ q in
+            let held = looked_at (held_at apps) a.number index found in
+            let same : (held_at apps slot).app ≡ a = cc (ap (option_map (λ (x : HeldApp). x.app)) held ∙ own) in
+            let is : (b : Box HeldApp A) (x : HeldApp) → get apps slot ≡ Some b → x ≡ b.value → x ≡ held_at apps slot = λ b x there v. v ∙ sym (ap (λ o. option_map_or (λ (c : Box HeldApp A). c.value) o nobody) there) in
+            record {
+              there = slot_taken apps index a.number next h.0.numbered found;
+              app = λ b x there v. at ∙ ap (λ (y : App). Some y) (sym (ap (λ (y : HeldApp). y.app) (is b x there v) ∙ same));
+              account = λ b x there v. subst (λ (y : HeldApp). account_of y.app.number (accounts_of es) ≡ Some y.account) (sym (is b x there v)) (rw (ap num same) (account_there a.number es (held_at apps slot) (by_number a.number es held)));
+            }
 
--- the numbers of those that wait after one was put among them or taken out
-pub record ArePut (n : ℕ) (s : Bool) (new : List (ℕ × HeldApp)) (next : ℕ) (ns : List ℕ) (room : ℕ) : Type 0 where
+-- the slots beside the numbers stay where another number leads elsewhere
+same_beside : (f g : ℕ → ℕ) (n low next : ℕ) (es : List (ℕ × HeldApp)) → AreNumbered low es next → lookup (nat_eq n) es ≡ None → ((m : ℕ) → m == n ≡ false → f m ≡ g m) → map f (numbers_of es) ≡ map g (numbers_of es)
+same_beside f g n low next [] h a same = refl
+same_beside f g n low next (e ∷ es) h a same = by (nat_eq n e.0) refl a (same_beside f g n (e.0 + 1) next es h.2)
+  where
+    number : e.1.app.number ≡ e.0
+    number = h.1
+
+    at : (w : Bool) → f e.1.app.number ≡ g e.1.app.number → map f (numbers_of es) ≡ map g (numbers_of es)
+        → map f (map (λ (app : App). app.number) (cond w (e.1.app ∷ waiting_of (apps_of es)) (waiting_of (apps_of es)))) ≡ map g (map (λ (app : App). app.number) (cond w (e.1.app ∷ waiting_of (apps_of es)) (waiting_of (apps_of es))))
+    at true own r = ap (λ s. s ∷ map f (numbers_of es)) own ∙ ap (λ ss. g e.1.app.number ∷ ss) r
+    at false own r = r
+
+    by : (b : Bool) → nat_eq n e.0 ≡ b → cond b (Some e.1) (lookup (nat_eq n) es) ≡ None
+        → (lookup (nat_eq n) es ≡ None → ((m : ℕ) → m == n ≡ false → f m ≡ g m) → map f (numbers_of es) ≡ map g (numbers_of es)) → map f (numbers_of (e ∷ es)) ≡ map g (numbers_of (e ∷ es))
+    by true b a r = absurd (cc a)
+    by false b a r = at (is_waiting e.1.app) (same e.1.app.number (grind (arith, nat_tests, b, number))) (r a same)
+
+-- the numbers of those that wait after one was put among them or taken out, and their slots
+pub record ArePut (n : ℕ) (s : Bool) (slot : ℕ) (new : List (ℕ × HeldApp)) (index : List (ℕ × ℕ)) (next : ℕ) (ns ss : List ℕ) (room slots : ℕ) : Type 0 where
   pub rising : (end : ℕ) × IsRising 1 ns end
   pub fits : length (put_number n s ns) ≤ room
-  pub index : (now : List ℕ) (left : ℕ) → now ≡ put_number n s ns → room ≤ left → AreIndexed new next now left
+  pub slots_fit : length (put_number n s ns) ≤ slots
+  pub whole : {now led : List ℕ} {n_room s_room : ℕ} → now ≡ put_number n s ns → ((slot_of : ℕ → ℕ) → ss ≡ map slot_of ns → slot ≡ slot_of n → led ≡ map slot_of now) → room ≤ n_room → slots ≤ s_room
+      → AreIndexed new next now n_room × AreBeside index now led s_room
 
-are_put : (n : ℕ) (s : Bool) (es new : List (ℕ × HeldApp)) (last next : ℕ) (ns : List ℕ) (room : ℕ) → AreIndexed es last ns room → AreNumbered 1 new next → numbers_of new ≡ put_number n s (numbers_of es) → length new ≤ length es → ArePut n s new next ns room
-are_put n s es new last next ns room h numbered set less =
-    let few = h.few in
-    let set' = set ∙ ap (put_number n s) (sym h.waiting) in
+are_put : (n : ℕ) (s : Bool) (slot : ℕ) (held held' : ℕ → HeldApp) (index left : List (ℕ × ℕ)) (last next : ℕ) {ns ss : List ℕ} {room slots : ℕ} → AreIndexed (entries_at held index) last ns room × AreBeside index ns ss slots
+    → AreNumbered 1 (entries_at held' left) next → numbers_of (entries_at held' left) ≡ put_number n s (numbers_of (entries_at held index)) → length left ≤ length index → slot ≡ slot_in index n
+    → map (slot_in index) (numbers_of (entries_at held' left)) ≡ map (slot_in left) (numbers_of (entries_at held' left)) → ArePut n s slot (entries_at held' left) left next ns ss room slots
+are_put n s slot held held' index left last next {ns} {ss} {room} {slots} h numbered set less leads same =
+    let new = entries_at held' left in
+    let few = h.0.few in
+    let beside = h.1.few in
+    let set' = set ∙ ap (put_number n s) (sym h.0.waiting) in
+    let old_length = length-map {B = ℕ × HeldApp} index (λ (e : ℕ × ℕ). (e.0, held e.1)) in
+    let new_length = length-map {B = ℕ × HeldApp} left (λ (e : ℕ × ℕ). (e.0, held' e.1)) in
+    let some = few_waiters new in
+    let l = ap length set' in
     record {
-      rising = (last, rw h.waiting (waiters_rise 1 last es h.numbered));
-      fits = let some = few_waiters new in let l = ap length set' in omega (arith, some, l, few, less);
-      index = λ now left p r. record { numbered = numbered; waiting = p ∙ sym set'; few = omega (arith, few, less, r) };
+      rising = (last, rw h.0.waiting (waiters_rise 1 last (entries_at held index) h.0.numbered));
+      fits = omega (arith, some, l, few, less, old_length, new_length);
+      slots_fit = omega (arith, some, l, beside, less, new_length);
+      whole = λ {now} {led} {n_room} {s_room} p b r r'. (
+        record { numbered = numbered; waiting = p ∙ sym set'; few = omega (arith, few, less, r, old_length, new_length) },
+        record { beside = b (slot_in index) h.1.beside leads ∙ ap (map (slot_in index)) (p ∙ sym set') ∙ same ∙ ap (map (slot_in left)) (set' ∙ sym p); few = omega (arith, beside, less, r') },
+      );
     }
 
 -- what a change of one application does to all
-pub record IsChanged (n : ℕ) (change : App → App) (a g e : ℕ) (es new : List (ℕ × HeldApp)) (next : ℕ) (ns : List ℕ) (room : ℕ) (waited waits : Bool) : Type 0 where
+pub record IsChanged (n : ℕ) (change : App → App) (a g e slot : ℕ) (now : HeldApp) (es new : List (ℕ × HeldApp)) (index : List (ℕ × ℕ)) (next : ℕ) (ns ss : List ℕ) (room slots : ℕ) (waited waits : Bool) : Type 0 where
+  pub entries : new ≡ set_value (nat_eq n) es now
   pub table : record { active = apps_of new; next = next } ≡ change_app n change (record { active = apps_of es; next = next })
   pub accounts : UsesRoom n a g e (accounts_of es) (accounts_of new)
-  pub put : ArePut n waits new next ns room
-  pub stays : waits ≡ waited → AreIndexed new next ns room
+  pub put : ArePut n waits slot new index next ns ss room slots
+  pub stays : waits ≡ waited → AreIndexed new next ns room × AreBeside index ns ss slots
 
-pub changed : (n : ℕ) (change : App → App) → ((app : App) → (change app).number ≡ app.number) → (old now : HeldApp) {a g e : ℕ} {es new : List (ℕ × HeldApp)} {next : ℕ} {ns : List ℕ} {room : ℕ} {waits : Bool}
-    → AreIndexed es next ns room → Some old ≡ lookup (is_at (nat_cmp n)) es → now.app ≡ change old.app → TakesRoom a g e old.account now.account → waits ≡ is_waiting now.app → new ≡ set_value (is_at (nat_cmp n)) es now
-    → IsChanged n change a g e es new next ns room (is_waiting old.app) waits
-changed n change keeps old now {a} {g} {e} {es} {new} {next} {ns} {room} {waits} h f is takes w put =
-    let found = by_number n es f in
-    let new_is : new ≡ set_value (nat_eq n) es now = put ∙ ap (λ t. set_value t es now) (is_number n) in
+pub changed : {A : Type 0} (n : ℕ) (change : App → App) → ((app : App) → (change app).number ≡ app.number) → (slot : ℕ) (b : Box HeldApp A) (old now : HeldApp) (apps : Slab (Box HeldApp A)) (index : List (ℕ × ℕ)) {a g e next : ℕ} {ns ss : List ℕ} {room slots : ℕ} {waits : Bool}
+    → AreIndexed (entries_at (held_at apps) index) next ns room × AreBeside index ns ss slots → Some slot ≡ lookup (is_at (nat_cmp n)) index → get apps slot ≡ Some b → old ≡ b.value → now.app ≡ change old.app → TakesRoom a g e old.account now.account → waits ≡ is_waiting now.app
+    → IsChanged n change a g e slot now (entries_at (held_at apps) index) (entries_at (held_at (with_value apps slot (with_boxed b now))) index) index next ns ss room slots (is_waiting old.app) waits
+changed n change keeps slot b old now apps index {a} {g} {e} {next} {ns} {ss} {room} {slots} {waits} h f there is_old is takes w =
+    let es = entries_at (held_at apps) index in
+    let held' = held_at (with_value apps slot (with_boxed b now)) in
+    let found = opened apps index n slot b old f there is_old in
+    let new_is : entries_at held' index ≡ set_value (nat_eq n) es now =
+    held_set (held_at apps) held' slot n next index now (written apps slot (with_boxed b now) (ap is_some there)) h.0.numbered f in
     let number : now.app.number ≡ old.app.number = ap (λ (x : App). x.number) is ∙ keeps old.app in
-    let set = ap numbers_of new_is ∙ put_set 1 n next es old now h.numbered found number ∙ ap (λ b. put_number n b (numbers_of es)) (sym w) in
-    let unset = sym (ap numbers_of (sym (set_value_same (nat_eq n) es old found)) ∙ put_set 1 n next es old old h.numbered found refl) in
-    let put = are_put n waits es new next next ns room h (rw new_is (still_numbered 1 n next es old now h.numbered found number)) set (let l = ap length new_is ∙ length-set_value (nat_eq n) es now in omega (arith, l)) in
+    let set = ap numbers_of new_is ∙ put_set 1 n next es old now h.0.numbered found number ∙ ap (λ b. put_number n b (numbers_of es)) (sym w) in
+    let unset = sym (ap numbers_of (sym (set_value_same (nat_eq n) es old found)) ∙ put_set 1 n next es old old h.0.numbered found refl) in
+    let put = are_put n waits slot (held_at apps) held' index index next next h (rw new_is (still_numbered 1 n next es old now h.0.numbered found number)) set (omega arith) (slot_is n index f) refl in
     record {
-      table = ap (λ xs. record { active = xs; next = next }) (ap apps_of new_is ∙ one_changed 1 n next es old now change h.numbered found is);
+      entries = new_is;
+      table = ap (λ xs. record { active = xs; next = next }) (ap apps_of new_is ∙ one_changed 1 n next es old now change h.0.numbered found is);
       accounts = rw new_is (one_uses n a g e es old now found takes);
       put = put;
-      stays = λ same. put.index ns room (h.waiting ∙ sym (ap (λ b. put_number n b ns) same ∙ ap (put_number n (is_waiting old.app)) h.waiting ∙ unset)) (omega arith);
+      stays = λ same. put.whole (h.0.waiting ∙ sym (ap (λ b. put_number n b ns) same ∙ ap (put_number n (is_waiting old.app)) h.0.waiting ∙ unset)) (λ _ beside _. beside) (omega arith) (omega arith);
     }
 
 -- where there is none of the number, nothing changes
-pub unchanged : (n : ℕ) (change : App → App) {es new : List (ℕ × HeldApp)} {next : ℕ} {ns : List ℕ} {room : ℕ} → AreIndexed es next ns room → None ≡ lookup (is_at (nat_cmp n)) es → new ≡ es
-    → record { active = apps_of new; next = next } ≡ change_app n change (record { active = apps_of es; next = next })
-unchanged n change {es} {new} {next} h f is =
-    ap (λ xs. record { active = xs; next = next }) (ap apps_of is ∙ none_changed 1 n next es change h.numbered (by_number n es f))
+pub unchanged : (n : ℕ) (change : App → App) (held : ℕ → HeldApp) (index : List (ℕ × ℕ)) (next : ℕ) → AreNumbered 1 (entries_at held index) next → None ≡ lookup (is_at (nat_cmp n)) index
+    → record { active = apps_of (entries_at held index); next = next } ≡ change_app n change (record { active = apps_of (entries_at held index); next = next })
+unchanged n change held index next h f =
+    ap (λ xs. record { active = xs; next = next }) (none_changed 1 n next (entries_at held index) change h (by_number n (entries_at held index) (looked_at held n index f)))
 
 -- one less
-pub taken_out : (n : ℕ) {es new : List (ℕ × HeldApp)} {next : ℕ} {ns : List ℕ} {room : ℕ} → AreIndexed es next ns room → new ≡ remove_entry (is_at (nat_cmp n)) es → length new ≤ length es → ArePut n false new next ns room
-taken_out n {es} {new} {next} {ns} {room} h is less =
-    let new_is = is ∙ ap (λ t. remove_entry t es) (is_number n) in
-    are_put n false es new next next ns room h (rw new_is (still_without 1 n next es h.numbered)) (ap numbers_of new_is ∙ put_out 1 n next es h.numbered) less
+pub record AreWithout (n : ℕ) (es new : List (ℕ × HeldApp)) (next : ℕ) : Type 0 where
+  pub numbered : AreNumbered 1 new next
+  pub absent : lookup (nat_eq n) new ≡ None
+  pub numbers : numbers_of new ≡ put_number n false (numbers_of es)
+  pub table : record { active = apps_of new; next = next } ≡ remove_app n (record { active = apps_of es; next = next })
+  pub accounts : IsLeft n (accounts_of es) (accounts_of new)
+
+pub without : (n next : ℕ) (held held' : ℕ → HeldApp) (index left : List (ℕ × ℕ)) → AreNumbered 1 (entries_at held index) next → left ≡ remove_entry (is_at (nat_cmp n)) index → lookup (is_at (nat_cmp n)) left ≡ None
+    → ((m : ℕ) → is_at (nat_cmp n) m ≡ false → lookup (is_at (nat_cmp m)) left ≡ lookup (is_at (nat_cmp m)) index) → entries_at held' left ≡ entries_at held left → AreWithout n (entries_at held index) (entries_at held' left) next
+without n next held held' index left h is none others kept =
+    let es = entries_at held index in
+    let left_is = ap (entries_at held) is ∙ entries_without held (is_at (nat_cmp n)) index ∙ ap (λ t. remove_entry t es) (is_number n) in
+    let own = sym (looked_at held n left (sym none)) in
+    rw kept (record {
+      numbered = rw left_is (still_without 1 n next es h);
+      absent = by_number n (entries_at held left) (sym own);
+      numbers = ap numbers_of left_is ∙ put_out 1 n next es h;
+      table = table_without n next es (entries_at held left) h left_is;
+      accounts = account_left n es (entries_at held left) own (λ m o. sym (looked_at held m left refl) ∙ ap (option_map held) (others m o) ∙ looked_at held m index refl);
+    })
+
+pub taken_out : {A : Type 0} (n slot : ℕ) (apps apps' : Slab (Box HeldApp A)) (index left : List (ℕ × ℕ)) {next : ℕ} {ns ss : List ℕ} {room slots : ℕ} → AreIndexed (entries_at (held_at apps) index) next ns room × AreBeside index ns ss slots → left ≡ remove_entry (is_at (nat_cmp n)) index
+    → lookup (is_at (nat_cmp n)) left ≡ None → ((m : ℕ) → is_at (nat_cmp n) m ≡ false → lookup (is_at (nat_cmp m)) left ≡ lookup (is_at (nat_cmp m)) index) → Some slot ≡ lookup (is_at (nat_cmp n)) index → Updates apps apps' slot None → length left ≤ length index
+    → AreWithout n (entries_at (held_at apps) index) (entries_at (held_at apps') left) next × ArePut n false slot (entries_at (held_at apps') left) left next ns ss room slots
+taken_out n slot apps apps' index left {next} h is none others e u less =
+    let held = held_at apps in
+    let held' = held_at apps' in
+    let w = without n next held held' index left h.0.numbered is none others (held_without held held' slot n next index left (updated u) h.0.numbered e is none) in (
+      w,
+      are_put n false slot held held' index left next next h w.numbered w.numbers less (slot_is n index e)
+          (same_beside (slot_in index) (slot_in left) n 1 next (entries_at held' left) w.numbered w.absent
+          (λ m o.
+          let other : is_at (nat_cmp n) m ≡ false = ap (λ (t : ℕ → Bool). t m) (is_number n) ∙ grind (arith, nat_tests, o) in
+          ap (λ x. option_map_or (λ (s : ℕ). s) x 0) (by_number m index (others m other) ∙ sym (by_number m left refl)))),
+    )
 
 same_push : {X : Type 0} (xs ys : List X) (x y : X) → xs ++ x ∷ [] ≡ ys ++ y ∷ [] → (xs ≡ ys) × (x ≡ y)
 same_push xs ys x y e =
@@ -280,65 +358,69 @@ same_push xs ys x y e =
     let front = sym (take_at xs (x ∷ []) (length xs) refl) ∙ ap (take (length xs)) e ∙ take_at ys (y ∷ []) (length xs) (sym len) in
     (front, cc (append_cancel_left xs (x ∷ []) (y ∷ []) (e ∙ ap (λ zs. zs ++ y ∷ []) (sym front))))
 
-pub record AreBack (es new : List (ℕ × HeldApp)) (p : ℕ × HeldApp) (next : ℕ) (ns : List ℕ) (room : ℕ) : Type 0 where
-  pub put : ArePut p.0 false new p.0 ns room
+pub record AreBack (es new : List (ℕ × HeldApp)) (p : ℕ × HeldApp) (slot : ℕ) (index : List (ℕ × ℕ)) (ns ss : List ℕ) (next room slots : ℕ) : Type 0 where
+  pub put : ArePut p.0 false slot new index p.0 ns ss room slots
   pub table : (leaf user : List ℕ) (table : AppTable) → record { active = apps_of es; next = next } ≡ add_app leaf user table → record { active = apps_of new; next = p.0 } ≡ table
   pub accounts : (number : ℕ) (account : Account) (accounts : List (ℕ × Account)) → accounts_of es ≡ accounts ++ (number, account) ∷ [] → accounts_of new ≡ accounts
 
-pub taken_back : (p : ℕ × HeldApp) {es new : List (ℕ × HeldApp)} {next : ℕ} {ns : List ℕ} {room : ℕ} → AreIndexed es next ns room → es ≡ new ++ p ∷ [] → length new ≤ length es → AreBack es new p next ns room
-taken_back p {es} {new} {next} {ns} {room} h is less =
-    let numbered = subst (λ xs. AreNumbered 1 xs next) is h.numbered in
+pub taken_back : {A : Type 0} (q : ℕ × ℕ) (apps apps' : Slab (Box HeldApp A)) (index left : List (ℕ × ℕ)) {next : ℕ} {ns ss : List ℕ} {room slots : ℕ} → AreIndexed (entries_at (held_at apps) index) next ns room × AreBeside index ns ss slots
+    → index ≡ left ++ q ∷ [] → lookup (is_at (nat_cmp q.0)) index ≡ Some q.1 → Updates apps apps' q.1 None → AreBack (entries_at (held_at apps) index) (entries_at (held_at apps') left) (q.0, held_at apps q.1) q.1 left ns ss next room slots
+taken_back q apps apps' index left {next} {ns} {ss} {room} {slots} h last e u =
+    let es = entries_at (held_at apps) index in
+    let new = entries_at (held_at apps') left in
+    let p : ℕ × HeldApp = (q.0, held_at apps q.1) in
+    let is = held_back (held_at apps) (held_at apps') q next index left (updated u) h.0.numbered last in
+    let numbered = subst (λ xs. AreNumbered 1 xs next) is h.0.numbered in
     let front = numbered_front 1 next new p numbered in
+    let more = ap length last ∙ length-append left (q ∷ []) in
+    let absent = next_absent 1 q.0 new front.0 in
     record {
-      put = are_put p.0 false es new next p.0 ns room h front.0 (put_back 1 next new p numbered ∙ ap (λ xs. put_number p.0 false (numbers_of xs)) (sym is)) less;
+      put = are_put q.0 false q.1 (held_at apps) (held_at apps') index left next q.0 h front.0 (put_back 1 next new p numbered ∙ ap (λ xs. put_number q.0 false (numbers_of xs)) (sym is)) (omega (arith, more)) (slot_is q.0 index (sym e))
+          (same_beside (slot_in index) (slot_in left) q.0 1 q.0 new front.0 absent (λ m o. ap (λ qs. slot_in qs m) last ∙ slot_pushed q.0 q.1 m left o));
       table = λ leaf user table e.
           let parts = same_push (apps_of new) table.active p.1.app (new_app table.next leaf user) (sym (ap apps_of is ∙ map_push (λ (x : ℕ × HeldApp). x.1.app) new p) ∙ ap (λ (t : AppTable). t.active) e) in
           let number = sym front.1 ∙ ap (λ (app : App). app.number) parts.1 in
-          ap (λ xs. record { active = xs; next = p.0 }) parts.0 ∙ ap (λ k. record { active = table.active; next = k }) number;
+          ap (λ xs. record { active = xs; next = q.0 }) parts.0 ∙ ap (λ k. record { active = table.active; next = k }) number;
       accounts = λ number account accounts e.
-          (same_push (accounts_of new) accounts (p.0, p.1.account) (number, account) (sym (ap accounts_of is ∙ map_push (λ (x : ℕ × HeldApp). (x.0, x.1.account)) new p) ∙ e)).0;
+          (same_push (accounts_of new) accounts (q.0, p.1.account) (number, account) (sym (ap accounts_of is ∙ map_push (λ (x : ℕ × HeldApp). (x.0, x.1.account)) new p) ∙ e)).0;
     }
 
+-- all that grew before a change
+pub grown : {held held' : ℕ → HeldApp} {index : List (ℕ × ℕ)} {next : ℕ} {ns ns' ss ss' : List ℕ} {room n_room slots s_room : ℕ} → AreIndexed (entries_at held index) next ns room × AreBeside index ns ss slots
+    → held' ≡ held → ns' ≡ ns → ss' ≡ ss → room ≤ n_room → slots ≤ s_room → AreIndexed (entries_at held' index) next ns' n_room × AreBeside index ns' ss' s_room
+grown {held} {held'} {index} {next} h same numbers sides r r' =
+    let entries = ap (λ t. entries_at t index) (sym same) in
+    let few = h.0.few in
+    let beside = h.1.few in
+    let l = ap length entries in (
+      record { numbered = subst (λ es. AreNumbered 1 es next) entries h.0.numbered; waiting = numbers ∙ h.0.waiting ∙ ap numbers_of entries; few = omega (arith, few, r, l) },
+      record { beside = sides ∙ h.1.beside ∙ ap (map (slot_in index)) (sym numbers); few = omega (arith, beside, r') },
+    )
+
 -- one more, that does not wait yet
-pub entered : (x : HeldApp) {es new : List (ℕ × HeldApp)} {next : ℕ} {ns : List ℕ} {room left : ℕ} → AreIndexed es next ns room → new ≡ es ++ (next, x) ∷ [] → x.app.number ≡ next → is_waiting x.app ≡ false → length new ≤ left → AreIndexed new (next + 1) ns left
-entered x {es} {new} {next} h is number rests few = record {
-  numbered = rw is (numbered_push 1 next es x h.numbered number);
-  waiting = h.waiting ∙ sym (ap numbers_of is ∙ none_more es next x rests);
-  few = few;
-}
+pub record IsEnteredAs (x : HeldApp) (es new : List (ℕ × HeldApp)) (index : List (ℕ × ℕ)) (next : ℕ) (ns ss : List ℕ) : Type 0 where
+  pub entries : new ≡ es ++ (next, x) ∷ []
+  pub whole : {room slots : ℕ} → length es + 1 ≤ room → length es + 1 ≤ slots → AreIndexed new (next + 1) ns room × AreBeside index ns ss slots
 
--- each entry has its number, and is found by it
-looked_up : (low next : ℕ) (es : List (ℕ × HeldApp)) → AreNumbered low es next → (x : ℕ × HeldApp) → IsIn x es → (low ≤ x.0) × (x.1.app.number ≡ x.0) × (lookup (nat_eq x.0) es ≡ Some x.1)
-looked_up low next [] h x m = absurd m
-looked_up low next (e ∷ es) h x (inl same) =
-    let itself : nat_eq e.0 e.0 ≡ true = grind (arith, nat_tests) in
-    subst (λ (y : ℕ × HeldApp). (low ≤ y.0) × (y.1.app.number ≡ y.0) × (lookup (nat_eq y.0) (e ∷ es) ≡ Some y.1)) same
-    (h.0, h.1, ap (λ b. cond b (Some e.1) (lookup (nat_eq e.0) es)) itself)
-looked_up low next (e ∷ es) h x (inr m) =
-    let r = looked_up (e.0 + 1) next es h.2 x m in
-    let above = r.0 in
-    let first = h.0 in
-    let other : nat_eq x.0 e.0 ≡ false = grind (arith, nat_tests, above) in
-    (omega (arith, first, above), r.1, ap (λ b. cond b (Some e.1) (lookup (nat_eq x.0) es)) other ∙ r.2)
-
--- those of all entries that wait, and the account of each
-abbrev pub held_waiting : List (ℕ × HeldApp) → List HeldApp
-held_waiting es = filter (λ h. is_waiting h.app) (values_of es)
-
-pub waiting_apps : (es : List (ℕ × HeldApp)) → map (λ h. h.app) (held_waiting es) ≡ waiting_of (apps_of es)
-waiting_apps [] = refl
-waiting_apps (e ∷ es) = by (is_waiting e.1.app) (waiting_apps es)
-  where
-    by : (b : Bool) → map (λ h. h.app) (held_waiting es) ≡ waiting_of (apps_of es)
-        → map (λ (h : HeldApp). h.app) (cond b (e.1 ∷ held_waiting es) (held_waiting es)) ≡ cond b (e.1.app ∷ waiting_of (apps_of es)) (waiting_of (apps_of es))
-    by true r = ap (λ apps. e.1.app ∷ apps) r
-    by false r = r
-
-pub waiting_accounts : (es : List (ℕ × HeldApp)) (next : ℕ) → AreNumbered 1 es next → All (λ h. account_of h.app.number (accounts_of es) ≡ Some h.account) (held_waiting es)
-waiting_accounts es next numbered =
-    of_each (λ h. account_of h.app.number (accounts_of es) ≡ Some h.account) (held_waiting es)
-    (λ h m.
-    let x = of_map (λ (e : ℕ × HeldApp). e.1) es h (of_filter (λ (y : HeldApp). is_waiting y.app) (values_of es) h m).1 in
-    let r = looked_up 1 next es numbered (x.0) (x.1) in
-    subst (λ (y : HeldApp). account_of y.app.number (accounts_of es) ≡ Some y.account) (x.2)
-    (ap (λ n. account_of n (accounts_of es)) r.1 ∙ account_there (x.0).0 es (x.0).1 r.2))
+pub entered : {A : Type 0} (slot : ℕ) (b : Box HeldApp A) (x : HeldApp) (apps apps' : Slab (Box HeldApp A)) (index more : List (ℕ × ℕ)) {next : ℕ} {ns ss : List ℕ} {room slots : ℕ} → AreIndexed (entries_at (held_at apps) index) next ns room × AreBeside index ns ss slots
+    → more ≡ insert_entry nat_cmp index next slot → Updates apps apps' slot (Some b) → get apps slot ≡ None → b.value ≡ x → x.app.number ≡ next → is_waiting x.app ≡ false
+    → IsEnteredAs x (entries_at (held_at apps) index) (entries_at (held_at apps') more) more next ns ss
+entered {A} slot b x apps apps' index more {next} {ns} {ss} {room} {slots} h last u vacant value number rests =
+    let es = entries_at (held_at apps) index in
+    let pushed = held_push (held_at apps) (held_at apps') slot next index more b.value (updated u) (ap (λ o. option_map_or (λ (c : Box HeldApp A). c.value) o nobody) vacant) h.0.numbered last in
+    let is = pushed.1 ∙ ap (λ y. es ++ (next, y) ∷ []) value in
+    let size = ap length is ∙ length-append es ((next, x) ∷ []) in
+    let index_size = ap length pushed.0 ∙ length-append index ((next, slot) ∷ []) in
+    let old_size = length-map {B = ℕ × HeldApp} index (λ (e : ℕ × ℕ). (e.0, held_at apps e.1)) in
+    let same = same_beside (slot_in index) (slot_in more) next 1 next es h.0.numbered (next_absent 1 next es h.0.numbered) (λ m o. sym (ap (λ qs. slot_in qs m) pushed.0 ∙ slot_pushed next slot m index o)) in
+    record {
+      entries = is;
+      whole = λ {room} {slots} r r'. (
+        record {
+          numbered = rw is (numbered_push 1 next es x h.0.numbered number);
+          waiting = h.0.waiting ∙ sym (ap numbers_of is ∙ none_more es next x rests);
+          few = omega (arith, size, r);
+        },
+        record { beside = h.1.beside ∙ ap (map (slot_in index)) h.0.waiting ∙ same ∙ ap (map (slot_in more)) (sym h.0.waiting); few = omega (arith, index_size, old_size, r') },
+      );
+    }

@@ -1,7 +1,8 @@
 -- The table of active applications, with the account of each.
-use Rattle.std.specs.Prelude.{◌≡◌, ℕ, ◌+◌, ◌≤◌, Bool, ◌&&◌, not, nat_lt, filter, length, map, List, [], ◌∷◌, ◌++◌, Option, Some, None, option_and_then, false, nat_eq, ◌==◌, if◌then◌else◌, option_map}
+use Rattle.std.specs.Prelude.{Box, ◌≡◌, ℕ, ◌+◌, ◌≤◌, Bool, ◌&&◌, not, nat_lt, filter, length, map, List, [], ◌∷◌, ◌++◌, Option, Some, None, option_and_then, false, nat_eq, ◌==◌, if◌then◌else◌, option_map}
 use Rattle.std.specs.Option.{option_map_or}
 use Rattle.std.specs.Map.{lookup}
+use Rattle.slab.specs.Slab.{Slab, get}
 use Rattle.cap_model.specs.Flat.{AppTable, app_in, App}
 use Rattle.cap_model.specs.News.{AllocateReply, Grant}
 use Rattle.cap_asks.specs.Accounts.{Account, HeldApp}
@@ -10,6 +11,7 @@ use Rattle.cap_model.specs.declared.ask.Key.{Key}
 use Rattle.cap_model.specs.declared.news.End.{End}
 use Rattle.cap_model.specs.Asks.{Ask}
 use Rattle.cap_model.specs.Asking.{put_ask}
+use Rattle.cap_model.specs.Submit.{new_app}
 use Rattle.cap_model.specs.Events.{take_one}
 use Rattle.cap_model.specs.Allocate.{after_telling}
 use Rattle.cap_model.specs.declared.replies.Reported.{Reported}
@@ -117,6 +119,27 @@ pub record HasRooms (n more_asks more_grants more_ends : ℕ) (accounts : List (
 abbrev pub AreNumbered : ℕ → List (ℕ × HeldApp) → ℕ → Type 0
 AreNumbered low [] next = low ≤ next
 AreNumbered low (e ∷ es) next = (low ≤ e.0) × (e.1.app.number ≡ e.0) × AreNumbered (e.0 + 1) es next
+
+-- what counts as held in a slot with nothing in it: no application has the number 0
+abbrev pub nobody : HeldApp
+nobody = record { app = new_app 0 [] []; account = new_account [] }
+
+-- what a slot holds
+abbrev pub held_at : {A : Type 0} → Slab (Box HeldApp A) → ℕ → HeldApp
+held_at apps slot = option_map_or (λ b. b.value) (get apps slot) nobody
+
+-- the entries of an index from numbers to slots
+abbrev pub entries_at : (ℕ → HeldApp) → List (ℕ × ℕ) → List (ℕ × HeldApp)
+entries_at held index = map (λ e. (e.0, held e.1)) index
+
+-- the slot that a number leads to
+abbrev pub slot_in : List (ℕ × ℕ) → ℕ → ℕ
+slot_in index n = option_map_or (λ s. s) (lookup (nat_eq n) index) 0
+
+-- numbers have the slots that they lead to beside them, in memory that has room for all
+pub record AreBeside (index : List (ℕ × ℕ)) (numbers slots : List ℕ) (room : ℕ) : Type 0 where
+  pub beside : slots ≡ map (slot_in index) numbers
+  pub few : length index ≤ room
 
 -- besides, the numbers of those that wait, in memory that has room for all
 pub record AreIndexed (es : List (ℕ × HeldApp)) (next : ℕ) (numbers : List ℕ) (room : ℕ) : Type 0 where

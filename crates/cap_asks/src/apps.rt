@@ -1,7 +1,6 @@
 //! The active applications by number, and the changes that calls make of one (`Apps`).
-ghost use Rattle.std.specs.Prelude.{◌≡◌, ℕ, List, ◌+◌, ◌<◌, ◌≤◌, ◌++◌, ◌∷◌, [], true, false, Some, filter, length, map, option_map, vec_capacity, IfOk, OnOk, OnErr, IsOk, IsSome};
+ghost use Rattle.std.specs.Prelude.{◌≡◌, ℕ, List, ◌+◌, ◌<◌, ◌≤◌, ◌++◌, ◌∷◌, [], true, false, Some, length, map, option_map, vec_capacity, IfOk, OnOk, OnErr, IsOk, IsSome};
 ghost use Rattle.cap_base.specs.Limits.{live_max, number_end};
-ghost use Rattle.std.specs.BTreeMap.{values};
 ghost use Rattle.std.specs.List.{All, slice_get};
 ghost use Rattle.std.specs.Option.{option_map_or};
 ghost use Rattle.cap_model.specs.Asking.{put_ask, reservations_left};
@@ -16,34 +15,42 @@ ghost use Rattle.cap_asks.specs.Apps.{is_waiting, waiting_of, put_number, IsLeft
 use crate::app::{App, Position};
 use crate::waiting::Waiting;
 use cap_model::{AllocateView, Ask, End, Grant, Key, NoMemory, PathText, Reported, ShortText};
+use slab::Slab;
 use std::alloc::{Allocator, Global};
 use std::collections::BTreeMap;
 use std::marker::Model;
 
-/// The active applications in order of number, the number of the next, and the numbers of those that wait for containers, with room
-/// for all. Contracts see the flat cluster's table, and beside it the account of each application, which says how many more asks,
-/// grants and ends it may take with no memory.
+/// The active applications, each in one slot from its submission to its end, and an index from their numbers to their slots. Beside it
+/// the numbers of those that wait for containers, in order, with their slots, and with room for all, and the number of the next.
+/// Contracts see the flat cluster's table, and beside it the account of each application, which says how many more asks, grants and
+/// ends it may take with no memory.
 #[derive(Drop)]
 pub struct Apps<const K: usize> {
     alloc: Global,
-    active: BTreeMap<u64, App<K>>,
+    index: BTreeMap<u64, usize>,
+    apps: Slab<Box<App<K>>>,
     waiting: Vec<u64>,
+    slots: Vec<usize>,
     next: u64,
 }
 
 impl<const K: usize> Model for Apps<K> {
     ghost use Rattle.std.specs.Prelude.{map, vec_capacity};
-    ghost use Rattle.cap_asks.specs.Apps.{HeldApps, AreIndexed};
+    ghost use Rattle.cap_asks.specs.Apps.{HeldApps, AreIndexed, AreBeside, entries_at, held_at};
 
     ghost Value = { HeldApps };
 
     ghost view = { λ t. record {
-      table = record { active = map (λ e. e.1.app) t.active.entries; next = t.next };
-      accounts = map (λ e. (e.0, e.1.account)) t.active.entries;
+      table = record {
+        active = map (λ e. e.1.app) (entries_at (held_at t.apps) t.index.entries);
+        next = t.next;
+      };
+      accounts = map (λ e. (e.0, e.1.account)) (entries_at (held_at t.apps) t.index.entries);
     } };
 
-    ghost invariant = { λ t. AreIndexed t.active.entries t.next t.waiting.items
-        (vec_capacity t.waiting) };
+    ghost invariant = { λ t. AreIndexed (entries_at (held_at t.apps) t.index.entries) t.next
+        t.waiting.items (vec_capacity t.waiting)
+        × AreBeside t.index.entries t.waiting.items t.slots.items (vec_capacity t.slots) };
 }
 
 impl<const K: usize> Apps<K> {
@@ -54,8 +61,10 @@ impl<const K: usize> Apps<K> {
     {
         Apps {
             alloc,
-            active: BTreeMap::new(alloc),
+            index: BTreeMap::new(alloc),
+            apps: Slab::new(alloc),
             waiting: Vec::new(alloc),
+            slots: Vec::new(alloc),
             next: 1,
         }
     }
@@ -75,17 +84,25 @@ impl<const K: usize> Apps<K> {
         ensures table_stays { OnErr result (self.new.table ≡ self.old.table) }
         ensures accounts_stay { OnErr result (self.new.accounts ≡ self.old.accounts) }
     {
-        let waiting = self.waiting.len();
-        match self.waiting.reserve(self.active.len() - waiting + 1) {
-            Ok(()) => {}
-            Err(_) => return Err(NoMemory),
-        }
+        let more = self.index.len() - self.waiting.len() + 1;
+        let Ok(()) = self.waiting.reserve(more) else {
+            return Err(NoMemory);
+        };
+        let Ok(()) = self.slots.reserve(more) else {
+            return Err(NoMemory);
+        };
+        let Ok(()) = self.apps.reserve(1) else {
+            return Err(NoMemory);
+        };
         let number = self.next;
         let app = App::new(self.alloc, number, leaf, position, user);
-        match self.active.insert(number, app) {
-            Ok(_) => {}
-            Err(_) => return Err(NoMemory),
-        }
+        let Ok(app) = Box::new(self.alloc, app) else {
+            return Err(NoMemory);
+        };
+        let Ok(_) = self.index.insert(number, self.apps.vacant_key()) else {
+            return Err(NoMemory);
+        };
+        self.apps.insert_reserved(app);
         self.next = number + 1;
         Ok(number)
     }
@@ -98,47 +115,31 @@ impl<const K: usize> Apps<K> {
             self.old.accounts ≡ accounts ++ (number, account) ∷ []
             → self.new.accounts ≡ accounts }
     {
-        let Some((number, _)) = self.active.pop_last() else {
+        let Some((number, slot)) = self.index.pop_last() else {
             return;
         };
+        self.apps.try_remove(slot);
         self.next = number;
-        set_waiting(&mut self.waiting, number, false);
+        set_waiting(&mut self.waiting, &mut self.slots, number, slot, false);
     }
 
     /// The numbers rise from 1, and are below the next. This does nothing: it is there for what its clause says.
     pub fn numbers_rise(&self)
         ensures { IsRising 1 (map (λ app. app.number) self.now.table.active) self.now.table.next }
     {
-        let _ = &self.active;
+        let _ = &self.index;
     }
 
     /// How many are active.
     pub fn count(&self) -> usize
         ensures { result ≡ length self.now.table.active }
     {
-        self.active.len()
+        self.index.len()
     }
 
-    /// Those that wait for containers, in order of number, in one piece of memory. Where they are few beside the others, each is found by its
-    /// number; else all are read in a row. An error means that an allocation failed.
+    /// Those that wait for containers, in order of number, in one piece of memory. It costs no look at the others. An error means that an
+    /// allocation failed.
     pub fn waiting<B: Allocator + Copy>(&self, alloc: B) -> Result<Vec<Waiting<'_, K>, B>, NoMemory>
-        ensures apps { IfOk result (λ waiting.
-            map (λ w. w.app) waiting.items ≡ waiting_of self.now.table.active) }
-        ensures accounts { IfOk result (λ waiting. All
-            (λ w. account_of w.app.number self.now.accounts ≡ Some w.account) waiting.items) }
-    {
-        if self.waiting.len() < self.active.len() / 8 {
-            self.find_waiting(alloc)
-        } else {
-            self.read_waiting(alloc)
-        }
-    }
-
-    /// Those that wait, each found by its number.
-    fn find_waiting<B: Allocator + Copy>(
-        &self,
-        alloc: B,
-    ) -> Result<Vec<Waiting<'_, K>, B>, NoMemory>
         ensures apps { IfOk result (λ waiting.
             map (λ w. w.app) waiting.items ≡ waiting_of self.now.table.active) }
         ensures accounts { IfOk result (λ waiting. All
@@ -158,33 +159,14 @@ impl<const K: usize> Apps<K> {
         Ok(waiting)
     }
 
-    /// Those of all applications that wait.
-    fn read_waiting<B: Allocator + Copy>(
-        &self,
-        alloc: B,
-    ) -> Result<Vec<Waiting<'_, K>, B>, NoMemory>
-        ensures apps { IfOk result (λ waiting.
-            map (λ w. w.app) waiting.items ≡ waiting_of self.now.table.active) }
-        ensures accounts { IfOk result (λ waiting. All
-            (λ w. account_of w.app.number self.now.accounts ≡ Some w.account) waiting.items) }
-    {
-        let Ok(mut waiting) = Vec::with_capacity(alloc, self.waiting.len()) else {
-            return Err(NoMemory);
-        };
-        match add_waiting(&self.active, &mut waiting) {
-            Ok(()) => Ok(waiting),
-            Err(NoMemory) => Err(NoMemory),
-        }
-    }
-
-    /// The application at an index among those that wait, in order of number. It costs no look at the others.
+    /// The application at an index among those that wait, in order of number, by its slot.
     fn nth_waiting(&self, index: usize) -> &App<K>
         requires { index < length (waiting_of self.now.table.active) }
         ensures app { slice_get (waiting_of self.now.table.active) index ≡ Some result.now.app }
         ensures account { account_of result.now.app.number self.now.accounts
             ≡ Some result.now.account }
     {
-        &self.active[&self.waiting[index]]
+        &self.apps[self.slots[index]]
     }
 
     /// The number of the next.
@@ -200,7 +182,8 @@ impl<const K: usize> Apps<K> {
         ensures account { option_map (λ app. app.now.account) result
             ≡ account_of n self.now.accounts }
     {
-        self.active.get(&n)
+        let slot = *self.index.get(&n)?;
+        Some(&self.apps[slot])
     }
 
     /// The master of an application has reported. Where none of this number is active, nothing changes.
@@ -209,11 +192,13 @@ impl<const K: usize> Apps<K> {
             change_app n (λ app. record app { registered = true }) self.old.table }
         ensures accounts { UsesRoom n 0 0 0 self.old.accounts self.new.accounts }
     {
-        let Some(app) = self.active.get_mut(&n) else {
+        let Some(&slot) = self.index.get(&n) else {
             return;
         };
+        let app = &mut *self.apps[slot];
         app.register();
-        set_waiting(&mut self.waiting, n, app.is_waiting());
+        let waits = app.is_waiting();
+        set_waiting(&mut self.waiting, &mut self.slots, n, slot, waits);
     }
 
     /// Makes room for so many more asks, grants and ends of an application, so that it takes them with no memory. `NoMemory`
@@ -225,9 +210,10 @@ impl<const K: usize> Apps<K> {
         ensures ok { OnOk result (HasRooms n asks grants ends self.new.accounts) }
         ensures succeeds { HasRooms n asks grants ends self.old.accounts → IsOk result }
     {
-        let Some(app) = self.active.get_mut(&n) else {
+        let Some(&slot) = self.index.get(&n) else {
             unreachable!()
         };
+        let app = &mut *self.apps[slot];
         app.reserve(asks, grants, ends)
     }
 
@@ -250,11 +236,13 @@ impl<const K: usize> Apps<K> {
         ensures table { self.new.table ≡ change_app n (with_ask_put ask.now) self.old.table }
         ensures accounts { UsesRoom n 1 0 0 self.old.accounts self.new.accounts }
     {
-        let Some(app) = self.active.get_mut(&n) else {
+        let Some(&slot) = self.index.get(&n) else {
             return;
         };
+        let app = &mut *self.apps[slot];
         app.put_ask(ask);
-        set_waiting(&mut self.waiting, n, app.is_waiting());
+        let waits = app.is_waiting();
+        set_waiting(&mut self.waiting, &mut self.slots, n, slot, waits);
     }
 
     /// One container less is wanted for this key of an application; an ask that comes to 0 is taken out. Where there is no such application
@@ -263,11 +251,13 @@ impl<const K: usize> Apps<K> {
         ensures table { self.new.table ≡ change_app n (with_one_less key.now) self.old.table }
         ensures accounts { UsesRoom n 0 0 0 self.old.accounts self.new.accounts }
     {
-        let Some(app) = self.active.get_mut(&n) else {
+        let Some(&slot) = self.index.get(&n) else {
             return;
         };
+        let app = &mut *self.apps[slot];
         app.take_one(key);
-        set_waiting(&mut self.waiting, n, app.is_waiting());
+        let waits = app.is_waiting();
+        set_waiting(&mut self.waiting, &mut self.slots, n, slot, waits);
     }
 
     /// One more container of an application is live, whose grant waits to be reported to its master, last. It needs room that `room`
@@ -279,9 +269,10 @@ impl<const K: usize> Apps<K> {
             change_app n (with_waiting_grant grant.now) self.old.table }
         ensures accounts { UsesRoom n 0 1 0 self.old.accounts self.new.accounts }
     {
-        let Some(app) = self.active.get_mut(&n) else {
+        let Some(&slot) = self.index.get(&n) else {
             return;
         };
+        let app = &mut *self.apps[slot];
         app.add_grant(grant);
     }
 
@@ -291,9 +282,10 @@ impl<const K: usize> Apps<K> {
         ensures table { self.new.table ≡ change_app n (with_waiting_end end.now) self.old.table }
         ensures accounts { UsesRoom n 0 0 1 self.old.accounts self.new.accounts }
     {
-        let Some(app) = self.active.get_mut(&n) else {
+        let Some(&slot) = self.index.get(&n) else {
             return;
         };
+        let app = &mut *self.apps[slot];
         app.add_end(end);
     }
 
@@ -305,7 +297,7 @@ impl<const K: usize> Apps<K> {
         ensures accounts { UsesRoom n 0 0 0 self.old.accounts self.new.accounts }
         ensures told { IsSome (app_in self.old.table n) → KeepsNumbers n self.new.table result }
     {
-        let Some(app) = self.active.get_mut(&n) else {
+        let Some(&slot) = self.index.get(&n) else {
             return Reported {
                 response: 0,
                 ignored: 0,
@@ -313,6 +305,7 @@ impl<const K: usize> Apps<K> {
                 ends: 0,
             };
         };
+        let app = &mut *self.apps[slot];
         app.tell(ignored)
     }
 
@@ -322,7 +315,7 @@ impl<const K: usize> Apps<K> {
         ensures { KeepsNumbers n self.now.table reported.now
             → kept_of n self.now.table ≡ Some result }
     {
-        match self.active.get(&n) {
+        match self.app(n) {
             Some(app) => app.reply(reported),
             None => AllocateView {
                 response: reported.response,
@@ -339,48 +332,40 @@ impl<const K: usize> Apps<K> {
         ensures table { self.new.table ≡ remove_app n self.old.table }
         ensures accounts { IsLeft n self.old.accounts self.new.accounts }
     {
-        self.active.remove(&n);
-        set_waiting(&mut self.waiting, n, false);
+        let Some(slot) = self.index.remove(&n) else {
+            return;
+        };
+        self.apps.try_remove(slot);
+        set_waiting(&mut self.waiting, &mut self.slots, n, slot, false);
     }
 }
 
-/// The numbers of those that wait, with this one, or without it. It costs one binary search.
-fn set_waiting(waiting: &mut Vec<u64>, n: u64, waits: bool)
+/// The numbers of those that wait and their slots, with this one, or without it. It costs one binary search.
+fn set_waiting(waiting: &mut Vec<u64>, slots: &mut Vec<usize>, n: u64, slot: usize, waits: bool)
     requires rising { (end : ℕ) × IsRising 1 waiting.old.items end }
+    requires beside { length slots.old.items ≡ length waiting.old.items }
     requires room { length (put_number n waits waiting.old.items) ≤ vec_capacity waiting.old }
+    requires slot_room { length (put_number n waits waiting.old.items) ≤ vec_capacity slots.old }
     ensures items { waiting.new.items ≡ put_number n waits waiting.old.items }
+    ensures beside { (slot_of : ℕ → ℕ) → slots.old.items ≡ map slot_of waiting.old.items
+        → slot ≡ slot_of n → slots.new.items ≡ map slot_of waiting.new.items }
     ensures room { vec_capacity waiting.old ≤ vec_capacity waiting.new }
+    ensures slot_room { vec_capacity slots.old ≤ vec_capacity slots.new }
 {
     match (waiting.binary_search(&n), waits) {
         (Ok(index), false) => {
             waiting.remove(index);
+            slots.remove(index);
         }
         (Err(index), true) => {
             let Ok(()) = waiting.insert(index, n) else {
+                unreachable!()
+            };
+            let Ok(()) = slots.insert(index, slot) else {
                 unreachable!()
             };
         }
         (Ok(_), true) => {}
         (Err(_), false) => {}
     }
-}
-
-/// Adds those of all applications that wait. An error means that an allocation failed, and comes only where there is too little room for
-/// all.
-fn add_waiting<'a, const K: usize, B: Allocator + Copy>(
-    active: &'a BTreeMap<u64, App<K>>,
-    waiting: &mut Vec<Waiting<'a, K>, B>,
-) -> Result<(), NoMemory>
-    ensures { OnOk result (waiting.new.items
-        ≡ waiting.old.items ++ filter (λ h. is_waiting h.app) (values active.now)) }
-{
-    for app in active.values() {
-        if app.is_waiting() {
-            match waiting.push(Waiting::new(app)) {
-                Ok(()) => {}
-                Err(_) => return Err(NoMemory),
-            }
-        }
-    }
-    Ok(())
 }

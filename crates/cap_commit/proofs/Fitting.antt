@@ -53,3 +53,6 @@ apps_fit K = omega arith
 
 pub app_fits : (K : RattleType) → FitsInMemory (app.the_row K)
 app_fits K = omega arith
+
+-- all of these: what a cluster holds fits in memory
+pub ruleset in_cluster = (nodes_in_cluster, container_in_cluster, load_in_cluster, node_in_cluster, amounts_in_cluster, reservation_in_cluster, ask_in_cluster, grant_in_cluster, limits_in_cluster, apps_fit, app_fits)

@@ -34,6 +34,9 @@ seen_ask_of_few n few = omega (arith, few)
 pub seen_app_of_few : (n : ℕ) → n ≤ resources_max → FitsInMemory (seen_app.the_row (param 0 (number n)))
 seen_app_of_few n few = omega (arith, few)
 
+pub seen_node_of_few : (n : ℕ) → n ≤ resources_max → FitsInMemory (seen_node.the_row (param 0 (number n)))
+seen_node_of_few n few = omega (arith, few)
+
 pub tree_in_snapshot : (K A : RattleType) (alloc : Ghosts A.Denot) → FitsInMemory (snapshot.the_row K A alloc) → FitsInMemory (seen_tree.the_row K A alloc)
 tree_in_snapshot K A alloc = part_fits (layout (snapshot.the_row K A alloc)) (0 ∷ [])
 

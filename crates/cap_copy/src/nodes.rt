@@ -20,14 +20,15 @@ pub(crate) fn seen_nodes<const K: usize, B: Allocator + Copy>(
         return Err(NoMemory);
     };
     for index in 0..nodes.count() {
-        let node = nodes.nth(index);
+        let load = nodes.nth(index);
+        let node = load.node();
         seen.push_reserved(SeenNode {
             number: node.number(),
             host: *node.host(),
             rack: *node.rack(),
             total: node.total(),
-            free: nodes.free_at(index),
-            reservation: nodes.reservation_at(index),
+            free: load.free(),
+            reservation: load.reservation(),
         });
     }
     Ok(seen)

@@ -98,11 +98,6 @@ module _ (K : ℕ) (loads : List Load) (live : List Container) (tied : AreTied K
       ap (less p.node.total) (t.0.held ∙ ap (λ m. sum_where K (λ (c : Container). c.node == m) (λ c. c.resource) live) t.1)
       ∙ ap (λ o. left_of o (sum_where K (λ (c : Container). c.node == n) (λ c. c.resource) live)) (sym (node_of_load loads n p there))
 
-  -- what the node at an index has left
-  pub free_nth : (i : ℕ) (p : Load) → slice_get loads i ≡ Some p → load_at loads p.node.number ≡ Some p → (free : List ℕ) → free ≡ less p.node.total p.held →
-      IfSome (slice_get (nodes_of loads) i) (λ node. free ≡ left_of (find (λ x. x.number == node.number) (nodes_of loads)) (sum_where K (λ c. c.node == node.number) (λ c. c.resource) live))
-  free_nth i p at own free is = rw (slice_get-map (λ (q : Load). q.node) loads i, at) (is ∙ free_is p.node.number p own)
-
   -- one more node
   pub with_node : (next : ℕ) (node : ClusterNode) (reservation : Option Reservation) → IsRising 1 (map (λ p. p.node.number) loads) next → node.number ≡ next → IsWithin amount_max node.total →
       AreTied K (loads ++ record { node = node; held = zeros K; live = 0; reservation = reservation } ∷ []) live

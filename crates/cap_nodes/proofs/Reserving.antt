@@ -45,10 +45,6 @@ module _ (reserved : List Reservation) where
   pub its_own : (loads : List Load) (n : ℕ) (p : Load) → load_at loads n ≡ Some p → HaveReservations reserved loads → p.reservation ≡ find (λ r. r.node == n) reserved
   its_own loads n p there have = let f = is_found (Has reserved) (λ (q : Load). q.node.number == n) loads p there have in f.0 ∙ ap on (eqb-true p.node.number n f.1)
 
-  pub nth_own : (loads : List Load) (i : ℕ) (p : Load) → slice_get loads i ≡ Some p → load_at loads p.node.number ≡ Some p → HaveReservations reserved loads → (o : Option Reservation) → o ≡ p.reservation →
-      IfSome (slice_get (nodes_of loads) i) (λ node. o ≡ find (λ r. r.node == node.number) reserved)
-  nth_own loads i p at own have o is = rw (slice_get-map (λ (q : Load). q.node) loads i, at) (is ∙ its_own loads p.node.number p own have)
-
   -- a change that leaves the number of a node and its reservation
   pub have_changed : (n : ℕ) (change : Load → Load) → ((p : Load) → ((change p).reservation ≡ p.reservation) × ((change p).node.number ≡ p.node.number)) → (loads : List Load) → HaveReservations reserved loads →
       HaveReservations reserved (change_load n change loads)

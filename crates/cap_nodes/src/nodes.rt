@@ -100,13 +100,14 @@ impl<const K: usize> Nodes<K> {
         self.present.get(number)
     }
 
-    /// The node at an index, in order of number.
-    pub fn nth(&self, index: usize) -> &Node<K>
+    /// The node at an index, in order of number, with what it has left and the reservation that it holds.
+    pub fn nth(&self, index: usize) -> &Load<K>
         requires { index < length self.now.present }
-        ensures at { slice_get self.now.present index ≡ Some result.now }
-        ensures found { node_in self.now result.now.number ≡ Some result.now }
+        ensures at { slice_get self.now.present index ≡ Some result.now.node }
+        ensures found { node_in self.now result.now.node.number ≡ Some result.now.node }
+        ensures load { IsLoadIn K self.now result.now }
     {
-        self.present.nth(index).node()
+        self.present.nth(index)
     }
 
     /// The numbers of the nodes rise from 1 and are below the next, and so are those of the live containers. This does nothing: it
@@ -180,16 +181,6 @@ impl<const K: usize> Nodes<K> {
             Some(load) => load.reservation(),
             None => self.oldest_for(node),
         }
-    }
-
-    /// The reservation that the node at an index, in order of number, holds, the oldest where it holds several, none where it holds
-    /// none.
-    pub fn reservation_at(&self, index: usize) -> Option<Reservation<K>>
-        requires { index < length self.now.present }
-        ensures { IfSome (slice_get self.now.present index)
-            (λ node. result ≡ find (λ r. r.node == node.number) self.now.reserved) }
-    {
-        self.present.nth(index).reservation()
     }
 
     /// The oldest reservation for a node of a number, present or not, none where there is none.
@@ -266,26 +257,6 @@ impl<const K: usize> Nodes<K> {
             Some(load) => load.live(),
             None => 0,
         }
-    }
-
-    /// What a present node has left, in MiB, vcores and GPUs.
-    pub fn free_of(&self, number: u64) -> Resource<K>
-        requires { IsSome (node_in self.now number) }
-        ensures { result ≡ free_on K self.now number }
-    {
-        match self.present.get(number) {
-            Some(load) => load.free(),
-            None => unreachable!(),
-        }
-    }
-
-    /// What the node at an index, in order of number, has left, in MiB, vcores and GPUs.
-    pub fn free_at(&self, index: usize) -> Resource<K>
-        requires { index < length self.now.present }
-        ensures { IfSome (slice_get self.now.present index)
-            (λ node. result ≡ free_on K self.now node.number) }
-    {
-        self.present.nth(index).free()
     }
 
     /// Takes a node in under the next number, which is the result, of a total in MiB, vcores and GPUs, with no container.

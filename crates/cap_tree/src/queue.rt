@@ -1,5 +1,7 @@
 //! One queue of the tree (`Queue`): its settings, what is used and active in it and under it, a leaf's users by hash.
-ghost use Rattle.std.specs.Prelude.{◌≡◌, ◌≤◌, None, IfOk, OnOk, OnErr};
+ghost use Rattle.std.specs.Prelude.{◌≡◌, ◌≤◌, None, IfOk, OnOk, OnErr, bytes_eq};
+ghost use Rattle.std.specs.Option.{option_copied};
+ghost use Rattle.indexmap.specs.IndexMap.{get};
 ghost use Rattle.cap_vector.specs.Fullness.{shares};
 ghost use Rattle.cap_base.specs.Paths.{name_of};
 ghost use Rattle.cap_tree.specs.Count.{IsPart, MayMove};
@@ -16,6 +18,9 @@ use std::alloc::Allocator;
 use std::cmp::Ordering;
 use std::hash::{BuildHasherDefault, FoldHasher};
 use std::marker::Model;
+
+/// Up to how many users of a queue are looked at one after the other.
+const FEW_USERS: usize = 4;
 
 type Users<const K: usize, A> = IndexMap<ShortText, Total<K>, BuildHasherDefault<FoldHasher>, A>;
 
@@ -217,7 +222,7 @@ impl<const K: usize, A: Allocator> Queue<K, A> {
     fn user(&self, user: &ShortText) -> Total<K>
         ensures { result ≡ count_in K (user_row user.now self.now.users) }
     {
-        match self.users.get(user) {
+        match row_of(&self.users, user) {
             None => Total::zero(),
             Some(count) => *count,
         }
@@ -333,6 +338,26 @@ fn copy_users<const K: usize, A: Allocator, B: Allocator + Copy>(
         };
     }
     Ok(copy)
+}
+
+/// The row of a user, none where the user has none. Of a few users each is looked at, which costs less than a hash.
+fn row_of<'a, const K: usize, A: Allocator>(
+    users: &'a Users<K, A>,
+    user: &ShortText,
+) -> Option<&'a Total<K>>
+    ensures { option_copied result ≡ get bytes_eq users.now user.now }
+{
+    if users.len() > FEW_USERS {
+        return users.get(user);
+    }
+    for index in 0..users.len() {
+        if let Some((name, count)) = users.get_index(index) {
+            if name == user {
+                return Some(count);
+            }
+        }
+    }
+    None
 }
 
 /// The last name of a dotted path.

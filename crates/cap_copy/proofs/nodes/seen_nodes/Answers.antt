@@ -1,24 +1,33 @@
 use Rattle.cap_copy.proofs.Fitting.{reservation_by_nodes}
 use Rattle.std.proofs.lemmas.List.{take_all}
-use Rattle.cap_nodes.proofs.Sizes.{node_fits, amounts_fit}
+use Rattle.cap_nodes.proofs.Sizes.{amounts_fit, load_fits, node_fits, present_fits}
 use Rattle.std.proofs.Common.{◌≡◌, ◌++◌, ◌∷◌, [], ap, sym, ◌∙◌, arith, map}
-use Rattle.std.specs.Prelude.{find, ◌==◌}
-use Rattle.cap_nodes.specs.Tables.{free_on}
+use Rattle.std.specs.Prelude.{Some, find, ◌==◌}
+use Rattle.cap_vector.specs.Vector.{less}
+use Rattle.cap_model.specs.Flat.{ClusterNode}
+use Rattle.cap_model.specs.Uses.{held_on}
+use Rattle.cap_nodes.specs.Tables.{free_on, left_of}
 use Rattle.cap_copy.specs.Taking.{node_seen}
 use Rattle.cap_copy.proofs.LoopSteps.{map_more}
 use Rattle.cap_copy.proofs.nodes.seen_nodes.Goals as goal
 
 pub loop-index-preserved : goal.loop-index-preserved
 loop-index-preserved g c =
-    let node = c.nth-node.result.now in
+    let load = c.nth-load.result.now in
+    let node = c.node-node.result.now in
     let nodes = c.args.nodes.now in
-    let free : c.free_at.result ≡ free_on g.row.K nodes node.number = rw c.nth-node.ensures.at at c.free_at.ensures in
-    let reservation : c.reservation_at.result ≡ find (λ r. r.node == node.number) nodes.reserved = rw c.nth-node.ensures.at at c.reservation_at.ensures in
+    let in_table = c.nth-load.ensures.load in
+    let at = c.nth-load.ensures.at ∙ ap (λ n. Some n) (sym c.node-node.ensures) in
+    let free : c.free.result ≡ free_on g.row.K nodes node.number =
+    c.free.ensures ∙ ap (less load.node.total) in_table.held ∙ ap (λ o. left_of o (held_on g.row.K nodes load.node.number)) (sym c.nth-load.ensures.found)
+    ∙ ap (λ (n : ClusterNode). free_on g.row.K nodes n.number) (sym c.node-node.ensures) in
+    let reservation : c.reservation.result ≡ find (λ r. r.node == node.number) nodes.reserved =
+    c.reservation.ensures ∙ in_table.reservation ∙ ap (λ (n : ClusterNode). find (λ r. r.node == n.number) nodes.reserved) (sym c.node-node.ensures) in
     record {
       entries =
           c.push_reserved.ensures.items
           ∙ (λ i. c.loop-index.invariant.entries i ++ record { number = c.number.ensures i; host = c.host.ensures i; rack = c.rack.ensures i; total = c.total.ensures.value i; free = free i; reservation = reservation i } ∷ [])
-          ∙ sym (map_more (node_seen g.row.K nodes) nodes.present c.loop-index.index node c.nth-node.ensures.at);
+          ∙ sym (map_more (node_seen g.row.K nodes) nodes.present c.loop-index.index node at);
       count = omega arith;
       room = omega arith;
     }
@@ -41,14 +50,17 @@ host-requires g c = search node_fits
 pub number-requires : goal.number-requires
 number-requires g c = search node_fits
 
-pub nth-node-requires : goal.nth-node-requires
-nth-node-requires g c = let t = c.loop-index-test.true in let n = c.count-index-end.ensures.value in ((search), (search node_fits, omega (arith, t, n)))
+pub nth-load-requires : goal.nth-load-requires
+nth-load-requires g c = let t = c.loop-index-test.true in let n = c.count-index-end.ensures.value in ((search), (search (present_fits, load_fits), omega (arith, t, n)))
 
-pub free_at-requires : goal.free_at-requires
-free_at-requires g c = let t = c.loop-index-test.true in let n = c.count-index-end.ensures.value in ((search), (search amounts_fit, omega (arith, t, n)))
+pub node-node-requires : goal.node-node-requires
+node-node-requires g c = search (load_fits, node_fits)
 
-pub reservation_at-requires : goal.reservation_at-requires
-reservation_at-requires g c = let t = c.loop-index-test.true in let n = c.count-index-end.ensures.value in ((search), (search reservation_by_nodes, omega (arith, t, n)))
+pub free-requires : goal.free-requires
+free-requires g c = (search load_fits, (search amounts_fit, c.nth-load.ensures.load.fits))
+
+pub reservation-requires : goal.reservation-requires
+reservation-requires g c = search (load_fits, reservation_by_nodes)
 
 pub returns : goal.returns
 returns g c =

@@ -1,11 +1,16 @@
-use Rattle.std.proofs.Common.{◌≡◌, ◌<◌, ◌+◌, ◌++◌, ◌∷◌, [], refl, sym, subst, ◌∙◌, ap, length, arith, map, take}
+use Rattle.std.proofs.Common.{◌≡◌, ◌<◌, ◌+◌, ◌++◌, ◌∷◌, [], List, refl, rules, sym, subst, ◌∙◌, ap, length, arith, map, take}
 use Rattle.std.specs.Prelude.{Some, option_map}
 use Rattle.std.specs.List.{slice_get}
 use Rattle.std.proofs.lemmas.Option.{slice_get-map, slice_get_read}
+use Rattle.std.proofs.lemmas.List.{length-map}
+use Rattle.cap_tree.specs.Spot.{IsPosition}
+use Rattle.cap_base.proofs.lists.Members.{each_of}
 use Rattle.cap_asks.specs.Accounts.{HeldApp}
-use Rattle.cap_copy.specs.Entries.{asks_of}
+use Rattle.std.proofs.lemmas.List.{take_all}
+use Rattle.cap_copy.specs.Entries.{ask_entries, asks_of, indexes}
 use Rattle.cap_copy.specs.SeenApp.{AreSeen, user_used}
-use Rattle.cap_copy.proofs.LoopSteps.{asks_more}
+use Rattle.cap_copy.proofs.Fitting.{seen_app_of_few, seen_ask_of_few}
+use Rattle.cap_copy.proofs.LoopSteps.{asks_more, slice_get_in}
 use Rattle.cap_copy.proofs.Seeing.{count_seen, seen_more}
 use Rattle.cap_copy.proofs.seen_app.seen_apps.Goals as goal
 
@@ -38,3 +43,46 @@ loop-index-preserved g c =
       count = omega arith;
       room = omega arith;
     }
+
+pub drop-seen-requires-room-T-Destruct : goal.drop-seen-requires-room-T-Destruct
+drop-seen-requires-room-T-Destruct g c κs within = seen_app_of_few _ c.requires.resources
+
+pub seen_app-requires : goal.seen_app-requires
+seen_app-requires g c =
+    let few = c.requires.resources in
+    let waiting = c.args.waiting.now in
+    let i = c.loop-index.index in
+    let held = c.index-waiting-index.result in
+    let most = c.requires.few in
+    let test = c.loop-index-test.true in
+    let within : i < length waiting = omega (arith, most, test) in
+    let member = slice_get_in waiting i held (slice_get_read waiting (length waiting) i held refl within c.index-waiting-index.is) in
+    let there = each_of (λ (r : HeldApp). IsPosition c.args.tree.now r.account.position) waiting c.requires.placed held member in
+    (search rules, (omega arith, (seen_ask_of_few _ few, (seen_app_of_few _ few, subst (λ (h : HeldApp). IsPosition c.args.tree.now h.account.position) (sym c.app.ensures) there))))
+
+pub count_asks-requires : goal.count_asks-requires
+count_asks-requires g c = ((search), c.requires.resources)
+
+pub push_reserved-requires : goal.push_reserved-requires
+push_reserved-requires g c =
+    let few = c.requires.few in
+    let test = c.loop-index-test.true in
+    let count = c.loop-index.invariant.count in
+    let room = c.loop-index.invariant.room in
+    omega (arith, few, test, count, room)
+
+pub returns-clause-seen : goal.returns-clause-seen
+returns-clause-seen g c =
+    let few = c.requires.few in
+    let test = c.loop-index-test.false in
+    subst (λ (rs : List HeldApp). AreSeen g.row.K c.args.tree.now rs c.loop-index.asks.items c.loop-index.seen.items) (take_all c.loop-index.index c.args.waiting.now (omega (arith, few, test))) c.loop-index.invariant.are
+
+pub returns-clause-asks : goal.returns-clause-asks
+returns-clause-asks g c =
+    let few = c.requires.few in
+    let test = c.loop-index-test.false in
+    let end = c.loop-index.auto.index-end in
+    let apps = map (λ (r : HeldApp). r.app) c.args.waiting.now in
+    let n = length-map c.args.waiting.now (λ (r : HeldApp). r.app) in
+    let all : c.loop-index.index ≡ length apps = omega (arith, few, test, end, n) in
+    c.loop-index.invariant.asks ∙ ap (λ n. ask_entries [] apps (indexes n)) all

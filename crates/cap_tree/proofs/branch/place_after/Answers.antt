@@ -49,3 +49,10 @@ returns g c =
       before = c.loop-low.invariant.before;
       after = λ a le lt. c.loop-low.invariant.after a (omega (arith, test, le)) lt;
     }
+
+pub offset_bounds-children-order : goal.offset_bounds-children-order
+offset_bounds-children-order g c =
+    let most = c.loop-low.invariant.within in
+    let test = c.loop-low-test.true in
+    let within = entry_within g.T.TreeItem.order g.met.T.Served.total g.T.TreeItem.name g.T.TreeItem.waits c.args.children.now c.args.order.now c.requires (c.loop-low.low + (c.loop-low.high - c.loop-low.low) / 2) (omega (arith, test, most)) in
+    omega (arith, within)

@@ -1,18 +1,22 @@
-use Rattle.std.proofs.Common.{◌≡◌, ap, sym, ◌∙◌, refl, Bor}
-use Rattle.std.specs.Prelude.{Option, Some, None, option_map}
-use Rattle.std.specs.Option.{option_copied}
+use Rattle.std.proofs.Common.{ap, sym, ◌∙◌}
+use Rattle.std.specs.Prelude.{option_map}
 use Rattle.cap_asks.specs.Accounts.{HeldApp}
+use Rattle.cap_asks.specs.Apps.{held_at, entries_at}
 use Rattle.cap_asks.proofs.Entries.{by_number, app_found, account_found}
+use Rattle.cap_asks.proofs.Slots.{slot_taken, opened, looked_at}
 use Rattle.cap_asks.proofs.apps.Apps.app.Goals as goal
 
-part : {X : Type 0} (f : HeldApp → X) (r : Option (Bor HeldApp)) → option_map (λ app. f app.now) r ≡ option_map f (option_copied r)
-part f None = refl
-part f (Some x) = refl
+pub returns-in_err-slot-clause-found : goal.returns-in_err-slot-clause-found
+returns-in_err-slot-clause-found g c = rw (c.from_residual.ensures, ← c.self.view_is) (sym ((app_found 1 c.args.n c.self.inside.next (entries_at (held_at c.self.inside.apps) c.self.inside.index.entries) c.self.invariant.0.numbered) ∙ ap (option_map (λ (h : HeldApp). h.app)) (by_number c.args.n _ (looked_at (held_at c.self.inside.apps) c.args.n c.self.inside.index.entries c.in_err-slot.ensures.value))))
+
+pub returns-in_err-slot-clause-account : goal.returns-in_err-slot-clause-account
+returns-in_err-slot-clause-account g c = rw (c.from_residual.ensures, ← c.self.view_is) (sym ((account_found c.args.n (entries_at (held_at c.self.inside.apps) c.self.inside.index.entries)) ∙ ap (option_map (λ (h : HeldApp). h.account)) (by_number c.args.n _ (looked_at (held_at c.self.inside.apps) c.args.n c.self.inside.index.entries c.in_err-slot.ensures.value))))
+
+pub index-requires : goal.index-requires
+index-requires g c = slot_taken c.self.inside.apps c.self.inside.index.entries c.args.n c.self.inside.next c.self.invariant.0.numbered c.in_ok-slot.ensures.value
 
 pub returns-clause-found : goal.returns-clause-found
-returns-clause-found g c =
-    rw (← c.self.view_is) (part (λ h. h.app) c.get.result ∙ ap (option_map (λ (h : HeldApp). h.app)) (sym (by_number c.args.n c.self.inside.active.entries c.get.ensures.value)) ∙ sym (app_found 1 c.args.n c.self.inside.next c.self.inside.active.entries c.self.invariant.numbered))
+returns-clause-found g c = rw (← c.self.view_is) (sym ((app_found 1 c.args.n c.self.inside.next (entries_at (held_at c.self.inside.apps) c.self.inside.index.entries) c.self.invariant.0.numbered) ∙ ap (option_map (λ (h : HeldApp). h.app)) (opened c.self.inside.apps c.self.inside.index.entries c.args.n c.in_ok-slot.field-0.now c.index.result.now c.deref.result.now c.in_ok-slot.ensures.value c.index.ensures c.deref.ensures)))
 
 pub returns-clause-account : goal.returns-clause-account
-returns-clause-account g c =
-    rw (← c.self.view_is) (part (λ h. h.account) c.get.result ∙ ap (option_map (λ (h : HeldApp). h.account)) (sym (by_number c.args.n c.self.inside.active.entries c.get.ensures.value)) ∙ sym (account_found c.args.n c.self.inside.active.entries))
+returns-clause-account g c = rw (← c.self.view_is) (sym ((account_found c.args.n (entries_at (held_at c.self.inside.apps) c.self.inside.index.entries)) ∙ ap (option_map (λ (h : HeldApp). h.account)) (opened c.self.inside.apps c.self.inside.index.entries c.args.n c.in_ok-slot.field-0.now c.index.result.now c.deref.result.now c.in_ok-slot.ensures.value c.index.ensures c.deref.ensures)))

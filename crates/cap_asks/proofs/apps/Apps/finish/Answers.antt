@@ -1,20 +1,28 @@
-use Rattle.std.proofs.Common.{ap, ◌∙◌, arith}
-use Rattle.std.specs.Map.{remove_entry}
-use Rattle.cap_asks.proofs.Entries.{is_number, table_without, account_left}
-use Rattle.cap_asks.proofs.Waiters.{taken_out}
+use Rattle.std.proofs.Common.{refl, arith}
+use Rattle.cap_asks.specs.Apps.{held_at}
+use Rattle.cap_asks.proofs.Waiters.{taken_out, without}
 use Rattle.cap_asks.proofs.apps.Apps.finish.Goals as goal
 
+pub returns-in_default-clause-table : goal.returns-in_default-clause-table
+returns-in_default-clause-table g c = rw (← c.self.view_is) (without c.args.n c.self.inside.next (held_at c.self.inside.apps) (held_at c.self.inside.apps) c.self.inside.index.entries c.remove.new.self.entries c.self.invariant.0.numbered c.remove.ensures.entries c.remove.ensures.updates.1 c.remove.ensures.updates.2 refl).table
+
+pub returns-in_default-clause-accounts : goal.returns-in_default-clause-accounts
+returns-in_default-clause-accounts g c = rw (← c.self.view_is) (without c.args.n c.self.inside.next (held_at c.self.inside.apps) (held_at c.self.inside.apps) c.self.inside.index.entries c.remove.new.self.entries c.self.invariant.0.numbered c.remove.ensures.entries c.remove.ensures.updates.1 c.remove.ensures.updates.2 refl).accounts
+
 pub set_waiting-requires-clause-rising : goal.set_waiting-requires-clause-rising
-set_waiting-requires-clause-rising g c = (taken_out c.args.n c.self.invariant c.remove.ensures.entries (omega (arith, c.remove.ensures.len))).rising
+set_waiting-requires-clause-rising g c = (taken_out c.args.n c.in-Some.slot c.self.inside.apps c.try_remove.new.self c.self.inside.index.entries c.remove.new.self.entries c.self.invariant c.remove.ensures.entries c.remove.ensures.updates.1 c.remove.ensures.updates.2 c.in-Some.ensures.value c.try_remove.ensures.updates (omega (arith, c.remove.ensures.len))).1.rising
 
 pub set_waiting-requires-clause-room : goal.set_waiting-requires-clause-room
-set_waiting-requires-clause-room g c = (taken_out c.args.n c.self.invariant c.remove.ensures.entries (omega (arith, c.remove.ensures.len))).fits
+set_waiting-requires-clause-room g c = (taken_out c.args.n c.in-Some.slot c.self.inside.apps c.try_remove.new.self c.self.inside.index.entries c.remove.new.self.entries c.self.invariant c.remove.ensures.entries c.remove.ensures.updates.1 c.remove.ensures.updates.2 c.in-Some.ensures.value c.try_remove.ensures.updates (omega (arith, c.remove.ensures.len))).1.fits
 
-pub invariant_of-self : goal.invariant_of-self
-invariant_of-self g c = (taken_out c.args.n c.self.invariant c.remove.ensures.entries (omega (arith, c.remove.ensures.len))).index _ _ c.set_waiting.ensures.items c.set_waiting.ensures.room
+pub set_waiting-requires-clause-slot_room : goal.set_waiting-requires-clause-slot_room
+set_waiting-requires-clause-slot_room g c = (taken_out c.args.n c.in-Some.slot c.self.inside.apps c.try_remove.new.self c.self.inside.index.entries c.remove.new.self.entries c.self.invariant c.remove.ensures.entries c.remove.ensures.updates.1 c.remove.ensures.updates.2 c.in-Some.ensures.value c.try_remove.ensures.updates (omega (arith, c.remove.ensures.len))).1.slots_fit
+
+pub invariant_of-self-2 : goal.invariant_of-self-2
+invariant_of-self-2 g c = (taken_out c.args.n c.in-Some.slot c.self.inside.apps c.try_remove.new.self c.self.inside.index.entries c.remove.new.self.entries c.self.invariant c.remove.ensures.entries c.remove.ensures.updates.1 c.remove.ensures.updates.2 c.in-Some.ensures.value c.try_remove.ensures.updates (omega (arith, c.remove.ensures.len))).1.whole c.set_waiting.ensures.items c.set_waiting.ensures.beside c.set_waiting.ensures.room c.set_waiting.ensures.slot_room
 
 pub returns-clause-table : goal.returns-clause-table
-returns-clause-table g c = rw (← c.self.view_is) (table_without c.args.n c.self.inside.next c.self.inside.active.entries c.remove.new.self.entries c.self.invariant.numbered (c.remove.ensures.entries ∙ ap (λ t. remove_entry t c.self.inside.active.entries) (is_number c.args.n)))
+returns-clause-table g c = rw (← c.self.view_is) (taken_out c.args.n c.in-Some.slot c.self.inside.apps c.try_remove.new.self c.self.inside.index.entries c.remove.new.self.entries c.self.invariant c.remove.ensures.entries c.remove.ensures.updates.1 c.remove.ensures.updates.2 c.in-Some.ensures.value c.try_remove.ensures.updates (omega (arith, c.remove.ensures.len))).0.table
 
 pub returns-clause-accounts : goal.returns-clause-accounts
-returns-clause-accounts g c = rw (← c.self.view_is) (account_left c.args.n c.self.inside.active.entries c.remove.new.self.entries c.remove.ensures.updates.1 c.remove.ensures.updates.2)
+returns-clause-accounts g c = rw (← c.self.view_is) (taken_out c.args.n c.in-Some.slot c.self.inside.apps c.try_remove.new.self c.self.inside.index.entries c.remove.new.self.entries c.self.invariant c.remove.ensures.entries c.remove.ensures.updates.1 c.remove.ensures.updates.2 c.in-Some.ensures.value c.try_remove.ensures.updates (omega (arith, c.remove.ensures.len))).0.accounts

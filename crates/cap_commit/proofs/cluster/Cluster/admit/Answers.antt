@@ -1,5 +1,5 @@
 use Rattle.std.proofs.Common.{sym, arith}
-use Rattle.cap_commit.proofs.Fitting.{amounts_in_cluster, app_fits, ask_in_cluster, load_in_cluster, reservation_in_cluster}
+use Rattle.cap_commit.proofs.Fitting.{amounts_in_cluster, app_fits, ask_in_cluster, in_cluster, load_in_cluster, reservation_in_cluster}
 use Rattle.cap_commit.proofs.cluster.Cluster.admit.Goals as goal
 
 pub registered-requires : goal.registered-requires
@@ -30,3 +30,6 @@ pub limit_reason-requires : goal.limit_reason-requires
 limit_reason-requires g c =
     let here = rw c.app.ensures at c.in-Some.ensures in
     ((search), ((search), (omega arith, (search amounts_in_cluster, (sym here.seen, (here.app, (here.account, c.taken_back-old.ensures)))))))
+
+pub key-requires : goal.key-requires
+key-requires g c = search in_cluster

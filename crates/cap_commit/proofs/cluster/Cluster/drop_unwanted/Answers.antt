@@ -1,4 +1,4 @@
-use Rattle.cap_commit.proofs.Fitting.{nodes_in_cluster}
+use Rattle.cap_commit.proofs.Fitting.{in_cluster, nodes_in_cluster}
 use Rattle.std.proofs.Common.{ap, ◌∙◌}
 use Rattle.std.specs.Option.{option_map_or}
 use Rattle.cap_model.specs.Asking.{keep_first, reservations_left}
@@ -19,3 +19,9 @@ keep_first-requires g c = search
 
 pub reservation_count-requires : goal.reservation_count-requires
 reservation_count-requires g c = search nodes_in_cluster
+
+pub reservations_left-left-requires : goal.reservations_left-left-requires
+reservations_left-left-requires g c = search in_cluster
+
+pub key-requires : goal.key-requires
+key-requires g c = search in_cluster

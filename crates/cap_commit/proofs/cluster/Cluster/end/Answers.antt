@@ -1,4 +1,4 @@
-use Rattle.cap_commit.proofs.Fitting.{nodes_in_cluster}
+use Rattle.cap_commit.proofs.Fitting.{in_cluster, nodes_in_cluster}
 use Rattle.std.proofs.Common.{[], ◌∷◌, ◌++◌, ap, sym, ◌∙◌, map, arith}
 use Rattle.cap_tree.specs.Rows.{queues_of, lowered_row}
 use Rattle.cap_tree.specs.Spot.{path_at}
@@ -63,3 +63,15 @@ returns g c =
 
 pub lift-requires : goal.lift-requires
 lift-requires g c = (search nodes_in_cluster, ((search), rw (← c.self.view_is) at c.requires))
+
+pub resource-requires : goal.resource-requires
+resource-requires g c = search in_cluster
+
+pub number-requires : goal.number-requires
+number-requires g c = search in_cluster
+
+pub app-requires-3 : goal.app-requires-3
+app-requires-3 g c = search in_cluster
+
+pub app-requires : goal.app-requires
+app-requires g c = search in_cluster

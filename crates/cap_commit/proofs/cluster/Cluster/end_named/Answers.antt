@@ -1,4 +1,4 @@
-use Rattle.cap_commit.proofs.Fitting.{nodes_in_cluster, container_in_cluster}
+use Rattle.cap_commit.proofs.Fitting.{container_in_cluster, in_cluster, nodes_in_cluster}
 use Rattle.std.specs.Prelude.{◌==◌, find, IfSome, Some, ◌≡◌}
 use Rattle.std.proofs.Common.{ap, arith, get_or, subst, sym, ◌∙◌}
 use Rattle.cap_laws.specs.EngineLaws.{HasDistinctNumbers}
@@ -61,3 +61,6 @@ returns-clause-ignored g c =
 
 pub container-requires : goal.container-requires
 container-requires g c = search (nodes_in_cluster, container_in_cluster)
+
+pub has-requires : goal.has-requires
+has-requires g c = search in_cluster

@@ -1,4 +1,4 @@
-use Rattle.cap_commit.proofs.Fitting.{nodes_in_cluster}
+use Rattle.cap_commit.proofs.Fitting.{in_cluster, nodes_in_cluster}
 use Rattle.std.proofs.Common.{ap, arith}
 use Rattle.cap_model.specs.Flat.{AppTable, NodeTable}
 use Rattle.cap_commit.proofs.Holding.{held_opened}
@@ -23,3 +23,6 @@ drop-requires-in_default-5-room-T-Destruct g c = λ κs. queue_fits _ c.limits_o
 
 pub drop-requires-in_default-5-room-T-Destruct-2 : goal.drop-requires-in_default-5-room-T-Destruct-2
 drop-requires-in_default-5-room-T-Destruct-2 g c = λ κs. queue_fits _ c.limits_of-limits.ensures.resources
+
+pub limits_of-limits-requires : goal.limits_of-limits-requires
+limits_of-limits-requires g c = search in_cluster

@@ -1,4 +1,4 @@
-use Rattle.cap_commit.proofs.Fitting.{nodes_in_cluster, node_in_cluster}
+use Rattle.cap_commit.proofs.Fitting.{in_cluster, node_in_cluster, nodes_in_cluster}
 use Rattle.std.proofs.Common.{◌≤◌, sym, ap, subst, ◌∙◌, arith, length, map, None, [], ◌∷◌, ◌++◌}
 use Rattle.std.specs.Prelude.{◌≡◌, ◌==◌, find, filter, not, option_map, unwrap_or}
 use Rattle.std.proofs.lemmas.List.Sums.{count_by-le-length}
@@ -180,3 +180,15 @@ returns-in-Err-clause-err g c = c.room_for_grant.ensures.flat
 
 pub node-requires : goal.node-requires
 node-requires g c = search (nodes_in_cluster, node_in_cluster)
+
+pub resource-resource-requires : goal.resource-resource-requires
+resource-resource-requires g c = search in_cluster
+
+pub new-grant-requires : goal.new-grant-requires
+new-grant-requires g c = search in_cluster
+
+pub host-requires : goal.host-requires
+host-requires g c = search in_cluster
+
+pub copied-old-requires : goal.copied-old-requires
+copied-old-requires g c = search in_cluster

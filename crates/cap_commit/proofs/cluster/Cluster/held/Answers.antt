@@ -2,6 +2,7 @@ use Rattle.std.proofs.Common.{ap, sym, ◌∙◌}
 use Rattle.std.specs.Prelude.{option_and_then, option_map}
 use Rattle.cap_model.specs.Sight.{NodeSight}
 use Rattle.cap_commit.specs.Admission.{load_sight}
+use Rattle.cap_commit.proofs.Fitting.{in_cluster}
 use Rattle.cap_commit.proofs.cluster.Cluster.held.Goals as goal
 
 pub returns-in-Some : goal.returns-in-Some
@@ -9,3 +10,6 @@ returns-in-Some g c = c.reservation.ensures ∙ ap (option_and_then (λ (n : Nod
 
 pub returns-in-None : goal.returns-in-None
 returns-in-None g c = ap (option_and_then (λ (n : NodeSight). n.reservation)) (ap (option_map (λ l. load_sight l.now)) (sym c.in-None.is) ∙ c.requires)
+
+pub reservation-requires : goal.reservation-requires
+reservation-requires g c = search in_cluster

@@ -1,4 +1,4 @@
-use Rattle.cap_commit.proofs.Fitting.{nodes_in_cluster, reservation_in_cluster}
+use Rattle.cap_commit.proofs.Fitting.{in_cluster, nodes_in_cluster, reservation_in_cluster}
 use Rattle.std.proofs.Common.{ap, sym, ◌∙◌, arith}
 use Rattle.std.specs.Prelude.{filter, find}
 use Rattle.std.specs.List.{slice_get}
@@ -49,3 +49,12 @@ nodes-requires g c = search nodes_in_cluster
 
 pub reservation_for-next-requires : goal.reservation_for-next-requires
 reservation_for-next-requires g c = search (nodes_in_cluster, reservation_in_cluster)
+
+pub nodes-requires-in-Some : goal.nodes-requires-in-Some
+nodes-requires-in-Some g c = search in_cluster
+
+pub reservation_after-next-requires : goal.reservation_after-next-requires
+reservation_after-next-requires g c = search in_cluster
+
+pub node-requires : goal.node-requires
+node-requires g c = search in_cluster

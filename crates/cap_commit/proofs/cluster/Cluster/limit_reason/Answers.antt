@@ -2,6 +2,7 @@ use Rattle.std.proofs.Common.{None, Some, arith}
 use Rattle.cap_tree.specs.declared.over_limit.OverLimit.TheVariants.{Maximum, User}
 use Rattle.cap_commit.proofs.Limiting.{at_leaf, limit_is}
 use Rattle.cap_commit.proofs.Sizes.{tree_fits}
+use Rattle.cap_commit.proofs.Fitting.{in_cluster}
 use Rattle.cap_commit.proofs.cluster.Cluster.limit_reason.Goals as goal
 
 pub accept-requires : goal.accept-requires
@@ -29,3 +30,6 @@ returns-in-Err-User g c =
     let over = rw c.in-Err-User.field-0-is at c.in-Err-User.ensures.err in
     rw (← c.self.view_is)
     (limit_is _ c.self.invariant c.args.proposal.now c.args.app.now given.app given.account (Some User) given.seen c.position.ensures c.user.ensures given.old c.resource.ensures.value c.deref-tree.ensures c.in-Err-User.ensures.rows over)
+
+pub resource-requires : goal.resource-requires
+resource-requires g c = search in_cluster

@@ -1,4 +1,4 @@
-use Rattle.cap_commit.proofs.Fitting.{nodes_in_cluster}
+use Rattle.cap_commit.proofs.Fitting.{in_cluster, nodes_in_cluster}
 use Rattle.std.proofs.Common.{ap, ◌∙◌}
 use Rattle.cap_model.specs.Flat.{node_in}
 use Rattle.cap_commit.proofs.Seen.{load_seen, node_seen}
@@ -16,3 +16,6 @@ returns-in_default-clause-seen g c = rw (← c.self.view_is) (node_seen _ c.self
 
 pub load-requires : goal.load-requires
 load-requires g c = search nodes_in_cluster
+
+pub node-requires : goal.node-requires
+node-requires g c = search in_cluster

@@ -1,5 +1,5 @@
 use Rattle.cap_asks.specs.Apps.{ask_room}
-use Rattle.cap_commit.proofs.Fitting.{apps_fit, ask_in_cluster}
+use Rattle.cap_commit.proofs.Fitting.{apps_fit, ask_in_cluster, in_cluster}
 use Rattle.std.proofs.Common.{◌≡◌, ap, refl, subst, ◌∙◌, List, ℕ, ◌≤◌, sym}
 use Rattle.cap_vector.specs.Rounding.{round_up}
 use Rattle.cap_model.specs.Asks.{Ask}
@@ -29,3 +29,12 @@ put_ask-requires g c =
 
 pub drop_unwanted-requires : goal.drop_unwanted-requires
 drop_unwanted-requires g c = search
+
+pub resource-requires : goal.resource-requires
+resource-requires g c = search in_cluster
+
+pub with_resource-ask-requires : goal.with_resource-ask-requires
+with_resource-ask-requires g c = search in_cluster
+
+pub round_up-resource-requires : goal.round_up-resource-requires
+round_up-resource-requires g c = search in_cluster

@@ -3,6 +3,7 @@ use Rattle.cap_tree.specs.Rows.{queues_of}
 use Rattle.cap_commit.specs.declared.limits.Limits.{Limits}
 use Rattle.cap_commit.proofs.Holding.{held_settings, with_queues}
 use Rattle.cap_commit.proofs.Ties.{rows_change}
+use Rattle.cap_commit.proofs.Fitting.{in_cluster}
 use Rattle.cap_commit.proofs.cluster.Cluster.set_settings.Goals as goal
 
 pub invariant_of-self : goal.invariant_of-self
@@ -18,3 +19,6 @@ returns-clause-flat g c =
     let limits : Limits g.row.K = record { minimum_allocation = config.minimum_allocation; maximum_allocation = config.maximum_allocation; application_limit = config.application_limit } in
     rw (← c.self.view_is, c.limits_of-self-inside.ensures.value)
     (with_queues (record { rows = x.tree.value; limits = limits; apps = x.apps; nodes = x.nodes }) _ _ (ap queues_of now ∙ (rows_change config.queues).queues x.tree.value))
+
+pub limits_of-self-inside-requires : goal.limits_of-self-inside-requires
+limits_of-self-inside-requires g c = search in_cluster

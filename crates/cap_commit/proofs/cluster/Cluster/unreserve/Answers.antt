@@ -1,4 +1,4 @@
-use Rattle.cap_commit.proofs.Fitting.{nodes_in_cluster}
+use Rattle.cap_commit.proofs.Fitting.{in_cluster, nodes_in_cluster}
 use Rattle.std.proofs.Common.{ap, sym, ◌∙◌, map, arith}
 use Rattle.std.specs.Prelude.{filter}
 use Rattle.cap_model.specs.Flat.{with_reserved}
@@ -66,3 +66,12 @@ returns-clause-flat g c =
 
 pub unreserve-requires : goal.unreserve-requires
 unreserve-requires g c = (search nodes_in_cluster, c.self.invariant.reservations.apart)
+
+pub resource-requires : goal.resource-requires
+resource-requires g c = search in_cluster
+
+pub node-requires : goal.node-requires
+node-requires g c = search in_cluster
+
+pub app-requires : goal.app-requires
+app-requires g c = search in_cluster

@@ -1,4 +1,4 @@
-use Rattle.cap_commit.proofs.Fitting.{nodes_in_cluster}
+use Rattle.cap_commit.proofs.Fitting.{in_cluster, nodes_in_cluster}
 use Rattle.std.proofs.Common.{sym, ◌∙◌}
 use Rattle.std.specs.Prelude.{◌||◌}
 use Rattle.cap_base.proofs.lists.Tests.{or_false}
@@ -16,3 +16,12 @@ numbers_rise-requires g c = search nodes_in_cluster
 
 pub reserved_for-requires : goal.reserved_for-requires
 reserved_for-requires g c = search nodes_in_cluster
+
+pub key-requires : goal.key-requires
+key-requires g c = search in_cluster
+
+pub count-requires : goal.count-requires
+count-requires g c = search in_cluster
+
+pub app-requires : goal.app-requires
+app-requires g c = search in_cluster

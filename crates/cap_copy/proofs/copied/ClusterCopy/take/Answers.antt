@@ -7,7 +7,7 @@ use Rattle.cap_asks.specs.Accounts.{AreKept, HeldApp}
 use Rattle.cap_copy.specs.SeenApp.{AreSeen, SeenApp}
 use Rattle.cap_copy.specs.Entries.{asks_of_all}
 use Rattle.cap_copy.specs.Sources.{IsCopied, IsCopy, Parts, held_apps_in, nodes_in}
-use Rattle.cap_copy.proofs.Fitting.{tree_in_snapshot}
+use Rattle.cap_copy.proofs.Fitting.{nodes_of_few, seen_app_of_few, seen_node_of_few, tree_in_snapshot}
 use Rattle.cap_copy.proofs.Sights.{few_waiting, placed_all, positions_there}
 use Rattle.cap_copy.proofs.copied.ClusterCopy.take.Goals as goal
 
@@ -76,3 +76,24 @@ invariant_of-result g c =
           subst (λ n. n ≤ tree.room) (c.len-2.ensures ∙ c.in-Ok.waiting.ok.0 ∙ ap length (sym held) ∙ n) c.in-Ok-seen_in.ensures.room);
       skips_are = sym c.in-Ok-from_elem.skips.ok.0 ∙ c.in-Ok-from_elem.ensures.len ∙ c.len.ensures ∙ c.in-Ok-seen_nodes.present.ok.0;
     })
+
+pub next_container-requires : goal.next_container-requires
+next_container-requires g c = nodes_of_few _ c.requires.resources
+
+pub live_count-requires : goal.live_count-requires
+live_count-requires g c = nodes_of_few _ c.requires.resources
+
+pub drop-seen-requires-room-T-Destruct : goal.drop-seen-requires-room-T-Destruct
+drop-seen-requires-room-T-Destruct g c κs within = seen_app_of_few _ c.requires.resources
+
+pub drop-seen-requires-in_default-room-T-Destruct : goal.drop-seen-requires-in_default-room-T-Destruct
+drop-seen-requires-in_default-room-T-Destruct g c κs within = seen_app_of_few _ c.requires.resources
+
+pub drop-seen-requires-in-Err-seen_in-room-T-Destruct : goal.drop-seen-requires-in-Err-seen_in-room-T-Destruct
+drop-seen-requires-in-Err-seen_in-room-T-Destruct g c κs within = seen_app_of_few _ c.requires.resources
+
+pub seen_nodes-requires : goal.seen_nodes-requires
+seen_nodes-requires g c = (nodes_of_few _ c.requires.resources, seen_node_of_few _ c.requires.resources)
+
+pub numbers_rise-requires-2 : goal.numbers_rise-requires-2
+numbers_rise-requires-2 g c = nodes_of_few _ c.requires.resources

@@ -1,4 +1,4 @@
-use Rattle.std.proofs.Common.{ap, length, arith}
+use Rattle.std.proofs.Common.{◌∙◌, ap, length, sym}
 use Rattle.std.proofs.lemmas.List.{length-map}
 use Rattle.cap_copy.specs.SeenApp.{SeenApp}
 use Rattle.cap_tree.specs.ServiceOrder.{waiting_cmp}
@@ -11,8 +11,7 @@ returns-clause-count g c =
     let many = as_many (waiting_cmp inside.tree.rows inside.tree.waiting) (waiting_total inside.tree.rows inside.tree.waiting) (length inside.tree.waiting) in
     let waits = ap length c.self.invariant.waiting in
     let apps = length-map inside.apps.items (λ (a : SeenApp). a.held.account.position) in
-    let n = c.len.ensures in
-    rw (← c.self.view_is) (omega (arith, many, waits, apps, n))
+    rw (← c.self.view_is) (c.len.ensures ∙ inside.apps.ok.0 ∙ sym apps ∙ sym waits ∙ sym many)
 
 pub returns-clause-whole : goal.returns-clause-whole
 returns-clause-whole g c = rw (← c.self.view_is) c.self.invariant.whole

@@ -1,4 +1,4 @@
-use Rattle.std.proofs.Common.{refl, sym, subst, ◌<◌, length, arith}
+use Rattle.std.proofs.Common.{refl, sym, subst, ◌<◌, length}
 use Rattle.std.proofs.lemmas.Option.{slice_get_read}
 use Rattle.cap_copy.specs.Snapshot.{Seen}
 use Rattle.cap_copy.proofs.snapshot.Snapshot.ask.Goals as goal
@@ -9,4 +9,4 @@ returns g c =
     rw (← c.self.view_is) (slice_get_read c.self.inside.asks.items _ c.args.index c.index.result.now refl within c.index.ensures)
 
 pub index-requires : goal.index-requires
-index-requires g c = let within = subst (λ (s : Seen). c.args.index < length s.asks) (sym c.self.view_is) c.requires in omega (arith, within)
+index-requires g c = let within = subst (λ (s : Seen). c.args.index < length s.asks) (sym c.self.view_is) c.requires in subst (λ n. c.args.index < n) (sym c.self.inside.asks.ok.0) within

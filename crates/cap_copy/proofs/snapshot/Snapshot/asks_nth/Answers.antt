@@ -19,3 +19,8 @@ returns g c =
     let within : c.args.index < length apps = omega (arith, n, m) in
     let at = slice_get_read apps (length apps) c.args.index app refl within c.index.ensures in
     rw (← c.self.view_is) (slice_get-map range_in apps c.args.index ∙ ap (option_map range_in) at ∙ ap (λ r. Some r) (sym c.range.ensures))
+
+pub index-requires : goal.index-requires
+index-requires g c =
+    let within = subst (λ (s : Seen). c.args.index < length s.ranges) (sym c.self.view_is) c.requires in
+    subst (λ n. c.args.index < n) (sym (c.self.inside.apps.ok.0 ∙ sym (length-map c.self.inside.apps.items range_in))) within

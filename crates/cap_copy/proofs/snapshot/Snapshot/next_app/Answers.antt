@@ -27,3 +27,8 @@ next_served-requires g c =
 
 pub returns : goal.returns
 returns g c = rw (← c.self.view_is) (next_in c.self.inside.tree.rows c.self.inside.tree.waiting c.args.index c.next_served.result c.next_served.ensures.next)
+
+pub index-app-requires : goal.index-app-requires
+index-app-requires g c =
+    let within = subst (λ (s : Seen). c.args.index < length s.ranges) (sym c.self.view_is) c.requires in
+    subst (λ n. c.args.index < n) (sym (c.self.inside.apps.ok.0 ∙ sym (length-map c.self.inside.apps.items range_in))) within

@@ -19,8 +19,7 @@ pub index-app-requires : goal.index-app-requires
 index-app-requires g c =
     let n = subst (λ (s : Seen). c.args.ask.now.index < length s.limits) (sym c.self.view_is) c.requires in
     let m = length-map c.self.inside.apps.items (λ (a : SeenApp). limit_of g.row.K c.self.inside.tree.rows a.held) in
-    let e = c.index.ensures in
-    omega (arith, n, m, e)
+    subst (λ i. i < c.self.inside.apps.len) (sym c.index.ensures) (subst (λ n. c.args.ask.now.index < n) (sym (c.self.inside.apps.ok.0 ∙ sym m)) n)
 
 pub stays_within-requires : goal.stays_within-requires
 stays_within-requires g c =

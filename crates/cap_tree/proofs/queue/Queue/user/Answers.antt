@@ -5,8 +5,8 @@ use Rattle.cap_tree.proofs.queue.Queue.user.Goals as goal
 
 pub returns-in-None : goal.returns-in-None
 returns-in-None g c =
-    rw (← c.self.view_is) (c.zero.ensures ∙ sym (ap (count_in g.row.K) (user_row-entries c.args.user.now c.self.inside.users.entries ∙ sym c.in-None.ensures.value)))
+    rw (← c.self.view_is) (c.zero.ensures ∙ sym (ap (count_in g.row.K) (user_row-entries c.args.user.now c.self.inside.users.entries ∙ sym c.in-None.ensures)))
 
 pub returns-in-Some : goal.returns-in-Some
 returns-in-Some g c =
-    rw (← c.self.view_is) (sym (ap (count_in g.row.K) (user_row-entries c.args.user.now c.self.inside.users.entries ∙ sym c.in-Some.ensures.value)))
+    rw (← c.self.view_is) (sym (ap (count_in g.row.K) (user_row-entries c.args.user.now c.self.inside.users.entries ∙ sym c.in-Some.ensures)))

@@ -31,3 +31,9 @@ eq-requires-then-eq g c = search amounts_in_seen
 
 pub cmp_shares-order-requires : goal.cmp_shares-order-requires
 cmp_shares-order-requires g c = search shares_in_seen
+
+pub cmp_name-requires : goal.cmp_name-requires
+cmp_name-requires g c = search
+
+pub cmp_name-requires-2 : goal.cmp_name-requires-2
+cmp_name-requires-2 g c = search

@@ -104,3 +104,12 @@ overflow_cast-mark g c =
     let l = c.len.ensures in
     let items = c.self.inside.links.ok.0 in
     omega (arith, many, few, l, items)
+
+pub overflow_add-mark : goal.overflow_add-mark
+overflow_add-mark g c = let many = c.self.invariant.many in let few = rw (← c.self.view_is) at c.requires.few in let l = c.len.ensures in omega (arith, many, few, l)
+
+pub overflow_sub-last : goal.overflow_sub-last
+overflow_sub-last g c = omega (arith, c.if-last-ne0.true)
+
+pub overflow_cast-last : goal.overflow_cast-last
+overflow_cast-last g c = let last = c.last-last.type_inv in omega (arith, last)

@@ -1,4 +1,4 @@
-use Rattle.std.proofs.Common.{◌≡◌, ◌∙◌, length, ap, arith, refl, sym, subst, false, true}
+use Rattle.std.proofs.Common.{◌≡◌, ◌∙◌, length, ap, arith, refl, rules, sym, subst, false, true}
 use Rattle.std.specs.List.{list_all}
 use Rattle.std.proofs.lemmas.List.{length-map, take_all}
 use Rattle.cap_base.specs.Listing.{IsListing}
@@ -33,3 +33,15 @@ returns g c =
     subst (λ rows. c.has_count.result ≡ has_same_paths rows qs) c.queues-queues.ensures.rows
     (same_count ps qs listing.tree.distinct c.has_count.ensures.rows.listing.tree.distinct all c.has_count.result
     (count_is c.has_count.result (length c.args.self.now) (length ps) (length qs) is count) (is_count c.has_count.result (length c.args.self.now) (length ps) (length qs) is count))
+
+pub path-path-requires : goal.path-path-requires
+path-path-requires g c = search rules
+
+pub queues-queues-requires : goal.queues-queues-requires
+queues-queues-requires g c = search rules
+
+pub find-requires : goal.find-requires
+find-requires g c = search
+
+pub has_count-requires : goal.has_count-requires
+has_count-requires g c = search

@@ -1,4 +1,5 @@
 use Rattle.std.proofs.Common.{◌≡◌, ◌∙◌, sym, subst, arith, true, map}
+use Rattle.std.proofs.lemmas.List.{map-id}
 use Rattle.cap_base.specs.Listing.{IsListing}
 use Rattle.cap_base.specs.Trees.{has_same_paths}
 use Rattle.cap_tree.specs.Rows.{queues_of, with_row_of_path}
@@ -47,3 +48,12 @@ pub returns : goal.returns
 returns g c =
     subst (λ rows. c.loop-row.self ≡ map (with_row_of_path rows) c.args.self.now) c.queues-rows.ensures.rows
     (all_rows c.queues-rows.result.now c.args.self.now c.loop-row.self c.loop-row.row-index c.loop-row.invariant (omega (arith, c.loop-row-test.false)))
+
+pub loop-row-init : goal.loop-row-init
+loop-row-init g c = sym (map-id c.args.self.now)
+
+pub path-path-requires : goal.path-path-requires
+path-path-requires g c = search row_in_tree
+
+pub find-requires : goal.find-requires
+find-requires g c = search

@@ -7,7 +7,7 @@ use Rattle.std.proofs.lemmas.Option.{get_or_from_slice_get, slice_get_within}
 use Rattle.cap_model.specs.Flat.{App}
 use Rattle.cap_asks.specs.Accounts.{HeldApp}
 use Rattle.cap_asks.specs.Apps.{account_of, waiting_of}
-use Rattle.cap_asks.proofs.apps.Apps.find_waiting.Goals as goal
+use Rattle.cap_asks.proofs.apps.Apps.waiting.Goals as goal
 
 pub loop-index-preserved : goal.loop-index-preserved
 loop-index-preserved g c =

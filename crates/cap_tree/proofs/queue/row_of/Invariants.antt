@@ -1,0 +1,8 @@
+use Rattle.std.proofs.Common.{◌≡◌}
+use Rattle.std.specs.Prelude.{bytes_eq}
+use Rattle.std.specs.Map.{lookup}
+use Rattle.std.proofs.Math.ListN.{drop}
+use Rattle.cap_tree.proofs.queue.row_of.Given as goal
+
+abbrev pub invariant-loop-index : goal.invariant-loop-index
+invariant-loop-index g l = lookup (bytes_eq l.user) (drop l.index l.users.entries) ≡ lookup (bytes_eq l.user) l.users.entries
